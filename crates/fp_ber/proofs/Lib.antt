@@ -1,0 +1,7 @@
+pub mod Canonical
+pub mod Exclusive
+pub mod Forests
+pub mod Octets
+pub mod Parts
+pub mod Unique
+pub mod Whole

@@ -1,0 +1,8 @@
+pub mod Canon
+pub mod Extents
+pub mod Faults
+pub mod Integer
+pub mod Laws
+pub mod Spelling
+pub mod Tree
+pub mod View

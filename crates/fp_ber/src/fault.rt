@@ -1,0 +1,48 @@
+//! Why octets are no spelling.
+
+ghost use Rattle.std.specs.Prelude.{◌≡◌};
+ghost use Rattle.fp_ber.specs.declared.fault.BerFault.TheVariants.{Memory};
+
+use std::alloc::{AllocError, AllocFailed};
+use thiserror::Error;
+
+/// The first fault of octets that don't spell an element, from left to right, or want of memory.
+#[derive(Clone, Copy, Debug, PartialEq, Eq, Error)]
+pub enum BerFault {
+    /// The octets, or the definite contents of the parent, end inside an element or before its end of
+    /// contents; or a definite length is greater than what is left of them.
+    #[error("the octets end inside an element")]
+    Cut,
+    /// An indefinite length on a primitive element, or a first length octet of 85 to FF.
+    #[error("a length in no form")]
+    BadLength,
+    /// More than sixteen elements inside each other.
+    #[error("more than sixteen elements inside each other")]
+    TooDeep,
+    /// Zero bits in front of a tag number in the high form, a number below 31 or above 16,383 there,
+    /// or number 0 of the universal class.
+    #[error("a tag in no form")]
+    BadTag,
+    /// Octets after the element.
+    #[error("octets after the element")]
+    Trailing,
+    /// Memory was wanting, and nothing is known of the octets.
+    #[error("out of memory")]
+    Memory,
+}
+
+impl From<AllocError> for BerFault {
+    ghost from_gives = { λ _ fault. fault ≡ Memory };
+
+    fn from(_error: AllocError) -> BerFault {
+        BerFault::Memory
+    }
+}
+
+impl<T: Drop> From<AllocFailed<T>> for BerFault {
+    ghost from_gives = { λ _ fault. fault ≡ Memory };
+
+    fn from(_error: AllocFailed<T>) -> BerFault {
+        BerFault::Memory
+    }
+}

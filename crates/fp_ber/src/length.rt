@@ -1,0 +1,112 @@
+//! The octets of a length, and the contents that it bounds (X.690, 8.1.3 and 10.1).
+
+ghost use Rattle.std.specs.Prelude.{◌≡◌, ◌<◌, ◌^◌, ◌++◌, ◌∷◌, true, IfOk, IfErr, OnOk, OnErr, MatchOption, reverse};
+ghost use Rattle.fp_ber.specs.Spelling.{BeginsLength};
+ghost use Rattle.fp_ber.specs.Faults.{LengthFault};
+ghost use Rattle.fp_ber.specs.Canon.{length_octets};
+ghost use Rattle.fp_ber.specs.Extents.{IsExtent, ExtentFault};
+
+use crate::fault::BerFault;
+use std::alloc::AllocError;
+
+/// The first octet of an indefinite length.
+const INDEFINITE: u8 = 0x80;
+
+/// Where the contents of an element lie.
+#[derive(Drop)]
+pub enum Extent<'a> {
+    /// The contents, and what follows the element.
+    Definite { contents: &'a [u8], rest: &'a [u8] },
+    /// What follows the length: elements up to an end of contents, which closes them.
+    Indefinite { rest: &'a [u8] },
+}
+
+/// Reads the length at the front, `None` for an indefinite one, and gives what follows.
+fn length_at(bytes: &[u8], constructed: bool) -> Result<(Option<usize>, &[u8]), BerFault>
+    ensures ok { IfOk result (λ x. MatchOption x.0
+        ((constructed ≡ true) × (bytes.now ≡ 0x80 ∷ x.1.now))
+        (λ n. BeginsLength bytes.now n x.1.now)) }
+    ensures err { IfErr result (LengthFault constructed bytes.now) }
+{
+    let [first, rest @ ..] = bytes else {
+        return Err(BerFault::Cut);
+    };
+    match *first {
+        0..=0x7F => Ok((Some(usize::from(*first)), rest)),
+        INDEFINITE => {
+            if !constructed {
+                return Err(BerFault::BadLength);
+            }
+            Ok((None, rest))
+        }
+        0x81 => {
+            let [a, rest @ ..] = rest else {
+                return Err(BerFault::Cut);
+            };
+            Ok((Some(usize::from(*a)), rest))
+        }
+        0x82 => {
+            let [a, b, rest @ ..] = rest else {
+                return Err(BerFault::Cut);
+            };
+            Ok((Some(0x100 * usize::from(*a) + usize::from(*b)), rest))
+        }
+        0x83 => {
+            let [a, b, c, rest @ ..] = rest else {
+                return Err(BerFault::Cut);
+            };
+            let high = 0x100 * usize::from(*a) + usize::from(*b);
+            Ok((Some(0x100 * high + usize::from(*c)), rest))
+        }
+        0x84 => {
+            let [a, b, c, d, rest @ ..] = rest else {
+                return Err(BerFault::Cut);
+            };
+            let high = 0x100 * usize::from(*a) + usize::from(*b);
+            let high = 0x100 * high + usize::from(*c);
+            Ok((Some(0x100 * high + usize::from(*d)), rest))
+        }
+        _ => Err(BerFault::BadLength),
+    }
+}
+
+/// Reads the length at the front, and gives the contents and what follows.
+pub fn extent_at(bytes: &[u8], constructed: bool) -> Result<Extent<'_>, BerFault>
+    ensures ok { IfOk result (IsExtent bytes.now constructed) }
+    ensures err { IfErr result (ExtentFault constructed bytes.now) }
+{
+    let (length, rest) = length_at(bytes, constructed)?;
+    let Some(length) = length else {
+        return Ok(Extent::Indefinite { rest });
+    };
+    if rest.len() < length {
+        return Err(BerFault::Cut);
+    }
+    let (contents, rest) = rest.split_at(length);
+    Ok(Extent::Definite { contents, rest })
+}
+
+/// Appends the octets of the least definite length, last octet first.
+pub fn push_length_reversed(length: usize, out: &mut Vec<u8>) -> Result<(), AllocError>
+    requires { length < 2 ^ 32 }
+    ensures ok { OnOk result (out.new.items ≡ out.old.items ++ reverse (length_octets length)) }
+    ensures err { OnErr result (out.new.items ≡ out.old.items) }
+{
+    let last = (length % 0x100) as u8;
+    if length < 0x80 {
+        return out.extend_from_slice(&[last]);
+    }
+    if length < 0x100 {
+        return out.extend_from_slice(&[last, 0x81]);
+    }
+    let third = (length / 0x100 % 0x100) as u8;
+    if length < 0x1_0000 {
+        return out.extend_from_slice(&[last, third, 0x82]);
+    }
+    let second = (length / 0x1_0000 % 0x100) as u8;
+    if length < 0x100_0000 {
+        return out.extend_from_slice(&[last, third, second, 0x83]);
+    }
+    let first = (length / 0x100_0000) as u8;
+    out.extend_from_slice(&[last, third, second, first, 0x84])
+}

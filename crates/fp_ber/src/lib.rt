@@ -1,0 +1,37 @@
+//! The Basic Encoding Rules of ITU-T X.690, as far as TCAP and INAP use them.
+//!
+//! The layer is handed octets and gives an [`Element`], or is handed an [`Element`] and gives octets.
+//! It never asks the system for anything but memory.
+//!
+//! * [`read`] takes all three forms of a length (X.690, 8.1.3), minimal or not, and tags in one to three
+//!   octets (8.1.2). What it can't read it refuses by the first fault from left to right, a [`BerFault`].
+//! * [`write`] appends the canonical spelling: definite lengths in as few octets as they take (10.1).
+//! * [`Element`] and [`Body`] are the value: a class, a number, and octets or elements.
+//!
+//! The layer above may rely on this: `read` answers an element exactly where the octets spell it and it
+//! is in range (at most sixteen elements inside each other, tag numbers to 16,383), want of memory aside;
+//! no spelling begins another; and what `write` appends is a spelling of its element, which `read` reads
+//! as that element. Contracts speak of an element as its tree (`specs/Tree.antt`), and of octets by
+//! `Spells` (`specs/Spelling.antt`) and `canon` (`specs/Canon.antt`).
+#![tactic(auto)]
+
+mod cloning;
+mod element;
+mod fault;
+mod integer;
+mod laws;
+mod length;
+mod reading;
+mod tag;
+#[cfg(test)]
+mod tests;
+mod writing;
+
+pub use element::{Body, Class, Element};
+pub use fault::BerFault;
+pub use integer::{integer_of, octet_of, signed_of};
+pub use laws::{
+    canonical_lengths_are_shortest, canonical_spelling_spells, no_spelling_begins_another,
+};
+pub use reading::read;
+pub use writing::write;

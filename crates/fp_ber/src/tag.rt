@@ -1,0 +1,124 @@
+//! The octets of a tag (X.690, 8.1.2).
+
+ghost use Rattle.std.specs.Prelude.{◌≡◌, ◌+◌, ◌/◌, ◌<◌, ◌++◌, ◌∷◌, Bool, IfOk, IfErr, OnOk, OnErr, reverse};
+ghost use Rattle.fp_ber.specs.declared.element.Class.{Class};
+ghost use Rattle.fp_ber.specs.Spelling.{BeginsTag, first_octet};
+ghost use Rattle.fp_ber.specs.Faults.{TagFault, HighFault};
+ghost use Rattle.fp_ber.specs.Canon.{tag_octets, Extends};
+ghost use Rattle.fp_ber.specs.Tree.{IsTagNumber, class_code};
+
+use crate::element::Class;
+use crate::fault::BerFault;
+use std::alloc::AllocError;
+
+/// A tag: a class, whether the contents are elements, and a number.
+#[derive(Clone, Copy, Debug)]
+pub struct Tag {
+    pub class: Class,
+    pub constructed: bool,
+    pub number: u16,
+}
+
+/// The class that the first two bits of a tag give.
+fn class_of(first: u8) -> Class
+    ensures { class_code result ≡ first / 64 }
+{
+    match first / 64 {
+        0 => Class::Universal,
+        1 => Class::Application,
+        2 => Class::Context,
+        _ => Class::Private,
+    }
+}
+
+/// The first octet of a tag whose last five bits are these.
+fn first_of(class: Class, constructed: bool, low: u8) -> u8
+    requires { low < 32 }
+    ensures { result ≡ first_octet class constructed low }
+{
+    let class = match class {
+        Class::Universal => 0,
+        Class::Application => 64,
+        Class::Context => 128,
+        Class::Private => 192,
+    };
+    let form = if constructed { 32 } else { 0 };
+    class + form + low
+}
+
+/// Reads the number of a tag in the high form, behind its first octet, and gives what follows.
+fn high_number_at(bytes: &[u8]) -> Result<(u16, &[u8]), BerFault>
+    ensures ok { IfOk result (λ x. (class : Class) (form : Bool)
+        → BeginsTag (first_octet class form 31 ∷ bytes.now) class form x.0 x.1.now) }
+    ensures err { IfErr result (HighFault bytes.now) }
+{
+    let [first, rest @ ..] = bytes else {
+        return Err(BerFault::Cut);
+    };
+    if *first < 31 {
+        return Err(BerFault::BadTag);
+    }
+    if *first < 128 {
+        return Ok((u16::from(*first), rest));
+    }
+    if *first == 128 {
+        return Err(BerFault::BadTag);
+    }
+    let [second, rest @ ..] = rest else {
+        return Err(BerFault::Cut);
+    };
+    if *second >= 128 {
+        return Err(BerFault::BadTag);
+    }
+    Ok((128 * (u16::from(*first) - 128) + u16::from(*second), rest))
+}
+
+/// Reads the tag at the front, and gives what follows.
+pub fn tag_at(bytes: &[u8]) -> Result<(Tag, &[u8]), BerFault>
+    ensures ok { IfOk result (λ x. BeginsTag bytes.now x.0.class x.0.constructed x.0.number x.1.now) }
+    ensures err { IfErr result (TagFault bytes.now) }
+{
+    let [first, rest @ ..] = bytes else {
+        return Err(BerFault::Cut);
+    };
+    let class = class_of(*first);
+    let constructed = *first / 32 % 2 == 1;
+    let low = *first % 32;
+    if low == 31 {
+        let (number, rest) = high_number_at(rest)?;
+        let tag = Tag {
+            class,
+            constructed,
+            number,
+        };
+        return Ok((tag, rest));
+    }
+    if *first == 0 || *first == 32 {
+        return Err(BerFault::BadTag);
+    }
+    let number = u16::from(low);
+    let tag = Tag {
+        class,
+        constructed,
+        number,
+    };
+    Ok((tag, rest))
+}
+
+/// Appends the octets of a tag, last octet first.
+pub fn push_tag_reversed(tag: Tag, out: &mut Vec<u8>) -> Result<(), AllocError>
+    requires { IsTagNumber tag.class tag.number }
+    ensures ok { OnOk result (out.new.items ≡ out.old.items ++ reverse (tag_octets tag.class tag.constructed tag.number)) }
+    ensures err { OnErr result (out.new.items ≡ out.old.items) }
+{
+    let number = tag.number;
+    if number < 31 {
+        let first = first_of(tag.class, tag.constructed, number as u8);
+        return out.extend_from_slice(&[first]);
+    }
+    let first = first_of(tag.class, tag.constructed, 31);
+    if number < 128 {
+        return out.extend_from_slice(&[number as u8, first]);
+    }
+    out.extend_from_slice(&[(number % 128) as u8, (128 + number / 128) as u8, first])
+}

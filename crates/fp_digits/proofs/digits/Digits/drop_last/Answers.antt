@@ -1,0 +1,10 @@
+use Rattle.std.proofs.Common.{◌≡◌, length, sym, ◌∙◌, ap, arith}
+use Rattle.fp_digits.specs.Padded.{length-take-padded}
+use Rattle.fp_digits.proofs.Padding.{IsPadded-drop_last}
+use Rattle.fp_digits.proofs.digits.Digits.drop_last.Goals as goal
+
+pub invariant_of-self : goal.invariant_of-self
+invariant_of-self c =
+    let used_is : length c.args.self.now ≡ c.self.inside.used =
+    sym (ap length c.self.view_is) ∙ length-take-padded 32 16 c.self.inside.places c.self.inside.used c.self.invariant in
+    IsPadded-drop_last 32 16 _ _ _ c.self.invariant (omega arith)

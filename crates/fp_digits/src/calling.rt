@@ -1,0 +1,16 @@
+ghost use Rattle.std.specs.Prelude.{◌≡◌};
+ghost use Rattle.std.specs.Result.{result_ok};
+ghost use Rattle.fp_digits.specs.Number.{number_of};
+
+use crate::number::read;
+use crate::{NoNumber, Number};
+
+/// The number in the contents octets of a calling party number (ITU-T Q.763, 3.10).
+///
+/// The second octet, the numbering plan, the presentation and the screening, is not tested. The error
+/// is [`NoNumber`].
+pub fn read_calling(octets: &[u8]) -> Result<Number, NoNumber>
+    ensures { result_ok result ≡ number_of octets.now }
+{
+    read(octets)
+}

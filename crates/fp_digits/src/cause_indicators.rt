@@ -1,0 +1,29 @@
+ghost use Rattle.std.specs.Prelude.{◌≡◌, ℕ, ◌+◌, ◌<◌, [], ◌∷◌};
+
+/// The two contents octets of a cause with this value, which is below 128 (ITU-T Q.763, 3.12, and Q.850,
+/// 2.2): coding standard ITU-T, location public network serving the local user, and the cause value.
+pub fn cause(value: u8) -> [u8; 2]
+    requires { value < 128 }
+    ensures { result ≡ 0x82 ∷ (0x80 + value) ∷ [] }
+{
+    [0x82, 0x80 | value]
+}
+
+#[cfg(test)]
+mod tests {
+    use super::*;
+    use crate::Cause;
+
+    #[test]
+    fn spells_causes(rt: HostRuntime) {
+        let table = [
+            (Cause::NoRouteToDestination, [0x82, 0x83]),
+            (Cause::UserBusy, [0x82, 0x91]),
+            (Cause::NoAnswerFromUser, [0x82, 0x93]),
+            (Cause::CallRejected, [0x82, 0x95]),
+        ];
+        for (named, octets) in table {
+            assert_eq!(rt; cause(named.code()), octets, "{named:?}");
+        }
+    }
+}

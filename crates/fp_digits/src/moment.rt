@@ -1,0 +1,68 @@
+ghost use Rattle.std.specs.Prelude.{◌≡◌, ℕ, ◌<◌};
+ghost use Rattle.std.specs.Option.{SomeIff};
+
+use std::marker::Model;
+
+/// A moment, as milliseconds since 1970-01-01T00:00:00Z. Each moment lies before the year 2100.
+/// Contracts see it as that number.
+#[derive(Clone, Copy, Debug, PartialEq, Eq, PartialOrd, Ord)]
+pub struct Moment {
+    milliseconds: u64,
+}
+
+impl Model for Moment {
+    ghost Value = { ℕ };
+
+    ghost view = { λ moment. moment.milliseconds };
+
+    ghost invariant = { λ moment. moment.milliseconds < 4102444800000 };
+
+    ghost inverse = { λ milliseconds. record { milliseconds = milliseconds } };
+}
+
+impl Moment {
+    /// 2100-01-01T00:00:00Z in milliseconds since 1970-01-01T00:00:00Z: each moment lies before it.
+    pub const END: u64 = 4_102_444_800_000;
+
+    /// The moment so many milliseconds after 1970-01-01T00:00:00Z, or `None` exactly at
+    /// [`Moment::END`] and above.
+    pub fn new(milliseconds: u64) -> Option<Moment>
+        ensures { SomeIff result (milliseconds < Self.END) milliseconds }
+    {
+        if milliseconds < Self::END {
+            Some(Moment { milliseconds })
+        } else {
+            None
+        }
+    }
+
+    /// The milliseconds since 1970-01-01T00:00:00Z, below [`Moment::END`].
+    pub fn milliseconds(self) -> u64
+        ensures value { result ≡ self }
+        ensures range { result < Self.END }
+    {
+        self.milliseconds
+    }
+}
+
+#[cfg(test)]
+mod tests {
+    use super::*;
+
+    #[test]
+    fn ends_with_the_year_2099(rt: HostRuntime) {
+        let table = [
+            (0, true),
+            (4_102_444_799_999, true),
+            (4_102_444_800_000, false),
+            (u64::MAX, false),
+        ];
+        for (milliseconds, is_moment) in table {
+            let moment = Moment::new(milliseconds);
+            assert_eq!(rt; moment.is_some(), is_moment, "{milliseconds}");
+            if let Some(moment) = moment {
+                assert_eq!(rt; moment.milliseconds(), milliseconds);
+            }
+        }
+    }
+}

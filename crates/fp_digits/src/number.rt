@@ -1,0 +1,120 @@
+ghost use Rattle.std.specs.Prelude.{◌≡◌, ℕ, ◌*◌, ◌%◌, List, ◌≤◌, length};
+ghost use Rattle.std.specs.List.{flat_map};
+ghost use Rattle.std.specs.Result.{result_ok};
+ghost use Rattle.fp_digits.specs.Number.{halves, number_of};
+
+use crate::{Digits, NatureOfAddress};
+use thiserror::Error;
+
+/// What a called or a calling party number says of a subscriber (ITU-T Q.763, 3.9 and 3.10).
+#[derive(Clone, Copy, Debug, PartialEq, Eq)]
+pub struct Number {
+    /// How the digits are to be understood.
+    pub nature: NatureOfAddress,
+    /// The address signals, the first one first.
+    pub digits: Digits,
+}
+
+/// The octets hold no number: they are fewer than 2 or more than 18, or the first one marks an odd number
+/// of digits and none has a digit.
+#[derive(Clone, Copy, Debug, PartialEq, Eq, Error)]
+#[error("no number")]
+pub struct NoNumber;
+
+// The nature of address and the numbering plan, and two digits in each of 16 octets.
+const MOST_OCTETS: usize = 18;
+
+// The number in the octets of either, which differ in the second octet alone.
+#[tactic(auto, unfolding(crate::specs::Number::number_of))]
+pub(crate) fn read(octets: &[u8]) -> Result<Number, NoNumber>
+    ensures { result_ok result ≡ number_of octets.now }
+{
+    if octets.len() < 2 || octets.len() > MOST_OCTETS {
+        return Err(NoNumber);
+    }
+    let is_odd = octets[0] >> 7 == 1;
+    if is_odd && octets.len() == 2 {
+        return Err(NoNumber);
+    }
+    let mut digits = digits_in(&octets[2..]);
+    if is_odd {
+        digits.drop_last();
+    }
+    Ok(Number {
+        nature: nature_in(octets[0]),
+        digits,
+    })
+}
+
+// The nature of address in the first octet, below the odd/even indicator.
+fn nature_in(octet: u8) -> NatureOfAddress
+    ensures { result ≡ octet % 128 }
+{
+    NatureOfAddress::new(octet & 0x7f)
+}
+
+// The digits of these octets, two in each.
+fn digits_in(octets: &[u8]) -> Digits
+    requires { length octets.now ≤ 16 }
+    ensures digits { result ≡ flat_map halves octets.now }
+    ensures count { length result ≡ 2 * length octets.now }
+{
+    let mut digits = Digits::new();
+    for octet in octets {
+        digits.push(octet & 0x0f);
+        digits.push(octet >> 4);
+    }
+    digits
+}
+
+#[cfg(test)]
+mod tests {
+    use super::*;
+    use crate::{read_called, read_calling};
+
+    #[test]
+    fn reads_called_and_calling_numbers(rt: HostRuntime) {
+        let longest = [
+            0x04, 0x10, 0x10, 0x32, 0x54, 0x76, 0x98, 0xba, 0xdc, 0xfe, 0x10, 0x32, 0x54, 0x76,
+            0x98, 0xba, 0xdc, 0xfe,
+        ];
+        let longest_digits = [
+            0, 1, 2, 3, 4, 5, 6, 7, 8, 9, 10, 11, 12, 13, 14, 15, 0, 1, 2, 3, 4, 5, 6, 7, 8, 9, 10,
+            11, 12, 13, 14, 15,
+        ];
+        let table: [(&[u8], NatureOfAddress, &[u8]); 6] = [
+            (
+                &[0x83, 0x10, 0x08, 0x10, 0x32, 0x54, 0x06],
+                NatureOfAddress::NATIONAL,
+                &[8, 0, 0, 1, 2, 3, 4, 5, 6],
+            ),
+            (
+                &[0x83, 0x13, 0x03, 0x21, 0x43, 0x65, 0x07],
+                NatureOfAddress::NATIONAL,
+                &[3, 0, 1, 2, 3, 4, 5, 6, 7],
+            ),
+            (
+                &[0x83, 0x10, 0x08, 0xf6],
+                NatureOfAddress::NATIONAL,
+                &[8, 0, 6],
+            ),
+            (&[0x7f, 0xff, 0x21], NatureOfAddress::new(127), &[1, 2]),
+            (&[0x03, 0x10], NatureOfAddress::NATIONAL, &[]),
+            (&longest, NatureOfAddress::INTERNATIONAL, &longest_digits),
+        ];
+        for (octets, nature, digits) in table {
+            for read in [read_called(octets), read_calling(octets)] {
+                assert!(rt; read.is_ok(), "{octets:?}");
+                if let Ok(number) = read {
+                    assert_eq!(rt; number.nature, nature, "{octets:?}");
+                    assert_eq!(rt; number.digits.as_slice(), digits, "{octets:?}");
+                }
+            }
+        }
+        let refused: [&[u8]; 5] = [&[], &[0x83], &[0x83, 0x10], &[0x84, 0x13], &[0x03; 19]];
+        for octets in refused {
+            assert_eq!(rt; read_called(octets), Err(NoNumber), "{octets:?}");
+            assert_eq!(rt; read_calling(octets), Err(NoNumber), "{octets:?}");
+        }
+    }
+}

@@ -1,0 +1,3 @@
+pub mod Connect
+pub mod InitialDp
+pub mod Operation

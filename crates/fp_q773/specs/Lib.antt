@@ -1,0 +1,4 @@
+pub mod Grammar
+pub mod Tid
+pub mod Value
+pub mod View

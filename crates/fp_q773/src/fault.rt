@@ -1,0 +1,34 @@
+//! Why an element is no message.
+
+ghost use Rattle.std.specs.Prelude.{◌≡◌};
+ghost use Rattle.fp_q773.specs.declared.fault.MessageFault.TheVariants.{Memory};
+
+use std::alloc::{AllocError, AllocFailed};
+use thiserror::Error;
+
+/// Why an element was not read as a message.
+#[derive(Clone, Copy, Debug, PartialEq, Eq, Error)]
+pub enum MessageFault {
+    /// The contents are not those of the message.
+    #[error("a message with other contents than its own")]
+    Badly,
+    /// Memory was wanting, and nothing is known of the element.
+    #[error("out of memory")]
+    Memory,
+}
+
+impl From<AllocError> for MessageFault {
+    ghost from_gives = { λ _ fault. fault ≡ Memory };
+
+    fn from(_error: AllocError) -> MessageFault {
+        MessageFault::Memory
+    }
+}
+
+impl<T: Drop> From<AllocFailed<T>> for MessageFault {
+    ghost from_gives = { λ _ fault. fault ≡ Memory };
+
+    fn from(_error: AllocFailed<T>) -> MessageFault {
+        MessageFault::Memory
+    }
+}

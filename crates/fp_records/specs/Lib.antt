@@ -1,0 +1,4 @@
+pub mod Number
+pub mod Head
+pub mod Contents
+pub mod Leads

@@ -1,0 +1,85 @@
+// The first record, `key,SERVICEKEY,OFFSET`.
+
+ghost use Rattle.std.specs.Prelude.{◌≡◌, ◌≢◌, [], ◌∷◌, MatchOption, length};
+ghost use Rattle.csv.specs.Records.{fields_of};
+ghost use Rattle.fp_records.specs.Head.{head_of, offset_of};
+
+use crate::number::number_up_to;
+use csv::ByteRecord;
+
+/// The highest service key.
+const MOST_KEY: u64 = 2147483647;
+
+/// The most minutes that local time is west of UTC.
+const MOST_WEST: u64 = 720;
+
+/// The most minutes that local time is east of UTC.
+const MOST_EAST: u64 = 840;
+
+/// What the first record says.
+#[derive(Clone, Copy, Debug, PartialEq, Eq)]
+pub(crate) struct Head {
+    /// The service key.
+    pub(crate) key: u32,
+    /// How many minutes local time is east of UTC.
+    pub(crate) offset: i16,
+}
+
+/// The minutes east of UTC, -720 to 840, that a text writes: decimal digits, behind a `-` or not.
+fn offset_of(text: &[u8]) -> Option<i16>
+    ensures { result ≡ offset_of text.now }
+{
+    match text {
+        [b'-', digits @ ..] => {
+            let west = number_up_to(MOST_WEST, digits)?;
+            Some(-(west as i16))
+        }
+        _ => {
+            let east = number_up_to(MOST_EAST, text)?;
+            Some(east as i16)
+        }
+    }
+}
+
+/// The fields of a record that has three.
+#[tactic(auto, using(crate::proofs::Fields::field_within, crate::proofs::Fields::three))]
+fn three_fields(row: &ByteRecord) -> Option<(&[u8], &[u8], &[u8])>
+    ensures { MatchOption result (length (fields_of row.now) ≢ 3) (λ fields. fields_of row.now ≡ fields.0.now ∷ fields.1.now ∷ fields.2.now ∷ []) }
+{
+    if row.len() != 3 {
+        return None;
+    }
+    let Some(first) = row.get(0) else {
+        return None;
+    };
+    let Some(second) = row.get(1) else {
+        return None;
+    };
+    let Some(third) = row.get(2) else {
+        return None;
+    };
+    Some((first, second, third))
+}
+
+/// The head that a record is, if it is one.
+#[tactic(auto, using(crate::proofs::Fields::head_of_others))]
+pub(crate) fn head_of(row: &ByteRecord) -> Option<Head>
+    ensures { result ≡ head_of (fields_of row.now) }
+{
+    let Some((name, key, offset)) = three_fields(row) else {
+        return None;
+    };
+    if name != b"key".as_slice() {
+        return None;
+    }
+    let Some(key) = number_up_to(MOST_KEY, key) else {
+        return None;
+    };
+    let Some(offset) = offset_of(offset) else {
+        return None;
+    };
+    Some(Head {
+        key: key as u32,
+        offset,
+    })
+}

@@ -1,0 +1,27 @@
+// Plain decimal numbers.
+
+ghost use Rattle.std.specs.Prelude.{◌≡◌, ◌<◌};
+ghost use Rattle.fp_records.specs.Number.{number_up_to};
+
+/// The number that a text of decimal digits writes, if it is such a text and writes no more than
+/// `most`. Leading zeros are fine, however many.
+#[tactic(auto, using(crate::proofs::Digits::up_to_steps))]
+pub(crate) fn number_up_to(most: u64, text: &[u8]) -> Option<u64>
+    requires { most < 4294967296 }
+    ensures { result ≡ number_up_to most text.now }
+{
+    if text.is_empty() {
+        return None;
+    }
+    let mut number = 0;
+    for octet in text {
+        if !octet.is_ascii_digit() {
+            return None;
+        }
+        number = 10 * number + u64::from(*octet - b'0');
+        if number > most {
+            return None;
+        }
+    }
+    Some(number)
+}

@@ -1,0 +1,4 @@
+pub mod Asking
+pub mod Input
+pub mod Serving
+pub mod Waits

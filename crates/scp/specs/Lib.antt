@@ -1,0 +1,5 @@
+pub mod Answer
+pub mod Input
+pub mod Instant
+pub mod Line
+pub mod Served

@@ -1,0 +1,95 @@
+// The words of the command line, and the moment among them.
+
+ghost use Rattle.std.specs.Prelude.{◌≡◌};
+ghost use Rattle.jiff.specs.Words.{parse_timestamp};
+ghost use Rattle.scp.specs.Instant.{moment_in};
+
+use clap::error::ErrorKind;
+use clap::{Arg, Command, Error};
+use fp_digits::Moment;
+use jiff::Timestamp;
+use std::alloc::{AllocError, Global};
+
+/// What the words of a command line ask for.
+#[derive(Debug, Drop)]
+pub enum Asked<'a> {
+    /// Answers from the records of a file, at a moment.
+    Ask {
+        /// The path of the file.
+        records: &'a str,
+        /// The text of the moment, which has not been read.
+        moment: &'a str,
+    },
+    /// This text, which tells how to use the program.
+    Help(String),
+    /// Nothing that there is: this text says so.
+    Refused(String),
+}
+
+/// What the words ask for. The first of them names the program.
+pub fn asked_by<'a>(alloc: Global, words: &'a [String]) -> Result<Asked<'a>, AllocError> {
+    let command = match command(alloc) {
+        Ok(command) => command,
+        Err(_) => return Err(AllocError),
+    };
+    let matches = match command.try_get_matches_from(words) {
+        Ok(matches) => matches,
+        Err(error) => return told_by(alloc, &error),
+    };
+    let Some((_, ask)) = matches.subcommand() else {
+        return Ok(Asked::Refused(String::new(alloc)));
+    };
+    let records = ask.get_str("RECORDS").unwrap_or("");
+    let moment = ask.get_str("MOMENT").unwrap_or("");
+    Ok(Asked::Ask { records, moment })
+}
+
+// The text of what clap answers in place of matches.
+fn told_by<'a>(alloc: Global, error: &Error) -> Result<Asked<'a>, AllocError> {
+    if error.kind() == ErrorKind::OutOfMemory {
+        return Err(AllocError);
+    }
+    let text = format!(in alloc; "{error}")?;
+    if error.use_stderr() {
+        Ok(Asked::Refused(text))
+    } else {
+        Ok(Asked::Help(text))
+    }
+}
+
+// The command line that there is.
+fn command<'a>(alloc: Global) -> Result<Command<'a>, AllocError> {
+    let records = Arg::new(alloc, "RECORDS")
+        .required(true)
+        .help("The file of the number translation records");
+    let moment = Arg::new(alloc, "MOMENT").required(true).help(
+        "The instant at which the messages come, as 2024-05-06T12:00:00Z",
+    );
+    let contexts = Arg::new(alloc, "contexts")
+        .long("contexts")
+        .value_name("LIST")
+        .help("Application contexts, which have no effect yet");
+    let ask = Command::new(alloc, "ask")
+        .about("Answers the TCAP messages of standard input, one line of hexadecimal text each")
+        .arg(records)?
+        .arg(moment)?
+        .arg(contexts)?;
+    Command::new(alloc, "scp")
+        .about("A service control point for freephone numbers")
+        .subcommand_required(true)
+        .subcommand(ask)
+}
+
+/// The moment that a text names: milliseconds since 1970-01-01T00:00:00Z, parts of a millisecond
+/// dropped towards the past.
+///
+/// `None` where the text names no instant, or one before 1970 or after 2099.
+pub fn moment_of(text: &str) -> Option<Moment>
+    ensures { result ≡ moment_in (parse_timestamp text.now) }
+{
+    let instant: Timestamp = text.parse().ok()?;
+    if instant.as_nanosecond() < 0 {
+        return None;
+    }
+    Moment::new(u64::try_from(instant.as_millisecond()).ok()?)
+}
