@@ -1,5 +1,10 @@
 //! Spellings of X.690 worked out by hand, in hexadecimal.
 
+mod cut;
+mod deepest;
+mod faults;
+mod lengths;
+
 ghost use Rattle.std.specs.Prelude.{◌<◌, length};
 
 use crate::{BerFault, Class, Element, integer_of, octet_of, read, signed_of, write};
