@@ -1,0 +1,5 @@
+pub mod Answering
+pub mod Forests
+pub mod Padding
+pub mod Requests
+pub mod Sizes

@@ -1,0 +1,11 @@
+pub mod Aare
+pub mod Aarq
+pub mod Abrt
+pub mod BitString
+pub mod DialoguePortion
+pub mod Name
+pub mod ObjectIdentifier
+pub mod Opening
+pub mod Padded
+pub mod ProtocolVersion
+pub mod Verdict

@@ -1,0 +1,38 @@
+//! The dialogue portion of TCAP for structured dialogue (ITU-T Q.773, 4.2.3), over elements.
+//!
+//! The layer is handed the dialogue portion of a Begin, an element, and tells what it opens; or it is handed
+//! a [`Name`] and gives the dialogue portion of an answer. It asks the system for nothing but memory, and for
+//! reading not even that.
+//!
+//! * [`Name`] is an application context name: 1 to 64 octets of an object identifier, in a value of fixed size.
+//! * [`opening_of`] reads the request for a dialogue, AARQ, and gives an [`Opening`].
+//! * [`write_aare`] makes the answer to it, AARE, by a [`Verdict`]; [`write_abrt`] makes the abort, ABRT. Both
+//!   give the whole dialogue portion, tag 6B.
+//!
+//! The layer above may rely on this: an opening is answered exactly where `Opens` of `specs/Opening.antt` has
+//! it, which is at most one, and [`Badly`] exactly where it has none; the elements that are written are the
+//! trees that `specs/Aare.antt` and `specs/Abrt.antt` say, and have tags and lengths that `fp_ber` can write.
+//! Contracts see a [`Name`] as the list of its octets, and two names are equal by `==` exactly where the lists
+//! are. Unstructured dialogue and the contents of user information aren't read.
+#![tactic(auto)]
+
+mod aare;
+mod aarq;
+mod abrt;
+mod bit_string;
+mod context_name;
+mod dialogue_portion;
+mod members;
+mod name;
+mod object_identifier;
+mod opening;
+mod protocol_version;
+#[cfg(test)]
+mod tests;
+mod verdict;
+
+pub use aare::write_aare;
+pub use abrt::write_abrt;
+pub use name::Name;
+pub use opening::{Badly, Opening, opening_of};
+pub use verdict::Verdict;

@@ -1,0 +1,30 @@
+//! The protocol version within AARQ and AARE (Q.773, 4.2.3).
+
+ghost use Rattle.std.specs.Prelude.{◌≡◌, ℕ, List, IfOk, MatchOption};
+ghost use Rattle.fp_ber.specs.View.{tree_of};
+ghost use Rattle.fp_apdu.specs.ProtocolVersion.{protocol_version, version_1};
+
+use fp_ber::{Class, Element};
+use std::alloc::{AllocError, Global};
+
+/// The number of the context tag of a protocol version.
+const PROTOCOL_VERSION: u16 = 0;
+
+/// The bit string of version 1 alone: seven unused bits, and one bit.
+const VERSION_1: [u8; 2] = [7, 0x80];
+
+/// The contents octets of a protocol version.
+pub(crate) fn read(element: &Element) -> Option<&[u8]>
+    ensures { MatchOption result ((octets : List ℕ) → tree_of element.now ≡ protocol_version octets → ⊥)
+        (λ octets. tree_of element.now ≡ protocol_version octets.now) }
+{
+    element.octets_with_tag(Class::Context, PROTOCOL_VERSION)
+}
+
+/// The protocol version of version 1 alone.
+pub(crate) fn write(alloc: Global) -> Result<Element, AllocError>
+    ensures { IfOk result (λ element. tree_of element ≡ protocol_version version_1) }
+{
+    let octets = Vec::from_slice(alloc, &VERSION_1)?;
+    Ok(Element::primitive(Class::Context, PROTOCOL_VERSION, octets))
+}
