@@ -1,3 +1,13 @@
-pub mod Children
-pub mod Invokes
+pub mod Answered
+pub mod Faults
+pub mod Fronts
+pub mod Integers
+pub mod Joins
 pub mod Messages
+pub mod Parts
+pub mod Rooms
+pub mod Rows
+pub mod Spellings
+pub mod Standing
+pub mod Tags
+pub mod Written

@@ -1,4 +1,12 @@
+pub mod Fault
 pub mod Grammar
+pub mod Ids
+pub mod Laws
+pub mod Members
+pub mod Problem
+pub mod ProviderAbort
+pub mod Room
 pub mod Tid
 pub mod Value
 pub mod View
+pub mod Writable

@@ -7,11 +7,43 @@ pub data CodeValue : Type 0 where
   local : ℤ → CodeValue
   global : List ℕ → CodeValue
 
--- an invoke identifier, perhaps a linked one, a code and perhaps a parameter
+-- what is wrong with a component: the number of the problem's tag (0 general, 1 Invoke, 2 ReturnResult,
+-- 3 ReturnError), and its value
+pub data ProblemValue : Type 0 where
+  tagged : ℕ → ℕ → ProblemValue
+
+-- the number of a problem's tag
+abbrev pub tag_of : ProblemValue → ℕ
+tag_of (tagged tag value) = tag
+
+-- the value of a problem
+abbrev pub value_of : ProblemValue → ℕ
+value_of (tagged tag value) = value
+
+-- what an operation returns: its code, and perhaps a parameter
+pub data ResultValue : Type 0 where
+  returned : CodeValue → Option Tree → ResultValue
+
+-- A component begins with its invoke identifier. An Invoke has perhaps a linked identifier, an operation and
+-- perhaps a parameter; a ReturnResult perhaps what is returned; a ReturnError an error and perhaps a parameter; a
+-- Reject, which may have no identifier, a problem. A faulty component has what a Reject of it has.
 pub data ComponentValue : Type 0 where
   invoke : ℤ → Option ℤ → CodeValue → Option Tree → ComponentValue
+  return_result_last : ℤ → Option ResultValue → ComponentValue
+  return_error : ℤ → CodeValue → Option Tree → ComponentValue
+  reject : Option ℤ → ProblemValue → ComponentValue
+  return_result_not_last : ℤ → Option ResultValue → ComponentValue
+  faulty : Option ℤ → ProblemValue → ComponentValue
 
--- a transaction identifier and components
+-- why a dialogue was aborted: a cause of the provider, or the dialogue portion of the user
+pub data ReasonValue : Type 0 where
+  provider : ℕ → ReasonValue
+  user : Tree → ReasonValue
+
+-- Transaction identifiers, the originating one first; perhaps a dialogue portion; and components.
 pub data MessageValue : Type 0 where
-  begin : List ℕ → List ComponentValue → MessageValue
-  end : List ℕ → List ComponentValue → MessageValue
+  unidirectional : MessageValue
+  begin : List ℕ → Option Tree → List ComponentValue → MessageValue
+  end : List ℕ → Option Tree → List ComponentValue → MessageValue
+  continuing : List ℕ → List ℕ → Option Tree → List ComponentValue → MessageValue
+  abort : List ℕ → Option ReasonValue → MessageValue

@@ -1,97 +1,128 @@
 //! Components (Q.773, 4.2.2): what is asked and answered within a dialogue.
 
-ghost use Rattle.std.specs.Prelude.{◌≡◌, ◌≤ℤ◌, ◌<ℤ◌, pos, negsuc, IfOk, IfSome, IfNone, MatchOption, Option, Some, None, ℤ};
+ghost use Rattle.std.specs.Prelude.{◌≡◌, ℤ, Option, Some, None, IfOk, MatchOption};
+ghost use Rattle.fp_ber.specs.declared.element.Class.TheVariants as classes;
+ghost use Rattle.fp_ber.specs.Tree as tree;
 ghost use Rattle.fp_ber.specs.Tree.{Tree};
-ghost use Rattle.fp_ber.specs.View.{tree_of};
+ghost use Rattle.fp_ber.specs.View.{tree_of, forest_of};
 ghost use Rattle.fp_q773.specs.Value as value;
-ghost use Rattle.fp_q773.specs.View.{invoke_of as invoke_value, component_of as component_value};
-ghost use Rattle.fp_q773.specs.Grammar.{IsComponent, IsWritable};
+ghost use Rattle.fp_q773.specs.View.{invoke_of, component_of};
+ghost use Rattle.fp_q773.specs.Grammar.{BeginsWith, IsComponent, IsRow};
+ghost use Rattle.fp_q773.specs.Writable.{IsWritable};
 
-use fp_ber::{Class, Element, integer_of, octet_of, signed_of};
+use crate::identifier::identifier_of;
+use crate::invoke::{INVOKE, Invoke};
+use crate::members::split_first;
+use crate::problem::{GeneralProblem, Problem};
+use crate::reject::Reject;
+use crate::return_error::ReturnError;
+use crate::return_result::ReturnResult;
+use fp_ber::{Class, Element};
 use std::alloc::{AllocError, Global};
 
-/// The number of the universal tag of an integer.
-const INTEGER: u16 = 2;
-/// The number of the context tag of an Invoke.
-const INVOKE: u16 = 1;
-
-/// The code of an operation or of an error.
-#[derive(Clone, Copy, Debug)]
-pub enum Code<'a> {
-    /// A number that the application context gives.
-    Local(i32),
-    /// The octets of an object identifier.
-    Global(&'a [u8]),
-}
-
-/// An Invoke: what its sender asks for.
-#[derive(Clone, Copy, Debug)]
-pub struct Invoke<'a> {
-    /// The invoke identifier, by which its results and errors name it.
-    pub identifier: i8,
-    /// The invoke identifier of the operation that it is part of.
-    pub linked: Option<i8>,
-    /// The operation.
-    pub code: Code<'a>,
-    /// What is handed to the operation.
-    pub parameter: Option<&'a Element>,
-}
+/// The number of the context tag of a ReturnResultLast.
+const RETURN_RESULT_LAST: u16 = 2;
+/// The number of the context tag of a ReturnError.
+const RETURN_ERROR: u16 = 3;
+/// The number of the context tag of a Reject.
+const REJECT: u16 = 4;
+/// The number of the context tag of a ReturnResultNotLast.
+const RETURN_RESULT_NOT_LAST: u16 = 7;
 
 /// A component.
 #[derive(Clone, Copy, Debug)]
 pub enum Component<'a> {
     /// An operation is asked for.
     Invoke(Invoke<'a>),
+    /// An operation returns, and has nothing more to return.
+    ReturnResultLast(ReturnResult<'a>),
+    /// An operation failed.
+    ReturnError(ReturnError<'a>),
+    /// A component can't be taken.
+    Reject(Reject),
+    /// An operation returns a part of its result.
+    ReturnResultNotLast(ReturnResult<'a>),
+    /// What is none of these, and what a Reject of it has.
+    Faulty {
+        /// The invoke identifier that stands first, if one does and the tag is that of a component.
+        identifier: Option<i8>,
+        /// An unrecognized component, or a mistyped one.
+        problem: Problem,
+    },
 }
 
-impl<'a> Invoke<'a> {
-    /// The Invoke that an element is, if it has no linked identifier, a local code and a parameter.
-    fn read(element: &'a Element) -> Option<Invoke<'a>>
-        ensures some { IfSome result (λ i. IsComponent (tree_of element.now) (invoke_value i)) }
-        ensures none { IfNone result ((identifier code : ℤ) (parameter : Tree)
-            → IsComponent (tree_of element.now) (value.invoke identifier None (value.local code) (Some parameter)) → ⊥) }
-    {
-        let children = element.children_with_tag(Class::Context, INVOKE)?;
-        let [identifier, code, parameter, rest @ ..] = children else {
-            return None;
-        };
-        if !rest.is_empty() {
-            return None;
-        }
-        let [identifier] = identifier.octets_with_tag(Class::Universal, INTEGER)? else {
-            return None;
-        };
-        let code = integer_of(code.octets_with_tag(Class::Universal, INTEGER)?)?;
-        Some(Invoke {
-            identifier: signed_of(*identifier),
-            linked: None,
-            code: Code::Local(code),
-            parameter: Some(parameter),
-        })
-    }
+/// The invoke identifier that stands first, if one does.
+fn first_identifier(members: &[Element]) -> Option<i8>
+    ensures { BeginsWith (forest_of members.now) result }
+{
+    let Some(members) = split_first(members) else {
+        return None;
+    };
+    let Some(identifier) = identifier_of(members.first) else {
+        return None;
+    };
+    Some(identifier)
+}
 
-    /// The element of an Invoke without linked identifier, with a local code of one octet and a parameter.
-    fn write(&self, alloc: Global) -> Result<Element, AllocError>
-        requires { IsWritable (invoke_value self.now) }
-        ensures { IfOk result (λ element. IsComponent (tree_of element) (invoke_value self.now)) }
-    {
-        let Invoke {
-            identifier,
-            linked: None,
-            code: Code::Local(code),
-            parameter: Some(parameter),
-        } = self
-        else {
-            unreachable!()
-        };
-        let identifier = Vec::from_slice(alloc, &[octet_of(*identifier)])?;
-        let code = Vec::from_slice(alloc, &[octet_of(*code as i8)])?;
-        let mut members = Vec::new(alloc);
-        members.push(Element::primitive(Class::Universal, INTEGER, identifier))?;
-        members.push(Element::primitive(Class::Universal, INTEGER, code))?;
-        members.push(parameter.try_clone(alloc)?)?;
-        Ok(Element::constructed(Class::Context, INVOKE, members))
+/// A component with a tag of the table and with these elements, which are not its own.
+fn mistyped(members: &[Element]) -> Component<'_>
+    ensures { (identifier : Option ℤ) × BeginsWith (forest_of members.now) identifier
+        × (component_of result ≡ value.faulty identifier (value.tagged 0 1)) }
+{
+    Component::Faulty {
+        identifier: first_identifier(members),
+        problem: Problem::General(GeneralProblem::MistypedComponent),
     }
+}
+
+/// The component that holds these elements under the tag of an Invoke.
+fn invoke_in(members: &[Element]) -> Component<'_>
+    ensures { IsComponent (tree.constructed classes.Context 1 (forest_of members.now)) (component_of result) }
+{
+    let Some(invoke) = Invoke::read(members) else {
+        return mistyped(members);
+    };
+    Component::Invoke(invoke)
+}
+
+/// The component that holds these elements under the tag of a ReturnResultLast.
+fn return_result_last_in(members: &[Element]) -> Component<'_>
+    ensures { IsComponent (tree.constructed classes.Context 2 (forest_of members.now)) (component_of result) }
+{
+    let Some(result) = ReturnResult::read(members) else {
+        return mistyped(members);
+    };
+    Component::ReturnResultLast(result)
+}
+
+/// The component that holds these elements under the tag of a ReturnError.
+fn return_error_in(members: &[Element]) -> Component<'_>
+    ensures { IsComponent (tree.constructed classes.Context 3 (forest_of members.now)) (component_of result) }
+{
+    let Some(error) = ReturnError::read(members) else {
+        return mistyped(members);
+    };
+    Component::ReturnError(error)
+}
+
+/// The component that holds these elements under the tag of a Reject.
+fn reject_in(members: &[Element]) -> Component<'_>
+    ensures { IsComponent (tree.constructed classes.Context 4 (forest_of members.now)) (component_of result) }
+{
+    let Some(reject) = Reject::read(members) else {
+        return mistyped(members);
+    };
+    Component::Reject(reject)
+}
+
+/// The component that holds these elements under the tag of a ReturnResultNotLast.
+fn return_result_not_last_in(members: &[Element]) -> Component<'_>
+    ensures { IsComponent (tree.constructed classes.Context 7 (forest_of members.now)) (component_of result) }
+{
+    let Some(result) = ReturnResult::read(members) else {
+        return mistyped(members);
+    };
+    Component::ReturnResultNotLast(result)
 }
 
 impl<'a> Component<'a> {
@@ -99,29 +130,67 @@ impl<'a> Component<'a> {
     pub fn as_invoke(&self) -> Option<&Invoke<'a>>
         ensures { MatchOption result
             ((identifier : ℤ) (linked : Option ℤ) (code : value.CodeValue) (parameter : Option Tree)
-            → component_value self.now ≡ value.invoke identifier linked code parameter → ⊥)
-            (λ invoke. component_value self.now ≡ invoke_value invoke.now) }
+            → component_of self.now ≡ value.invoke identifier linked code parameter → ⊥)
+            (λ invoke. component_of self.now ≡ invoke_of invoke.now) }
     {
         match self {
             Component::Invoke(invoke) => Some(invoke),
+            _ => None,
         }
     }
 
-    /// The component that an element is.
-    pub(crate) fn read(element: &'a Element) -> Option<Component<'a>>
-        ensures some { IfSome result (λ component. IsComponent (tree_of element.now) (component_value component)) }
-        ensures none { IfNone result ((component : value.ComponentValue) → IsComponent (tree_of element.now) component → ⊥) }
+    /// The component that an element is, if only a faulty one.
+    pub(crate) fn read(element: &'a Element) -> Component<'a>
+        ensures { IsComponent (tree_of element.now) (component_of result) }
     {
-        let invoke = Invoke::read(element)?;
-        Some(Component::Invoke(invoke))
+        if let Some(members) = element.children_with_tag(Class::Context, INVOKE) {
+            return invoke_in(members);
+        }
+        if let Some(members) = element.children_with_tag(Class::Context, RETURN_RESULT_LAST) {
+            return return_result_last_in(members);
+        }
+        if let Some(members) = element.children_with_tag(Class::Context, RETURN_ERROR) {
+            return return_error_in(members);
+        }
+        if let Some(members) = element.children_with_tag(Class::Context, REJECT) {
+            return reject_in(members);
+        }
+        if let Some(members) = element.children_with_tag(Class::Context, RETURN_RESULT_NOT_LAST) {
+            return return_result_not_last_in(members);
+        }
+        Component::Faulty {
+            identifier: None,
+            problem: Problem::General(GeneralProblem::UnrecognizedComponent),
+        }
     }
 
     /// The element of a component.
     pub(crate) fn write(&self, alloc: Global) -> Result<Element, AllocError>
-        requires { IsWritable (component_value self.now) }
-        ensures { IfOk result (λ element. IsComponent (tree_of element) (component_value self.now)) }
+        requires { IsWritable (component_of self.now) }
+        ensures { IfOk result (λ element. IsRow (tree_of element) (component_of self.now)) }
     {
-        let Component::Invoke(invoke) = self;
-        invoke.write(alloc)
+        match self {
+            Component::Invoke(invoke) => {
+                let element = invoke.write(alloc)?;
+                Ok(element)
+            }
+            Component::ReturnResultLast(result) => {
+                let members = result.write(alloc)?;
+                Ok(Element::constructed(Class::Context, RETURN_RESULT_LAST, members))
+            }
+            Component::ReturnError(error) => {
+                let members = error.write(alloc)?;
+                Ok(Element::constructed(Class::Context, RETURN_ERROR, members))
+            }
+            Component::Reject(reject) => {
+                let members = reject.write(alloc)?;
+                Ok(Element::constructed(Class::Context, REJECT, members))
+            }
+            Component::ReturnResultNotLast(result) => {
+                let members = result.write(alloc)?;
+                Ok(Element::constructed(Class::Context, RETURN_RESULT_NOT_LAST, members))
+            }
+            Component::Faulty { .. } => unreachable!(),
+        }
     }
 }

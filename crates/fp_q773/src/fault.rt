@@ -9,7 +9,10 @@ use thiserror::Error;
 /// Why an element was not read as a message.
 #[derive(Clone, Copy, Debug, PartialEq, Eq, Error)]
 pub enum MessageFault {
-    /// The contents are not those of the message.
+    /// The tag is that of no message.
+    #[error("a message with an unknown tag")]
+    UnknownMessage,
+    /// The tag is that of a message, and the contents are not its own.
     #[error("a message with other contents than its own")]
     Badly,
     /// Memory was wanting, and nothing is known of the element.

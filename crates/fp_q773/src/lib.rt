@@ -4,27 +4,68 @@
 //! It never asks the system for anything but memory. It knows nothing of operations: an Invoke has a
 //! [`Code`] and perhaps a parameter, an element that the layer above reads.
 //!
-//! * [`Message`] is what a message says: its transaction identifiers, each a [`Tid`], and its components.
-//! * [`Component`] is an Invoke, with its identifier, its code and its parameter.
-//! * [`message_of`] reads a message and borrows the parameters from the element; [`write_message`] makes
+//! * [`Message`] is what a message says: its transaction identifiers, each a [`Tid`], its dialogue portion,
+//!   an element that the layer above reads, and its components.
+//! * [`Component`] is an Invoke, a ReturnResult, a ReturnError or a Reject, which has a [`Problem`]. What is
+//!   none of these is a faulty component, which tells what a Reject of it has.
+//! * [`OperationClass`] is what the far end reports of an operation.
+//! * [`message_of`] reads a message and borrows all parameters from the element; [`write_message`] makes
 //!   the element of a message.
-//!
-//! So far a Begin is read and an End is written, each without dialogue portion and with one Invoke that
-//! has no linked identifier, a local code and a parameter. All else is refused as [`MessageFault::Badly`].
+//! * [`ids_of`] tells the kind and the transaction identifiers of octets that needn't be a message, and
+//!   [`write_abort`] spells an Abort of the provider. Neither takes memory.
 //!
 //! The layer above may rely on this: a message is read exactly where the grammar of `specs/Grammar.antt`
-//! has the element as that message, want of memory aside; and what is written is the message by the same
-//! grammar.
+//! has the element as that message, and each fault is answered exactly where `specs/Fault.antt` has it, want
+//! of memory aside; what is written is the message by the same grammar; and `ids_of` answers by
+//! `specs/Ids.antt`. An element is at most one message, and octets tell one kind and one identifier of each
+//! sort, so each answer is the only one.
 #![tactic(auto)]
 
+mod abort;
+mod begin;
+mod coded;
 mod component;
+mod continuing;
+mod end;
 mod fault;
+mod identifier;
+mod ids;
+mod invoke;
+mod kind;
+mod laws;
+mod length;
+mod members;
 mod message;
+mod operation_class;
+mod portions;
+mod problem;
+mod provider_abort;
+mod reject;
+mod return_error;
+mod return_result;
 #[cfg(test)]
 mod tests;
 mod tid;
+mod transaction;
 
-pub use component::{Code, Component, Invoke};
+pub use abort::{Abort, AbortReason};
+pub use begin::Begin;
+pub use coded::{Code, Coded};
+pub use component::Component;
+pub use continuing::Continue;
+pub use end::End;
 pub use fault::MessageFault;
-pub use message::{Begin, End, Message, message_of, write_message};
+pub use ids::{Ids, ids_of};
+pub use invoke::Invoke;
+pub use kind::Kind;
+pub use laws::{components_are_one, ids_are_one, messages_are_one};
+pub use message::{Message, message_of, write_message};
+pub use operation_class::OperationClass;
+pub use problem::{
+    GeneralProblem, InvokeProblem, Problem, ReturnErrorProblem, ReturnResultProblem,
+};
+pub use provider_abort::{AbortCause, AbortOctets, write_abort};
+pub use reject::Reject;
+pub use return_error::ReturnError;
+pub use return_result::ReturnResult;
 pub use tid::Tid;

@@ -1,151 +1,177 @@
 //! Messages (Q.773, 4.2.1): what the two ends of a dialogue send each other.
 
-ghost use Rattle.std.specs.Prelude.{◌≡◌, ◌≢◌, IfOk, IfErr, List, ℕ, map};
-ghost use Rattle.fp_ber.specs.View.{tree_of};
+ghost use Rattle.std.specs.Prelude.{◌≢◌, ◌<◌, ◌≤◌, ◌^◌, length, IfOk, IfErr};
+ghost use Rattle.fp_ber.specs.declared.element.Class.TheVariants as classes;
+ghost use Rattle.fp_ber.specs.Tree as tree;
+ghost use Rattle.fp_ber.specs.Tree.{HasTags};
+ghost use Rattle.fp_ber.specs.Canon.{canon, HasLengths};
+ghost use Rattle.fp_ber.specs.View.{tree_of, forest_of};
+ghost use Rattle.fp_q773.specs.declared.fault.MessageFault.{MessageFault};
 ghost use Rattle.fp_q773.specs.declared.fault.MessageFault.TheVariants as faults;
-ghost use Rattle.fp_q773.specs.Grammar.{IsPortion, IsMessage, IsWritablePortion, IsWritableMessage, Reads};
-ghost use Rattle.fp_q773.specs.Value as value;
-ghost use Rattle.fp_q773.specs.View.{component_of, message_value};
+ghost use Rattle.fp_q773.specs.Grammar.{IsMessage};
+ghost use Rattle.fp_q773.specs.Fault.{IsFault, Reads, Refuses};
+ghost use Rattle.fp_q773.specs.Room.{message_room};
+ghost use Rattle.fp_q773.specs.Value.{MessageValue};
+ghost use Rattle.fp_q773.specs.View.{message_value};
+ghost use Rattle.fp_q773.specs.Writable.{IsWritableMessage, IsBare};
 
-use crate::component::Component;
+use crate::abort::{ABORT, Abort};
+use crate::begin::{BEGIN, Begin};
+use crate::continuing::{CONTINUE, Continue};
+use crate::end::{END, End};
 use crate::fault::MessageFault;
-use crate::tid::Tid;
 use fp_ber::{Class, Element};
 use std::alloc::{AllocError, Global};
 
-/// The number of the application tag of a Begin.
-const BEGIN: u16 = 2;
-/// The number of the application tag of an End.
-const END: u16 = 4;
-/// The number of the application tag of an originating transaction identifier.
-const ORIGINATING: u16 = 8;
-/// The number of the application tag of a destination transaction identifier.
-const DESTINATION: u16 = 9;
-/// The number of the application tag of a component portion.
-const COMPONENT_PORTION: u16 = 12;
-
-/// The first message of a dialogue.
-#[derive(Debug, Drop)]
-pub struct Begin<'a> {
-    /// By which its sender knows the dialogue.
-    pub originating: Tid,
-    /// Its components, in their order.
-    pub components: Vec<Component<'a>>,
-}
-
-/// The last message of a dialogue.
-#[derive(Debug, Drop)]
-pub struct End<'a> {
-    /// By which its receiver knows the dialogue.
-    pub destination: Tid,
-    /// Its components, in their order.
-    pub components: Vec<Component<'a>>,
-}
+/// The number of the application tag of a Unidirectional.
+const UNIDIRECTIONAL: u16 = 1;
 
 /// A message.
 #[derive(Debug, Drop)]
 pub enum Message<'a> {
+    /// Components outside a dialogue, which aren't looked at.
+    Unidirectional,
     /// A dialogue begins.
     Begin(Begin<'a>),
     /// A dialogue ends.
     End(End<'a>),
+    /// A dialogue goes on.
+    Continue(Continue<'a>),
+    /// A dialogue is cut off.
+    Abort(Abort<'a>),
 }
 
-/// The one component of a component portion.
-fn components_of(alloc: Global, portion: &Element) -> Result<Vec<Component<'_>>, MessageFault>
-    ensures found { IfOk result (λ components. IsPortion (tree_of portion.now) (map component_of components.items)) }
-    ensures badly { IfErr result (λ fault. fault ≢ faults.Memory
-        → (components : List value.ComponentValue) → IsPortion (tree_of portion.now) components → ⊥) }
+/// The message that holds these elements under the tag of a Begin.
+fn begin_in(alloc: Global, members: &[Element]) -> Result<Message<'_>, MessageFault>
+    ensures found { IfOk result (λ message.
+        IsMessage (tree.constructed classes.Application 2 (forest_of members.now)) (message_value message)) }
+    ensures fault { IfErr result (λ fault. fault ≢ faults.Memory
+        → IsFault (tree.constructed classes.Application 2 (forest_of members.now)) fault) }
 {
-    let Some(children) = portion.children_with_tag(Class::Application, COMPONENT_PORTION) else {
-        return Err(MessageFault::Badly);
-    };
-    let [component, rest @ ..] = children else {
-        return Err(MessageFault::Badly);
-    };
-    if !rest.is_empty() {
-        return Err(MessageFault::Badly);
-    }
-    let Some(component) = Component::read(component) else {
-        return Err(MessageFault::Badly);
-    };
-    let mut components = Vec::new(alloc);
-    components.push(component)?;
-    Ok(components)
+    let begin = Begin::read(alloc, members)?;
+    Ok(Message::Begin(begin))
 }
 
-/// The Begin that an element is.
-fn begin_of(alloc: Global, element: &Element) -> Result<Message<'_>, MessageFault>
+/// The message that holds these elements under the tag of an End.
+fn end_in(alloc: Global, members: &[Element]) -> Result<Message<'_>, MessageFault>
+    ensures found { IfOk result (λ message.
+        IsMessage (tree.constructed classes.Application 4 (forest_of members.now)) (message_value message)) }
+    ensures fault { IfErr result (λ fault. fault ≢ faults.Memory
+        → IsFault (tree.constructed classes.Application 4 (forest_of members.now)) fault) }
+{
+    let end = End::read(alloc, members)?;
+    Ok(Message::End(end))
+}
+
+/// The message that holds these elements under the tag of a Continue.
+fn continue_in(alloc: Global, members: &[Element]) -> Result<Message<'_>, MessageFault>
+    ensures found { IfOk result (λ message.
+        IsMessage (tree.constructed classes.Application 5 (forest_of members.now)) (message_value message)) }
+    ensures fault { IfErr result (λ fault. fault ≢ faults.Memory
+        → IsFault (tree.constructed classes.Application 5 (forest_of members.now)) fault) }
+{
+    let continuing = Continue::read(alloc, members)?;
+    Ok(Message::Continue(continuing))
+}
+
+/// The message that holds these elements under the tag of an Abort.
+fn abort_in(members: &[Element]) -> Result<Message<'_>, MessageFault>
+    ensures found { IfOk result (λ message.
+        IsMessage (tree.constructed classes.Application 7 (forest_of members.now)) (message_value message)) }
+    ensures fault { IfErr result (λ fault. fault ≢ faults.Memory
+        → IsFault (tree.constructed classes.Application 7 (forest_of members.now)) fault) }
+{
+    let Some(abort) = Abort::read(members) else {
+        return Err(MessageFault::Badly);
+    };
+    Ok(Message::Abort(abort))
+}
+
+/// The message that an element is.
+fn read_message(alloc: Global, element: &Element) -> Result<Message<'_>, MessageFault>
     ensures found { IfOk result (λ message. IsMessage (tree_of element.now) (message_value message)) }
-    ensures badly { IfErr result (λ fault. fault ≢ faults.Memory
-        → (originating : List ℕ) (components : List value.ComponentValue)
-        → IsMessage (tree_of element.now) (value.begin originating components) → ⊥) }
+    ensures fault { IfErr result (λ fault. fault ≢ faults.Memory → IsFault (tree_of element.now) fault) }
 {
-    let Some(children) = element.children_with_tag(Class::Application, BEGIN) else {
-        return Err(MessageFault::Badly);
-    };
-    let [originating, portion, rest @ ..] = children else {
-        return Err(MessageFault::Badly);
-    };
-    if !rest.is_empty() {
-        return Err(MessageFault::Badly);
+    if let Some(members) = element.children_with_tag(Class::Application, BEGIN) {
+        return begin_in(alloc, members);
     }
-    let Some(octets) = originating.octets_with_tag(Class::Application, ORIGINATING) else {
-        return Err(MessageFault::Badly);
+    if let Some(members) = element.children_with_tag(Class::Application, CONTINUE) {
+        return continue_in(alloc, members);
+    }
+    if let Some(members) = element.children_with_tag(Class::Application, END) {
+        return end_in(alloc, members);
+    }
+    if let Some(members) = element.children_with_tag(Class::Application, ABORT) {
+        return abort_in(members);
+    }
+    let Some(_) = element.children_with_tag(Class::Application, UNIDIRECTIONAL) else {
+        return Err(MessageFault::UnknownMessage);
     };
-    let Some(originating) = Tid::new(octets) else {
-        return Err(MessageFault::Badly);
-    };
-    let components = components_of(alloc, portion)?;
-    Ok(Message::Begin(Begin {
-        originating,
-        components,
-    }))
+    Ok(Message::Unidirectional)
 }
 
-/// Reads a Begin with one Invoke (Q.773, 4.2.1), which borrows the parameter from the element.
+/// Reads a message (Q.773, 4.2.1), which borrows its parameters and its dialogue portion from the element.
 ///
-/// Every other element is [`MessageFault::Badly`].
+/// An element whose tag is that of no message is [`MessageFault::UnknownMessage`]; one whose contents are
+/// not those of its message is [`MessageFault::Badly`]. A component with other contents than its own makes
+/// no fault: it is a faulty component. What a Unidirectional holds isn't looked at.
 pub fn message_of(alloc: Global, element: &Element) -> Result<Message<'_>, MessageFault>
     // What is read is what the element says.
     ensures found { IfOk result (λ message. IsMessage (tree_of element.now) (message_value message)) }
 
-    // A Begin is read, unless memory runs out.
-    ensures only { (originating : List ℕ) (components : List value.ComponentValue)
-        → IsMessage (tree_of element.now) (value.begin originating components)
-        → Reads result (value.begin originating components) }
+    // What the element says is read, unless memory runs out.
+    ensures only { (value : MessageValue) → IsMessage (tree_of element.now) value → Reads result value }
+
+    // A fault is the element's.
+    ensures fault { IfErr result (λ fault. fault ≢ faults.Memory → IsFault (tree_of element.now) fault) }
+
+    // The element's fault is answered, unless memory runs out before it.
+    ensures first { (fault : MessageFault) → IsFault (tree_of element.now) fault → Refuses result fault }
 {
-    begin_of(alloc, element)
+    read_message(alloc, element)
 }
 
-/// The element of a component portion of one component.
-fn write_portion(alloc: Global, components: &[Component<'_>]) -> Result<Element, AllocError>
-    requires { IsWritablePortion (map component_of components.now) }
-    ensures { IfOk result (λ portion. IsPortion (tree_of portion) (map component_of components.now)) }
+/// The element of a message.
+fn element_of(alloc: Global, message: &Message<'_>) -> Result<Element, AllocError>
+    requires { IsWritableMessage (message_value message.now) }
+    ensures found { IfOk result (λ element. IsMessage (tree_of element) (message_value message.now)) }
+    ensures bare { IfOk result (λ element. IsBare (tree_of element) (message_value message.now)) }
 {
-    let [component, ..] = components else {
-        unreachable!()
-    };
-    let mut children = Vec::new(alloc);
-    children.push(component.write(alloc)?)?;
-    Ok(Element::constructed(Class::Application, COMPONENT_PORTION, children))
+    match message {
+        Message::Unidirectional => Ok(Element::constructed(
+            Class::Application,
+            UNIDIRECTIONAL,
+            Vec::new(alloc),
+        )),
+        Message::Begin(begin) => begin.write(alloc),
+        Message::End(end) => end.write(alloc),
+        Message::Continue(continuing) => continuing.write(alloc),
+        Message::Abort(abort) => abort.write(alloc),
+    }
 }
 
-/// The element of an End with one Invoke (Q.773, 4.2.1).
+/// The element of a message (Q.773, 4.2.1), with copies of its parameters and its dialogue portion.
 ///
-/// The Invoke has no linked identifier, a local code of -128 to 127, and a parameter, which is copied.
+/// No component is faulty; a dialogue portion has the tag 6B; and the elements that are copied have tags
+/// that elements may have. A Unidirectional is written without components.
 pub fn write_message(alloc: Global, message: &Message<'_>) -> Result<Element, AllocError>
     requires { IsWritableMessage (message_value message.now) }
-    ensures { IfOk result (λ element. IsMessage (tree_of element) (message_value message.now)) }
+
+    // What is written is the message.
+    ensures found { IfOk result (λ element. IsMessage (tree_of element) (message_value message.now)) }
+
+    // Without components there is no component portion, and a Unidirectional holds nothing.
+    ensures bare { IfOk result (λ element. IsBare (tree_of element) (message_value message.now)) }
+
+    // Its tags are those that elements may have.
+    ensures tags { IfOk result (λ element. HasTags (tree_of element)) }
+
+    // Its canonical spelling is no longer than this.
+    ensures size { IfOk result (λ element. length (canon (tree_of element)) ≤ message_room (message_value message.now)) }
+
+    // Four octets say its lengths, if it isn't too long.
+    ensures lengths { IfOk result (λ element. message_room (message_value message.now) < 2 ^ 32
+        → HasLengths (tree_of element)) }
 {
-    let Message::End(end) = message else {
-        unreachable!()
-    };
-    let destination = Vec::from_slice(alloc, end.destination.as_slice())?;
-    let destination = Element::primitive(Class::Application, DESTINATION, destination);
-    let portion = write_portion(alloc, end.components.as_slice())?;
-    let mut children = Vec::new(alloc);
-    children.push(destination)?;
-    children.push(portion)?;
-    Ok(Element::constructed(Class::Application, END, children))
+    element_of(alloc, message)
 }

@@ -1,6 +1,6 @@
 //! Transaction identifiers (Q.773, 4.2.1.3).
 
-ghost use Rattle.std.specs.Prelude.{◌≡◌, ◌≤◌, length, MatchOption};
+ghost use Rattle.std.specs.Prelude.{◌≡◌, MatchOption};
 ghost use Rattle.fp_q773.specs.Tid.{octets_of, IsTid};
 
 /// A transaction identifier: one to four octets, kept as they came.

@@ -1,5 +1,10 @@
-pub mod WholeText
+pub mod Calendar
 pub mod Digits
-pub mod Fields
-pub mod Found
-pub mod Plain
+pub mod Entries
+pub mod Grouping
+pub mod Lookups
+pub mod Orders
+pub mod Places
+pub mod Shares
+pub mod Tables
+pub mod WholeText

@@ -1,4 +1,14 @@
-pub mod Number
+pub mod Action
+pub mod Calendar
+pub mod Choice
+pub mod Days
+pub mod Digits
+pub mod Fields
+pub mod File
+pub mod Groups
 pub mod Head
-pub mod Contents
-pub mod Leads
+pub mod Listed
+pub mod Number
+pub mod Share
+pub mod Table
+pub mod Window

@@ -1,57 +1,51 @@
 // The digits of a destination.
 
-ghost use Rattle.std.specs.Prelude.{◌≡◌, ◌≢◌, ℕ, List, MatchOption};
-ghost use Rattle.fp_records.specs.Leads.{IsDestination, text_of};
+ghost use Rattle.std.specs.Prelude.{◌≡◌, ℕ, ◌<◌, ◌≤◌, List, length, nat_eq};
+ghost use Rattle.std.specs.List.{All};
+ghost use Rattle.fp_records.specs.Digits.{some_digits_of};
 
+use crate::decimal_digits::DecimalDigits;
 use std::marker::Model;
 
-/// The most digits of a destination.
-pub const MOST_DIGITS: usize = 15;
-
-/// The digits of a destination, 1 to 15 of them, each a value from 0 to 9.
-#[derive(Debug, Drop)]
+/// The digits of a destination, 1 to 15 decimal ones. Contracts see them as a list.
+#[derive(Clone, Copy, Debug, PartialEq, Eq)]
 pub struct Destination {
-    digits: [u8; 15],
-    used: usize,
+    digits: DecimalDigits,
 }
 
 impl Model for Destination {
-    ghost use Rattle.std.specs.Prelude.{ℕ, List, take, ◌≤◌};
-    ghost use Rattle.fp_records.specs.Leads.{IsDestination};
+    ghost use Rattle.std.specs.Prelude.{ℕ, ◌<◌, List, length};
 
     ghost Value = { List ℕ };
 
-    ghost view = { λ destination. take destination.used destination.digits };
+    ghost view = { λ destination. destination.digits };
 
-    ghost invariant = { λ destination. (destination.used ≤ 15) × IsDestination (take destination.used destination.digits) };
+    ghost invariant = { λ destination. 0 < length destination.digits };
+
+    ghost inverse = { λ list. record { digits = list } };
 }
 
 impl Destination {
-    /// The digits, the first one first.
+    /// The digits, each 0 to 9, the first one first.
     pub fn as_slice(&self) -> &[u8]
         ensures value { result.now ≡ self.now }
-        ensures valid { IsDestination self.now }
+        ensures some { 1 ≤ length self.now }
+        ensures most { length self.now ≤ 15 }
+        ensures decimal { All (λ digit. digit < 10) self.now }
     {
-        &self.digits[..self.used]
+        self.digits.as_slice()
     }
 
-    /// The destination that a text is, if it is 1 to 15 decimal digits.
+    /// The destination that a text is, where it is 1 to 15 decimal digits and nothing else.
     pub(crate) fn from_text(text: &[u8]) -> Option<Destination>
-        ensures { MatchOption result ((digits : List ℕ) → IsDestination digits → text.now ≢ text_of digits) (λ destination. (text.now ≡ text_of destination) × IsDestination destination) }
+        ensures { result ≡ some_digits_of text.now }
     {
-        if text.is_empty() || text.len() > MOST_DIGITS {
+        if text.is_empty() {
             return None;
         }
-        let mut digits = [0u8; 15];
-        for (place, octet) in text.iter().enumerate() {
-            if !octet.is_ascii_digit() {
-                return None;
-            }
-            digits[place] = *octet - b'0';
-        }
-        Some(Destination {
-            digits,
-            used: text.len(),
-        })
+        let Some(digits) = DecimalDigits::from_text(text) else {
+            return None;
+        };
+        Some(Destination { digits })
     }
 }

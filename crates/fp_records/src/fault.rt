@@ -12,9 +12,33 @@ pub enum Reason {
     /// The first record is not `key,SERVICEKEY,OFFSET`, or there is none.
     #[error("BadHead")]
     BadHead,
-    /// A rule has fewer than seven fields.
+    /// A rule has fewer than seven fields, or as many destinations as its action does not take.
     #[error("FieldCount")]
     FieldCount,
+    /// The number is not 1 to 15 decimal digits.
+    #[error("BadNumber")]
+    BadNumber,
+    /// The prefix is not 0 to 15 decimal digits.
+    #[error("BadPrefix")]
+    BadPrefix,
+    /// The days are not one or more of the digits 1 to 7, rising.
+    #[error("BadDays")]
+    BadDays,
+    /// A time is not `HH:MM` in its range, or the two are the same.
+    #[error("BadTime")]
+    BadTime,
+    /// The weight is not 1 to 1000.
+    #[error("BadWeight")]
+    BadWeight,
+    /// The action is not `route`, `refuse` or `pass`.
+    #[error("BadAction")]
+    BadAction,
+    /// A destination is not 1 to 15 decimal digits.
+    #[error("BadDestination")]
+    BadDestination,
+    /// There are 100,000 rules, or 1,000 of this number, before it.
+    #[error("TooMany")]
+    TooMany,
 }
 
 /// Why a text is no table.

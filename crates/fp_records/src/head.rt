@@ -1,6 +1,6 @@
 // The first record, `key,SERVICEKEY,OFFSET`.
 
-ghost use Rattle.std.specs.Prelude.{◌≡◌, ◌≢◌, [], ◌∷◌, MatchOption, length};
+ghost use Rattle.std.specs.Prelude.{◌≡◌, ◌≢◌, ◌≤ℤ◌, pos, neg_ℤ, [], ◌∷◌, IfSome, MatchOption, length};
 ghost use Rattle.csv.specs.Records.{fields_of};
 ghost use Rattle.fp_records.specs.Head.{head_of, offset_of};
 
@@ -27,7 +27,9 @@ pub(crate) struct Head {
 
 /// The minutes east of UTC, -720 to 840, that a text writes: decimal digits, behind a `-` or not.
 fn offset_of(text: &[u8]) -> Option<i16>
-    ensures { result ≡ offset_of text.now }
+    ensures value { result ≡ offset_of text.now }
+    ensures west { IfSome result (λ offset. neg_ℤ (pos 720) ≤ℤ offset) }
+    ensures east { IfSome result (λ offset. offset ≤ℤ pos 840) }
 {
     match text {
         [b'-', digits @ ..] => {
@@ -42,7 +44,7 @@ fn offset_of(text: &[u8]) -> Option<i16>
 }
 
 /// The fields of a record that has three.
-#[tactic(auto, using(crate::proofs::Fields::field_within, crate::proofs::Fields::three))]
+#[tactic(auto, using(crate::proofs::Places::field_within, crate::proofs::Places::three))]
 fn three_fields(row: &ByteRecord) -> Option<(&[u8], &[u8], &[u8])>
     ensures { MatchOption result (length (fields_of row.now) ≢ 3) (λ fields. fields_of row.now ≡ fields.0.now ∷ fields.1.now ∷ fields.2.now ∷ []) }
 {
@@ -62,9 +64,11 @@ fn three_fields(row: &ByteRecord) -> Option<(&[u8], &[u8], &[u8])>
 }
 
 /// The head that a record is, if it is one.
-#[tactic(auto, using(crate::proofs::Fields::head_of_others))]
+#[tactic(auto, using(crate::proofs::Places::head_of_others))]
 pub(crate) fn head_of(row: &ByteRecord) -> Option<Head>
-    ensures { result ≡ head_of (fields_of row.now) }
+    ensures value { result ≡ head_of (fields_of row.now) }
+    ensures west { IfSome result (λ head. neg_ℤ (pos 720) ≤ℤ head.offset) }
+    ensures east { IfSome result (λ head. head.offset ≤ℤ pos 840) }
 {
     let Some((name, key, offset)) = three_fields(row) else {
         return None;

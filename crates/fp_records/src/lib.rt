@@ -5,28 +5,48 @@
 //! other record is one rule of a number, `number,prefix,days,from,to,weight,action` and then
 //! destinations.
 //!
-//! The layer is handed the text of the file and an allocator. It never asks the system for a file,
-//! the time or anything else.
+//! The layer is handed the text of the file, an allocator, a called and a calling number and a
+//! moment. It never asks the system for a file, the time or anything else.
 //!
-//! - [`Table`] is the records that were read, with the look-up of a number's destination.
+//! - [`Table`] is the records of a file. [`Table::read`] reads it, and [`Table::find`] finds the
+//!   [`Record`] of a called number by its digits.
+//! - [`Record`] is the rules of one number, and [`Record::choose`] is the [`Rule`] that a call gets:
+//!   by the calling number's prefix, the weekday, the minute and the rules' shares.
 //! - [`RecordsFault`] says why a text is no table: the first faulty record and its [`Reason`], or
 //!   want of memory.
-//! - [`Destination`] is the digits of a destination number, 1 to 15 of them.
 //!
-//! The layer above may rely on this: a table is what the text says and nothing else, a fault names
-//! the first faulty record, and a look-up allocates nothing.
+//! The layer above may rely on this: a table is what the text says and nothing else (`IsTable` of
+//! `specs/Table.antt` and `file_of` of `specs/File.antt`), a fault names the first faulty record,
+//! a choice is `choice` of `specs/Choice.antt`, and only [`Table::read`] takes memory.
 #![tactic(auto)]
 
+mod action;
+mod call;
+mod days;
+mod decimal_digits;
 mod destination;
 mod fault;
+mod fields;
+mod groups;
 mod head;
+mod local_time;
 mod number;
 mod reading;
+mod record;
 mod rule;
 mod table;
 #[cfg(test)]
 mod tests;
+mod weight;
+mod window;
 
-pub use crate::destination::{Destination, MOST_DIGITS};
+pub use crate::action::{Action, Destinations};
+pub use crate::days::Days;
+pub use crate::decimal_digits::DecimalDigits;
+pub use crate::destination::Destination;
 pub use crate::fault::{Reason, RecordsFault};
+pub use crate::record::Record;
+pub use crate::rule::Rule;
 pub use crate::table::Table;
+pub use crate::weight::Weight;
+pub use crate::window::Window;

@@ -1,6 +1,6 @@
 // Plain decimal numbers.
 
-ghost use Rattle.std.specs.Prelude.{◌≡◌, ◌<◌};
+ghost use Rattle.std.specs.Prelude.{◌≡◌, ◌<◌, ◌≤◌, IfSome};
 ghost use Rattle.fp_records.specs.Number.{number_up_to};
 
 /// The number that a text of decimal digits writes, if it is such a text and writes no more than
@@ -8,7 +8,8 @@ ghost use Rattle.fp_records.specs.Number.{number_up_to};
 #[tactic(auto, using(crate::proofs::Digits::up_to_steps))]
 pub(crate) fn number_up_to(most: u64, text: &[u8]) -> Option<u64>
     requires { most < 4294967296 }
-    ensures { result ≡ number_up_to most text.now }
+    ensures value { result ≡ number_up_to most text.now }
+    ensures most { IfSome result (λ number. number ≤ most) }
 {
     if text.is_empty() {
         return None;

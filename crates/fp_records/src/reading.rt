@@ -2,7 +2,7 @@
 
 ghost use Rattle.std.specs.Prelude.{◌≡◌, IfErr, IfOk, map};
 ghost use Rattle.csv.specs.Records.{fields_of};
-ghost use Rattle.fp_records.specs.Contents.{records_of};
+ghost use Rattle.fp_records.specs.File.{records_of};
 ghost use Rattle.fp_records.specs.declared.fault.RecordsFault.TheVariants.{Memory};
 
 use crate::fault::RecordsFault;

@@ -1,49 +1,56 @@
 // The table of the records.
 
-ghost use Rattle.std.specs.Prelude.{◌≡◌, ℕ, List, MatchOption};
+ghost use Rattle.std.specs.Prelude.{◌≡◌, ℕ, List, length, option_map};
+ghost use Rattle.std.specs.Arc.{arc_value};
 
-use crate::destination::Destination;
 use crate::fault::{Reason, RecordsFault};
-use crate::head::{Head, head_of};
+use crate::groups::Groups;
+use crate::head::head_of;
 use crate::reading::records_of;
-use crate::rule::{first_fault, only_rule, plain_destination};
-use csv::ByteRecord;
+use crate::record::Record;
+use fp_digits::Number;
 use std::alloc::Global;
+use std::collections::BTreeMap;
 use std::marker::Model;
+use std::sync::Arc;
 
-/// The records of one service key: each of them, the head first.
+/// The records of one service key. Contracts see it as its `Contents`.
 #[derive(Debug, Drop)]
 pub struct Table {
-    head: Head,
-    records: Vec<ByteRecord>,
+    key: u32,
+    rule_count: u32,
+    records: BTreeMap<Vec<u8>, Arc<Record>>,
 }
 
 impl Model for Table {
-    ghost use Rattle.std.specs.Prelude.{drop, map};
-    ghost use Rattle.csv.specs.Records.{fields_of};
-    ghost use Rattle.fp_records.specs.Contents.{Contents};
+    ghost use Rattle.std.specs.Prelude.{◌≤◌, length, map};
+    ghost use Rattle.std.specs.Arc.{arc_value};
+    ghost use Rattle.fp_records.specs.Table.{Contents};
 
     ghost Value = { Contents };
 
-    ghost view = { λ table. record { key = table.head.key; offset = table.head.offset; rows = map fields_of (drop 1 table.records.items) } };
+    ghost view = { λ table. record { key = table.key; rule_count = table.rule_count; records = map (λ e. (e.0.items, arc_value e.1)) table.records.entries } };
+
+    ghost invariant = { λ table. length table.records.entries ≤ 100000 };
 }
 
 impl Table {
-    ghost use Rattle.fp_records.specs.Contents.{Reads, records_of};
-    ghost use Rattle.fp_records.specs.Leads.{Leads};
+    ghost use Rattle.fp_records.specs.File.{records_of};
+    ghost use Rattle.fp_records.specs.Table.{Reads, record_at};
 
     /// Reads the text of a records file.
     ///
-    /// The fault is the first one from the top: `BadHead` in record 1 where the text has no record
-    /// or its first is not `key,SERVICEKEY,OFFSET` (SERVICEKEY 0 to 2147483647, OFFSET -720 to 840,
-    /// each in plain decimal digits, OFFSET behind a `-` or not), and `FieldCount` in a later record
-    /// of fewer than seven fields. Any error of the CSV reader is want of memory: a text in memory,
-    /// read as records of octets of any length, has no other.
+    /// The fault is the first one from the top, by the number of its record (the first is 1, and empty
+    /// lines are no records) and the first reason that fits it: `BadHead` where record 1 is not
+    /// `key,SERVICEKEY,OFFSET` (0 to 2147483647, and -720 to 840) or the text has no record, and for
+    /// each other record what is wrong with its fields from left to right as far as they are there,
+    /// `FieldCount` behind the action, `BadDestination`, and `TooMany` where 100,000 rules or 1,000 of
+    /// its number stand before it. Want of memory is `Memory`. No table is left then.
     pub fn read(alloc: Global, text: &[u8]) -> Result<Table, RecordsFault>
         ensures { Reads result (records_of text.now) }
     {
         let records = records_of(alloc, text)?;
-        let [first, rules @ ..] = records.as_slice() else {
+        let [first, rows @ ..] = records.as_slice() else {
             return Err(RecordsFault::Record {
                 at: 1,
                 reason: Reason::BadHead,
@@ -55,39 +62,36 @@ impl Table {
                 reason: Reason::BadHead,
             });
         };
-        if let Some(fault) = first_fault(rules) {
-            return Err(fault);
-        }
-        Ok(Table { head, records })
+        let groups = Groups::read(alloc, rows)?;
+        // The records' texts are given back before the table grows.
+        drop(records);
+        Ok(Table {
+            key: head.key,
+            rule_count: groups.count() as u32,
+            records: groups.into_records(alloc, head.offset)?,
+        })
+    }
+
+    /// How many numbers and how many rules there are.
+    pub fn counts(&self) -> (u32, u32)
+        ensures numbers { result.0 ≡ length self.now.records }
+        ensures rules { result.1 ≡ self.now.rule_count }
+    {
+        (self.records.len() as u32, self.rule_count)
     }
 
     /// The service key that the records are for.
     pub fn key(&self) -> u32
         ensures { result ≡ self.now.key }
     {
-        self.head.key
+        self.key
     }
 
-    /// How many minutes local time is east of UTC, from -720 to 840.
-    pub fn offset(&self) -> i16
-        ensures { result ≡ self.now.offset }
+    /// The record of a called number, by its digits alone: the nature of address is not looked at, and
+    /// a digit above 9 is no record's. It takes as many steps as the logarithm of the count of numbers.
+    pub fn find(&self, called: &Number) -> Option<&Arc<Record>>
+        ensures { option_map (λ found. arc_value found.now) result ≡ record_at self.now called.now.digits }
     {
-        self.head.offset
-    }
-
-    /// The destination of a number that needs no choice: where exactly one rule is for the number,
-    /// and that rule is plain, which is to say at every time, for every caller, to one destination.
-    ///
-    /// `called` are digit values. One above 9 is no record's.
-    pub fn plain_destination(&self, called: &[u8]) -> Option<Destination>
-        ensures { MatchOption result ((destination : List ℕ) → Leads self.now.rows called.now destination → ⊥) (λ destination. Leads self.now.rows called.now destination) }
-    {
-        let [_, rules @ ..] = self.records.as_slice() else {
-            return None;
-        };
-        let Some(rule) = only_rule(rules, called) else {
-            return None;
-        };
-        plain_destination(rule)
+        self.records.get(called.digits.as_slice())
     }
 }

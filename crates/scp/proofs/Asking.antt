@@ -1,5 +1,5 @@
 -- A message asks one thing, so where that has no answer the message has none.
-use Rattle.std.proofs.Common.{◌≡◌, ℕ, ℤ, pos, false, List, [], ◌∷◌, length, get_or, map, Option, Some, None, is_some, IfSome, Bor, refl, sym, ◌∙◌, ap, subst, arith, ◌⊎◌, inl, inr, Result, Ok, Err, IfErr, Vec, Global}
+use Rattle.std.proofs.Common.{◌≡◌, ℕ, ℤ, pos, true, false, List, [], ◌∷◌, length, get_or, map, Option, Some, None, is_some, IfSome, Bor, refl, sym, ◌∙◌, ap, subst, arith, ◌⊎◌, inl, inr, Result, Ok, Err, IfErr, Vec, Global}
 use Rattle.fp_ber.specs.Integer.{integer}
 use Rattle.fp_ber.specs.Tree.{Tree}
 use Rattle.fp_ber.specs.View.{tree_of}
@@ -9,13 +9,13 @@ use Rattle.fp_digits.specs.declared.number.Number.{Number}
 use Rattle.fp_inap.specs.declared.initial_dp.InitialDp.{InitialDp}
 use Rattle.fp_inap.specs.InitialDp.{IsInitialDp}
 use Rattle.fp_q773.specs.declared.component.Component.{Component}
-use Rattle.fp_q773.specs.declared.component.Invoke.{Invoke}
-use Rattle.fp_q773.specs.View.{code_of, component_of, invoke_of}
-use Rattle.fp_q773.specs.Value.{ComponentValue, local, begin}
+use Rattle.fp_q773.specs.declared.invoke.Invoke.{Invoke}
+use Rattle.fp_q773.specs.View.{code_of, component_of, invoke_of, tree_in}
+use Rattle.fp_q773.specs.Value.{ComponentValue, MessageValue, local, begin}
 use Rattle.fp_q773.specs.Grammar.{IsMessage}
 use Rattle.fp_q773.proofs.Messages.{message_same}
-use Rattle.fp_records.specs.Contents.{Contents}
-use Rattle.fp_records.specs.Leads.{Leads}
+use Rattle.fp_records.specs.Table.{Contents}
+use Rattle.scp.specs.Plain.{Leads}
 use Rattle.scp.specs.declared.fault.AskFault.{AskFault}
 use Rattle.scp.specs.declared.fault.AskFault.TheVariants.{BadLine, ReadFault, WriteFault, Memory, NotYet}
 use Rattle.scp.specs.Answer.{IsCanonical, IsInvocation, Opens, HasNoAnswer, IsFault}
@@ -44,7 +44,7 @@ pub record SameAsked (k l : ℕ) (m n : Number) : Type 0 where
 -- a Begin asks one thing
 opens_same : (t : Tree) (c d : List ℕ) (k l : ℕ) (m n : Number) → Opens t c k m → Opens t d l n → SameAsked k l m n
 opens_same t c d k l m n g h =
-    let messages = message_same t (begin c (g.component ∷ [])) (begin d (h.component ∷ [])) g.is_begin h.is_begin in
+    let messages = message_same t (begin c None (g.component ∷ [])) (begin d None (h.component ∷ [])) g.is_begin h.is_begin in
     let components : g.component ≡ h.component = cc in
     let invocations = sym g.is_invocation.1 ∙ components ∙ h.is_invocation.1 in
     let arguments : g.argument ≡ h.argument = cc in
@@ -76,13 +76,34 @@ one_component [] c is h = absurd (omega arith)
 one_component (x ∷ []) c is h = ap (λ (z : Component). component_of z ∷ []) (sym is)
 one_component (x ∷ y ∷ cs) c is h = absurd (omega arith)
 
+-- no dialogue portion is there, by a test
+pub no_portion : (p : Option (Bor Element)) → is_some p ≡ false → tree_in p ≡ None
+no_portion None h = refl
+no_portion (Some x) h = cc
+
+-- a dialogue portion is there, by a test
+pub some_portion : (p : Option (Bor Element)) → is_some p ≡ true → tree_in p ≡ None → ⊥
+some_portion None h is = cc
+some_portion (Some x) h is = cc
+
+-- a list that isn't of one component
+pub not_one : (cs : List Component) (v : ComponentValue) → (length cs ≡ 1 → ⊥) → map component_of cs ≡ v ∷ [] → ⊥
+not_one [] v h is = cc
+not_one (x ∷ []) v h is = h refl
+not_one (x ∷ y ∷ cs) v h is = cc
+
 -- the one component of what was read is the one that is asked about
-pub invoked : (t : Tree) (o : List ℕ) (cs : List Component) (c : Component) (caller : List ℕ) (key : ℕ) (called : Number)
-    → IsMessage t (begin o (map component_of cs)) → c ≡ get_or cs 0 c → (h : Opens t caller key called) → IsInvocation (component_of c) h.argument
-invoked t o cs c caller key called found is h =
-    let messages = message_same t (begin o (map component_of cs)) (begin caller (h.component ∷ [])) found h.is_begin in
-    let components : map component_of cs ≡ h.component ∷ [] = cc in
-    subst (λ v. IsInvocation v h.argument) (sym (component_at cs c h.component is components)) h.is_invocation
+pub invoked : (t : Tree) (o : List ℕ) (v : ComponentValue) (caller : List ℕ) (key : ℕ) (called : Number)
+    → IsMessage t (begin o None (v ∷ [])) → (h : Opens t caller key called) → IsInvocation v h.argument
+invoked t o v caller key called found h =
+    let messages = message_same t (begin o None (v ∷ [])) (begin caller None (h.component ∷ [])) found h.is_begin in
+    let components : v ≡ h.component = cc in
+    subst (λ z. IsInvocation z h.argument) (sym components) h.is_invocation
+
+-- a Begin that asks has one component and no dialogue portion
+pub asks_alone : (t : Tree) (v : MessageValue) (caller : List ℕ) (key : ℕ) (called : Number) → IsMessage t v → (h : Opens t caller key called)
+    → v ≡ begin caller None (h.component ∷ [])
+asks_alone t v caller key called found h = message_same t v (begin caller None (h.component ∷ [])) found h.is_begin
 
 -- an invocation has one argument
 pub invoked_same : (v : ComponentValue) (s t : Tree) → IsInvocation v s → IsInvocation v t → s ≡ t
@@ -96,6 +117,10 @@ AsksNothing t = (caller : List ℕ) (key : ℕ) (called : Number) → Opens t ca
 abbrev pub SpellsNothing : List ℕ → Type 0
 SpellsNothing octets = (t : Tree) → IsCanonical octets t → ⊥
 
+-- an element that is no Begin asks nothing
+pub begins_nothing : (t : Tree) → ((o : List ℕ) (d : Option Tree) (cs : List ComponentValue) → IsMessage t (begin o d cs) → ⊥) → AsksNothing t
+begins_nothing t none caller key called h = none caller None (h.component ∷ []) h.is_begin
+
 -- octets that are no element have no answer
 pub none_spelled : (table : Contents) (octets : List ℕ) → SpellsNothing octets → HasNoAnswer table octets
 none_spelled table octets none caller called destination asks leads = none asks.element asks.is_canonical
@@ -108,11 +133,11 @@ none_asked table octets t is none caller called destination asks leads =
 
 -- what leads nowhere has no answer
 pub none_leads : (table : Contents) (octets : List ℕ) (t : Tree) (c : List ℕ) (k : ℕ) (m : Number) → IsCanonical octets t → Opens t c k m
-    → ((destination : List ℕ) → k ≡ table.key → Leads table.rows m.digits destination → ⊥) → HasNoAnswer table octets
+    → ((destination : List ℕ) → k ≡ table.key → Leads table m.digits destination → ⊥) → HasNoAnswer table octets
 none_leads table octets t c k m is opens none caller called destination asks leads =
     let same = canonical_same octets asks.element t asks.is_canonical is in
     let asked = opens_same t c caller k table.key m called opens (subst (λ z. Opens z caller table.key called) same asks.opens) in
-    none destination asked.keys (subst (λ (z : Number). Leads table.rows z.digits destination) (sym asked.called) leads)
+    none destination asked.keys (subst (λ (z : Number). Leads table z.digits destination) (sym asked.called) leads)
 
 -- a fault by one fact is one by another that follows
 pub fault_by : (f : AskFault) (P Q : Type 0) → (P → Q) → IsFault f P → IsFault f Q

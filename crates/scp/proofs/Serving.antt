@@ -6,7 +6,7 @@ use Rattle.std.specs.Io.KnownBytes.{Appends, Consumes, IsAtEnd, Keeps, prepend_k
 use Rattle.std.proofs.lemmas.List.Concat.{flat_map-append}
 use Rattle.std.proofs.lemmas.List.Elements.{All-nil, All-push}
 use Rattle.hex.specs.Hex.{decode_of}
-use Rattle.fp_records.specs.Contents.{Contents}
+use Rattle.fp_records.specs.Table.{Contents}
 use Rattle.scp.specs.Answer.{Answers}
 use Rattle.scp.specs.Input.{GivesLine, TakesLine}
 use Rattle.scp.specs.declared.fault.AskFault.{AskFault}

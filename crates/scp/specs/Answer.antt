@@ -11,8 +11,8 @@ use Rattle.fp_inap.specs.declared.operation.Operation.TheVariants as operations
 use Rattle.fp_inap.specs.InitialDp.{IsInitialDp}
 use Rattle.fp_inap.specs.Operation.{code_of}
 use Rattle.fp_inap.specs.Connect.{connect}
-use Rattle.fp_records.specs.Contents.{Contents}
-use Rattle.fp_records.specs.Leads.{Leads}
+use Rattle.fp_records.specs.Table.{Contents}
+use Rattle.scp.specs.Plain.{Leads}
 use Rattle.scp.specs.declared.fault.AskFault.{AskFault}
 use Rattle.scp.specs.declared.fault.AskFault.TheVariants.{Memory, NotYet}
 
@@ -28,12 +28,12 @@ abbrev pub IsInvocation : ComponentValue → Tree → Type 0
 IsInvocation component argument =
     (identifier : ℤ) × (component ≡ invoke identifier None (local (code_of operations.InitialDp)) (Some argument))
 
--- a Begin of this caller, whose one component is an Invoke of InitialDP with this service key and this called number
+-- a Begin of this caller without dialogue portion, whose one component is an Invoke of InitialDP with this service key and this called number
 pub record Opens (element : Tree) (caller : List ℕ) (key : ℕ) (called : Number) : Type 0 where
   pub component : ComponentValue
   pub argument : Tree
   pub dp : InitialDp
-  pub is_begin : IsMessage element (begin caller (component ∷ []))
+  pub is_begin : IsMessage element (begin caller None (component ∷ []))
   pub is_invocation : IsInvocation component argument
   pub is_argument : IsInitialDp argument dp
   pub is_key : dp.key ≡ Some key
@@ -45,10 +45,10 @@ pub record Asks (message : List ℕ) (caller : List ℕ) (key : ℕ) (called : N
   pub is_canonical : IsCanonical message element
   pub opens : Opens element caller key called
 
--- an End for this caller that holds Connect, as invocation 1, with this destination
+-- an End for this caller without dialogue portion that holds Connect, as invocation 1, with this destination
 abbrev pub IsConnect : List ℕ → List ℕ → List ℕ → Type 0
 IsConnect text caller destination =
-    (element : Tree) × Spells text element × IsMessage element (end caller (invoke (pos 1) None (local (code_of operations.Connect)) (Some (connect destination)) ∷ []))
+    (element : Tree) × Spells text element × IsMessage element (end caller None (invoke (pos 1) None (local (code_of operations.Connect)) (Some (connect destination)) ∷ []))
 
 -- the message asks under the key of the table, the plain rule of the called number leads to a destination,
 -- and the text is the answer that connects the caller to it
@@ -57,13 +57,13 @@ pub record Answers (table : Contents) (message text : List ℕ) : Type 0 where
   pub called : Number
   pub destination : List ℕ
   pub asks : Asks message caller table.key called
-  pub leads : Leads table.rows called.digits destination
+  pub leads : Leads table called.digits destination
   pub connects : IsConnect text caller destination
 
 -- no message asks that, or no plain rule leads anywhere
 abbrev pub HasNoAnswer : Contents → List ℕ → Type 0
 HasNoAnswer table message =
-    (caller : List ℕ) (called : Number) (destination : List ℕ) → Asks message caller table.key called → Leads table.rows called.digits destination → ⊥
+    (caller : List ℕ) (called : Number) (destination : List ℕ) → Asks message caller table.key called → Leads table called.digits destination → ⊥
 
 -- a fault of one message: what it asks has no answer so far, or memory ran out
 abbrev pub IsFault : AskFault → Type 0 → Type 0

@@ -2,7 +2,7 @@
 use Rattle.std.specs.Prelude.{◌≡◌, ◌≢◌, ℕ, ◌+◌, ◌⊎◌, List, [], ◌∷◌, ◌++◌, length, All, Option, Some, IfSome}
 use Rattle.std.specs.List.{flat_map}
 use Rattle.std.specs.Io.KnownBytes.{Appends}
-use Rattle.fp_records.specs.Contents.{Contents}
+use Rattle.fp_records.specs.Table.{Contents}
 use Rattle.scp.specs.Answer.{Answers}
 use Rattle.scp.specs.Line.{IsLineFault, message, line_in, answer_line}
 use Rattle.scp.specs.declared.fault.AskFault.{AskFault}

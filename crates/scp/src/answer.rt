@@ -1,6 +1,6 @@
 //! The answer to one message: from its octets to those of the answer.
 
-ghost use Rattle.std.specs.Prelude.{◌≡◌, ◌⊎◌, List, ℕ, ℤ, Some, None, IfOk, IfErr, IfSome, IfNone};
+ghost use Rattle.std.specs.Prelude.{◌≡◌, ◌≢◌, ◌⊎◌, List, [], ◌∷◌, ℕ, ℤ, Option, Some, None, IfOk, IfErr, IfSome, IfNone};
 ghost use Rattle.fp_ber.specs.Tree.{Tree};
 ghost use Rattle.fp_ber.specs.View.{tree_of};
 ghost use Rattle.fp_ber.specs.Tree.{HasTags};
@@ -11,16 +11,18 @@ ghost use Rattle.fp_inap.specs.declared.operation.Operation.TheVariants as opera
 ghost use Rattle.fp_inap.specs.Operation.{code_of};
 ghost use Rattle.fp_q773.specs.Tid.{octets_of};
 ghost use Rattle.fp_q773.specs.Value as value;
-ghost use Rattle.fp_q773.specs.View.{invoke_of, component_of};
-ghost use Rattle.fp_records.specs.Leads.{Leads, IsDestination};
+ghost use Rattle.fp_q773.specs.Grammar.{IsMessage};
+ghost use Rattle.fp_q773.specs.View.{begin_of, invoke_of, component_of};
+ghost use Rattle.scp.specs.Plain.{Leads};
 ghost use Rattle.scp.specs.Answer.{IsCanonical, IsInvocation, Opens, IsConnect, Answers, HasNoAnswer, IsFault};
 
 use crate::fault::AskFault;
+use crate::plain::plain_destination;
 use fp_ber::{BerFault, Element, read, write};
 use fp_digits::Number;
 use fp_inap::{Operation, read_initial_dp, write_connect};
 use fp_q773::{
-    Code, Component, End, Invoke, Message, MessageFault, Tid, message_of, write_message,
+    Begin, Code, Component, End, Invoke, Message, MessageFault, Tid, message_of, write_message,
 };
 use fp_records::{Destination, Table};
 use std::alloc::{AllocError, Global};
@@ -91,33 +93,64 @@ fn argument_in<'a>(component: &Component<'a>) -> Option<&'a Element>
     argument_of(invoke)
 }
 
+/// The Begin that an element is.
+fn begin_in(alloc: Global, element: &Element) -> Result<Begin<'_>, AskFault>
+    ensures found { IfOk result (λ b. IsMessage (tree_of element.now) (begin_of b)) }
+    ensures fault { IfErr result (λ fault. IsFault fault
+        ((originating : List ℕ) (dialogue : Option Tree) (components : List value.ComponentValue)
+        → IsMessage (tree_of element.now) (value.begin originating dialogue components) → ⊥)) }
+{
+    let message = match message_of(alloc, element) {
+        Ok(message) => message,
+        Err(MessageFault::Memory) => return Err(AskFault::Memory),
+        Err(MessageFault::UnknownMessage) => return Err(AskFault::NotYet),
+        Err(MessageFault::Badly) => return Err(AskFault::NotYet),
+    };
+    let Message::Begin(begin) = message else {
+        return Err(AskFault::NotYet);
+    };
+    Ok(begin)
+}
+
+/// The one component of a Begin without dialogue portion.
+fn only_component<'a, 'b>(begin: &'b Begin<'a>) -> Option<&'b Component<'a>>
+    ensures some { IfSome result (λ component.
+        begin_of begin.now ≡ value.begin (octets_of begin.now.originating) None (component_of component.now ∷ [])) }
+    ensures none { IfNone result ((originating : List ℕ) (component : value.ComponentValue)
+        → begin_of begin.now ≢ value.begin originating None (component ∷ [])) }
+{
+    if begin.dialogue.is_some() {
+        return None;
+    }
+    let [component, rest @ ..] = begin.components.as_slice() else {
+        return None;
+    };
+    if !rest.is_empty() {
+        return None;
+    }
+    Some(component)
+}
+
 /// What an element asks, if it is a Begin with one Invoke of InitialDP.
 fn asked_by(alloc: Global, element: &Element) -> Result<Asked, AskFault>
     ensures found { IfOk result (λ asked. Opens (tree_of element.now) (octets_of asked.caller) asked.key asked.called) }
     ensures fault { IfErr result (λ fault. IsFault fault
         ((caller : List ℕ) (key : ℕ) (called : SpecNumber) → Opens (tree_of element.now) caller key called → ⊥)) }
 {
-    let message = match message_of(alloc, element) {
-        Ok(message) => message,
-        Err(MessageFault::Memory) => return Err(AskFault::Memory),
-        Err(MessageFault::Badly) => return Err(AskFault::NotYet),
-    };
-    let Message::Begin(begin) = message else {
+    let begin = begin_in(alloc, element)?;
+    let Some(component) = only_component(&begin) else {
         return Err(AskFault::NotYet);
     };
-    let [component, rest @ ..] = begin.components.as_slice() else {
-        return Err(AskFault::NotYet);
-    };
-    if !rest.is_empty() {
-        return Err(AskFault::NotYet);
-    }
     let Some(argument) = argument_in(component) else {
         return Err(AskFault::NotYet);
     };
     let Ok(dp) = read_initial_dp(argument) else {
         return Err(AskFault::NotYet);
     };
-    let (Some(key), Some(called)) = (dp.key, dp.called) else {
+    let Some(key) = dp.key else {
+        return Err(AskFault::NotYet);
+    };
+    let Some(called) = dp.called else {
         return Err(AskFault::NotYet);
     };
     Ok(Asked {
@@ -130,14 +163,14 @@ fn asked_by(alloc: Global, element: &Element) -> Result<Asked, AskFault>
 /// Where the plain rule of the called number leads, if the service key is the table's.
 fn destination_of(table: &Table, asked: &Asked) -> Option<Destination>
     ensures some { IfSome result (λ destination. (asked.now.key ≡ table.now.key)
-        × Leads table.now.rows asked.now.called.digits destination) }
+        × Leads table.now asked.now.called.digits destination) }
     ensures none { IfNone result ((destination : List ℕ) → asked.now.key ≡ table.now.key
-        → Leads table.now.rows asked.now.called.digits destination → ⊥) }
+        → Leads table.now asked.now.called.digits destination → ⊥) }
 {
     if asked.key != table.key() {
         return None;
     }
-    table.plain_destination(asked.called.digits.as_slice())
+    plain_destination(table, &asked.called)
 }
 
 /// The octets that spell an element canonically.
@@ -152,11 +185,10 @@ fn spelling_of(alloc: Global, element: &Element) -> Result<Vec<u8>, AllocError>
 }
 
 /// The octets of an End that connects a caller to a destination.
-fn connect_to(alloc: Global, caller: Tid, destination: &[u8]) -> Result<Vec<u8>, AllocError>
-    requires { IsDestination destination.now }
-    ensures { IfOk result (λ text. IsConnect text.items (octets_of caller) destination.now) }
+fn connect_to(alloc: Global, caller: Tid, destination: Destination) -> Result<Vec<u8>, AllocError>
+    ensures { IfOk result (λ text. IsConnect text.items (octets_of caller) destination) }
 {
-    let argument = write_connect(alloc, destination)?;
+    let argument = write_connect(alloc, destination.as_slice())?;
     let invoke = Invoke {
         identifier: 1,
         linked: None,
@@ -167,6 +199,7 @@ fn connect_to(alloc: Global, caller: Tid, destination: &[u8]) -> Result<Vec<u8>,
     components.push(Component::Invoke(invoke))?;
     let end = End {
         destination: caller,
+        dialogue: None,
         components,
     };
     let element = write_message(alloc, &Message::End(end))?;
@@ -203,6 +236,6 @@ fn answer_of(alloc: Global, table: &Table, message: &[u8]) -> Result<Vec<u8>, As
     let Some(destination) = destination_of(table, &asked) else {
         return Err(AskFault::NotYet);
     };
-    let text = connect_to(alloc, asked.caller, destination.as_slice())?;
+    let text = connect_to(alloc, asked.caller, destination)?;
     Ok(text)
 }

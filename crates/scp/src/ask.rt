@@ -9,6 +9,7 @@ ghost use Rattle.scp.specs.Served.{Serves, Stops};
 use crate::answer::answer;
 use crate::fault::AskFault;
 use crate::line::{Line, line_of, read_line};
+use crate::output::write_text;
 use fp_digits::Moment;
 use fp_records::Table;
 use std::alloc::{AllocError, Global};
@@ -73,10 +74,7 @@ fn write_answer<W: Write>(alloc: Global, octets: &[u8], output: &mut W) -> Resul
     ensures fault { IfErr result (λ fault. (fault ≡ AskFault.WriteFault) ⊎ ((fault ≡ AskFault.Memory) × Keeps (W.contents output.old) (W.contents output.new))) }
 {
     let text = text_of(alloc, octets)?;
-    if output.write_all(text.as_bytes()).is_err() || output.flush().is_err() {
-        return Err(AskFault::WriteFault);
-    }
-    Ok(())
+    write_text(text.as_str(), output)
 }
 
 // The line of an answer with these octets: hexadecimal digits in upper case, and a line feed.

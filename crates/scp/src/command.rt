@@ -13,6 +13,11 @@ use std::alloc::{AllocError, Global};
 /// What the words of a command line ask for.
 #[derive(Debug, Drop)]
 pub enum Asked<'a> {
+    /// What the records of a file hold.
+    Check {
+        /// The path of the file.
+        records: &'a str,
+    },
     /// Answers from the records of a file, at a moment.
     Ask {
         /// The path of the file.
@@ -26,6 +31,9 @@ pub enum Asked<'a> {
     Refused(String),
 }
 
+// The name of the subcommand that counts.
+const CHECK: &str = "check";
+
 /// What the words ask for. The first of them names the program.
 pub fn asked_by<'a>(alloc: Global, words: &'a [String]) -> Result<Asked<'a>, AllocError> {
     let command = match command(alloc) {
@@ -36,11 +44,14 @@ pub fn asked_by<'a>(alloc: Global, words: &'a [String]) -> Result<Asked<'a>, All
         Ok(matches) => matches,
         Err(error) => return told_by(alloc, &error),
     };
-    let Some((_, ask)) = matches.subcommand() else {
+    let Some((name, chosen)) = matches.subcommand() else {
         return Ok(Asked::Refused(String::new(alloc)));
     };
-    let records = ask.get_str("RECORDS").unwrap_or("");
-    let moment = ask.get_str("MOMENT").unwrap_or("");
+    let records = chosen.get_str("RECORDS").unwrap_or("");
+    if name == CHECK {
+        return Ok(Asked::Check { records });
+    }
+    let moment = chosen.get_str("MOMENT").unwrap_or("");
     Ok(Asked::Ask { records, moment })
 }
 
@@ -57,11 +68,18 @@ fn told_by<'a>(alloc: Global, error: &Error) -> Result<Asked<'a>, AllocError> {
     }
 }
 
+// The argument that names the file of the records.
+fn records<'a>(alloc: Global) -> Arg<'a> {
+    Arg::new(alloc, "RECORDS")
+        .required(true)
+        .help("The file of the number translation records")
+}
+
 // The command line that there is.
 fn command<'a>(alloc: Global) -> Result<Command<'a>, AllocError> {
-    let records = Arg::new(alloc, "RECORDS")
-        .required(true)
-        .help("The file of the number translation records");
+    let check = Command::new(alloc, CHECK)
+        .about("Reads a file of records and tells how many numbers and rules it has")
+        .arg(records(alloc))?;
     let moment = Arg::new(alloc, "MOMENT").required(true).help(
         "The instant at which the messages come, as 2024-05-06T12:00:00Z",
     );
@@ -71,12 +89,13 @@ fn command<'a>(alloc: Global) -> Result<Command<'a>, AllocError> {
         .help("Application contexts, which have no effect yet");
     let ask = Command::new(alloc, "ask")
         .about("Answers the TCAP messages of standard input, one line of hexadecimal text each")
-        .arg(records)?
+        .arg(records(alloc))?
         .arg(moment)?
         .arg(contexts)?;
     Command::new(alloc, "scp")
         .about("A service control point for freephone numbers")
         .subcommand_required(true)
+        .subcommand(check)?
         .subcommand(ask)
 }
 

@@ -1,18 +1,21 @@
 //! `scp`, a service control point for freephone numbers: it answers TCAP messages from a file of
 //! number translation records.
 //!
-//! `scp ask RECORDS MOMENT` reads one message a line from standard input, as hexadecimal text, and
-//! writes the answer to each as one line of hexadecimal text. Standard output has the answers,
-//! standard error at most one line that says why the run ended. The status is 0 where all went well,
-//! 1 behind such a line, and 2 where the command line was refused.
+//! `scp check RECORDS` tells how many numbers and rules a file of records has. `scp ask RECORDS MOMENT`
+//! reads one message a line from standard input, as hexadecimal text, and writes the answer to each as
+//! one line of hexadecimal text. Standard output has the answers, standard error at most one line that
+//! says why the run ended. The status is 0 where all went well, 1 behind such a line, and 2 where the
+//! command line was refused.
 //!
 //! This is the outermost layer. It alone asks the system for words, files and input.
 //!
 //! * `command` reads the words of the command line, and the moment among them.
 //! * `program` takes one run from the words to the status, over any files, reader and writers.
+//! * `check` tells what the records hold.
 //! * `ask` answers the lines of an input, in their order, each as soon as it has been read.
 //! * `line` reads one line, of bounded length, and says what it asks for.
-//! * `answer` answers one message.
+//! * `answer` answers one message, `plain` finds the destination that it names.
+//! * `output` writes a text.
 //! * `fault` has the faults and their texts.
 //!
 //! Proved here: what a line says, both ways; which octets a line takes from an input whose octets are
@@ -22,9 +25,12 @@
 
 mod answer;
 mod ask;
+mod check;
 mod command;
 mod fault;
 mod line;
+mod output;
+mod plain;
 mod program;
 #[cfg(test)]
 mod tests;

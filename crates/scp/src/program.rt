@@ -4,8 +4,10 @@ ghost use Rattle.std.specs.Prelude.{◌≡◌, ◌≤◌, is_ok, if◌then◌els
 ghost use Rattle.scp.specs.Served.{Serves};
 
 use crate::ask::ask;
+use crate::check::check;
 use crate::command::{Asked, asked_by, moment_of};
 use crate::fault::{AskFault, RunFault};
+use crate::output::write_text;
 use fp_digits::Moment;
 use fp_records::Table;
 use std::io::{BufReader, ErrorKind, Read, Write};
@@ -27,6 +29,7 @@ where
     ensures { result ≤ 2 }
 {
     let outcome = match asked_by(rt.alloc(), words) {
+        Ok(Asked::Check { records }) => check_file(rt, records, output),
         Ok(Asked::Ask { records, moment }) => run(rt, records, moment, input, output),
         Ok(Asked::Help(text)) => show(text.as_str(), output),
         Ok(Asked::Refused(text)) => {
@@ -40,7 +43,8 @@ where
 
 /// Says on `errors` why the words could not be had, and returns the status.
 pub fn refuse_words<E: Write>(error: &io::Error, errors: &mut E) -> u8
-    ensures { result ≤ 2 }
+    ensures least { 1 ≤ result }
+    ensures most { result ≤ 2 }
 {
     if error.kind() == ErrorKind::OutOfMemory {
         return status_of(Err(RunFault::Ask(AskFault::Memory)), errors);
@@ -63,9 +67,18 @@ fn status_of<E: Write>(outcome: Result<(), RunFault>, errors: &mut E) -> u8
 }
 
 fn show<W: Write>(text: &str, output: &mut W) -> Result<(), RunFault> {
-    if output.write_all(text.as_bytes()).is_err() || output.flush().is_err() {
-        return Err(RunFault::Ask(AskFault::WriteFault));
-    }
+    write_text(text, output)?;
+    Ok(())
+}
+
+// Tells what the records of a file hold.
+fn check_file<H: Files + AllocGlobal, W: Write>(
+    rt: &H,
+    records: &str,
+    output: &mut W,
+) -> Result<(), RunFault> {
+    let table = table_in(rt, records)?;
+    check(rt.alloc(), &table, output)?;
     Ok(())
 }
 

@@ -141,6 +141,10 @@ fn answers_nothing_else_yet(rt: HostRuntime) -> Result<(), Fail> {
         "61026C00",
         "660648040000002A",
         "622D48040000002A6C25",
+        // With a dialogue portion, without components, and with two.
+        "624948040000002A6B1A2818060700118605010101A00D600B80020780A10506032A03046C25A123020101020100301B80016482078310081032540683078313032143650785010A9C0103",
+        "620648040000002A",
+        "625248040000002A6C4AA123020101020100301B80016482078310081032540683078313032143650785010A9C0103A123020101020100301B80016482078310081032540683078313032143650785010A9C0103",
         // The Begin with indefinite lengths.
         "628048040000002A6C80A180020101020100308080016482078310081032540683078313032143650785010A9C01030000000000000000",
         // A number with two destinations, one to refuse, one to pass, one of no record, and another key.
@@ -165,6 +169,43 @@ fn answers_nothing_else_yet(rt: HostRuntime) -> Result<(), Fail> {
         assert_eq!(rt; run.errors.as_str(), fault);
     }
     fs::remove_file(&rt, records.as_str())?;
+    Ok(())
+}
+
+#[test]
+fn checks_records(rt: HostRuntime) -> Result<(), Fail> {
+    let table = [
+        (RECORDS, "numbers 4 rules 4\n", ""),
+        ("key,1,0\n", "numbers 0 rules 0\n", ""),
+        // Two rules of one number, and another number.
+        (
+            "key,1,0\n1,,1,00:00,24:00,1,pass\n2,,1,00:00,24:00,1,pass\n1,,2,00:00,24:00,1,pass\n",
+            "numbers 2 rules 3\n",
+            "",
+        ),
+        ("", "", "record 1: BadHead\n"),
+        (
+            "key,100,60\n800123456,,1224567,00:00,24:00,1,route,302223344\n",
+            "",
+            "record 2: BadDays\n",
+        ),
+        (
+            "key,100,60\n\n8,,1,00:00,24:00,1,pass\n\n8,,1,00:00,24:00,0,pass\n",
+            "",
+            "record 3: BadWeight\n",
+        ),
+    ];
+    for (text, output, errors) in table {
+        let records = file_with(&rt, "check.csv", text)?;
+        let run = run_with(&rt, "check RECORDS", records.as_str(), b"62\n".as_slice())?;
+        assert_eq!(rt; run.output.as_str(), output, "{text}");
+        assert_eq!(rt; run.errors.as_str(), errors, "{text}");
+        assert_eq!(rt; run.status, if errors.is_empty() { 0 } else { 1 }, "{text}");
+        fs::remove_file(&rt, records.as_str())?;
+    }
+    let run = run_with(&rt, "check no/such/file", "", b"".as_slice())?;
+    assert_eq!(rt; run.errors.as_str(), "records: cannot be read\n");
+    assert_eq!(rt; run.status, 1);
     Ok(())
 }
 
@@ -205,10 +246,13 @@ fn reads_words_moments_and_records(rt: HostRuntime) -> Result<(), Fail> {
     let shown = [
         ("--help", 0),
         ("ask --help", 0),
+        ("check --help", 0),
         ("help", 0),
         ("", 2),
         ("ask", 2),
         ("ask RECORDS", 2),
+        ("check", 2),
+        ("check RECORDS RECORDS", 2),
         ("ask RECORDS 2024-05-06T12:00:00Z --no-such-option", 2),
         ("no-such-subcommand", 2),
     ];
@@ -300,6 +344,8 @@ fn ends_at_output_that_fails(rt: HostRuntime) -> Result<(), Fail> {
     let table = [
         (AT_NOON, 7, true, "641D490"),
         (AT_NOON, 100, false, "#\n"),
+        ("check RECORDS", 7, true, "numbers"),
+        ("check RECORDS", 100, false, "numbers 4 rules 4\n"),
         ("--help", 3, true, "A s"),
     ];
     for (line, room, is_flushed, written) in table {

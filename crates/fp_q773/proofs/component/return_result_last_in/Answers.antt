@@ -1,0 +1,6 @@
+-- Other contents make a mistyped component.
+use Rattle.fp_q773.proofs.Rows.{mistyped_return_result_last}
+use Rattle.fp_q773.proofs.component.return_result_last_in.Goals as goal
+
+pub returns-in_default : goal.returns-in_default
+returns-in_default c = mistyped_return_result_last _ _ c.in_default.ensures.none c.mistyped.ensures

@@ -1,0 +1,25 @@
+-- What holds of all messages, and of all octets.
+use Rattle.std.specs.Prelude.{◌≡◌, ℕ, List, Option}
+use Rattle.fp_ber.specs.Tree.{Tree}
+use Rattle.fp_q773.specs.declared.kind.Kind.{Kind}
+use Rattle.fp_q773.specs.Value.{MessageValue, ComponentValue}
+use Rattle.fp_q773.specs.Grammar.{IsMessage, IsComponent}
+use Rattle.fp_q773.specs.Ids.{AreIds}
+
+-- an element is at most one message
+abbrev pub MessagesAreOne : Type 0
+MessagesAreOne = (t : Tree) (x y : MessageValue) → IsMessage t x → IsMessage t y → x ≡ y
+
+-- an element is at most one component
+abbrev pub ComponentsAreOne : Type 0
+ComponentsAreOne = (t : Tree) (x y : ComponentValue) → IsComponent t x → IsComponent t y → x ≡ y
+
+-- the same kind and the same identifiers
+pub record SameIds (k l : Kind) (a b c d : Option (List ℕ)) : Type 0 where
+  pub kinds : k ≡ l
+  pub originating : a ≡ b
+  pub destination : c ≡ d
+
+-- octets tell one kind and one identifier of each sort
+abbrev pub IdsAreOne : Type 0
+IdsAreOne = (octets : List ℕ) (k l : Kind) (a b c d : Option (List ℕ)) → AreIds octets k a c → AreIds octets l b d → SameIds k l a b c d

@@ -1,0 +1,18 @@
+//! What holds of all messages, and of all octets.
+
+ghost use Rattle.fp_q773.specs.Laws.{MessagesAreOne, ComponentsAreOne, IdsAreOne};
+
+/// An element is at most one message.
+pub fn messages_are_one()
+    ensures { MessagesAreOne }
+{}
+
+/// An element is at most one component.
+pub fn components_are_one()
+    ensures { ComponentsAreOne }
+{}
+
+/// Octets tell one kind of message and one identifier of each sort.
+pub fn ids_are_one()
+    ensures { IdsAreOne }
+{}

@@ -1,0 +1,55 @@
+//! Transaction identifiers in a message (Q.773, 4.2.1.3).
+
+ghost use Rattle.std.specs.Prelude.{◌≡◌, ℕ, List, IfOk, IfSome, IfNone};
+ghost use Rattle.fp_ber.specs.declared.element.Class.TheVariants as classes;
+ghost use Rattle.fp_ber.specs.Tree as tree;
+ghost use Rattle.fp_ber.specs.View.{tree_of, forest_of};
+ghost use Rattle.fp_q773.specs.Tid.{octets_of, IsTid};
+ghost use Rattle.fp_q773.specs.Grammar.{IsTransaction};
+
+use crate::members::split_first;
+use crate::tid::Tid;
+use fp_ber::{Class, Element};
+use std::alloc::{AllocError, Global};
+
+/// The number of the application tag of an originating transaction identifier.
+pub const ORIGINATING: u16 = 8;
+/// The number of the application tag of a destination transaction identifier.
+pub const DESTINATION: u16 = 9;
+
+/// A transaction identifier, and the elements behind it.
+#[derive(Clone, Copy)]
+pub struct Transaction<'a> {
+    pub identifier: Tid,
+    pub rest: &'a [Element],
+}
+
+/// Takes off the transaction identifier that stands first, with the tag of this number.
+pub fn transaction_at(members: &[Element], number: u16) -> Option<Transaction<'_>>
+    ensures some { IfSome result (λ t. IsTransaction (forest_of members.now) number (octets_of t.identifier) (forest_of t.rest.now)) }
+    ensures none { IfNone result ((octets : List ℕ) (rest : tree.Trees)
+        → IsTransaction (forest_of members.now) number octets rest → ⊥) }
+{
+    let Some(split) = split_first(members) else {
+        return None;
+    };
+    let Some(octets) = split.first.octets_with_tag(Class::Application, number) else {
+        return None;
+    };
+    let Some(identifier) = Tid::new(octets) else {
+        return None;
+    };
+    Some(Transaction {
+        identifier,
+        rest: split.rest,
+    })
+}
+
+/// The element of a transaction identifier, with the tag of this number.
+pub fn write_transaction(alloc: Global, identifier: Tid, number: u16) -> Result<Element, AllocError>
+    ensures value { IfOk result (λ element. tree_of element ≡ tree.primitive classes.Application number (octets_of identifier)) }
+    ensures size { IsTid (octets_of identifier) }
+{
+    let octets = Vec::from_slice(alloc, identifier.as_slice())?;
+    Ok(Element::primitive(Class::Application, number, octets))
+}

@@ -1,0 +1,36 @@
+-- Entries in the order of their keys, as contracts see them.
+use Rattle.std.proofs.Common.{◌≡◌, ℕ, List, [], ◌∷◌, ◌++◌, refl, ap, ◌∙◌}
+use Rattle.std.specs.BTreeMap.{insert_entry}
+use Rattle.std.specs.Cmp.Lexicographic.{slice_cmp, nat_list_cmp_total}
+use Rattle.std.specs.List.{AllByRecursion}
+use Rattle.std.specs.List.Sorted.{IsStrictlySortedBy}
+use Rattle.std.specs.Map.{keys_of}
+use Rattle.std.specs.Ordering.{nat_cmp, ordering_reverse}
+use Rattle.std.specs.declared.cmp.Ordering.TheVariants.{Less, Greater}
+use Rattle.fp_records.proofs.Lookups.{seen}
+
+all_above : {K X Y : Type 0} (digits_of : K → List ℕ) (shown : X → Y) (key : K) (entries : List (K × X))
+    → AllByRecursion (λ other. slice_cmp nat_cmp (digits_of key) (digits_of other) ≡ Less) (keys_of entries)
+    → AllByRecursion (λ other. slice_cmp nat_cmp (digits_of key) other ≡ Less) (keys_of (seen digits_of shown entries))
+all_above digits_of shown key [] above = above
+all_above digits_of shown key (entry ∷ entries) above = (above.0, all_above digits_of shown key entries above.1)
+
+pub once-seen : {K X Y : Type 0} (digits_of : K → List ℕ) (shown : X → Y) (entries : List (K × X))
+    → IsStrictlySortedBy (λ a b. slice_cmp nat_cmp (digits_of a) (digits_of b)) (keys_of entries) → IsStrictlySortedBy (slice_cmp nat_cmp) (keys_of (seen digits_of shown entries))
+unfolding IsStrictlySortedBy
+once-seen digits_of shown [] sorted = sorted
+once-seen digits_of shown (entry ∷ entries) sorted = (all_above digits_of shown entry.0 entries sorted.0, once-seen digits_of shown entries sorted.1)
+
+above_last : (key last : List ℕ) (keys rest : List (List ℕ)) → AllByRecursion (λ other. slice_cmp nat_cmp key other ≡ Less) (keys ++ last ∷ rest) → slice_cmp nat_cmp key last ≡ Less
+above_last key last [] rest above = above.0
+above_last key last (other ∷ keys) rest above = above_last key last keys rest above.1
+
+-- a key above the others goes behind them
+pub insert_entry-last : {X : Type 0} (entries : List (List ℕ × X)) (key : List ℕ) (value : X) (rest : List (List ℕ)) → IsStrictlySortedBy (slice_cmp nat_cmp) (keys_of entries ++ key ∷ rest)
+    → insert_entry (slice_cmp nat_cmp) entries key value ≡ entries ++ (key, value) ∷ []
+unfolding IsStrictlySortedBy
+insert_entry-last [] key value rest sorted = refl
+insert_entry-last (entry ∷ entries) key value rest sorted =
+    let below = above_last entry.0 key (keys_of entries) rest sorted.0 in
+    let above : slice_cmp nat_cmp key entry.0 ≡ Greater = nat_list_cmp_total.antisymm key entry.0 ∙ ap ordering_reverse below in
+    rw (above, insert_entry-last entries key value rest sorted.1) refl

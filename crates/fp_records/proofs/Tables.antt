@@ -1,0 +1,50 @@
+-- The records made of the groups are the table of the file.
+use Rattle.std.proofs.Common.{◌≡◌, ℕ, ℤ, List, [], ◌∷◌, Bool, true, false, ◌≤◌, cond, drop, get_or, length, Option, Some, Ok, map, option_map, refl, ap, ◌∙◌, arith}
+use Rattle.std.specs.Prelude.{bytes_eq}
+use Rattle.std.specs.Map.{keys_of, lookup}
+use Rattle.csv.specs.Records.{Row, fields_of}
+use Rattle.fp_records.specs.Choice.{Rules}
+use Rattle.fp_records.specs.File.{rules_from, rules_of}
+use Rattle.fp_records.specs.Groups.{Grouped, Groups, record_of_group, some_rules}
+use Rattle.fp_records.specs.Head.{head_of}
+use Rattle.fp_records.specs.Table.{Contents, Reads, record_with}
+use Rattle.fp_records.specs.declared.fields.NumberedRule.{NumberedRule}
+use Rattle.fp_records.specs.declared.head.Head.{Head}
+use Rattle.fp_records.specs.declared.rule.Rule.{Rule}
+
+keys-records : (offset : ℤ) (groups : List (List ℕ × List Rule)) → keys_of (map (record_of_group offset) groups) ≡ keys_of groups
+keys-records offset [] = refl
+keys-records offset (group ∷ groups) = ap (λ keys. group.0 ∷ keys) (keys-records offset groups)
+
+lookup-records : (offset : ℤ) (digits : List ℕ) (groups : List (List ℕ × List Rule))
+    → lookup (bytes_eq digits) (map (record_of_group offset) groups) ≡ option_map (λ rules. record { offset = offset; rules = rules }) (lookup (bytes_eq digits) groups)
+lookup-records offset digits [] = refl
+lookup-records offset digits (group ∷ groups) = rw (lookup-records offset digits groups) (by (bytes_eq digits group.0) (lookup (bytes_eq digits) groups))
+  where
+    by : (here : Bool) (found : Option (List Rule)) → cond here (Some (record { offset = offset; rules = group.1 })) (option_map (λ rules. record { offset = offset; rules = rules }) found)
+        ≡ option_map {U = Rules} (λ rules. record { offset = offset; rules = rules }) (cond here (Some group.1) found)
+    by true found = refl
+    by false found = refl
+
+record_with-some : (offset : ℤ) (rules : List Rule) → option_map {U = Rules} (λ them. record { offset = offset; rules = them }) (some_rules rules) ≡ record_with offset rules
+record_with-some offset [] = refl
+record_with-some offset (rule ∷ rules) = refl
+
+pub reads : (first : List (List ℕ)) (rows : List (List (List ℕ))) (head : Head) (rules : List NumberedRule) (grouped : Grouped) (contents : Contents)
+    → head_of first ≡ Some head → rules_from [] rows ≡ Ok rules → Groups rules grouped → contents.key ≡ head.key → contents.rule_count ≡ grouped.count
+    → contents.records ≡ map (record_of_group head.offset) grouped.groups → Reads (Ok contents) (first ∷ rows)
+reads first rows head rules grouped contents is_head read holds key count records = (
+  record { key = head.key; offset = head.offset; rules = rules },
+  rw (is_head, read) refl,
+  record {
+    key = key;
+    rule_count = count ∙ holds.count;
+    each = λ digits. rw (records, lookup-records head.offset digits grouped.groups, holds.each digits) (record_with-some head.offset (rules_of digits rules));
+    once = rw (records, keys-records head.offset grouped.groups) holds.once;
+  },
+)
+
+-- the first record and those behind it
+pub rows-first : (rows : List Row) (first : Row) → 1 ≤ length rows → first ≡ get_or rows 0 first → map fields_of rows ≡ fields_of first ∷ map fields_of (drop 1 rows)
+rows-first [] first some is = absurd (omega arith)
+rows-first (row ∷ rows) first some is = rw is refl

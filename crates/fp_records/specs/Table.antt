@@ -1,0 +1,38 @@
+-- A table of records, and when it is that of a file.
+use Rattle.std.specs.Prelude.{◌≡◌, ℕ, ℤ, List, [], ◌∷◌, Option, Some, None, Result, Ok, Err, bytes_eq, length}
+use Rattle.std.specs.List.Sorted.{IsStrictlySortedBy}
+use Rattle.std.specs.Cmp.Lexicographic.{slice_cmp}
+use Rattle.std.specs.Ordering.{nat_cmp}
+use Rattle.std.specs.Map.{keys_of, lookup}
+use Rattle.fp_records.specs.Choice.{Rules}
+use Rattle.fp_records.specs.File.{Fails, File, file_of, rules_of}
+use Rattle.fp_records.specs.declared.fault.RecordsFault.{RecordsFault}
+use Rattle.fp_records.specs.declared.rule.Rule.{Rule}
+
+-- the service key, how many rules there are, and each number with its record
+pub record Contents : Type 0 where
+  pub key : ℕ
+  pub rule_count : ℕ
+  pub records : List (List ℕ × Rules)
+
+-- the record of a number, by its digits alone
+abbrev pub record_at : Contents → List ℕ → Option Rules
+record_at contents digits = lookup (bytes_eq digits) contents.records
+
+-- the record with these rules, none where there are none
+abbrev pub record_with : ℤ → List Rule → Option Rules
+record_with offset [] = None
+record_with offset (rule ∷ rules) = Some (record { offset = offset; rules = rule ∷ rules })
+
+-- a table is that of a file: the record of any digits is that of the rules of that number, and each number stands
+-- there once, in rising order
+pub record IsTable (file : File) (contents : Contents) : Type 0 where
+  pub key : contents.key ≡ file.key
+  pub rule_count : contents.rule_count ≡ length file.rules
+  pub each : (digits : List ℕ) → record_at contents digits ≡ record_with file.offset (rules_of digits file.rules)
+  pub once : IsStrictlySortedBy (slice_cmp nat_cmp) (keys_of contents.records)
+
+-- an answer is what these records come to, want of memory aside
+abbrev pub Reads : Result Contents RecordsFault → List (List (List ℕ)) → Type 0
+Reads (Ok contents) rows = (file : File) × (file_of rows ≡ Ok file) × IsTable file contents
+Reads (Err fault) rows = Fails fault (file_of rows)

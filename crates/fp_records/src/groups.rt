@@ -1,0 +1,164 @@
+// The rules of a file by their numbers, while it is read.
+
+ghost use Rattle.std.specs.Prelude.{◌≡◌, ℕ, ℤ, ◌≤◌, ◌≤ℤ◌, pos, neg_ℤ, IsTrue, List, [], IfErr, IfOk, OnErr, OnOk, MatchResult, Ok, bytes_eq, length, map};
+ghost use Rattle.std.specs.Cmp.Lexicographic.{slice_cmp};
+ghost use Rattle.std.specs.List.Sorted.{IsStrictlySortedBy};
+ghost use Rattle.std.specs.Map.{keys_of, remove_entry};
+ghost use Rattle.std.specs.Ordering.{nat_cmp};
+ghost use Rattle.fp_records.specs.Listed.{listed, with_value};
+ghost use Rattle.std.specs.Arc.{arc_value};
+ghost use Rattle.csv.specs.Records.{fields_of};
+ghost use Rattle.fp_records.specs.File.{Fails, rules_from};
+ghost use Rattle.fp_records.specs.declared.fault.RecordsFault.TheVariants.{Memory};
+ghost use Rattle.fp_records.specs.declared.fields.NumberedRule.{NumberedRule};
+
+use crate::decimal_digits::DecimalDigits;
+use crate::fault::{Reason, RecordsFault};
+use crate::fields::{NumberedRule, numbered_in};
+use crate::record::Record;
+use crate::rule::KeptRule;
+use csv::ByteRecord;
+use std::alloc::Global;
+use std::collections::BTreeMap;
+use std::marker::Model;
+use std::sync::Arc;
+
+/// The most rules of a file.
+const MOST_RULES: usize = 100_000;
+
+/// The most rules of a number.
+const MOST_OF_NUMBER: usize = 1_000;
+
+/// The rules that were read so far, by the digits of their numbers.
+#[derive(Debug, Drop)]
+pub(crate) struct Groups {
+    count: usize,
+    groups: BTreeMap<Vec<u8>, Vec<KeptRule>>,
+}
+
+impl Model for Groups {
+    ghost use Rattle.std.specs.Prelude.{map};
+    ghost use Rattle.fp_records.specs.Groups.{Grouped, IsGrouped};
+
+    ghost Value = { Grouped };
+
+    ghost view = { λ a. record { count = a.count; groups = map (λ e. (e.0.items, e.1.items)) a.groups.entries } };
+
+    ghost invariant = { λ a. IsGrouped (record { count = a.count; groups = map (λ e. (e.0.items, e.1.items)) a.groups.entries }) };
+}
+
+impl Groups {
+    ghost use Rattle.fp_records.specs.Groups.{Adds, Groups as Holds, group_of, has_room, record_of_group};
+
+    /// The rules of records, the first of which is record 2, or the first of their faults.
+    pub(crate) fn read(alloc: Global, rows: &[ByteRecord]) -> Result<Groups, RecordsFault>
+        ensures { MatchResult result (λ groups. (rules : List NumberedRule) × (rules_from [] (map fields_of rows.now) ≡ Ok rules) × Holds rules groups) (λ fault. Fails fault (rules_from [] (map fields_of rows.now))) }
+    {
+        let mut groups = Groups::new(alloc);
+        for row in rows {
+            let at = groups.count + 2;
+            let numbered = match numbered_in(row) {
+                Ok(numbered) => numbered,
+                Err(reason) => return Err(RecordsFault::Record { at, reason }),
+            };
+            if !groups.has_room(&numbered.number) {
+                let reason = Reason::TooMany;
+                return Err(RecordsFault::Record { at, reason });
+            }
+            groups.add(alloc, &numbered)?;
+        }
+        Ok(groups)
+    }
+
+    // No rules.
+    fn new(alloc: Global) -> Groups
+        ensures { Holds [] result }
+    {
+        Groups {
+            count: 0,
+            groups: BTreeMap::new(alloc),
+        }
+    }
+
+    /// How many rules there are.
+    pub(crate) fn count(&self) -> usize
+        ensures value { result ≡ self.now.count }
+        ensures most { result ≤ 100000 }
+    {
+        self.count
+    }
+
+    // Whether a rule of this number is within the limits.
+    fn has_room(&self, number: &DecimalDigits) -> bool
+        ensures { result ≡ has_room self.now number.now }
+    {
+        self.count < MOST_RULES && self.count_of(number) < MOST_OF_NUMBER
+    }
+
+    // How many rules a number has.
+    fn count_of(&self, number: &DecimalDigits) -> usize
+        ensures { result ≡ length (group_of number.now self.now) }
+    {
+        match self.groups.get(number.as_slice()) {
+            Some(rules) => rules.as_slice().len(),
+            None => 0,
+        }
+    }
+
+    // Puts a rule behind those of its number, for which there is room.
+    fn add(&mut self, alloc: Global, numbered: &NumberedRule) -> Result<(), RecordsFault>
+        requires { IsTrue (has_room self.old numbered.now.number) }
+        ensures added { OnOk result (Adds self.old numbered.now self.new) }
+        ensures fault { IfErr result (λ fault. fault ≡ Memory) }
+    {
+        push_at(
+            &mut self.groups,
+            alloc,
+            numbered.number.as_slice(),
+            KeptRule::new(numbered.rule),
+        )?;
+        self.count += 1;
+        Ok(())
+    }
+
+    /// The record of each number, with local time so many minutes east of UTC.
+    pub(crate) fn into_records(
+        self,
+        alloc: Global,
+        offset: i16,
+    ) -> Result<BTreeMap<Vec<u8>, Arc<Record>>, RecordsFault>
+        requires west { neg_ℤ (pos 720) ≤ℤ offset }
+        requires east { offset ≤ℤ pos 840 }
+        ensures records { IfOk result (λ records. map (λ e. (e.0.items, arc_value e.1)) records.entries ≡ map (record_of_group offset) self.groups) }
+        ensures most { IfOk result (λ records. length records.entries ≤ 100000) }
+        ensures fault { IfErr result (λ fault. fault ≡ Memory) }
+    {
+        let mut records = BTreeMap::new(alloc);
+        for (number, rules) in self.groups {
+            let record = Arc::new(alloc, Record::new(offset, rules))?;
+            records.insert(number, record)?;
+        }
+        Ok(records)
+    }
+}
+
+// Puts a value behind the others of the list at a number.
+fn push_at<T: Drop>(
+    lists: &mut BTreeMap<Vec<u8>, Vec<T>>,
+    alloc: Global,
+    number: &[u8],
+    value: T,
+) -> Result<(), RecordsFault>
+    ensures entries { OnOk result (listed lists.new.entries ≡ with_value (listed lists.old.entries) number.now value) }
+    ensures refused { OnErr result (listed lists.new.entries ≡ remove_entry (bytes_eq number.now) (listed lists.old.entries)) }
+    ensures once { OnOk result (IsStrictlySortedBy (slice_cmp nat_cmp) (keys_of (listed lists.new.entries))) }
+    ensures fault { IfErr result (λ fault. fault ≡ Memory) }
+{
+    let mut list = match lists.remove(number) {
+        Some(list) => list,
+        None => Vec::with_capacity(alloc, 1)?,
+    };
+    list.push(value)?;
+    lists.insert(Vec::from_slice(alloc, number)?, list)?;
+    Ok(())
+}

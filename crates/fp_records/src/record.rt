@@ -1,0 +1,169 @@
+// The rules of a number, and the choice among them.
+
+ghost use Rattle.std.specs.Prelude.{◌≡◌, ◌≤◌, ◌+◌, ℕ, filter, length, max, option_map, ◌≢◌, [], ◌∷◌, IfNone, IfSome};
+ghost use Rattle.jiff_core.specs.Weekday.{monday_zero};
+ghost use Rattle.fp_records.specs.Choice.{IsRules, by_share, calling_digits, choice, first_above, fits, longest_prefix, most_exact, of_length, total_weight};
+ghost use Rattle.fp_records.specs.Share.{total_with};
+
+use crate::call::Call;
+use crate::local_time::local_time;
+use crate::rule::{KeptRule, Rule};
+use fp_digits::{Moment, Number};
+use std::marker::Model;
+
+/// The rules of one number, at least one and at most 1,000, in the order of the file. Contracts see
+/// it as its `Rules`.
+#[derive(Debug, Drop)]
+pub struct Record {
+    offset: i16,
+    rules: Vec<KeptRule>,
+}
+
+impl Model for Record {
+    ghost use Rattle.fp_records.specs.Choice.{IsRules, Rules};
+
+    ghost Value = { Rules };
+
+    ghost view = { λ record_of. record { offset = record_of.offset; rules = record_of.rules.items } };
+
+    ghost invariant = { λ record_of. IsRules (record { offset = record_of.offset; rules = record_of.rules.items }) };
+}
+
+// The longest prefix of the rules that fit, and the sum of the weights of those that have it.
+#[derive(Clone, Copy, Debug)]
+struct Share {
+    longest: usize,
+    total: u64,
+}
+
+impl Record {
+    /// The record of these rules, at most 1,000, with local time so many minutes east of UTC.
+    pub(crate) fn new(offset: i16, rules: Vec<KeptRule>) -> Record
+        requires { IsRules (record { offset = offset; rules = rules.items }) }
+        ensures { result ≡ record { offset = offset; rules = rules.items } }
+    {
+        Record { offset, rules }
+    }
+
+    /// The rule of a number that has just one, and `None` where it has more.
+    pub fn only_rule(&self) -> Option<&Rule>
+        ensures some { IfSome result (λ rule. self.now.rules ≡ rule.now ∷ []) }
+        ensures none { IfNone result (length self.now.rules ≢ 1) }
+    {
+        let [kept, rest @ ..] = self.rules.as_slice() else {
+            return None;
+        };
+        if !rest.is_empty() {
+            return None;
+        }
+        Some(kept.rule())
+    }
+
+    /// The rule that a call gets, `None` where no rule fits.
+    ///
+    /// A rule fits when its prefix begins the calling digits (where there is no calling number, only
+    /// the empty prefix does), its days have the weekday and its window holds the minute of the
+    /// moment, both in local time. Of the rules that fit those of the longest prefix are kept, in the
+    /// file's order. With weights `w1..wk` of sum `W`, the first of them with
+    /// `w1 + .. + wi > birth mod W` is the choice.
+    pub fn choose(&self, calling: Option<&Number>, moment: Moment, birth: u64) -> Option<&Rule>
+        ensures { option_map (λ rule. rule.now) result ≡ choice self.now (calling_digits calling.entry) moment birth }
+    {
+        let call = Call {
+            calling: calling_digits(calling),
+            time: local_time(moment, self.offset),
+        };
+        chosen(self.rules.as_slice(), &call, birth)
+    }
+}
+
+// The digits of a calling number, none where there is none.
+fn calling_digits(calling: Option<&Number>) -> &[u8]
+    ensures { result.now ≡ calling_digits calling.entry }
+{
+    match calling {
+        Some(number) => number.digits.as_slice(),
+        None => &[],
+    }
+}
+
+// The rule that a call gets.
+fn chosen<'a>(rules: &'a [KeptRule], call: &Call<'_>, birth: u64) -> Option<&'a Rule>
+    requires { length rules.now ≤ 1000 }
+    ensures { option_map (λ rule. rule.now) result ≡ by_share birth (most_exact (filter (fits call.now.calling.now (monday_zero call.now.time.weekday + 1) call.now.time.minute) rules.now)) }
+{
+    let share = share_of(rules, call);
+    if share.total == 0 {
+        return None;
+    }
+    rule_at(rules, call, share.longest, birth % share.total)
+}
+
+// The share of the rules that fit a call.
+fn share_of(rules: &[KeptRule], call: &Call<'_>) -> Share
+    requires { length rules.now ≤ 1000 }
+    ensures longest { result.longest ≡ longest_prefix (filter (fits call.now.calling.now (monday_zero call.now.time.weekday + 1) call.now.time.minute) rules.now) }
+    ensures total { result.total ≡ total_weight (of_length result.longest (filter (fits call.now.calling.now (monday_zero call.now.time.weekday + 1) call.now.time.minute) rules.now)) }
+{
+    let mut share = Share {
+        longest: 0,
+        total: 0,
+    };
+    for kept in rules {
+        let rule = kept.rule();
+        if call.fits(rule) {
+            share = share.with(rule);
+        }
+    }
+    share
+}
+
+impl Share {
+    // The share with one more rule that fits.
+    fn with(self, rule: &Rule) -> Share
+        requires { self.total ≤ 999000 }
+        ensures longest { result.longest ≡ max self.longest (length rule.now.prefix) }
+        ensures total { result.total ≡ total_with self.longest self.total rule.now }
+        ensures most { result.total ≤ self.total + 1000 }
+    {
+        let length = rule.prefix.len();
+        let weight = u64::from(rule.weight.parts());
+        if length > self.longest {
+            Share {
+                longest: length,
+                total: weight,
+            }
+        } else if length == self.longest {
+            Share {
+                longest: length,
+                total: self.total + weight,
+            }
+        } else {
+            self
+        }
+    }
+}
+
+// The first rule that fits and has the longest prefix at which the sum of the weights goes above the
+// draw.
+fn rule_at<'a>(
+    rules: &'a [KeptRule],
+    call: &Call<'_>,
+    longest: usize,
+    draw: u64,
+) -> Option<&'a Rule>
+    requires { length rules.now ≤ 1000 }
+    ensures { option_map (λ rule. rule.now) result ≡ first_above draw 0 (of_length longest (filter (fits call.now.calling.now (monday_zero call.now.time.weekday + 1) call.now.time.minute) rules.now)) }
+{
+    let mut before = 0;
+    for kept in rules {
+        let rule = kept.rule();
+        if call.fits(rule) && rule.prefix.len() == longest {
+            before += u64::from(rule.weight.parts());
+            if draw < before {
+                return Some(rule);
+            }
+        }
+    }
+    None
+}

@@ -1,0 +1,28 @@
+//! What a records file holds, told in one line.
+
+ghost use Rattle.std.specs.Prelude.{◌≡◌, ◌⊎◌, IfErr, IfOk, OnOk, string_bytes};
+ghost use Rattle.std.specs.Io.KnownBytes.{Appends};
+ghost use Rattle.scp.specs.Counts.{counts_line};
+
+use crate::fault::AskFault;
+use crate::output::write_text;
+use fp_records::Table;
+use std::alloc::{AllocError, Global};
+use std::io::Write;
+
+/// Writes how many numbers and how many rules a table has: `numbers N rules M` and a line feed.
+pub fn check<W: Write>(alloc: Global, table: &Table, output: &mut W) -> Result<(), AskFault>
+    ensures written { OnOk result (Appends (W.contents output.old) (W.contents output.new) (counts_line table.now)) }
+    ensures fault { IfErr result (λ fault. (fault ≡ AskFault.WriteFault) ⊎ (fault ≡ AskFault.Memory)) }
+{
+    let text = text_of(alloc, table)?;
+    write_text(text.as_str(), output)
+}
+
+// The line that tells what a table has.
+fn text_of(alloc: Global, table: &Table) -> Result<String, AllocError>
+    ensures { IfOk result (λ text. string_bytes text ≡ counts_line table.now) }
+{
+    let (numbers, rules) = table.counts();
+    format!(in alloc; "numbers {numbers} rules {rules}\n")
+}
