@@ -1,0 +1,4 @@
+pub mod Free
+pub mod Least
+pub mod Padding
+pub mod Sound

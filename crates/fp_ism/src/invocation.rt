@@ -1,0 +1,41 @@
+//! An active invocation.
+
+ghost use Rattle.std.specs.Prelude.{◌≡◌, ◌<◌, ◌≤◌, pos};
+ghost use Rattle.fp_ism.specs.Due.{time_limit};
+ghost use Rattle.fp_ism.specs.Identifier.{identifier_after};
+
+use fp_q773::OperationClass;
+
+/// An active invocation.
+#[derive(Clone, Copy, Debug, PartialEq, Eq)]
+pub(crate) struct Invocation {
+    /// The invoke identifier.
+    pub(crate) identifier: i8,
+    /// The class of the operation.
+    pub(crate) class: OperationClass,
+    /// The moment at which it is due, in milliseconds since 1970-01-01T00:00:00Z.
+    pub(crate) due: u64,
+}
+
+/// How many identifiers there are: 1 to this.
+pub(crate) const IDENTIFIERS: u8 = 127;
+
+/// How long, in milliseconds, an invocation of an operation of this class stays active.
+pub(crate) fn time_limit_of(class: OperationClass) -> u64
+    ensures value { result ≡ time_limit class }
+    ensures range { result ≤ 10000 }
+{
+    match class {
+        OperationClass::Class1 | OperationClass::Class2 | OperationClass::Class3 => 10_000,
+        OperationClass::Class4 => 5_000,
+    }
+}
+
+/// The identifier so many steps behind the successor of this one, 127 being followed by 1.
+pub(crate) fn identifier_after(last: u8, step: u8) -> i8
+    requires last { last ≤ IDENTIFIERS }
+    requires step { step < IDENTIFIERS }
+    ensures { result ≡ pos (identifier_after last step) }
+{
+    ((last + step) % IDENTIFIERS + 1) as i8
+}
