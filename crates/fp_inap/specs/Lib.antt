@@ -1,3 +1,10 @@
 pub mod Connect
+pub mod Event
+pub mod EventReport
 pub mod InitialDp
+pub mod Members
 pub mod Operation
+pub mod OperationError
+pub mod ReleaseCall
+pub mod RequestReport
+pub mod View

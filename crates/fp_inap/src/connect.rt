@@ -8,13 +8,13 @@ ghost use Rattle.fp_digits.specs.NatureOfAddress.{national};
 ghost use Rattle.fp_digits.specs.Number.{number_of};
 ghost use Rattle.fp_inap.specs.Connect.{connect};
 
-use crate::initial_dp::SEQUENCE;
+use crate::members::SEQUENCE;
 use fp_ber::{Class, Element};
 use fp_digits::write_called;
 use std::alloc::{AllocError, Global};
 
 /// The number of the universal tag of an octet string.
-const OCTET_STRING: u16 = 4;
+pub(crate) const OCTET_STRING: u16 = 4;
 
 /// The number of the context tag of destinationRoutingAddress.
 const DESTINATION_ROUTING_ADDRESS: u16 = 0;

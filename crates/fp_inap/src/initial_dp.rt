@@ -1,17 +1,14 @@
-ghost use Rattle.std.specs.Prelude.{◌≡◌, ◌∷◌, [], ℕ, List, pos, IfOk, IfErr};
-ghost use Rattle.fp_ber.specs.declared.element.Class.TheVariants as classes;
-ghost use Rattle.fp_ber.specs.Integer.{integer};
-ghost use Rattle.fp_ber.specs.Tree as tree;
-ghost use Rattle.fp_ber.specs.View.{tree_of, forest_of};
+ghost use Rattle.std.specs.Prelude.{◌≡◌, ◌∷◌, [], ℕ, List, Option, pos, Ok, IfOk, IfErr};
+ghost use Rattle.fp_ber.specs.View.{tree_of};
 ghost use Rattle.fp_inap.specs.declared.initial_dp.InitialDp.{InitialDp};
-ghost use Rattle.fp_inap.specs.InitialDp.{IsInitialDp};
+ghost use Rattle.fp_inap.specs.InitialDp.{IsInitialDp, IsKey, number_in};
+ghost use Rattle.fp_inap.specs.View.{octets_in};
 
-use fp_ber::{Class, Element, integer_of};
+use crate::event::Event;
+use crate::members::{Members, octet_in};
+use crate::mistyped::Mistyped;
+use fp_ber::{Element, integer_of};
 use fp_digits::{Number, read_called, read_calling};
-use thiserror::Error;
-
-/// The number of the universal tag of a sequence.
-pub(crate) const SEQUENCE: u16 = 16;
 
 /// The numbers of the context tags of the members.
 const SERVICE_KEY: u16 = 0;
@@ -36,94 +33,76 @@ pub struct InitialDp {
     /// The calling party's category (Q.763, 3.11).
     pub category: Option<u8>,
     /// The detection point at which the call stands, eventTypeBCSM.
-    pub event: Option<u8>,
+    pub event: Option<Event>,
 }
-
-/// The element is not the argument of the operation.
-#[derive(Clone, Copy, Debug, PartialEq, Eq, Error)]
-#[error("mistyped argument")]
-pub struct Mistyped;
 
 /// What the argument of InitialDP says (after ITU-T Q.1218). Takes no memory.
 ///
-/// The argument is a sequence of exactly these five members, in this order, each primitive: serviceKey, tag
-/// 0, an integer of one to four octets, not negative; calledPartyNumber, tag 2; callingPartyNumber, tag 3;
-/// callingPartysCategory, tag 5, one octet; eventTypeBCSM, tag 28, one octet. Any other element is
-/// [`Mistyped`]. A number whose octets hold none, as [`read_called`] says, is no error: it is absent.
+/// The argument is a sequence of members with context tags, in any order, among them at most once each, and
+/// primitive: serviceKey, tag 0, an integer of one to four octets, not negative; calledPartyNumber, tag 2;
+/// callingPartyNumber, tag 3; callingPartysCategory, tag 5, one octet; eventTypeBCSM, tag 28, one octet.
+/// Members with other context tags are passed over. Any other element is [`Mistyped`]. A number whose octets
+/// hold none, as [`read_called`] says, is no error: it is absent.
 pub fn read_initial_dp(argument: &Element) -> Result<InitialDp, Mistyped>
     ensures ok { IfOk result (IsInitialDp (tree_of argument.now)) }
     ensures only { (dp : InitialDp) → IsInitialDp (tree_of argument.now) dp → result ≡ Ok dp }
 {
-    let [key, called, calling, category, event] = members_of(argument)? else {
-        return Err(Mistyped);
-    };
-    let key = key_in(octets_of(key, SERVICE_KEY)?)?;
-    let called = octets_of(called, CALLED_PARTY_NUMBER)?;
-    let calling = octets_of(calling, CALLING_PARTY_NUMBER)?;
-    let category = octet_in(octets_of(category, CALLING_PARTYS_CATEGORY)?)?;
-    let event = octet_in(octets_of(event, EVENT_TYPE_BCSM)?)?;
+    initial_dp_of(argument)
+}
+
+/// What the argument of InitialDP says, as [`read_initial_dp`] says.
+fn initial_dp_of(argument: &Element) -> Result<InitialDp, Mistyped>
+    ensures ok { IfOk result (IsInitialDp (tree_of argument.now)) }
+    ensures err { IfErr result (λ _. (dp : InitialDp) → IsInitialDp (tree_of argument.now) dp → ⊥) }
+{
+    let members = Members::of_sequence(argument)?;
+    let key = key_in(members.octets(SERVICE_KEY)?)?;
+    let called = members.octets(CALLED_PARTY_NUMBER)?;
+    let calling = members.octets(CALLING_PARTY_NUMBER)?;
+    let category = octet_in(members.octets(CALLING_PARTYS_CATEGORY)?)?;
+    let event = octet_in(members.octets(EVENT_TYPE_BCSM)?)?;
     Ok(InitialDp {
-        key: Some(key),
-        called: read_called(called).ok(),
-        calling: read_calling(calling).ok(),
-        category: Some(category),
-        event: Some(event),
+        key,
+        called: called_in(called),
+        calling: calling_in(calling),
+        category,
+        event: event.map(Event::from_code),
     })
 }
 
-/// The members of a sequence.
-fn members_of(argument: &Element) -> Result<&[Element], Mistyped>
-    ensures ok { IfOk result (λ members.
-        tree_of argument.now ≡ tree.constructed classes.Universal 16 (forest_of members.now)) }
-    ensures err { IfErr result (λ _. (members : tree.Trees)
-        → tree_of argument.now ≡ tree.constructed classes.Universal 16 members → ⊥) }
+/// The integer that these octets hold, where it is not negative, if anything is there.
+fn key_in(octets: Option<&[u8]>) -> Result<Option<u32>, Mistyped>
+    ensures ok { IfOk result (IsKey (octets_in octets.entry)) }
+    ensures err { IfErr result (λ _. (key : Option ℕ) → IsKey (octets_in octets.entry) key → ⊥) }
 {
-    if argument.class != Class::Universal || argument.number != SEQUENCE {
-        return Err(Mistyped);
-    }
-    let Some(members) = argument.children() else {
-        return Err(Mistyped);
+    let Some(octets) = octets else {
+        return Ok(None);
     };
-    Ok(members)
-}
-
-/// The octets of a primitive member with this context tag.
-fn octets_of(member: &Element, number: u16) -> Result<&[u8], Mistyped>
-    ensures ok { IfOk result (λ octets.
-        tree_of member.now ≡ tree.primitive classes.Context number octets.now) }
-    ensures err { IfErr result (λ _. (octets : List ℕ)
-        → tree_of member.now ≡ tree.primitive classes.Context number octets → ⊥) }
-{
-    if member.class != Class::Context || member.number != number {
-        return Err(Mistyped);
-    }
-    let Some(octets) = member.octets() else {
-        return Err(Mistyped);
-    };
-    Ok(octets)
-}
-
-/// The integer that these octets hold, where it is not negative.
-fn key_in(octets: &[u8]) -> Result<u32, Mistyped>
-    ensures ok { IfOk result (λ key. integer octets.now ≡ Some (pos key)) }
-    ensures err { IfErr result (λ _. (key : ℕ) → integer octets.now ≡ Some (pos key) → ⊥) }
-{
     let Some(key) = integer_of(octets) else {
         return Err(Mistyped);
     };
     if key < 0 {
         return Err(Mistyped);
     }
-    Ok(key as u32)
+    Ok(Some(key as u32))
 }
 
-/// The one octet that there is.
-fn octet_in(octets: &[u8]) -> Result<u8, Mistyped>
-    ensures ok { IfOk result (λ octet. octets.now ≡ octet ∷ []) }
-    ensures err { IfErr result (λ _. (octet : ℕ) → octets.now ≡ octet ∷ [] → ⊥) }
+/// The called party number in these octets, if they hold one.
+fn called_in(octets: Option<&[u8]>) -> Option<Number>
+    ensures { result ≡ number_in (octets_in octets.entry) }
 {
-    let [octet] = octets else {
-        return Err(Mistyped);
+    let Some(octets) = octets else {
+        return None;
     };
-    Ok(*octet)
+    read_called(octets).ok()
+}
+
+/// The calling party number in these octets, if they hold one.
+fn calling_in(octets: Option<&[u8]>) -> Option<Number>
+    ensures { result ≡ number_in (octets_in octets.entry) }
+{
+    let Some(octets) = octets else {
+        return None;
+    };
+    read_calling(octets).ok()
 }

@@ -5,27 +5,47 @@
 //! [`Element`](fp_ber::Element): this layer never sees octets of a message. It asks the system for nothing
 //! but the memory of what it writes; reading takes none.
 //!
-//! * [`Operation`] names the operations, and is the one place of their codes.
-//! * [`InitialDp`] is what the argument of InitialDP says: the service key, the called and the calling
-//!   party number (Q.763, 3.9 and 3.10), the calling party's category (Q.763, 3.11) and the detection
-//!   point. [`read_initial_dp`] reads it.
-//! * [`write_connect`] writes the argument of Connect, with one destination.
+//! * [`Operation`] and [`OperationError`] name the operations and their errors, and are the one place of
+//!   their codes and classes; [`Event`], [`MonitorMode`] and [`Leg`] name what the arguments speak of.
+//! * [`InitialDp`] and [`EventReport`] are what the arguments of InitialDP and EventReportBCSM say;
+//!   [`read_initial_dp`] and [`read_event_report`] read them.
+//! * [`write_connect`], [`write_release`] and [`write_request_report`] write arguments, and
+//!   [`write_continue`] the whole Invoke of Continue, which has none.
 //!
 //! The names are the Recommendation's. The codes, classes, tags, orders and layouts are this project's
 //! profile, and no claim about Q.1218 is made of them.
 //!
 //! The layer above may rely on this: an argument is read exactly where `IsInitialDp` of
-//! `specs/InitialDp.antt` holds, as the value that it says, and [`Mistyped`] is answered exactly where it
-//! says none; and what [`write_connect`] gives is `connect` of `specs/Connect.antt`, in range to be spelled
-//! in at most 16 octets, from which the destination is read back.
+//! `specs/InitialDp.antt` or `IsEventReport` of `specs/EventReport.antt` holds, as the value that it says,
+//! and [`Mistyped`] is answered exactly where it says none; what is written is the element of `specs/` for
+//! what was handed in, in range to be spelled in few octets.
 #![tactic(auto)]
 
 mod connect;
+mod continuing;
+mod event;
+mod event_report;
 mod initial_dp;
+mod leg;
+mod members;
+mod mistyped;
+mod monitor_mode;
 mod operation;
+mod operation_error;
+mod release_call;
+mod request_report;
 #[cfg(test)]
 mod tests;
 
 pub use connect::write_connect;
-pub use initial_dp::{InitialDp, Mistyped, read_initial_dp};
+pub use continuing::write_continue;
+pub use event::Event;
+pub use event_report::{EventReport, read_event_report};
+pub use initial_dp::{InitialDp, read_initial_dp};
+pub use leg::Leg;
+pub use mistyped::Mistyped;
+pub use monitor_mode::MonitorMode;
 pub use operation::Operation;
+pub use operation_error::OperationError;
+pub use release_call::write_release;
+pub use request_report::write_request_report;

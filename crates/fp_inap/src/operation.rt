@@ -1,6 +1,8 @@
-ghost use Rattle.std.specs.Prelude.{◌≡◌, IfSome};
+ghost use Rattle.std.specs.Prelude.{◌≡◌, IfSome, Some};
 ghost use Rattle.fp_inap.specs.declared.operation.Operation.{Operation};
-ghost use Rattle.fp_inap.specs.Operation.{code_of};
+ghost use Rattle.fp_inap.specs.Operation.{class_of, code_of};
+
+use fp_q773::OperationClass;
 
 /// An operation, by its name in INAP CS-1 (after ITU-T Q.1218) and its operation code.
 #[derive(Clone, Copy, Debug, PartialEq, Eq)]
@@ -9,6 +11,14 @@ pub enum Operation {
     InitialDp = 0,
     /// connect: the switch routes the call to a destination.
     Connect = 20,
+    /// releaseCall: the switch ends the call.
+    ReleaseCall = 22,
+    /// requestReportBCSMEvent: the switch watches the call for events.
+    RequestReportBcsmEvent = 23,
+    /// eventReportBCSM: the switch reports such an event.
+    EventReportBcsm = 24,
+    /// continue: the switch goes on with the call.
+    Continue = 31,
 }
 
 impl Operation {
@@ -27,7 +37,25 @@ impl Operation {
         match code {
             0 => Some(Operation::InitialDp),
             20 => Some(Operation::Connect),
+            22 => Some(Operation::ReleaseCall),
+            23 => Some(Operation::RequestReportBcsmEvent),
+            24 => Some(Operation::EventReportBcsm),
+            31 => Some(Operation::Continue),
             _ => None,
+        }
+    }
+
+    /// The class of the operation (Q.771, 3.1.2.2): what its performer reports.
+    pub fn class(self) -> OperationClass
+        ensures { result ≡ class_of self }
+    {
+        match self {
+            Operation::InitialDp | Operation::Connect | Operation::RequestReportBcsmEvent => {
+                OperationClass::Class2
+            }
+            Operation::ReleaseCall | Operation::EventReportBcsm | Operation::Continue => {
+                OperationClass::Class4
+            }
         }
     }
 }

@@ -8,6 +8,7 @@ use Rattle.fp_ber.proofs.Unique.{no_spelling_begins_another}
 use Rattle.fp_digits.specs.declared.number.Number.{Number}
 use Rattle.fp_inap.specs.declared.initial_dp.InitialDp.{InitialDp}
 use Rattle.fp_inap.specs.InitialDp.{IsInitialDp}
+use Rattle.fp_inap.proofs.Arguments.{initial_dp_same}
 use Rattle.fp_q773.specs.declared.component.Component.{Component}
 use Rattle.fp_q773.specs.declared.invoke.Invoke.{Invoke}
 use Rattle.fp_q773.specs.View.{code_of, component_of, invoke_of, tree_in}
@@ -23,18 +24,6 @@ use Rattle.scp.specs.Answer.{IsCanonical, IsInvocation, Opens, HasNoAnswer, IsFa
 -- octets are one element
 canonical_same : (octets : List ℕ) (s t : Tree) → IsCanonical octets s → IsCanonical octets t → s ≡ t
 canonical_same octets s t g h = (no_spelling_begins_another octets octets [] [] s t g.spelled h.spelled refl).1
-
--- an argument says one thing
-initial_dp_same : (t : Tree) (x y : InitialDp) → IsInitialDp t x → IsInitialDp t y → x ≡ y
-initial_dp_same t x y g h =
-    let same = sym g.is_laid_out ∙ h.is_laid_out in
-    let keys : g.key ≡ h.key = cc in
-    let called : g.called ≡ h.called = cc in
-    let calling : g.calling ≡ h.calling = cc in
-    let category : g.category ≡ h.category = cc in
-    let event : g.event ≡ h.event = cc in
-    let integers = sym g.is_key ∙ ap integer keys ∙ h.is_key in
-    let values : g.key_value ≡ h.key_value = cc in cc
 
 -- what two readings of a Begin say of the key and the called number
 pub record SameAsked (k l : ℕ) (m n : Number) : Type 0 where

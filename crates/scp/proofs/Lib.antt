@@ -1,5 +1,6 @@
 pub mod Asking
 pub mod Input
+pub mod Layouts
 pub mod Leading
 pub mod Serving
 pub mod Waits

@@ -1,6 +1,7 @@
 -- What a message asks for, and what answers it.
 use Rattle.std.specs.Prelude.{◌≡◌, ℕ, ℤ, pos, ◌≤◌, List, [], ◌∷◌, length, Some, None}
-use Rattle.fp_ber.specs.Tree.{Tree, InRange}
+use Rattle.fp_ber.specs.declared.element.Class.TheVariants.{Universal, Context}
+use Rattle.fp_ber.specs.Tree.{Tree, InRange, primitive, constructed, none, more}
 use Rattle.fp_ber.specs.Spelling.{Spells}
 use Rattle.fp_ber.specs.Canon.{canon}
 use Rattle.fp_digits.specs.declared.number.Number.{Number}
@@ -28,6 +29,22 @@ abbrev pub IsInvocation : ComponentValue → Tree → Type 0
 IsInvocation component argument =
     (identifier : ℤ) × (component ≡ invoke identifier None (local (code_of operations.InitialDp)) (Some argument))
 
+-- the argument has serviceKey, calledPartyNumber, callingPartyNumber, callingPartysCategory and eventTypeBCSM, in this
+-- order, and nothing else
+pub record IsLaidOut (argument : Tree) : Type 0 where
+  pub key : List ℕ
+  pub called : List ℕ
+  pub calling : List ℕ
+  pub category : List ℕ
+  pub event : List ℕ
+  pub laid_out : argument ≡ constructed Universal 16
+      (more (primitive Context 0 key)
+      (more (primitive Context 2 called)
+      (more (primitive Context 3 calling)
+      (more (primitive Context 5 category)
+      (more (primitive Context 28 event)
+      none)))))
+
 -- a Begin of this caller without dialogue portion, whose one component is an Invoke of InitialDP with this service key and this called number
 pub record Opens (element : Tree) (caller : List ℕ) (key : ℕ) (called : Number) : Type 0 where
   pub component : ComponentValue
@@ -35,6 +52,7 @@ pub record Opens (element : Tree) (caller : List ℕ) (key : ℕ) (called : Numb
   pub dp : InitialDp
   pub is_begin : IsMessage element (begin caller None (component ∷ []))
   pub is_invocation : IsInvocation component argument
+  pub is_laid_out : IsLaidOut argument
   pub is_argument : IsInitialDp argument dp
   pub is_key : dp.key ≡ Some key
   pub is_called : dp.called ≡ Some called

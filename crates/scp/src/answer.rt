@@ -17,6 +17,7 @@ ghost use Rattle.scp.specs.Plain.{Leads};
 ghost use Rattle.scp.specs.Answer.{IsCanonical, IsInvocation, Opens, IsConnect, Answers, HasNoAnswer, IsFault};
 
 use crate::fault::AskFault;
+use crate::layout::is_laid_out;
 use crate::plain::plain_destination;
 use fp_ber::{BerFault, Element, read, write};
 use fp_digits::Number;
@@ -144,6 +145,9 @@ fn asked_by(alloc: Global, element: &Element) -> Result<Asked, AskFault>
     let Some(argument) = argument_in(component) else {
         return Err(AskFault::NotYet);
     };
+    if !is_laid_out(argument) {
+        return Err(AskFault::NotYet);
+    }
     let Ok(dp) = read_initial_dp(argument) else {
         return Err(AskFault::NotYet);
     };

@@ -14,7 +14,7 @@
 //! * `check` tells what the records hold.
 //! * `ask` answers the lines of an input, in their order, each as soon as it has been read.
 //! * `line` reads one line, of bounded length, and says what it asks for.
-//! * `answer` answers one message, `plain` finds the destination that it names.
+//! * `answer` answers one message; `layout` and `plain` say which arguments and which numbers are answered so far.
 //! * `output` writes a text.
 //! * `fault` has the faults and their texts.
 //!
@@ -28,6 +28,7 @@ mod ask;
 mod check;
 mod command;
 mod fault;
+mod layout;
 mod line;
 mod output;
 mod plain;

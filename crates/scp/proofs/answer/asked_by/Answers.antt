@@ -5,6 +5,7 @@ use Rattle.fp_ber.specs.View.{tree_of}
 use Rattle.fp_inap.specs.InitialDp.{IsInitialDp}
 use Rattle.fp_q773.specs.View.{component_of}
 use Rattle.fp_q773.specs.Grammar.{IsMessage}
+use Rattle.scp.specs.Answer.{IsLaidOut}
 use Rattle.scp.proofs.Asking.{asks_alone, begins_nothing, fault_by, invoked, invoked_same}
 use Rattle.scp.proofs.answer.asked_by.Goals as goal
 
@@ -21,6 +22,13 @@ pub returns-in_default-argument_in-clause-fault : goal.returns-in_default-argume
 returns-in_default-argument_in-clause-fault c = λ caller key called h.
     let found = subst (λ v. IsMessage (tree_of c.args.element.now) v) c.in-Some.ensures.some c.in_ok-begin.ensures.found in
     c.in_default-argument_in.ensures.none h.argument (invoked _ _ _ caller key called found h)
+
+pub returns-then-not-is_laid_out-clause-fault : goal.returns-then-not-is_laid_out-clause-fault
+returns-then-not-is_laid_out-clause-fault c = λ caller key called h.
+    let found = subst (λ v. IsMessage (tree_of c.args.element.now) v) c.in-Some.ensures.some c.in_ok-begin.ensures.found in
+    let same = invoked_same _ _ _ c.in-Some-argument_in.ensures.some (invoked _ _ _ caller key called found h) in
+    let laid_out = c.is_laid_out.ensures.no (subst (λ t. IsLaidOut t) (sym same) h.is_laid_out) in
+    cc (laid_out, c.if-not-is_laid_out.true)
 
 pub returns-in_default-read_initial_dp-clause-fault : goal.returns-in_default-read_initial_dp-clause-fault
 returns-in_default-read_initial_dp-clause-fault c = λ caller key called h.
@@ -44,6 +52,7 @@ returns-clause-found c =
       dp = c.in-Ok.dp;
       is_begin = found;
       is_invocation = c.in-Some-argument_in.ensures.some;
+      is_laid_out = c.is_laid_out.ensures.yes c.if-not-is_laid_out.false;
       is_argument = c.in-Ok.ensures.ok;
       is_key = c.in-Some-key.is;
       is_called = search (rules, c.in-Some-called.is, c.in-Some-called.called-is);

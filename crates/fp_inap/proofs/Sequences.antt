@@ -1,0 +1,70 @@
+-- The members of a sequence: what the one that has a number is, and that a sequence says one thing.
+use Rattle.std.proofs.Common.{◌≡◌, ℕ, ◌+◌, ◌<◌, ◌==◌, List, [], ◌∷◌, length, get_or, drop, Bool, true, false, if◌then◌else◌, Option, Some, None, refl, sym, ◌∙◌, ap, arith, rules}
+use Rattle.fp_ber.specs.declared.element.Class.{Class}
+use Rattle.fp_ber.specs.declared.element.Class.TheVariants.{Context}
+use Rattle.std.proofs.lemmas.List.{drop_more}
+use Rattle.std.proofs.lemmas.Bool.Decides.{nat_tests}
+use Rattle.fp_ber.specs.declared.element.Element.{Element, the_lemmas}
+use Rattle.fp_ber.specs.Tree.{Tree, Trees, none, more}
+use Rattle.fp_ber.specs.View.{tree_of, forest_of}
+use Rattle.fp_inap.specs.Members.{AllContext, IsSequence, HoldsOctets, HoldsMembers, IsOctet, class_of, number_of, with_number}
+
+-- the class of what an element stands for
+class_of-tree : (e : Element) → class_of (tree_of e) ≡ e.class
+class_of-tree e = search (rules, the_lemmas)
+
+-- all members have context tags where the first one has and the others have
+pub context_step : (es : List Element) (i : ℕ) (e : Element) → i < length es → e ≡ get_or es i e → e.class ≡ Context
+    → AllContext (forest_of (drop (i + 1) es)) → AllContext (forest_of (drop i es))
+context_step es i e h is class rest =
+    rw (drop_more es i e h, ← is) (class_of-tree e ∙ class, rest)
+
+-- where all members have context tags, so has the one at a place, and so have those behind it
+pub context_at : (es : List Element) (i : ℕ) (e : Element) → i < length es → e ≡ get_or es i e → AllContext (forest_of (drop i es))
+    → (e.class ≡ Context) × AllContext (forest_of (drop (i + 1) es))
+context_at es i e h is all =
+    let here : AllContext (forest_of (e ∷ drop (i + 1) es)) = rw (drop_more es i e h, ← is) at all in
+    (sym (class_of-tree e) ∙ here.0, here.1)
+
+-- a member that has a number, first among those that have it
+pub record HasTag (number : ℕ) (t : Tree) : Type 0 where
+  pub context : class_of t ≡ Context
+  pub numbered : number_of t ≡ number
+
+first_step : (number : ℕ) (u : Tree) (ts : Trees) (t : Tree) (rest : List Tree) (b : Bool) → (number_of u == number) ≡ b → class_of u ≡ Context
+    → (with_number number ts ≡ t ∷ rest → HasTag number t)
+    → (if b then u ∷ with_number number ts else with_number number ts) ≡ t ∷ rest → HasTag number t
+first_step number u ts t rest true same class step is =
+    let first : u ≡ t = cc in
+    record { context = rw (← first) class; numbered = rw (← first) (grind (arith, nat_tests, same)) }
+first_step number u ts t rest false same class step is = step is
+
+pub first_with : (number : ℕ) (ts : Trees) (t : Tree) (rest : List Tree) → AllContext ts → with_number number ts ≡ t ∷ rest → HasTag number t
+first_with number none t rest all is = cc
+first_with number (more u ts) t rest all is =
+    first_step number u ts t rest (number_of u == number) refl all.0 (first_with number ts t rest all.1) is
+
+-- an element is one sequence
+pub sequence_same : (t : Tree) (a b : Trees) → IsSequence t a → IsSequence t b → a ≡ b
+sequence_same t a b g h = let same = sym g.0 ∙ h.0 in cc
+
+-- one member has one form and holds one thing
+pub octets_same : (ts : Trees) (number : ℕ) (a b : Option (List ℕ)) → HoldsOctets ts number a → HoldsOctets ts number b → a ≡ b
+octets_same ts number None None g h = refl
+octets_same ts number None (Some b) g h = cc
+octets_same ts number (Some a) None g h = cc
+octets_same ts number (Some a) (Some b) g h = cc
+
+pub members_same : (ts : Trees) (number : ℕ) (a b : Option Trees) → HoldsMembers ts number a → HoldsMembers ts number b → a ≡ b
+members_same ts number None None g h = refl
+members_same ts number None (Some b) g h = cc
+members_same ts number (Some a) None g h = cc
+members_same ts number (Some a) (Some b) g h = cc
+
+pub octet_same : (octets : Option (List ℕ)) (a b : Option ℕ) → IsOctet octets a → IsOctet octets b → a ≡ b
+octet_same None None None g h = refl
+octet_same None None (Some b) g h = absurd h
+octet_same None (Some a) b g h = absurd g
+octet_same (Some octets) None b g h = absurd g
+octet_same (Some octets) (Some a) None g h = absurd h
+octet_same (Some octets) (Some a) (Some b) g h = cc

@@ -1,0 +1,137 @@
+ghost use Rattle.std.specs.Prelude.{◌≡◌, ◌∷◌, [], ℕ, Bool, List, Option, Some, Ok, IfOk, IfErr};
+ghost use Rattle.fp_ber.specs.Tree as tree;
+ghost use Rattle.fp_ber.specs.View.{tree_of};
+ghost use Rattle.fp_inap.specs.declared.event_report.EventReport.{EventReport};
+ghost use Rattle.fp_inap.specs.declared.leg.Leg.{Leg};
+ghost use Rattle.fp_inap.specs.EventReport.{IsEventReport, IsLeg, IsCallInfo, IsMessageType, leg_members};
+ghost use Rattle.fp_inap.specs.View.{octets_in, forest_in};
+
+use crate::event::Event;
+use crate::leg::Leg;
+use crate::members::{Members, octet_in};
+use crate::mistyped::Mistyped;
+use fp_ber::{Class, Element};
+
+/// The numbers of the context tags of the members.
+const EVENT_TYPE_BCSM: u16 = 0;
+
+const EVENT_SPECIFIC_INFORMATION: u16 = 2;
+
+const LEG_ID: u16 = 3;
+
+const MISC_CALL_INFO: u16 = 4;
+
+/// The numbers of the context tags of a leg.
+const SENDING_SIDE: u16 = 0;
+
+const RECEIVING_SIDE: u16 = 1;
+
+/// The number of the context tag of messageType.
+const MESSAGE_TYPE: u16 = 0;
+
+/// What the argument of EventReportBCSM says (after ITU-T Q.1218).
+#[derive(Clone, Copy, Debug, PartialEq, Eq)]
+pub struct EventReport {
+    /// The event that the switch met, eventTypeBCSM.
+    pub event: Event,
+    /// The leg of the call at which it did, legID, if that is told.
+    pub leg: Option<Leg>,
+    /// Whether the switch goes on without waiting: messageType says notification, and not request.
+    pub notification: bool,
+}
+
+/// What the argument of EventReportBCSM says (after ITU-T Q.1218). Takes no memory.
+///
+/// The argument is a sequence of members with context tags, in any order, among them at most once each:
+/// eventTypeBCSM, tag 80, one octet, which must be there; A2, which is passed over; legID, A3, that holds
+/// just one 80 or 81 with one octet; miscCallInfo, A4, of members with context tags, among them at most one
+/// messageType, 80, with 0 (request) or 1 (notification). Where there is none, it is a request. Members with
+/// other context tags are passed over. Any other element is [`Mistyped`].
+pub fn read_event_report(argument: &Element) -> Result<EventReport, Mistyped>
+    ensures ok { IfOk result (IsEventReport (tree_of argument.now)) }
+    ensures only { (report : EventReport) → IsEventReport (tree_of argument.now) report → result ≡ Ok report }
+{
+    event_report_of(argument)
+}
+
+/// What the argument of EventReportBCSM says, as [`read_event_report`] says.
+fn event_report_of(argument: &Element) -> Result<EventReport, Mistyped>
+    ensures ok { IfOk result (IsEventReport (tree_of argument.now)) }
+    ensures err { IfErr result (λ _. (report : EventReport) → IsEventReport (tree_of argument.now) report → ⊥) }
+{
+    let members = Members::of_sequence(argument)?;
+    let Some(event) = octet_in(members.octets(EVENT_TYPE_BCSM)?)? else {
+        return Err(Mistyped);
+    };
+    let _ = members.members(EVENT_SPECIFIC_INFORMATION)?;
+    let leg = leg_in(members.members(LEG_ID)?)?;
+    let notification = is_notification(members.members(MISC_CALL_INFO)?)?;
+    Ok(EventReport {
+        event: Event::from_code(event),
+        leg,
+        notification,
+    })
+}
+
+/// The leg that these members are, if they are there.
+fn leg_in(members: Option<&[Element]>) -> Result<Option<Leg>, Mistyped>
+    ensures ok { IfOk result (IsLeg (forest_in members.entry)) }
+    ensures err { IfErr result (λ _. (leg : Option Leg) → IsLeg (forest_in members.entry) leg → ⊥) }
+{
+    let Some(members) = members else {
+        return Ok(None);
+    };
+    let [side, rest @ ..] = members else {
+        return Err(Mistyped);
+    };
+    if !rest.is_empty() {
+        return Err(Mistyped);
+    }
+    let leg = leg_of(side)?;
+    Ok(Some(leg))
+}
+
+/// The leg that a member is.
+fn leg_of(side: &Element) -> Result<Leg, Mistyped>
+    ensures ok { IfOk result (λ leg. tree.more (tree_of side.now) tree.none ≡ leg_members leg) }
+    ensures err { IfErr result (λ _. (leg : Leg) → tree.more (tree_of side.now) tree.none ≡ leg_members leg → ⊥) }
+{
+    if let Some(octets) = side.octets_with_tag(Class::Context, SENDING_SIDE) {
+        let [octet] = octets else {
+            return Err(Mistyped);
+        };
+        return Ok(Leg::Sending(*octet));
+    }
+    let Some(octets) = side.octets_with_tag(Class::Context, RECEIVING_SIDE) else {
+        return Err(Mistyped);
+    };
+    let [octet] = octets else {
+        return Err(Mistyped);
+    };
+    Ok(Leg::Receiving(*octet))
+}
+
+/// Whether the messageType in these members, if they are there, says notification.
+fn is_notification(members: Option<&[Element]>) -> Result<bool, Mistyped>
+    ensures ok { IfOk result (IsCallInfo (forest_in members.entry)) }
+    ensures err { IfErr result (λ _. (notification : Bool) → IsCallInfo (forest_in members.entry) notification → ⊥) }
+{
+    let Some(members) = members else {
+        return Ok(false);
+    };
+    let members = Members::new(members)?;
+    let notification = message_type_in(members.octets(MESSAGE_TYPE)?)?;
+    Ok(notification)
+}
+
+/// Whether this messageType, if it is there, is notification.
+fn message_type_in(octets: Option<&[u8]>) -> Result<bool, Mistyped>
+    ensures ok { IfOk result (IsMessageType (octets_in octets.entry)) }
+    ensures err { IfErr result (λ _. (notification : Bool) → IsMessageType (octets_in octets.entry) notification → ⊥) }
+{
+    match octets {
+        None | Some([0]) => Ok(false),
+        Some([1]) => Ok(true),
+        Some(_) => Err(Mistyped),
+    }
+}

@@ -1,0 +1,121 @@
+// The members of a sequence, by their context tags and in any order.
+
+ghost use Rattle.std.specs.Prelude.{◌≡◌, ◌≤◌, ℕ, List, [], ◌∷◌, Option, Some, None, IfOk, IfErr, IfSome, IfNone, IsTrue, length, option_map};
+ghost use Rattle.fp_ber.specs.Tree.{Trees};
+ghost use Rattle.fp_ber.specs.View.{tree_of, forest_of};
+ghost use Rattle.fp_inap.specs.Members.{AllContext, IsSequence, HoldsOctets, HoldsMembers, IsOctet, with_number};
+ghost use Rattle.fp_inap.specs.View.{octets_in, forest_in, found_in};
+
+use crate::mistyped::Mistyped;
+use fp_ber::{Class, Element};
+
+/// The number of the universal tag of a sequence.
+pub(crate) const SEQUENCE: u16 = 16;
+
+/// The members of a sequence, each with a tag of the context class.
+#[derive(Clone, Copy, Debug)]
+pub(crate) struct Members<'a> {
+    pub(crate) elements: &'a [Element],
+}
+
+/// Whether each of the elements has a tag of the context class.
+fn are_context(elements: &[Element]) -> bool
+    ensures yes { IsTrue result → AllContext (forest_of elements.now) }
+    ensures no { AllContext (forest_of elements.now) → IsTrue result }
+{
+    for element in elements {
+        if element.class != Class::Context {
+            return false;
+        }
+    }
+    true
+}
+
+impl<'a> Members<'a> {
+    /// The members, if each of the elements has a tag of the context class.
+    pub(crate) fn new(elements: &'a [Element]) -> Result<Members<'a>, Mistyped>
+        ensures ok { IfOk result (λ members. (members.elements.now ≡ elements.now) × AllContext (forest_of elements.now)) }
+        ensures err { IfErr result (λ _. AllContext (forest_of elements.now) → ⊥) }
+    {
+        if are_context(elements) {
+            Ok(Members { elements })
+        } else {
+            Err(Mistyped)
+        }
+    }
+
+    /// The members of a sequence.
+    pub(crate) fn of_sequence(argument: &'a Element) -> Result<Members<'a>, Mistyped>
+        ensures ok { IfOk result (λ members. IsSequence (tree_of argument.now) (forest_of members.elements.now)) }
+        ensures err { IfErr result (λ _. (members : Trees) → IsSequence (tree_of argument.now) members → ⊥) }
+    {
+        let Some(elements) = argument.children_with_tag(Class::Universal, SEQUENCE) else {
+            return Err(Mistyped);
+        };
+        let members = Members::new(elements)?;
+        Ok(members)
+    }
+
+    /// The one member with this number, if one has it. Two with it are a fault.
+    fn only(&self, number: u16) -> Result<Option<&'a Element>, Mistyped>
+        ensures ok { IfOk result (λ found. with_number number (forest_of self.now.elements.now) ≡ found_in found) }
+        ensures err { IfErr result (λ _. 2 ≤ length (with_number number (forest_of self.now.elements.now))) }
+    {
+        let mut found = None;
+        for element in self.elements {
+            if element.number == number {
+                if found.is_some() {
+                    return Err(Mistyped);
+                }
+                found = Some(element);
+            }
+        }
+        Ok(found)
+    }
+
+    /// The octets of the one member with this number, if one has it. Two with it are a fault, and so is a
+    /// constructed one.
+    pub(crate) fn octets(&self, number: u16) -> Result<Option<&'a [u8]>, Mistyped>
+        requires { AllContext (forest_of self.now.elements.now) }
+        ensures ok { IfOk result (λ octets. HoldsOctets (forest_of self.now.elements.now) number (octets_in octets)) }
+        ensures err { IfErr result (λ _. (octets : Option (List ℕ))
+            → HoldsOctets (forest_of self.now.elements.now) number octets → ⊥) }
+    {
+        let Some(element) = self.only(number)? else {
+            return Ok(None);
+        };
+        let Some(octets) = element.octets() else {
+            return Err(Mistyped);
+        };
+        Ok(Some(octets))
+    }
+
+    /// The elements in the one member with this number, if one has it. Two with it are a fault, and so is a
+    /// primitive one.
+    pub(crate) fn members(&self, number: u16) -> Result<Option<&'a [Element]>, Mistyped>
+        requires { AllContext (forest_of self.now.elements.now) }
+        ensures ok { IfOk result (λ members. HoldsMembers (forest_of self.now.elements.now) number (forest_in members)) }
+        ensures err { IfErr result (λ _. (members : Option Trees)
+            → HoldsMembers (forest_of self.now.elements.now) number members → ⊥) }
+    {
+        let Some(element) = self.only(number)? else {
+            return Ok(None);
+        };
+        let Some(members) = element.children() else {
+            return Err(Mistyped);
+        };
+        Ok(Some(members))
+    }
+}
+
+/// The one octet that there is, if anything is there.
+pub(crate) fn octet_in(octets: Option<&[u8]>) -> Result<Option<u8>, Mistyped>
+    ensures ok { IfOk result (λ octet. IsOctet (octets_in octets.entry) octet) }
+    ensures err { IfErr result (λ _. (octet : Option ℕ) → IsOctet (octets_in octets.entry) octet → ⊥) }
+{
+    match octets {
+        None => Ok(None),
+        Some([octet]) => Ok(Some(*octet)),
+        Some(_) => Err(Mistyped),
+    }
+}

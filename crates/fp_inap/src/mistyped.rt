@@ -1,0 +1,6 @@
+use thiserror::Error;
+
+/// The element is not the argument of the operation.
+#[derive(Clone, Copy, Debug, PartialEq, Eq, Error)]
+#[error("mistyped argument")]
+pub struct Mistyped;
