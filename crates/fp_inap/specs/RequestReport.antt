@@ -7,7 +7,7 @@ use Rattle.fp_inap.specs.declared.event.Event.{Event}
 use Rattle.fp_inap.specs.declared.event.Event.TheVariants.{RouteSelectFailure, OCalledPartyBusy, ONoAnswer, OAnswer, OAbandon}
 use Rattle.fp_inap.specs.declared.monitor_mode.MonitorMode.{MonitorMode}
 use Rattle.fp_inap.specs.declared.monitor_mode.MonitorMode.TheVariants.{Interrupted, NotifyAndContinue, Transparent}
-use Rattle.fp_inap.specs.declared.request_report.Watched.{Watched}
+use Rattle.fp_inap.specs.declared.request_report.BcsmEvent.{BcsmEvent}
 use Rattle.fp_inap.specs.Event.{code_of}
 
 -- the codes of the monitor modes
@@ -17,19 +17,20 @@ mode_code NotifyAndContinue = 1
 mode_code Transparent = 2
 
 -- an event: eventTypeBCSM, 80, monitorMode, 81, and legID, A2, of the sending side, 80
-abbrev pub watched : Watched → Tree
-watched w = constructed Universal 16
-    (more (primitive Context 0 (code_of w.event ∷ []))
-    (more (primitive Context 1 (mode_code w.mode ∷ []))
-    (more (constructed Context 2 (more (primitive Context 0 (w.leg ∷ [])) none))
+abbrev pub bcsm_event : BcsmEvent → Tree
+bcsm_event event = constructed Universal 16
+    (more (primitive Context 0 (code_of event.event ∷ []))
+    (more (primitive Context 1 (mode_code event.mode ∷ []))
+    (more (constructed Context 2 (more (primitive Context 0 (event.leg ∷ [])) none))
     none)))
 
-abbrev pub all_watched : List Watched → Trees
-all_watched [] = none
-all_watched (w ∷ ws) = more (watched w) (all_watched ws)
+-- one after the other
+abbrev pub bcsm_events : List BcsmEvent → Trees
+bcsm_events [] = none
+bcsm_events (event ∷ events) = more (bcsm_event event) (bcsm_events events)
 
 -- the ends of an attempt that failed on leg 2, the answer on leg 2, and the caller's leaving on leg 1
-abbrev pub call_events : List Watched
+abbrev pub call_events : List BcsmEvent
 call_events =
     (record { event = RouteSelectFailure; mode = Interrupted; leg = 2 })
     ∷ (record { event = OCalledPartyBusy; mode = Interrupted; leg = 2 })
@@ -39,4 +40,4 @@ call_events =
     ∷ []
 
 abbrev pub request_report : Tree
-request_report = constructed Universal 16 (more (constructed Context 0 (all_watched call_events)) none)
+request_report = constructed Universal 16 (more (constructed Context 0 (bcsm_events call_events)) none)

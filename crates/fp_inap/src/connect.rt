@@ -1,3 +1,5 @@
+//! Connect: the argument that is written.
+
 ghost use Rattle.std.specs.Prelude.{◌≡◌, ◌<◌, ◌≤◌, length, Some, IfOk};
 ghost use Rattle.std.specs.List.{All};
 ghost use Rattle.fp_ber.specs.Canon.{canon, HasLengths};
@@ -8,13 +10,10 @@ ghost use Rattle.fp_digits.specs.NatureOfAddress.{national};
 ghost use Rattle.fp_digits.specs.Number.{number_of};
 ghost use Rattle.fp_inap.specs.Connect.{connect};
 
-use crate::members::SEQUENCE;
+use crate::universal::{OCTET_STRING, SEQUENCE};
 use fp_ber::{Class, Element};
 use fp_digits::write_called;
 use std::alloc::{AllocError, Global};
-
-/// The number of the universal tag of an octet string.
-pub(crate) const OCTET_STRING: u16 = 4;
 
 /// The number of the context tag of destinationRoutingAddress.
 const DESTINATION_ROUTING_ADDRESS: u16 = 0;

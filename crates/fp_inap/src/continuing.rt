@@ -1,3 +1,5 @@
+//! Continue, which has no argument.
+
 ghost use Rattle.std.specs.Prelude.{◌≡◌, None};
 ghost use Rattle.fp_inap.specs.declared.operation.Operation.TheVariants as operations;
 ghost use Rattle.fp_inap.specs.Operation.{code_of};

@@ -1,3 +1,5 @@
+//! Events of a call.
+
 ghost use Rattle.std.specs.Prelude.{◌≡◌};
 ghost use Rattle.fp_inap.specs.Event.{code_of, event_of};
 

@@ -1,3 +1,5 @@
+//! EventReportBCSM: the argument that is read.
+
 ghost use Rattle.std.specs.Prelude.{◌≡◌, ◌∷◌, [], ℕ, Bool, List, Option, Some, Ok, IfOk, IfErr};
 ghost use Rattle.fp_ber.specs.Tree as tree;
 ghost use Rattle.fp_ber.specs.View.{tree_of};
@@ -12,7 +14,8 @@ use crate::members::{Members, octet_in};
 use crate::mistyped::Mistyped;
 use fp_ber::{Class, Element};
 
-/// The numbers of the context tags of the members.
+// The numbers of the context tags of the members.
+
 const EVENT_TYPE_BCSM: u16 = 0;
 
 const EVENT_SPECIFIC_INFORMATION: u16 = 2;
@@ -21,7 +24,8 @@ const LEG_ID: u16 = 3;
 
 const MISC_CALL_INFO: u16 = 4;
 
-/// The numbers of the context tags of a leg.
+// The numbers of the context tags of a leg.
+
 const SENDING_SIDE: u16 = 0;
 
 const RECEIVING_SIDE: u16 = 1;
@@ -87,8 +91,7 @@ fn leg_in(members: Option<&[Element]>) -> Result<Option<Leg>, Mistyped>
     if !rest.is_empty() {
         return Err(Mistyped);
     }
-    let leg = leg_of(side)?;
-    Ok(Some(leg))
+    Ok(Some(leg_of(side)?))
 }
 
 /// The leg that a member is.
@@ -120,8 +123,7 @@ fn is_notification(members: Option<&[Element]>) -> Result<bool, Mistyped>
         return Ok(false);
     };
     let members = Members::new(members)?;
-    let notification = message_type_in(members.octets(MESSAGE_TYPE)?)?;
-    Ok(notification)
+    message_type_in(members.octets(MESSAGE_TYPE)?)
 }
 
 /// Whether this messageType, if it is there, is notification.

@@ -1,3 +1,5 @@
+//! InitialDP: the argument that is read.
+
 ghost use Rattle.std.specs.Prelude.{◌≡◌, ◌∷◌, [], ℕ, List, Option, pos, Ok, IfOk, IfErr};
 ghost use Rattle.fp_ber.specs.View.{tree_of};
 ghost use Rattle.fp_inap.specs.declared.initial_dp.InitialDp.{InitialDp};
@@ -10,7 +12,8 @@ use crate::mistyped::Mistyped;
 use fp_ber::{Element, integer_of};
 use fp_digits::{Number, read_called, read_calling};
 
-/// The numbers of the context tags of the members.
+// The numbers of the context tags of the members.
+
 const SERVICE_KEY: u16 = 0;
 
 const CALLED_PARTY_NUMBER: u16 = 2;
@@ -81,10 +84,10 @@ fn key_in(octets: Option<&[u8]>) -> Result<Option<u32>, Mistyped>
     let Some(key) = integer_of(octets) else {
         return Err(Mistyped);
     };
-    if key < 0 {
+    let Ok(key) = u32::try_from(key) else {
         return Err(Mistyped);
-    }
-    Ok(Some(key as u32))
+    };
+    Ok(Some(key))
 }
 
 /// The called party number in these octets, if they hold one.

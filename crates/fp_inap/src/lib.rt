@@ -36,6 +36,7 @@ mod release_call;
 mod request_report;
 #[cfg(test)]
 mod tests;
+mod universal;
 
 pub use connect::write_connect;
 pub use continuing::write_continue;

@@ -1,4 +1,4 @@
-// The members of a sequence, by their context tags and in any order.
+//! The members of a sequence, by their context tags and in any order.
 
 ghost use Rattle.std.specs.Prelude.{◌≡◌, ◌≤◌, ℕ, List, [], ◌∷◌, Option, Some, None, IfOk, IfErr, IfSome, IfNone, IsTrue, length, option_map};
 ghost use Rattle.fp_ber.specs.Tree.{Trees};
@@ -7,28 +7,13 @@ ghost use Rattle.fp_inap.specs.Members.{AllContext, IsSequence, HoldsOctets, Hol
 ghost use Rattle.fp_inap.specs.View.{octets_in, forest_in, found_in};
 
 use crate::mistyped::Mistyped;
+use crate::universal::SEQUENCE;
 use fp_ber::{Class, Element};
-
-/// The number of the universal tag of a sequence.
-pub(crate) const SEQUENCE: u16 = 16;
 
 /// The members of a sequence, each with a tag of the context class.
 #[derive(Clone, Copy, Debug)]
 pub(crate) struct Members<'a> {
     pub(crate) elements: &'a [Element],
-}
-
-/// Whether each of the elements has a tag of the context class.
-fn are_context(elements: &[Element]) -> bool
-    ensures yes { IsTrue result → AllContext (forest_of elements.now) }
-    ensures no { AllContext (forest_of elements.now) → IsTrue result }
-{
-    for element in elements {
-        if element.class != Class::Context {
-            return false;
-        }
-    }
-    true
 }
 
 impl<'a> Members<'a> {
@@ -52,8 +37,7 @@ impl<'a> Members<'a> {
         let Some(elements) = argument.children_with_tag(Class::Universal, SEQUENCE) else {
             return Err(Mistyped);
         };
-        let members = Members::new(elements)?;
-        Ok(members)
+        Members::new(elements)
     }
 
     /// The one member with this number, if one has it. Two with it are a fault.
@@ -106,6 +90,19 @@ impl<'a> Members<'a> {
         };
         Ok(Some(members))
     }
+}
+
+/// Whether each of the elements has a tag of the context class.
+fn are_context(elements: &[Element]) -> bool
+    ensures yes { IsTrue result → AllContext (forest_of elements.now) }
+    ensures no { AllContext (forest_of elements.now) → IsTrue result }
+{
+    for element in elements {
+        if element.class != Class::Context {
+            return false;
+        }
+    }
+    true
 }
 
 /// The one octet that there is, if anything is there.

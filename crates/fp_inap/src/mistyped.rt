@@ -1,3 +1,5 @@
+//! Why an argument is not read.
+
 use thiserror::Error;
 
 /// The element is not the argument of the operation.

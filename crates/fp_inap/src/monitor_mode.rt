@@ -1,3 +1,5 @@
+//! Monitor modes: what a switch does at an event.
+
 ghost use Rattle.std.specs.Prelude.{◌≡◌};
 ghost use Rattle.fp_inap.specs.RequestReport.{mode_code};
 

@@ -1,3 +1,5 @@
+//! Operations, their codes and their classes.
+
 ghost use Rattle.std.specs.Prelude.{◌≡◌, IfSome, Some};
 ghost use Rattle.fp_inap.specs.declared.operation.Operation.{Operation};
 ghost use Rattle.fp_inap.specs.Operation.{class_of, code_of};

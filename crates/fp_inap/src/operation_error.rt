@@ -1,3 +1,5 @@
+//! Errors of operations, and their codes.
+
 ghost use Rattle.std.specs.Prelude.{◌≡◌};
 ghost use Rattle.fp_inap.specs.OperationError.{code_of};
 

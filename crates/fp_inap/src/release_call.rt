@@ -1,10 +1,12 @@
+//! ReleaseCall: the argument that is written.
+
 ghost use Rattle.std.specs.Prelude.{◌≡◌, ◌≤◌, length, IfOk};
 ghost use Rattle.fp_ber.specs.Canon.{canon, HasLengths};
 ghost use Rattle.fp_ber.specs.Tree.{HasTags};
 ghost use Rattle.fp_ber.specs.View.{tree_of};
 ghost use Rattle.fp_inap.specs.ReleaseCall.{release_call};
 
-use crate::connect::OCTET_STRING;
+use crate::universal::OCTET_STRING;
 use fp_ber::{Class, Element};
 use fp_digits::{Cause, cause};
 use std::alloc::{AllocError, Global};

@@ -1,3 +1,5 @@
+//! RequestReportBCSMEvent: the argument that is written.
+
 ghost use Rattle.std.specs.Prelude.{◌≡◌, ◌≤◌, [], ◌∷◌, length, IfOk};
 ghost use Rattle.fp_ber.specs.declared.element.Class.TheVariants as classes;
 ghost use Rattle.fp_ber.specs.Tree as tree;
@@ -5,15 +7,16 @@ ghost use Rattle.fp_ber.specs.Canon.{canon, HasLengths};
 ghost use Rattle.fp_ber.specs.Tree.{HasTags};
 ghost use Rattle.fp_ber.specs.View.{tree_of, forest_of};
 ghost use Rattle.fp_inap.specs.declared.monitor_mode.MonitorMode.TheVariants as modes;
-ghost use Rattle.fp_inap.specs.RequestReport.{request_report, watched};
+ghost use Rattle.fp_inap.specs.RequestReport.{bcsm_event, request_report};
 
 use crate::event::Event;
-use crate::members::SEQUENCE;
 use crate::monitor_mode::MonitorMode;
+use crate::universal::SEQUENCE;
 use fp_ber::{Class, Element};
 use std::alloc::{AllocError, Global};
 
-/// The numbers of the context tags of an event that is watched.
+// The numbers of the context tags of an event that is watched for.
+
 const EVENT_TYPE_BCSM: u16 = 0;
 
 const MONITOR_MODE: u16 = 1;
@@ -25,24 +28,25 @@ const SENDING_SIDE: u16 = 0;
 /// The number of the context tag of bcsmEvents.
 const BCSM_EVENTS: u16 = 0;
 
-/// The caller's leg, and that of the called party.
+/// The caller's leg.
 const CALLER: u8 = 1;
 
+/// The leg of the called party.
 const CALLED: u8 = 2;
 
-/// An event that a switch is to watch for, at a leg of the sending side.
+/// An event that a switch is to watch for, BCSMEvent, at a leg of the sending side.
 #[derive(Clone, Copy, Debug)]
-struct Watched {
+struct BcsmEvent {
     event: Event,
     mode: MonitorMode,
     leg: u8,
 }
 
 /// An event at which the switch waits.
-fn interrupting(event: Event, leg: u8) -> Watched
+fn interrupting(event: Event, leg: u8) -> BcsmEvent
     ensures { result ≡ record { event = event; mode = modes.Interrupted; leg = leg } }
 {
-    Watched {
+    BcsmEvent {
         event,
         mode: MonitorMode::Interrupted,
         leg,
@@ -50,10 +54,10 @@ fn interrupting(event: Event, leg: u8) -> Watched
 }
 
 /// An event at which the switch goes on.
-fn notified(event: Event, leg: u8) -> Watched
+fn notified(event: Event, leg: u8) -> BcsmEvent
     ensures { result ≡ record { event = event; mode = modes.NotifyAndContinue; leg = leg } }
 {
-    Watched {
+    BcsmEvent {
         event,
         mode: MonitorMode::NotifyAndContinue,
         leg,
@@ -67,10 +71,10 @@ fn octet_member(alloc: Global, number: u16, octet: u8) -> Result<Element, AllocE
     Ok(Element::primitive(Class::Context, number, vec![in alloc; octet]?))
 }
 
-impl Watched {
-    /// The element of an event that is watched.
+impl BcsmEvent {
+    /// The element of the event.
     fn write(self, alloc: Global) -> Result<Element, AllocError>
-        ensures { IfOk result (λ element. tree_of element ≡ watched self) }
+        ensures { IfOk result (λ element. tree_of element ≡ bcsm_event self) }
     {
         let side = octet_member(alloc, SENDING_SIDE, self.leg)?;
         let leg = Element::constructed(Class::Context, LEG_ID, vec![in alloc; side]?);

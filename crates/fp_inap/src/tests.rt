@@ -1,4 +1,4 @@
-// Worked arguments, of which the octets were put together by hand after the layouts of the profile.
+//! Worked arguments, of which the octets were put together by hand after the layouts of the profile.
 
 mod event_report;
 mod initial_dp;

@@ -55,7 +55,7 @@ impl Eq for ActiveInvocations {
     ghost laws = { same_invocations_equiv };
 }
 
-// What stands in a place where no invocation is.
+/// What stands in a place where no invocation is.
 const VACANT: Invocation = Invocation {
     identifier: 0,
     class: OperationClass::Class1,

@@ -1,6 +1,6 @@
 //! The invocations of a dialogue.
 
-ghost use Rattle.std.specs.Prelude.{◌≡◌, IsTrue, ℕ, ◌+◌, ◌<◌, ◌≤◌, ◌↔◌, pos, false, [], length, All, Contains, IsOk, IsNone, IfOk, IfSome, OnOk, OnErr};
+ghost use Rattle.std.specs.Prelude.{◌≡◌, IsTrue, ℕ, ◌+◌, ◌<◌, ◌≤◌, ◌↔◌, pos, false, [], length, All, Contains, IsOk, IsErr, IsNone, IfOk, IfSome, OnOk, OnErr};
 ghost use Rattle.fp_ism.specs.Due.{dues, least_of, those_due};
 ghost use Rattle.fp_ism.specs.Identifier.{IsIdentifier, next_identifier};
 ghost use Rattle.fp_ism.specs.Invocation.{class_of, is_active};
@@ -85,7 +85,8 @@ impl Invocations {
         ensures identifier { IfOk result
             (λ identifier. identifier ≡ pos (next_identifier self.old.last_started self.old.active)) }
         ensures started { OnOk result (self.new ≡ started class moment self.old) }
-        ensures full { OnErr result (self.new ≡ self.old) }
+        ensures full { IsErr result ↔ (length self.old.active ≡ Self.MOST) }
+        ensures unchanged { OnErr result (self.new ≡ self.old) }
     {
         if self.active.len() >= Self::MOST {
             return Err(Full);

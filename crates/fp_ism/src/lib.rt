@@ -16,7 +16,7 @@
 //! | Reject | ignored | failure | failure | failure | failure |
 //!
 //! Every outcome of an active invocation but "stays" ends it. Unrecognized is the problem of an unrecognized invoke
-//! identifier, unexpected that of an unexpected ReturnResult or ReturnError (Q.773, tables 30 and 31).
+//! identifier, unexpected that of an unexpected ReturnResult or ReturnError (Q.773, 4.2.2).
 //!
 //! The layer above may rely on this: contracts see [`Invocations`] as the identifier started last and the list of
 //! the active invocations (`specs/Invocations.antt`). Each outcome is the table's (`specs/Outcome.antt`), each

@@ -67,6 +67,7 @@ fn reads_events(rt: HostRuntime) -> Result<(), Fail> {
 fn refuses_other_arguments(rt: HostRuntime) -> Result<(), Fail> {
     let table = [
         ("a set", "3103800105"),
+        ("the context class", "B003800105"),
         ("octets", "1003800105"),
         ("no event", "3000"),
         ("an event twice", "3006800105800105"),
@@ -80,19 +81,34 @@ fn refuses_other_arguments(rt: HostRuntime) -> Result<(), Fail> {
         ("a leg of no member", "3005800105A300"),
         ("a leg of two members", "300B800105A306800101810102"),
         ("a leg of another tag", "3008800105A303820101"),
-        ("a leg of two octets", "3009800105A30480020101"),
-        ("a leg of no octet", "3007800105A3028000"),
-        ("a constructed side", "3007800105A302A000"),
+        ("a sending side of no octet", "3007800105A3028000"),
+        ("a sending side of two octets", "3009800105A30480020101"),
+        ("a receiving side of no octet", "3007800105A3028100"),
+        ("a receiving side of two octets", "3009800105A30481020101"),
+        ("a leg of two receiving sides", "300B800105A306810101810102"),
+        ("a constructed sending side", "3007800105A302A000"),
+        ("a constructed receiving side", "3007800105A302A100"),
         ("a leg of another class", "3008800105A303040101"),
         ("a call info twice", "3007800105A400A400"),
         ("a primitive call info", "30058001058400"),
         ("a message type twice", "300B800105A406800100800100"),
         ("a constructed message type", "3007800105A402A000"),
         ("a message type of 2", "3008800105A403800102"),
+        ("a message type of 255", "3008800105A4038001FF"),
         ("a message type of no octet", "3007800105A4028000"),
         ("a message type of two octets", "3009800105A40480020000"),
-        ("another class in the call info", "3008800105A403040100"),
-        ("another class", "3006800105040100"),
+        (
+            "the universal class in the call info",
+            "3008800105A403040100",
+        ),
+        (
+            "the application class in the call info",
+            "3008800105A403400100",
+        ),
+        ("the private class in the call info", "3008800105A403C00100"),
+        ("a member of the universal class", "3006800105040100"),
+        ("a member of the application class", "3006800105400100"),
+        ("a member of the private class", "3006800105C00100"),
     ];
     for (name, text) in table {
         let report = read_event_report(&element_of(rt.alloc(), text)?);

@@ -1,27 +1,78 @@
 use super::element_of;
 use crate::{Event, Mistyped, read_initial_dp};
-use fp_digits::NatureOfAddress;
+use fp_digits::{NatureOfAddress, Number};
 use std::test::Fail;
+
+/// The digits of a number, if there is one.
+fn digits_in(number: &Option<Number>) -> Option<&[u8]> {
+    number.as_ref().map(|number| number.digits.as_slice())
+}
 
 #[test]
 fn reads_each_member(rt: HostRuntime) -> Result<(), Fail> {
-    let text = "301B80016482078310081032540683078313032143650785010A9C0103";
-    let read = read_initial_dp(&element_of(rt.alloc(), text)?)?;
-    assert_eq!(rt; read.key, Some(100));
-    let called = read.called.expect(&rt, "called");
-    assert_eq!(rt; called.nature, NatureOfAddress::NATIONAL);
-    assert_eq!(rt;
-        called.digits.as_slice(),
-        [8, 0, 0, 1, 2, 3, 4, 5, 6].as_slice()
-    );
-    let calling = read.calling.expect(&rt, "calling");
-    assert_eq!(rt; calling.nature, NatureOfAddress::NATIONAL);
-    assert_eq!(rt;
-        calling.digits.as_slice(),
-        [3, 0, 1, 2, 3, 4, 5, 6, 7].as_slice()
-    );
-    assert_eq!(rt; read.category, Some(10));
-    assert_eq!(rt; read.event, Some(Event::Other(3)));
+    // The called number is 80012345 and one more digit; the last argument has an indefinite length.
+    let table = [
+        (
+            "301B80016482078310081032540683078313032143650785010A9C0103",
+            Some(100),
+            6,
+        ),
+        (
+            "301B80016482078310081032540583078313032143650785010A9C0103",
+            Some(100),
+            5,
+        ),
+        (
+            "301B80016482078310081032540783078313032143650785010A9C0103",
+            Some(100),
+            7,
+        ),
+        (
+            "301B80016482078310081032540883078313032143650785010A9C0103",
+            Some(100),
+            8,
+        ),
+        (
+            "301B80016482078310081032540983078313032143650785010A9C0103",
+            Some(100),
+            9,
+        ),
+        (
+            "301B80016582078310081032540683078313032143650785010A9C0103",
+            Some(101),
+            6,
+        ),
+        (
+            "301882078310081032540683078313032143650785010A9C0103",
+            None,
+            6,
+        ),
+        (
+            "308080016482078310081032540683078313032143650785010A9C01030000",
+            Some(100),
+            6,
+        ),
+    ];
+    for (text, key, last) in table {
+        let read = read_initial_dp(&element_of(rt.alloc(), text)?)?;
+        assert_eq!(rt; read.key, key, "{text}");
+        let called = read.called.expect(&rt, "called");
+        assert_eq!(rt; called.nature, NatureOfAddress::NATIONAL, "{text}");
+        assert_eq!(rt;
+            called.digits.as_slice(),
+            [8, 0, 0, 1, 2, 3, 4, 5, last].as_slice(),
+            "{text}"
+        );
+        let calling = read.calling.expect(&rt, "calling");
+        assert_eq!(rt; calling.nature, NatureOfAddress::NATIONAL, "{text}");
+        assert_eq!(rt;
+            calling.digits.as_slice(),
+            [3, 0, 1, 2, 3, 4, 5, 6, 7].as_slice(),
+            "{text}"
+        );
+        assert_eq!(rt; read.category, Some(10), "{text}");
+        assert_eq!(rt; read.event, Some(Event::Other(3)), "{text}");
+    }
     Ok(())
 }
 
@@ -70,38 +121,57 @@ fn reads_keys(rt: HostRuntime) -> Result<(), Fail> {
 
 #[test]
 fn reads_numbers(rt: HostRuntime) -> Result<(), Fail> {
+    // The same octets as the called and as the calling number.
     let none: &[u8] = &[];
     let table = [
-        // No digits, with the odd mark a fault of the number; one digit, and a digit above 9 as its filler.
-        ("300482020310", Some(none)),
-        ("300482028310", None),
-        ("30058203831007", Some(&[7])),
-        ("300582038310F7", Some(&[7])),
-        ("30058203031071", Some(&[1, 7])),
-        // 15 digits, and 32.
+        // No digits; with the odd mark it is a fault of the number.
+        ("30088202031083020310", Some(none)),
+        ("30088202831083028310", None),
+        // One digit, with the filler 0 and above 9; without the odd mark that half is a digit too.
+        ("300A82038310078303831007", Some(&[7])),
+        ("300A82038310F783038310F7", Some(&[7])),
+        ("300A82030310718303031071", Some(&[1, 7])),
+        ("300A82030310F783030310F7", Some(&[7, 15])),
+        // 15 digits, with both fillers, and 16.
         (
-            "300C820A83102143658709214305",
+            "3018820A83102143658709214305830A83102143658709214305",
             Some(&[1, 2, 3, 4, 5, 6, 7, 8, 9, 0, 1, 2, 3, 4, 5]),
         ),
         (
-            "30148212031010325476981032547698103254769810",
+            "3018820A831021436587092143F5830A831021436587092143F5",
+            Some(&[1, 2, 3, 4, 5, 6, 7, 8, 9, 0, 1, 2, 3, 4, 5]),
+        ),
+        (
+            "3018820A03102143658709214365830A03102143658709214365",
+            Some(&[1, 2, 3, 4, 5, 6, 7, 8, 9, 0, 1, 2, 3, 4, 5, 6]),
+        ),
+        // 32 digits, and 31.
+        (
+            "302882120310103254769810325476981032547698108312031010325476981032547698103254769810",
             Some(&[
                 0, 1, 2, 3, 4, 5, 6, 7, 8, 9, 0, 1, 2, 3, 4, 5, 6, 7, 8, 9, 0, 1, 2, 3, 4, 5, 6, 7,
                 8, 9, 0, 1,
             ]),
         ),
-        // One octet, and 19.
-        ("3003820103", None),
-        ("3015821303101032547698103254769810325476981032", None),
+        (
+            "302882128310103254769810325476981032547698F083128310103254769810325476981032547698F0",
+            Some(&[
+                0, 1, 2, 3, 4, 5, 6, 7, 8, 9, 0, 1, 2, 3, 4, 5, 6, 7, 8, 9, 0, 1, 2, 3, 4, 5, 6, 7,
+                8, 9, 0,
+            ]),
+        ),
+        // No octet, one, and 19.
+        ("300482008300", None),
+        ("3006820103830103", None),
+        (
+            "302A821303101032547698103254769810325476981032831303101032547698103254769810325476981032",
+            None,
+        ),
     ];
     for (text, digits) in table {
         let read = read_initial_dp(&element_of(rt.alloc(), text)?)?;
-        match (read.called, digits) {
-            (Some(called), Some(digits)) => {
-                assert_eq!(rt; called.digits.as_slice(), digits, "{text}");
-            }
-            (called, digits) => assert_eq!(rt; called.is_some(), digits.is_some(), "{text}"),
-        }
+        assert_eq!(rt; digits_in(&read.called), digits, "{text}");
+        assert_eq!(rt; digits_in(&read.calling), digits, "{text}");
     }
     Ok(())
 }
@@ -113,6 +183,7 @@ fn refuses_other_arguments(rt: HostRuntime) -> Result<(), Fail> {
         ("the context class", "B000"),
         ("octets", "1000"),
         ("a key twice", "3006800164800164"),
+        ("a key in both forms", "3005800164A000"),
         ("a called number twice", "30088202031082020310"),
         (
             "a called number twice, one without digits",

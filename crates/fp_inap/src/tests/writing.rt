@@ -24,8 +24,9 @@ fn text_of(alloc: Global, element: &Element) -> Result<String, Fail>
 
 #[test]
 fn writes_connect(rt: HostRuntime) -> Result<(), Fail> {
-    let table: [(&[u8], &str); 3] = [
+    let table: [(&[u8], &str); 4] = [
         (&[3, 0, 2, 2, 2, 3, 3, 4, 4], "300BA009040783100322324304"),
+        (&[3, 0, 2, 2, 2, 3, 3, 5, 5], "300BA009040783100322325305"),
         (&[7], "3007A0050403831007"),
         (
             &[1, 2, 3, 4, 5, 6, 7, 8, 9, 0, 1, 2, 3, 4, 5],
@@ -68,7 +69,7 @@ fn writes_the_events_of_a_call(rt: HostRuntime) -> Result<(), Fail> {
 
 #[test]
 fn writes_continue(rt: HostRuntime) {
-    for identifier in [-128, 1, 127] {
+    for identifier in [-128, 1, 3, 127] {
         let Component::Invoke(invoke) = write_continue(identifier) else {
             unreachable!()
         };
