@@ -46,29 +46,3 @@ impl Frame {
         self.message.as_slice()
     }
 }
-
-#[cfg(test)]
-mod tests {
-    use super::*;
-    use std::test::Fail;
-
-    #[test]
-    fn holds_1_to_4096_octets(rt: HostRuntime) -> Result<(), Fail> {
-        let octets = [0x5a; 4_097];
-        for (length, is_frame) in [
-            (0, false),
-            (1, true),
-            (47, true),
-            (4_096, true),
-            (4_097, false),
-        ] {
-            let message = Bytes::copy_from_slice(rt.alloc(), &octets[..length])?;
-            let frame = Frame::new(message);
-            assert_eq!(rt; frame.is_some(), is_frame, "{length}");
-            if let Some(frame) = frame {
-                assert_eq!(rt; frame.octets(), &octets[..length]);
-            }
-        }
-        Ok(())
-    }
-}

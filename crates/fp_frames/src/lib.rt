@@ -1,8 +1,8 @@
 //! The frames in which messages of TCAP go over a connection, in the place of SCCP: four octets of length,
 //! big-endian, 1 to 4,096, and then one message.
 //!
-//! The layer is handed octets and gives messages, or is handed a length and gives the octets of a head. It asks
-//! the system for nothing.
+//! The layer is handed the octets of a message and tells whether a frame may hold them, or is handed a length and
+//! gives the octets of a head. It asks the system for nothing.
 //!
 //! * [`Frame`] is the message of a frame, as octets that may be shared.
 //! * [`frame_head`] gives the four octets before a message.
@@ -13,6 +13,8 @@
 
 mod frame;
 mod head;
+#[cfg(test)]
+mod tests;
 
 pub use frame::Frame;
 pub use head::frame_head;
