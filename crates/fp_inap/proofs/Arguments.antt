@@ -1,7 +1,6 @@
 -- An argument says one thing, so what is read of it is what it says.
 use Rattle.std.proofs.Common.{◌≡◌, ℕ, Bool, true, false, List, [], ◌∷◌, Option, Some, None, Result, Ok, Err, IfOk, IfErr, refl, sym, ◌∙◌, ap, subst}
 use Rattle.std.specs.Prelude.{option_map, pos}
-use Rattle.fp_ber.specs.Integer.{integer}
 use Rattle.fp_ber.specs.Tree.{Tree, Trees}
 use Rattle.fp_digits.specs.declared.number.Number.{Number}
 use Rattle.fp_inap.specs.declared.event.Event.{Event}
@@ -16,6 +15,7 @@ use Rattle.fp_inap.specs.InitialDp.{IsInitialDp, IsKey, number_in}
 use Rattle.fp_inap.specs.Members.{IsSequence, HoldsOctets, HoldsMembers, IsOctet}
 use Rattle.fp_inap.proofs.Sequences.{sequence_same, octets_same, members_same, octet_same}
 
+-- octets hold one service key
 key_same : (octets : Option (List ℕ)) (a b : Option ℕ) → IsKey octets a → IsKey octets b → a ≡ b
 key_same None None None g h = refl
 key_same None None (Some b) g h = absurd h
@@ -24,6 +24,7 @@ key_same (Some octets) None b g h = absurd g
 key_same (Some octets) (Some a) None g h = absurd h
 key_same (Some octets) (Some a) (Some b) g h = let same : Some (pos a) ≡ Some (pos b) = sym g ∙ h in cc
 
+-- where all parts are the same, so is the whole
 same_fields : (a a' : Option ℕ) (b b' c c' : Option Number) (d d' : Option ℕ) (e e' : Option Event) → a ≡ a' → b ≡ b' → c ≡ c' → d ≡ d' → e ≡ e'
     → ◌≡◌ {A = InitialDp}
     (record { key = a; called = b; calling = c; category = d; event = e })
@@ -55,12 +56,14 @@ pub initial_dp_read : (t : Tree) (r : Result InitialDp Mistyped) → IfOk r (IsI
 initial_dp_read t (Ok x) ok err dp is = ap Ok (initial_dp_same t x dp ok is)
 initial_dp_read t (Err m) ok err dp is = absurd (err dp is)
 
+-- members are one leg
 leg_members_same : (a b : Leg) → leg_members a ≡ leg_members b → a ≡ b
 leg_members_same (Sending a) (Sending b) is = cc
 leg_members_same (Sending a) (Receiving b) is = cc
 leg_members_same (Receiving a) (Sending b) is = cc
 leg_members_same (Receiving a) (Receiving b) is = cc
 
+-- so are members that needn't be there
 leg_same : (members : Option Trees) (a b : Option Leg) → IsLeg members a → IsLeg members b → a ≡ b
 leg_same None None None g h = refl
 leg_same None None (Some b) g h = absurd h
@@ -69,6 +72,7 @@ leg_same (Some members) None b g h = absurd g
 leg_same (Some members) (Some a) None g h = absurd h
 leg_same (Some members) (Some a) (Some b) g h = ap Some (leg_members_same a b (sym g ∙ h))
 
+-- octets are one messageType
 message_type_same : (octets : Option (List ℕ)) (a b : Bool) → IsMessageType octets a → IsMessageType octets b → a ≡ b
 message_type_same None a b g h = g ∙ sym h
 message_type_same (Some octets) false false g h = refl
@@ -76,12 +80,14 @@ message_type_same (Some octets) false true g h = cc
 message_type_same (Some octets) true false g h = cc
 message_type_same (Some octets) true true g h = refl
 
+-- members are one miscCallInfo
 call_info_same : (members : Option Trees) (a b : Bool) → IsCallInfo members a → IsCallInfo members b → a ≡ b
 call_info_same None a b g h = g ∙ sym h
 call_info_same (Some members) a b g h =
     let octets = octets_same members 0 g.1.0 h.1.0 g.1.1 h.1.1 in
     message_type_same h.1.0 a b (subst (λ o. IsMessageType o a) octets g.1.2) h.1.2
 
+-- where all parts are the same, so is the whole
 same_report : (a a' : Event) (b b' : Option Leg) (c c' : Bool) → a ≡ a' → b ≡ b' → c ≡ c'
     → ◌≡◌ {A = EventReport} (record { event = a; leg = b; notification = c }) (record { event = a'; leg = b'; notification = c' })
 same_report a a' b b' c c' event leg notification = cc
@@ -99,6 +105,7 @@ event_report_same t x y g h =
     (leg_same h.leg x.leg y.leg (subst (λ o. IsLeg o x.leg) leg g.is_leg) h.is_leg)
     (call_info_same h.call_info x.notification y.notification (subst (λ o. IsCallInfo o x.notification) info g.is_notification) h.is_notification)
 
+-- what is read, where nothing but what the argument says is, and no refusal is wrong
 pub event_report_read : (t : Tree) (r : Result EventReport Mistyped) → IfOk r (IsEventReport t) → IfErr r (λ m. (report : EventReport) → IsEventReport t report → ⊥)
     → (report : EventReport) → IsEventReport t report → r ≡ Ok report
 event_report_read t (Ok x) ok err report is = ap Ok (event_report_same t x report ok is)

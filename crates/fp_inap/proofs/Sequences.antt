@@ -1,6 +1,5 @@
 -- The members of a sequence: what the one that has a number is, and that a sequence says one thing.
-use Rattle.std.proofs.Common.{◌≡◌, ℕ, ◌+◌, ◌<◌, ◌==◌, List, [], ◌∷◌, length, get_or, drop, Bool, true, false, if◌then◌else◌, Option, Some, None, refl, sym, ◌∙◌, ap, arith, rules}
-use Rattle.fp_ber.specs.declared.element.Class.{Class}
+use Rattle.std.proofs.Common.{◌≡◌, ℕ, ◌+◌, ◌<◌, ◌==◌, List, ◌∷◌, length, get_or, drop, Bool, true, false, if◌then◌else◌, Option, Some, None, refl, sym, ◌∙◌, arith, rules}
 use Rattle.fp_ber.specs.declared.element.Class.TheVariants.{Context}
 use Rattle.std.proofs.lemmas.List.{drop_more}
 use Rattle.std.proofs.lemmas.Bool.Decides.{nat_tests}
@@ -31,6 +30,7 @@ pub record HasTag (number : ℕ) (t : Tree) : Type 0 where
   pub context : class_of t ≡ Context
   pub numbered : number_of t ≡ number
 
+-- one step of the next lemma
 first_step : (number : ℕ) (u : Tree) (ts : Trees) (t : Tree) (rest : List Tree) (b : Bool) → (number_of u == number) ≡ b → class_of u ≡ Context
     → (with_number number ts ≡ t ∷ rest → HasTag number t)
     → (if b then u ∷ with_number number ts else with_number number ts) ≡ t ∷ rest → HasTag number t
@@ -39,6 +39,7 @@ first_step number u ts t rest true same class step is =
     record { context = rw (← first) class; numbered = rw (← first) (grind (arith, nat_tests, same)) }
 first_step number u ts t rest false same class step is = step is
 
+-- the first of the members that have a number has it, and a context tag
 pub first_with : (number : ℕ) (ts : Trees) (t : Tree) (rest : List Tree) → AllContext ts → with_number number ts ≡ t ∷ rest → HasTag number t
 first_with number none t rest all is = cc
 first_with number (more u ts) t rest all is =
@@ -48,19 +49,21 @@ first_with number (more u ts) t rest all is =
 pub sequence_same : (t : Tree) (a b : Trees) → IsSequence t a → IsSequence t b → a ≡ b
 sequence_same t a b g h = let same = sym g.0 ∙ h.0 in cc
 
--- one member has one form and holds one thing
+-- one member has one form and holds the same octets
 pub octets_same : (ts : Trees) (number : ℕ) (a b : Option (List ℕ)) → HoldsOctets ts number a → HoldsOctets ts number b → a ≡ b
 octets_same ts number None None g h = refl
 octets_same ts number None (Some b) g h = cc
 octets_same ts number (Some a) None g h = cc
 octets_same ts number (Some a) (Some b) g h = cc
 
+-- and so do the elements in it
 pub members_same : (ts : Trees) (number : ℕ) (a b : Option Trees) → HoldsMembers ts number a → HoldsMembers ts number b → a ≡ b
 members_same ts number None None g h = refl
 members_same ts number None (Some b) g h = cc
 members_same ts number (Some a) None g h = cc
 members_same ts number (Some a) (Some b) g h = cc
 
+-- octets are one octet
 pub octet_same : (octets : Option (List ℕ)) (a b : Option ℕ) → IsOctet octets a → IsOctet octets b → a ≡ b
 octet_same None None None g h = refl
 octet_same None None (Some b) g h = absurd h

@@ -5,10 +5,12 @@ use Rattle.fp_ber.specs.declared.element.Class.{Class}
 use Rattle.fp_ber.specs.declared.element.Class.TheVariants.{Universal, Context}
 use Rattle.fp_ber.specs.Tree.{Tree, Trees, primitive, constructed, none, more}
 
+-- the class of an element's tag
 abbrev pub class_of : Tree → Class
 class_of (primitive class number octets) = class
 class_of (constructed class number children) = class
 
+-- the number of an element's tag
 abbrev pub number_of : Tree → ℕ
 number_of (primitive class number octets) = number
 number_of (constructed class number children) = number

@@ -1,5 +1,5 @@
 -- The argument of ReleaseCall, after ITU-T Q.1218, as an element: an octet string with a cause of Q.763.
-use Rattle.std.specs.Prelude.{ℕ, ◌+◌, [], ◌∷◌}
+use Rattle.std.specs.Prelude.{◌+◌, [], ◌∷◌}
 use Rattle.fp_ber.specs.declared.element.Class.TheVariants.{Universal}
 use Rattle.fp_ber.specs.Tree.{Tree, primitive}
 use Rattle.fp_digits.specs.Cause.{cause_value}

@@ -3,7 +3,6 @@
 use Rattle.std.specs.Prelude.{ℕ, List, [], ◌∷◌}
 use Rattle.fp_ber.specs.declared.element.Class.TheVariants.{Universal, Context}
 use Rattle.fp_ber.specs.Tree.{Tree, Trees, primitive, constructed, none, more}
-use Rattle.fp_inap.specs.declared.event.Event.{Event}
 use Rattle.fp_inap.specs.declared.event.Event.TheVariants.{RouteSelectFailure, OCalledPartyBusy, ONoAnswer, OAnswer, OAbandon}
 use Rattle.fp_inap.specs.declared.monitor_mode.MonitorMode.{MonitorMode}
 use Rattle.fp_inap.specs.declared.monitor_mode.MonitorMode.TheVariants.{Interrupted, NotifyAndContinue, Transparent}

@@ -1,4 +1,4 @@
-use Rattle.std.proofs.Common.{arith, rules, tests}
+use Rattle.std.proofs.Common.{rules, tests}
 use Rattle.fp_inap.proofs.Sequences.{context_at, context_step}
 use Rattle.fp_inap.proofs.members.are_context.Goals as goal
 

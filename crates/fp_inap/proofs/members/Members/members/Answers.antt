@@ -1,5 +1,5 @@
 -- The one member with the number is this one.
-use Rattle.std.proofs.Common.{◌≡◌, [], ◌∷◌, refl, ◌∙◌, ap}
+use Rattle.std.proofs.Common.{[], ◌∷◌, refl, ◌∙◌, ap}
 use Rattle.fp_inap.proofs.Sequences.{first_with}
 use Rattle.fp_inap.proofs.members.Members.members.Goals as goal
 
