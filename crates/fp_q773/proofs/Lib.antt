@@ -1,8 +1,10 @@
 pub mod Answered
+pub mod Exact
 pub mod Faults
 pub mod Fronts
 pub mod Integers
 pub mod Joins
+pub mod Least
 pub mod Messages
 pub mod Parts
 pub mod Rooms

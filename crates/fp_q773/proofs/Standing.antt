@@ -1,11 +1,11 @@
 -- Octets tell one kind of message and one identifier of each sort.
-use Rattle.std.proofs.Common.{◌≡◌, ◌≢◌, ℕ, ◌<◌, ◌%◌, List, [], ◌∷◌, ◌++◌, length, Option, Some, None, inl, inr, refl, sym, ◌∙◌, ap, subst, ◌⊎◌}
+use Rattle.std.proofs.Common.{◌≡◌, ℕ, ◌<◌, ◌%◌, List, [], ◌∷◌, ◌++◌, length, Option, Some, None, inl, inr, refl, sym, ◌∙◌, ap, subst, ◌⊎◌}
 use Rattle.fp_ber.specs.Spelling.{BeginsLength}
 use Rattle.fp_ber.proofs.Unique.{same_front, head_of, length_same}
 use Rattle.fp_q773.specs.declared.kind.Kind.{Kind}
 use Rattle.fp_q773.specs.declared.kind.Kind.TheVariants.{Unidirectional, Begin, End, Continue, Abort, Unknown}
-use Rattle.fp_q773.specs.Ids.{kind_of, Stands, Counts, BothCount, IsMarked, AreIdsIn, PassesLength, AreIds}
-use Rattle.fp_q773.specs.Laws.{SameIds, IdsAreOne}
+use Rattle.fp_q773.specs.Ids.{Stands, Counts, BothCount, IsMarked, AreIdsIn, PassesLength}
+use Rattle.fp_q773.specs.Laws.{IdsAreOne}
 
 -- an identifier, and what stands behind it
 record SameStanding (i j r s : List ℕ) : Type 0 where

@@ -1,7 +1,9 @@
--- What holds of all messages, and of all octets.
-use Rattle.std.specs.Prelude.{◌≡◌, ℕ, List, Option}
+-- What holds of all messages, of all numbers, and of all octets.
+use Rattle.std.specs.Prelude.{◌≡◌, ℕ, ℤ, ◌<◌, ◌≤◌, List, length, All, Option, Some}
+use Rattle.fp_ber.specs.Integer.{integer}
 use Rattle.fp_ber.specs.Tree.{Tree}
 use Rattle.fp_q773.specs.declared.kind.Kind.{Kind}
+use Rattle.fp_q773.specs.TwosComplement.{least_octets}
 use Rattle.fp_q773.specs.Value.{MessageValue, ComponentValue}
 use Rattle.fp_q773.specs.Grammar.{IsMessage, IsComponent}
 use Rattle.fp_q773.specs.Ids.{AreIds}
@@ -13,6 +15,11 @@ MessagesAreOne = (t : Tree) (x y : MessageValue) → IsMessage t x → IsMessage
 -- an element is at most one component
 abbrev pub ComponentsAreOne : Type 0
 ComponentsAreOne = (t : Tree) (x y : ComponentValue) → IsComponent t x → IsComponent t y → x ≡ y
+
+-- no octets with the value of a number are fewer than those that it is written in (X.690, 8.3.2)
+abbrev pub CodesAreLeast : Type 0
+CodesAreLeast = (octets : List ℕ) (number : ℤ) → All (λ octet. octet < 256) octets → integer octets ≡ Some number
+    → length (least_octets number) ≤ length octets
 
 -- the same kind and the same identifiers
 pub record SameIds (k l : Kind) (a b c d : Option (List ℕ)) : Type 0 where

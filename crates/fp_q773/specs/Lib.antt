@@ -7,6 +7,8 @@ pub mod Problem
 pub mod ProviderAbort
 pub mod Room
 pub mod Tid
+pub mod TwosComplement
 pub mod Value
 pub mod View
 pub mod Writable
+pub mod Written

@@ -8,8 +8,6 @@ use Rattle.fp_q773.specs.declared.coded.Code.{Code}
 use Rattle.fp_q773.specs.declared.coded.Code.TheVariants.{Local, Global}
 use Rattle.fp_q773.specs.declared.coded.Coded.{Coded}
 use Rattle.fp_q773.specs.declared.invoke.Invoke.{Invoke}
-use Rattle.fp_q773.specs.declared.return_error.ReturnError.{ReturnError}
-use Rattle.fp_q773.specs.declared.reject.Reject.{Reject}
 use Rattle.fp_q773.specs.declared.component.Component.{Component}
 use Rattle.fp_q773.specs.declared.component.Component.TheVariants as components
 use Rattle.fp_q773.specs.declared.begin.Begin.{Begin}

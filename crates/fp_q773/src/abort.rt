@@ -8,8 +8,9 @@ ghost use Rattle.fp_q773.specs.Value as value;
 ghost use Rattle.fp_q773.specs.View.{reason_of, abort_of};
 ghost use Rattle.fp_q773.specs.Tid.{octets_of};
 ghost use Rattle.fp_q773.specs.Grammar.{IsReason, IsAbort, IsMessage};
-ghost use Rattle.fp_q773.specs.Members.{HasMore};
+ghost use Rattle.fp_q773.specs.Members.{joined, HasMore};
 ghost use Rattle.fp_q773.specs.Writable.{IsWritableMessage, IsWritableReason};
+ghost use Rattle.fp_q773.specs.Written.{reason_trees, written};
 
 use crate::members::{one_member, split_first, with_member};
 use crate::portions::DIALOGUE_PORTION;
@@ -77,7 +78,8 @@ impl<'a> AbortReason<'a> {
     /// The element of a reason.
     fn write(&self, alloc: Global) -> Result<Element, AllocError>
         requires { IsWritableReason (Some (reason_of self.now)) }
-        ensures { IfOk result (λ element. IsReason (tree.more (tree_of element) tree.none) (Some (reason_of self.now))) }
+        ensures found { IfOk result (λ element. IsReason (tree.more (tree_of element) tree.none) (Some (reason_of self.now))) }
+        ensures exact { IfOk result (λ element. tree.more (tree_of element) tree.none ≡ reason_trees (Some (reason_of self.now))) }
     {
         match self {
             AbortReason::Provider(cause) => {
@@ -124,8 +126,10 @@ impl<'a> Abort<'a> {
     /// The elements with that of the reason behind them, if there is one.
     fn write_reason(&self, alloc: Global, members: Vec<Element>) -> Result<Vec<Element>, AllocError>
         requires { IsWritableReason (option_map reason_of self.now.reason) }
-        ensures { IfOk result (λ all. HasMore (forest_of all.items) (forest_of members.items)
+        ensures found { IfOk result (λ all. HasMore (forest_of all.items) (forest_of members.items)
             (λ ts. IsReason ts (option_map reason_of self.now.reason))) }
+        ensures exact { IfOk result (λ all. forest_of all.items
+            ≡ joined (forest_of members.items) (reason_trees (option_map reason_of self.now.reason))) }
     {
         let Some(reason) = self.reason else {
             return Ok(members);
@@ -138,7 +142,8 @@ impl<'a> Abort<'a> {
     /// The element of an Abort.
     pub(crate) fn write(&self, alloc: Global) -> Result<Element, AllocError>
         requires { IsWritableMessage (abort_of self.now) }
-        ensures { IfOk result (λ element. IsMessage (tree_of element) (abort_of self.now)) }
+        ensures found { IfOk result (λ element. IsMessage (tree_of element) (abort_of self.now)) }
+        ensures exact { IfOk result (λ element. tree_of element ≡ written (abort_of self.now)) }
     {
         let destination = write_transaction(alloc, self.destination, DESTINATION)?;
         let members = one_member(alloc, destination)?;

@@ -1,14 +1,15 @@
 //! Codes of operations and errors, with what they are handed (Q.773, 4.2.2).
 
-ghost use Rattle.std.specs.Prelude.{◌≡◌, Option, Some, IfOk, IfSome, IfNone, pos, ◌+ℤ◌, ◌*ℤ◌, FitsSigned};
-ghost use Rattle.std.specs.Int.{w8};
+ghost use Rattle.std.specs.Prelude.{◌≡◌, Option, Some, IfOk, IfSome, IfNone, pos, ◌+ℤ◌, ◌*ℤ◌, false};
 ghost use Rattle.fp_ber.specs.Tree.{Tree};
 ghost use Rattle.fp_ber.specs.View.{tree_of, forest_of};
 ghost use Rattle.fp_ber.specs.Integer.{integer, signed};
+ghost use Rattle.fp_q773.specs.TwosComplement.{is_within, least_octets};
 ghost use Rattle.fp_q773.specs.Value.{CodeValue};
 ghost use Rattle.fp_q773.specs.View.{code_of, tree_in};
-ghost use Rattle.fp_q773.specs.Members.{HasMore};
+ghost use Rattle.fp_q773.specs.Members.{joined, HasMore};
 ghost use Rattle.fp_q773.specs.Grammar.{IsCode, IsCoded};
+ghost use Rattle.fp_q773.specs.Written.{code_tree, coded_trees};
 
 use crate::identifier::INTEGER;
 use crate::members::{split_first, with_member};
@@ -57,7 +58,7 @@ fn halves_of(number: i32) -> Halves
 /// The octet that stands for a number in two's complement, if one does.
 fn octet_in(number: i32) -> Option<u8>
     ensures some { IfSome result (λ octet. signed octet ≡ number) }
-    ensures none { IfNone result (FitsSigned w8 number → ⊥) }
+    ensures none { IfNone result (is_within 1 number ≡ false) }
 {
     if number < -0x80 {
         return None;
@@ -70,7 +71,8 @@ fn octet_in(number: i32) -> Option<u8>
 
 /// The least octets that stand for a number in two's complement.
 fn integer_octets(alloc: Global, number: i32) -> Result<Vec<u8>, AllocError>
-    ensures { IfOk result (λ octets. integer octets.items ≡ Some number) }
+    ensures value { IfOk result (λ octets. integer octets.items ≡ Some number) }
+    ensures exact { IfOk result (λ octets. octets.items ≡ least_octets number) }
 {
     if let Some(first) = octet_in(number) {
         return Vec::from_slice(alloc, &[first]);
@@ -108,7 +110,8 @@ impl<'a> Code<'a> {
 
     /// The element of a code.
     pub(crate) fn write(&self, alloc: Global) -> Result<Element, AllocError>
-        ensures { IfOk result (λ element. IsCode (tree_of element) (code_of self.now)) }
+        ensures found { IfOk result (λ element. IsCode (tree_of element) (code_of self.now)) }
+        ensures exact { IfOk result (λ element. tree_of element ≡ code_tree (code_of self.now)) }
     {
         match self {
             Code::Local(number) => {
@@ -157,8 +160,10 @@ impl<'a> Coded<'a> {
         alloc: Global,
         members: Vec<Element>,
     ) -> Result<Vec<Element>, AllocError>
-        ensures { IfOk result (λ all. HasMore (forest_of all.items) (forest_of members.items)
+        ensures found { IfOk result (λ all. HasMore (forest_of all.items) (forest_of members.items)
             (λ ts. IsCoded ts (code_of self.now.code) (tree_in self.now.parameter))) }
+        ensures exact { IfOk result (λ all. forest_of all.items
+            ≡ joined (forest_of members.items) (coded_trees (code_of self.now.code) (tree_in self.now.parameter))) }
     {
         let code = self.code.write(alloc)?;
         let members = with_member(members, code)?;

@@ -9,6 +9,7 @@ ghost use Rattle.fp_q773.specs.Value as value;
 ghost use Rattle.fp_q773.specs.View.{invoke_of, component_of};
 ghost use Rattle.fp_q773.specs.Grammar.{BeginsWith, IsComponent, IsRow};
 ghost use Rattle.fp_q773.specs.Writable.{IsWritable};
+ghost use Rattle.fp_q773.specs.Written.{component_tree};
 
 use crate::identifier::identifier_of;
 use crate::invoke::{INVOKE, Invoke};
@@ -167,7 +168,8 @@ impl<'a> Component<'a> {
     /// The element of a component.
     pub(crate) fn write(&self, alloc: Global) -> Result<Element, AllocError>
         requires { IsWritable (component_of self.now) }
-        ensures { IfOk result (λ element. IsRow (tree_of element) (component_of self.now)) }
+        ensures found { IfOk result (λ element. IsRow (tree_of element) (component_of self.now)) }
+        ensures exact { IfOk result (λ element. tree_of element ≡ component_tree (component_of self.now)) }
     {
         match self {
             Component::Invoke(invoke) => {

@@ -1,6 +1,6 @@
 //! End (Q.773, 4.2.1): a dialogue ends.
 
-ghost use Rattle.std.specs.Prelude.{ℕ, List, Option, IfOk, IfErr, map};
+ghost use Rattle.std.specs.Prelude.{◌≡◌, ℕ, List, Option, IfOk, IfErr, map};
 ghost use Rattle.fp_ber.specs.Tree.{Tree};
 ghost use Rattle.fp_ber.specs.View.{tree_of, forest_of};
 ghost use Rattle.fp_q773.specs.Value as value;
@@ -8,7 +8,8 @@ ghost use Rattle.fp_q773.specs.View.{component_of, tree_in, end_of};
 ghost use Rattle.fp_q773.specs.Tid.{octets_of};
 ghost use Rattle.fp_q773.specs.Fault.{Refused};
 ghost use Rattle.fp_q773.specs.Grammar.{IsEnd, IsMessage};
-ghost use Rattle.fp_q773.specs.Writable.{IsWritableMessage, IsBare};
+ghost use Rattle.fp_q773.specs.Writable.{IsWritableMessage};
+ghost use Rattle.fp_q773.specs.Written.{written};
 
 use crate::component::Component;
 use crate::fault::MessageFault;
@@ -56,7 +57,7 @@ impl<'a> End<'a> {
     pub(crate) fn write(&self, alloc: Global) -> Result<Element, AllocError>
         requires { IsWritableMessage (end_of self.now) }
         ensures found { IfOk result (λ element. IsMessage (tree_of element) (end_of self.now)) }
-        ensures bare { IfOk result (λ element. IsBare (tree_of element) (end_of self.now)) }
+        ensures exact { IfOk result (λ element. tree_of element ≡ written (end_of self.now)) }
     {
         let destination = write_transaction(alloc, self.destination, DESTINATION)?;
         let members = one_member(alloc, destination)?;

@@ -1,8 +1,9 @@
 //! Invoke identifiers (Q.773, 4.2.2): integers of one octet.
 
-ghost use Rattle.std.specs.Prelude.{ℤ, IfOk, MatchOption};
+ghost use Rattle.std.specs.Prelude.{◌≡◌, ℤ, IfOk, MatchOption};
 ghost use Rattle.fp_ber.specs.View.{tree_of};
 ghost use Rattle.fp_q773.specs.Grammar.{IsIdentifier, IsLinked};
+ghost use Rattle.fp_q773.specs.Written.{identifier_tree, linked_tree};
 
 use fp_ber::{Class, Element, octet_of, signed_of};
 use std::alloc::{AllocError, Global};
@@ -28,7 +29,8 @@ pub fn identifier_of(element: &Element) -> Option<i8>
 
 /// The element of an invoke identifier.
 pub fn write_identifier(alloc: Global, identifier: i8) -> Result<Element, AllocError>
-    ensures { IfOk result (λ element. IsIdentifier (tree_of element) identifier) }
+    ensures found { IfOk result (λ element. IsIdentifier (tree_of element) identifier) }
+    ensures exact { IfOk result (λ element. tree_of element ≡ identifier_tree identifier) }
 {
     let octets = Vec::from_slice(alloc, &[octet_of(identifier)])?;
     Ok(Element::primitive(Class::Universal, INTEGER, octets))
@@ -50,7 +52,8 @@ pub fn linked_of(element: &Element) -> Option<i8>
 
 /// The element of a linked identifier.
 pub fn write_linked(alloc: Global, identifier: i8) -> Result<Element, AllocError>
-    ensures { IfOk result (λ element. IsLinked (tree_of element) identifier) }
+    ensures found { IfOk result (λ element. IsLinked (tree_of element) identifier) }
+    ensures exact { IfOk result (λ element. tree_of element ≡ linked_tree identifier) }
 {
     let octets = Vec::from_slice(alloc, &[octet_of(identifier)])?;
     Ok(Element::primitive(Class::Context, LINKED, octets))

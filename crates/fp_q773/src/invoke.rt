@@ -6,8 +6,9 @@ ghost use Rattle.fp_ber.specs.Tree.{Tree};
 ghost use Rattle.fp_ber.specs.View.{tree_of, forest_of};
 ghost use Rattle.fp_q773.specs.Value.{CodeValue};
 ghost use Rattle.fp_q773.specs.View.{code_of, tree_in, invoke_of};
-ghost use Rattle.fp_q773.specs.Members.{HasMore};
+ghost use Rattle.fp_q773.specs.Members.{joined, HasMore};
 ghost use Rattle.fp_q773.specs.Grammar.{IsLinked, IsAsked, IsInvoke, IsRow};
+ghost use Rattle.fp_q773.specs.Written.{asked_trees, component_tree};
 
 use crate::coded::{Code, Coded};
 use crate::identifier::{identifier_of, linked_of, write_identifier, write_linked};
@@ -92,8 +93,10 @@ impl<'a> Invoke<'a> {
 
     /// The elements with those of the operation behind them.
     fn write_asked(&self, alloc: Global, members: Vec<Element>) -> Result<Vec<Element>, AllocError>
-        ensures { IfOk result (λ all. HasMore (forest_of all.items) (forest_of members.items)
+        ensures found { IfOk result (λ all. HasMore (forest_of all.items) (forest_of members.items)
             (λ ts. IsAsked ts self.now.linked (code_of self.now.code) (tree_in self.now.parameter))) }
+        ensures exact { IfOk result (λ all. forest_of all.items ≡ joined (forest_of members.items)
+            (asked_trees self.now.linked (code_of self.now.code) (tree_in self.now.parameter))) }
     {
         let operation = Coded {
             code: self.code,
@@ -111,7 +114,8 @@ impl<'a> Invoke<'a> {
 
     /// The element of an Invoke.
     pub(crate) fn write(&self, alloc: Global) -> Result<Element, AllocError>
-        ensures { IfOk result (λ element. IsRow (tree_of element) (invoke_of self.now)) }
+        ensures found { IfOk result (λ element. IsRow (tree_of element) (invoke_of self.now)) }
+        ensures exact { IfOk result (λ element. tree_of element ≡ component_tree (invoke_of self.now)) }
     {
         let identifier = write_identifier(alloc, self.identifier)?;
         let members = one_member(alloc, identifier)?;

@@ -16,9 +16,9 @@
 //!
 //! The layer above may rely on this: a message is read exactly where the grammar of `specs/Grammar.antt`
 //! has the element as that message, and each fault is answered exactly where `specs/Fault.antt` has it, want
-//! of memory aside; what is written is the message by the same grammar; and `ids_of` answers by
-//! `specs/Ids.antt`. An element is at most one message, and octets tell one kind and one identifier of each
-//! sort, so each answer is the only one.
+//! of memory aside; what is written is the message by the same grammar, and the very element that
+//! `specs/Written.antt` makes of it; and `ids_of` answers by `specs/Ids.antt`. An element is at most one
+//! message, and octets tell one kind and one identifier of each sort, so each answer is the only one.
 #![tactic(auto)]
 
 mod abort;
@@ -58,7 +58,7 @@ pub use fault::MessageFault;
 pub use ids::{Ids, ids_of};
 pub use invoke::Invoke;
 pub use kind::Kind;
-pub use laws::{components_are_one, ids_are_one, messages_are_one};
+pub use laws::{codes_are_least, components_are_one, ids_are_one, messages_are_one};
 pub use message::{Message, message_of, write_message};
 pub use operation_class::OperationClass;
 pub use problem::{

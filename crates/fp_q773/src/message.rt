@@ -1,6 +1,6 @@
 //! Messages (Q.773, 4.2.1): what the two ends of a dialogue send each other.
 
-ghost use Rattle.std.specs.Prelude.{◌≢◌, ◌<◌, ◌≤◌, ◌^◌, length, IfOk, IfErr};
+ghost use Rattle.std.specs.Prelude.{◌≡◌, ◌≢◌, ◌<◌, ◌≤◌, ◌^◌, length, IfOk, IfErr};
 ghost use Rattle.fp_ber.specs.declared.element.Class.TheVariants as classes;
 ghost use Rattle.fp_ber.specs.Tree as tree;
 ghost use Rattle.fp_ber.specs.Tree.{HasTags};
@@ -14,6 +14,7 @@ ghost use Rattle.fp_q773.specs.Room.{message_room};
 ghost use Rattle.fp_q773.specs.Value.{MessageValue};
 ghost use Rattle.fp_q773.specs.View.{message_value};
 ghost use Rattle.fp_q773.specs.Writable.{IsWritableMessage, IsBare};
+ghost use Rattle.fp_q773.specs.Written.{written};
 
 use crate::abort::{ABORT, Abort};
 use crate::begin::{BEGIN, Begin};
@@ -135,7 +136,7 @@ pub fn message_of(alloc: Global, element: &Element) -> Result<Message<'_>, Messa
 fn element_of(alloc: Global, message: &Message<'_>) -> Result<Element, AllocError>
     requires { IsWritableMessage (message_value message.now) }
     ensures found { IfOk result (λ element. IsMessage (tree_of element) (message_value message.now)) }
-    ensures bare { IfOk result (λ element. IsBare (tree_of element) (message_value message.now)) }
+    ensures exact { IfOk result (λ element. tree_of element ≡ written (message_value message.now)) }
 {
     match message {
         Message::Unidirectional => Ok(Element::constructed(
@@ -159,6 +160,9 @@ pub fn write_message(alloc: Global, message: &Message<'_>) -> Result<Element, Al
 
     // What is written is the message.
     ensures found { IfOk result (λ element. IsMessage (tree_of element) (message_value message.now)) }
+
+    // The message determines the element: what may be spelled in several ways is written in one.
+    ensures exact { IfOk result (λ element. tree_of element ≡ written (message_value message.now)) }
 
     // Without components there is no component portion, and a Unidirectional holds nothing.
     ensures bare { IfOk result (λ element. IsBare (tree_of element) (message_value message.now)) }

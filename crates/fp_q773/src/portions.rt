@@ -9,7 +9,8 @@ ghost use Rattle.fp_q773.specs.View.{component_of, tree_in};
 ghost use Rattle.fp_q773.specs.Fault.{Refused};
 ghost use Rattle.fp_q773.specs.Members.{joined, HasMore};
 ghost use Rattle.fp_q773.specs.Grammar.{AreComponents, IsPortion, IsDialogue, ArePortions};
-ghost use Rattle.fp_q773.specs.Writable.{AllWritable, IsWritableDialogue, only};
+ghost use Rattle.fp_q773.specs.Writable.{AllWritable, IsWritableDialogue};
+ghost use Rattle.fp_q773.specs.Written.{component_trees, portion_trees, portions_trees};
 
 use crate::component::Component;
 use crate::fault::MessageFault;
@@ -118,7 +119,8 @@ impl<'a> Portions<'a> {
 /// The elements of components, in their order.
 fn write_components(alloc: Global, components: &[Component<'_>]) -> Result<Vec<Element>, AllocError>
     requires { AllWritable (map component_of components.now) }
-    ensures { IfOk result (λ members. AreComponents (forest_of members.items) (map component_of components.now)) }
+    ensures found { IfOk result (λ members. AreComponents (forest_of members.items) (map component_of components.now)) }
+    ensures exact { IfOk result (λ members. forest_of members.items ≡ component_trees (map component_of components.now)) }
 {
     let mut members = Vec::new(alloc);
     'components: for component in components {
@@ -137,8 +139,8 @@ fn write_portion(
     requires { AllWritable (map component_of components.now) }
     ensures found { IfOk result (λ all. HasMore (forest_of all.items) (forest_of members.items)
         (λ ts. IsPortion ts (map component_of components.now))) }
-    ensures bare { IfOk result (λ all. map component_of components.now ≡ []
-        → forest_of all.items ≡ forest_of members.items) }
+    ensures exact { IfOk result (λ all. forest_of all.items
+        ≡ joined (forest_of members.items) (portion_trees (map component_of components.now))) }
 {
     if components.is_empty() {
         return Ok(members);
@@ -160,8 +162,8 @@ pub fn write_portions(
     requires its_components { AllWritable (map component_of components.now) }
     ensures found { IfOk result (λ all. HasMore (forest_of all.items) (forest_of members.items)
         (λ ts. ArePortions ts (tree_in dialogue.entry) (map component_of components.now))) }
-    ensures bare { IfOk result (λ all. map component_of components.now ≡ []
-        → forest_of all.items ≡ joined (forest_of members.items) (only (tree_in dialogue.entry))) }
+    ensures exact { IfOk result (λ all. forest_of all.items
+        ≡ joined (forest_of members.items) (portions_trees (tree_in dialogue.entry) (map component_of components.now))) }
 {
     let Some(dialogue) = dialogue else {
         let members = write_portion(alloc, members, components)?;

@@ -1,10 +1,11 @@
 //! Reject (Q.773, 4.2.2): a component can't be taken.
 
-ghost use Rattle.std.specs.Prelude.{ℤ, Option, IfOk, IfSome, IfNone, MatchOption};
+ghost use Rattle.std.specs.Prelude.{◌≡◌, ℤ, Option, IfOk, IfSome, IfNone, MatchOption};
 ghost use Rattle.fp_ber.specs.View.{tree_of, forest_of};
 ghost use Rattle.fp_q773.specs.Value.{ProblemValue};
 ghost use Rattle.fp_q773.specs.Problem.{problem_of};
 ghost use Rattle.fp_q773.specs.Grammar.{IsRejected, IsProblem, IsReject};
+ghost use Rattle.fp_q773.specs.Written.{rejected_tree, problem_tree, reject_trees};
 
 use crate::identifier::{identifier_of, write_identifier};
 use crate::members::{one_member, split_first, with_member};
@@ -51,7 +52,8 @@ fn rejected_of(element: &Element) -> Option<Rejected>
 
 /// The element of the identifier of a rejected component, or null.
 fn write_rejected(alloc: Global, identifier: Option<i8>) -> Result<Element, AllocError>
-    ensures { IfOk result (λ element. IsRejected (tree_of element) identifier) }
+    ensures found { IfOk result (λ element. IsRejected (tree_of element) identifier) }
+    ensures exact { IfOk result (λ element. tree_of element ≡ rejected_tree identifier) }
 {
     match identifier {
         Some(identifier) => {
@@ -78,7 +80,8 @@ fn problem_in(element: &Element) -> Option<Problem>
 
 /// The element of a problem.
 fn write_problem(alloc: Global, problem: Problem) -> Result<Element, AllocError>
-    ensures { IfOk result (λ element. IsProblem (tree_of element) (problem_of problem)) }
+    ensures found { IfOk result (λ element. IsProblem (tree_of element) (problem_of problem)) }
+    ensures exact { IfOk result (λ element. tree_of element ≡ problem_tree (problem_of problem)) }
 {
     let octets = Vec::from_slice(alloc, &[problem.code()])?;
     Ok(Element::primitive(Class::Context, problem.tag(), octets))
@@ -114,7 +117,8 @@ impl Reject {
 
     /// The elements that a Reject holds.
     pub(crate) fn write(&self, alloc: Global) -> Result<Vec<Element>, AllocError>
-        ensures { IfOk result (λ members. IsReject (forest_of members.items) self.now.identifier (problem_of self.now.problem)) }
+        ensures found { IfOk result (λ members. IsReject (forest_of members.items) self.now.identifier (problem_of self.now.problem)) }
+        ensures exact { IfOk result (λ members. forest_of members.items ≡ reject_trees self.now.identifier (problem_of self.now.problem)) }
     {
         let identifier = write_rejected(alloc, self.identifier)?;
         let members = one_member(alloc, identifier)?;

@@ -1,11 +1,12 @@
 //! ReturnError (Q.773, 4.2.2): an operation failed.
 
-ghost use Rattle.std.specs.Prelude.{ℤ, Option, IfOk, IfSome, IfNone};
+ghost use Rattle.std.specs.Prelude.{◌≡◌, ℤ, Option, IfOk, IfSome, IfNone};
 ghost use Rattle.fp_ber.specs.Tree.{Tree};
 ghost use Rattle.fp_ber.specs.View.{forest_of};
 ghost use Rattle.fp_q773.specs.Value.{CodeValue};
 ghost use Rattle.fp_q773.specs.View.{code_of, tree_in};
 ghost use Rattle.fp_q773.specs.Grammar.{IsReturnError};
+ghost use Rattle.fp_q773.specs.Written.{return_error_trees};
 
 use crate::coded::{Code, Coded};
 use crate::identifier::{identifier_of, write_identifier};
@@ -50,8 +51,10 @@ impl<'a> ReturnError<'a> {
 
     /// The elements that a ReturnError holds.
     pub(crate) fn write(&self, alloc: Global) -> Result<Vec<Element>, AllocError>
-        ensures { IfOk result (λ members. IsReturnError (forest_of members.items) self.now.identifier
+        ensures found { IfOk result (λ members. IsReturnError (forest_of members.items) self.now.identifier
             (code_of self.now.code) (tree_in self.now.parameter)) }
+        ensures exact { IfOk result (λ members. forest_of members.items
+            ≡ return_error_trees self.now.identifier (code_of self.now.code) (tree_in self.now.parameter)) }
     {
         let identifier = write_identifier(alloc, self.identifier)?;
         let members = one_member(alloc, identifier)?;

@@ -6,8 +6,9 @@ ghost use Rattle.fp_ber.specs.Tree as tree;
 ghost use Rattle.fp_ber.specs.View.{tree_of, forest_of};
 ghost use Rattle.fp_q773.specs.Value.{ResultValue};
 ghost use Rattle.fp_q773.specs.View.{result_of};
-ghost use Rattle.fp_q773.specs.Members.{HasMore};
+ghost use Rattle.fp_q773.specs.Members.{joined, HasMore};
 ghost use Rattle.fp_q773.specs.Grammar.{IsReturned, IsReturnResult};
+ghost use Rattle.fp_q773.specs.Written.{returned_trees, return_result_trees};
 
 use crate::coded::Coded;
 use crate::identifier::{identifier_of, write_identifier};
@@ -78,8 +79,10 @@ impl<'a> ReturnResult<'a> {
         alloc: Global,
         members: Vec<Element>,
     ) -> Result<Vec<Element>, AllocError>
-        ensures { IfOk result (λ all. HasMore (forest_of all.items) (forest_of members.items)
+        ensures found { IfOk result (λ all. HasMore (forest_of all.items) (forest_of members.items)
             (λ ts. IsReturned ts (option_map result_of self.now.result))) }
+        ensures exact { IfOk result (λ all. forest_of all.items
+            ≡ joined (forest_of members.items) (returned_trees (option_map result_of self.now.result))) }
     {
         let Some(returned) = self.result else {
             return Ok(members);
@@ -92,8 +95,10 @@ impl<'a> ReturnResult<'a> {
 
     /// The elements that a ReturnResult holds.
     pub(crate) fn write(&self, alloc: Global) -> Result<Vec<Element>, AllocError>
-        ensures { IfOk result (λ members. IsReturnResult (forest_of members.items) self.now.identifier
+        ensures found { IfOk result (λ members. IsReturnResult (forest_of members.items) self.now.identifier
             (option_map result_of self.now.result)) }
+        ensures exact { IfOk result (λ members. forest_of members.items
+            ≡ return_result_trees self.now.identifier (option_map result_of self.now.result)) }
     {
         let identifier = write_identifier(alloc, self.identifier)?;
         let members = one_member(alloc, identifier)?;
