@@ -1,7 +1,7 @@
 // What a rule does with a call.
 
-ghost use Rattle.std.specs.Prelude.{◌≡◌, ℕ, ◌≤◌, List, length};
-ghost use Rattle.fp_records.specs.Action.{destinations_in};
+ghost use Rattle.std.specs.Prelude.{◌≡◌, ℕ, ◌≤◌, ◌↔◌, ◌∷◌, IsTrue, List, length};
+ghost use Rattle.fp_records.specs.Action.{destinations_in, destinations_left, first_of, rest_of};
 
 use crate::destination::Destination;
 
@@ -18,6 +18,15 @@ pub enum Destinations {
     Four([Destination; 4]),
 }
 
+/// The first of some destinations, and those that are left for when it fails.
+#[derive(Clone, Copy, Debug, PartialEq, Eq)]
+pub struct SplitDestinations {
+    /// The first.
+    pub first: Destination,
+    /// The others in their order, `None` where there are none.
+    pub left: Option<Destinations>,
+}
+
 impl Destinations {
     /// The destinations, the first one first, one to four of them.
     pub fn as_slice(&self) -> &[Destination]
@@ -32,6 +41,59 @@ impl Destinations {
             Destinations::Four(places) => places,
         }
     }
+
+    /// The first destination, and those that are left for when it fails.
+    pub fn split_first(self) -> SplitDestinations
+        ensures first { result.first ≡ first_of self }
+        ensures left { result.left ≡ rest_of self }
+        ensures list { destinations_in self ≡ first_of self ∷ destinations_left (rest_of self) }
+    {
+        match self {
+            Destinations::One(places) => {
+                let [first] = places;
+                SplitDestinations { first, left: None }
+            }
+            Destinations::Two(places) => {
+                let [first, second] = places;
+                let left = Some(Destinations::One([second]));
+                SplitDestinations { first, left }
+            }
+            Destinations::Three(places) => {
+                let [first, second, third] = places;
+                let left = Some(Destinations::Two([second, third]));
+                SplitDestinations { first, left }
+            }
+            Destinations::Four(places) => {
+                let [first, second, third, fourth] = places;
+                let left = Some(Destinations::Three([second, third, fourth]));
+                SplitDestinations { first, left }
+            }
+        }
+    }
+
+    /// Whether two are the same destinations in the same order.
+    pub fn same(&self, other: &Destinations) -> bool
+        ensures { IsTrue result ↔ (self.now ≡ other.now) }
+    {
+        match (*self, *other) {
+            (Destinations::One(places), Destinations::One(others)) => same_places(&places, &others),
+            (Destinations::Two(places), Destinations::Two(others)) => same_places(&places, &others),
+            (Destinations::Three(places), Destinations::Three(others)) => {
+                same_places(&places, &others)
+            }
+            (Destinations::Four(places), Destinations::Four(others)) => {
+                same_places(&places, &others)
+            }
+            _ => false,
+        }
+    }
+}
+
+// Whether two lists have the same destinations in the same order.
+fn same_places(places: &[Destination], others: &[Destination]) -> bool
+    ensures { IsTrue result ↔ (places.now ≡ others.now) }
+{
+    places == others
 }
 
 /// What a rule does with a call.
@@ -43,4 +105,17 @@ pub enum Action {
     Refuse,
     /// The call goes on with the number that was called.
     Pass,
+}
+
+impl Action {
+    /// Whether two are the same, their destinations too.
+    pub(crate) fn same(&self, other: &Action) -> bool
+        ensures { IsTrue result ↔ (self.now ≡ other.now) }
+    {
+        match (*self, *other) {
+            (Action::Route(destinations), Action::Route(others)) => destinations.same(&others),
+            (Action::Refuse, Action::Refuse) | (Action::Pass, Action::Pass) => true,
+            _ => false,
+        }
+    }
 }

@@ -1,6 +1,6 @@
 // The weekdays of a rule.
 
-ghost use Rattle.std.specs.Prelude.{◌≡◌, false, List, get_or, length};
+ghost use Rattle.std.specs.Prelude.{◌≡◌, ◌↔◌, IsTrue, false, List, get_or, length};
 ghost use Rattle.std.specs.List.{list_all};
 ghost use Rattle.jiff_core.specs.Weekday.{monday_zero};
 ghost use Rattle.fp_records.specs.Days.{days_of, has_every_day, has_octet, is_days};
@@ -39,6 +39,13 @@ impl Days {
         ensures { result ≡ has_every_day self }
     {
         all_set(&self.held)
+    }
+
+    /// Whether two sets have the same days.
+    pub(crate) fn same(&self, other: &Days) -> bool
+        ensures { IsTrue result ↔ (self.now ≡ other.now) }
+    {
+        self.held == other.held
     }
 
     /// The days that a text is, where it is one or more of the digits 1 (Monday) to 7 (Sunday), rising.

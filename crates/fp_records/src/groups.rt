@@ -136,7 +136,8 @@ impl Groups {
         let mut records = BTreeMap::new(alloc);
         for (number, rules) in self.groups {
             let record = Arc::new(alloc, Record::new(offset, rules))?;
-            records.insert(number, record)?;
+            // A number stands in the groups once, so no record is replaced.
+            drop(records.insert(number, record)?);
         }
         Ok(records)
     }

@@ -11,7 +11,10 @@
 //! - [`Table`] is the records of a file. [`Table::read`] reads it, and [`Table::find`] finds the
 //!   [`Record`] of a called number by its digits.
 //! - [`Record`] is the rules of one number, and [`Record::choose`] is the [`Rule`] that a call gets:
-//!   by the calling number's prefix, the weekday, the minute and the rules' shares.
+//!   by the calling number's prefix, the weekday, the minute and the rules' shares. [`Record::same`]
+//!   tells whether two say the same.
+//! - [`Destinations`] are those of a rule that routes. [`Destinations::split_first`] is the one that
+//!   is tried next and those that are left.
 //! - [`RecordsFault`] says why a text is no table: the first faulty record and its [`Reason`], or
 //!   want of memory.
 //!
@@ -40,7 +43,7 @@ mod tests;
 mod weight;
 mod window;
 
-pub use crate::action::{Action, Destinations};
+pub use crate::action::{Action, Destinations, SplitDestinations};
 pub use crate::days::Days;
 pub use crate::decimal_digits::DecimalDigits;
 pub use crate::destination::Destination;

@@ -1,6 +1,6 @@
 // The rules of a number, and the choice among them.
 
-ghost use Rattle.std.specs.Prelude.{◌≡◌, ◌≤◌, ◌+◌, ℕ, filter, length, max, option_map, ◌≢◌, [], ◌∷◌, IfNone, IfSome};
+ghost use Rattle.std.specs.Prelude.{◌≡◌, ◌↔◌, IsTrue, ◌≤◌, ◌+◌, ℕ, filter, length, max, option_map, ◌≢◌, [], ◌∷◌, IfNone, IfSome};
 ghost use Rattle.jiff_core.specs.Weekday.{monday_zero};
 ghost use Rattle.fp_records.specs.Choice.{IsRules, by_share, calling_digits, choice, first_above, fits, longest_prefix, most_exact, of_length, total_weight};
 ghost use Rattle.fp_records.specs.Share.{total_with};
@@ -59,6 +59,14 @@ impl Record {
         Some(kept.rule())
     }
 
+    /// Whether two records say the same: the same offset, and the same rules in the same order. It
+    /// takes no memory, and as many steps as there are rules.
+    pub fn same(&self, other: &Record) -> bool
+        ensures { IsTrue result ↔ (self.now ≡ other.now) }
+    {
+        self.offset == other.offset && same_rules(self.rules.as_slice(), other.rules.as_slice())
+    }
+
     /// The rule that a call gets, `None` where no rule fits.
     ///
     /// A rule fits when its prefix begins the calling digits (where there is no calling number, only
@@ -75,6 +83,21 @@ impl Record {
         };
         chosen(self.rules.as_slice(), &call, birth)
     }
+}
+
+// Whether two lists have the same rules in the same order.
+fn same_rules(rules: &[KeptRule], others: &[KeptRule]) -> bool
+    ensures { IsTrue result ↔ (rules.now ≡ others.now) }
+{
+    if rules.len() != others.len() {
+        return false;
+    }
+    for (kept, other) in rules.iter().zip(others) {
+        if !kept.rule().same(other.rule()) {
+            return false;
+        }
+    }
+    true
 }
 
 // The digits of a calling number, none where there is none.

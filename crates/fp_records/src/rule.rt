@@ -1,6 +1,6 @@
 // A rule of a number.
 
-ghost use Rattle.std.specs.Prelude.{◌≡◌};
+ghost use Rattle.std.specs.Prelude.{◌≡◌, ◌↔◌, IsTrue};
 
 use crate::action::Action;
 use crate::days::Days;
@@ -22,6 +22,19 @@ pub struct Rule {
     pub weight: Weight,
     /// What it does with a call.
     pub action: Action,
+}
+
+impl Rule {
+    /// Whether two rules say the same.
+    pub(crate) fn same(&self, other: &Rule) -> bool
+        ensures { IsTrue result ↔ (self.now ≡ other.now) }
+    {
+        self.prefix == other.prefix
+            && self.days.same(&other.days)
+            && self.window == other.window
+            && self.weight == other.weight
+            && self.action.same(&other.action)
+    }
 }
 
 /// A rule as a list keeps it. Contracts see it as the rule.

@@ -1,5 +1,6 @@
 use crate::{Reason, RecordsFault, Table};
 use std::alloc::Global;
+use std::io::Write;
 use std::test::Fail;
 
 /// The fault of the rules under a good first record.
@@ -188,6 +189,21 @@ fn a_number_has_1000_rules(rt: HostRuntime) -> Result<(), Fail> {
     assert_eq!(rt;
         fault_of(rt.alloc(), text.as_slice())?,
         record(1004, Reason::TooMany)
+    );
+    Ok(())
+}
+
+#[test]
+fn a_file_has_100000_rules(rt: HostRuntime) -> Result<(), Fail> {
+    // 1,000 rules of each of the numbers 100 to 199, and one of number 200.
+    let mut text = Vec::new(rt.alloc());
+    for rule in 0..100_001u32 {
+        writeln!(text, "{},,1,00:00,24:00,1,pass", 100 + rule / 1000)?;
+    }
+    text.extend_from_slice(b"x\n")?;
+    assert_eq!(rt;
+        fault_of(rt.alloc(), text.as_slice())?,
+        record(100_002, Reason::TooMany)
     );
     Ok(())
 }

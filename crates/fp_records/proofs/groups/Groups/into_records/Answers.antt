@@ -24,25 +24,6 @@ loop-number-init c =
       count = rw (c.new-records.ensures.empty, entries) (omega (arith, limits.rules, simp length-map at limits.numbers));
     }
 
-pub loop-number-preserved-in_ok-insert : goal.loop-number-preserved-in_ok-insert
-loop-number-preserved-in_ok-insert c =
-    let inv = c.loop-number.invariant in
-    let rest = rw c.in-Some.is at c.next.ensures.steps in
-    let so_far = rw rest at inv.so_far in
-    let once = rw rest at inv.once in
-    let fits : FitsSigned w16 c.args.offset = search rules in
-    let shared = c.in_ok-record.ensures.ok ∙ c.new.ensures in
-    let last = insert_entry-last (seen (λ key. key.items) (λ a. arc_value a) c.loop-number.records.entries) c.in-Some.number.items (arc_value c.in_ok-record.record) (keys_of (listed c.next.new.self)) once in
-    let entries = seen-insert_entry (λ key. key.items) (λ a. arc_value a) c.loop-number.records.entries c.in-Some.number c.in_ok-record.record in
-    record {
-      west = inv.west;
-      east = inv.east;
-      so_far = rw (c.in_ok-insert.ensures.entries, entries, last, append_assoc, shared) so_far;
-      once = rw (c.in_ok-insert.ensures.entries, entries, last, map-append (λ e. e.0) (seen (λ key. key.items) (λ a. arc_value a) c.loop-number.records.entries) ((c.in-Some.number.items, arc_value c.in_ok-record.record) ∷ []), append_assoc) once;
-      short = (few-parts (c.in-Some.number.items, c.in-Some.rules.items) (listed c.next.new.self) (rw rest at inv.short)).1;
-      count = let longer = one_longer (length c.loop-number.records.entries) (length c.insert.new.self.entries) _ c.in_ok-insert.ensures.len in omega (arith, longer, rw rest at inv.count);
-    }
-
 pub loop-number-preserved : goal.loop-number-preserved
 loop-number-preserved c =
     let inv = c.loop-number.invariant in
