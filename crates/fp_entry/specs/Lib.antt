@@ -1,0 +1,9 @@
+pub mod Component
+pub mod Delivered
+pub mod Entries
+pub mod Failure
+pub mod Found
+pub mod Incoming
+pub mod Laws
+pub mod Prepared
+pub mod Transaction

@@ -1,0 +1,170 @@
+//! The kind of entry that a component gives.
+
+ghost use Rattle.std.specs.Prelude.{◌≡◌, ◌↔◌, IsTrue, IfOk};
+ghost use Rattle.fp_inap.specs.Operation as operations;
+ghost use Rattle.fp_q773.specs.Problem.{problem_of};
+ghost use Rattle.fp_q773.specs.Value.{local, value_of};
+ghost use Rattle.fp_q773.specs.View.{code_of, component_of, tree_in};
+ghost use Rattle.fp_entry.specs.Component.{IsEventKind, IsInitialDpKind, IsInvokeKind, IsKind, general_problem, rejected_identifier};
+ghost use Rattle.fp_entry.specs.Delivered as delivered;
+ghost use Rattle.fp_entry.specs.Found.{found};
+
+use crate::{EntryKind, Found, SharedRecord};
+use fp_inap::{InitialDp, Operation, read_event_report, read_initial_dp};
+use fp_q773::{Code, Component, GeneralProblem, Invoke, InvokeProblem, Problem, Reject};
+use fp_records::Table;
+use std::alloc::AllocError;
+
+/// Whether a code is that of this operation.
+fn is_operation(code: Code<'_>, operation: Operation) -> bool
+    ensures { IsTrue result ↔ (code_of code.entry ≡ local (operations.code_of operation)) }
+{
+    match code {
+        Code::Local(number) => number == operation.code(),
+        Code::Global(_) => false,
+    }
+}
+
+/// What the table has of the number that an InitialDP asks for.
+fn find(table: &Table, dp: &InitialDp) -> Result<Found, AllocError>
+    ensures { IfOk result (λ f. f ≡ found table.now dp.now) }
+{
+    let Some(key) = dp.key else {
+        return Ok(Found::Missing);
+    };
+    let Some(called) = dp.called else {
+        return Ok(Found::Missing);
+    };
+    if key != table.key() {
+        return Ok(Found::WrongKey);
+    }
+    let Some(record) = table.find(&called) else {
+        return Ok(Found::NoRecord);
+    };
+    let record = SharedRecord::new(record)?;
+    Ok(Found::Record(record))
+}
+
+/// An Invoke that isn't performed, for this problem.
+fn unknown(invoke: &Invoke<'_>, problem: InvokeProblem) -> EntryKind
+    ensures { result ≡ EntryKind.UnknownInvoke invoke.now.identifier invoke.now.linked problem }
+{
+    EntryKind::UnknownInvoke {
+        identifier: invoke.identifier,
+        linked: invoke.linked,
+        problem,
+    }
+}
+
+/// An Invoke of InitialDP.
+fn initial_dp_kind(table: &Table, invoke: &Invoke<'_>) -> Result<EntryKind, AllocError>
+    ensures { IfOk result (IsInitialDpKind table.now invoke.now.identifier invoke.now.linked (tree_in invoke.now.parameter)) }
+{
+    let Some(argument) = invoke.parameter else {
+        return Ok(unknown(invoke, InvokeProblem::MistypedParameter));
+    };
+    let Ok(dp) = read_initial_dp(argument) else {
+        return Ok(unknown(invoke, InvokeProblem::MistypedParameter));
+    };
+    let found = find(table, &dp)?;
+    Ok(EntryKind::InitialDp {
+        identifier: invoke.identifier,
+        linked: invoke.linked,
+        calling: dp.calling,
+        found,
+    })
+}
+
+/// An Invoke of EventReportBCSM.
+fn event_kind(invoke: &Invoke<'_>) -> EntryKind
+    ensures { IsEventKind invoke.now.identifier invoke.now.linked (tree_in invoke.now.parameter) result }
+{
+    let Some(argument) = invoke.parameter else {
+        return unknown(invoke, InvokeProblem::MistypedParameter);
+    };
+    let Ok(report) = read_event_report(argument) else {
+        return unknown(invoke, InvokeProblem::MistypedParameter);
+    };
+    EntryKind::Event {
+        identifier: invoke.identifier,
+        linked: invoke.linked,
+        event: report.event,
+        notification: report.notification,
+    }
+}
+
+/// An Invoke.
+fn invoke_kind(table: &Table, invoke: &Invoke<'_>) -> Result<EntryKind, AllocError>
+    ensures { IfOk result (IsInvokeKind table.now invoke.now.identifier invoke.now.linked (code_of invoke.now.code)
+        (tree_in invoke.now.parameter)) }
+{
+    if is_operation(invoke.code, Operation::InitialDp) {
+        let kind = initial_dp_kind(table, invoke)?;
+        return Ok(kind);
+    }
+    if is_operation(invoke.code, Operation::EventReportBcsm) {
+        return Ok(event_kind(invoke));
+    }
+    Ok(unknown(invoke, InvokeProblem::UnrecognizedOperation))
+}
+
+/// The identifier that a Reject names, where it is one of this side.
+fn rejected_identifier(reject: &Reject) -> Option<i8>
+    ensures { result ≡ rejected_identifier (problem_of reject.now.problem) reject.now.identifier }
+{
+    match reject.problem {
+        Problem::General(_) | Problem::Invoke(_) => reject.identifier,
+        Problem::ReturnResult(_) | Problem::ReturnError(_) => None,
+    }
+}
+
+/// The General problem of a faulty component.
+fn general_problem(problem: Problem) -> GeneralProblem
+    ensures { result ≡ general_problem (value_of (problem_of problem)) }
+{
+    GeneralProblem::from_code(problem.code())
+}
+
+/// The kind of entry that a component gives. Want of memory, for one more share of a record, is the only
+/// error.
+pub fn kind_of(table: &Table, component: &Component<'_>) -> Result<EntryKind, AllocError>
+    ensures { IfOk result (IsKind table.now (component_of component.now)) }
+{
+    match component {
+        Component::Invoke(invoke) => {
+            let kind = invoke_kind(table, invoke)?;
+            Ok(kind)
+        }
+        Component::ReturnResultLast(result) => Ok(EntryKind::Result {
+            identifier: result.identifier,
+            last: true,
+        }),
+        Component::ReturnError(error) => Ok(EntryKind::Error {
+            identifier: error.identifier,
+        }),
+        Component::Reject(reject) => Ok(EntryKind::Reject {
+            identifier: rejected_identifier(reject),
+        }),
+        Component::ReturnResultNotLast(result) => Ok(EntryKind::Result {
+            identifier: result.identifier,
+            last: false,
+        }),
+        Component::Faulty {
+            identifier,
+            problem,
+        } => Ok(EntryKind::Faulty {
+            identifier: *identifier,
+            problem: general_problem(*problem),
+        }),
+    }
+}
+
+/// Whether a component is a faulty one.
+pub fn is_faulty(component: &Component<'_>) -> bool
+    ensures { result ≡ delivered.is_faulty (component_of component.now) }
+{
+    match component {
+        Component::Faulty { .. } => true,
+        _ => false,
+    }
+}

@@ -1,0 +1,100 @@
+//! Lists of entries.
+
+ghost use Rattle.std.specs.Prelude.{◌≡◌, ◌↔◌, ◌++◌, ◌∷◌, [], IsTrue, IfOk, length, OnOk, OnErr};
+
+use crate::Entry;
+use std::alloc::{AllocError, Global};
+use std::marker::Model;
+
+/// Entries in their order. Contracts see them as their list.
+#[derive(Debug, Drop)]
+pub struct Entries {
+    items: Vec<Entry>,
+}
+
+impl Model for Entries {
+    ghost use Rattle.std.specs.Prelude.{List};
+    ghost use Rattle.fp_entry.specs.declared.entry.Entry.{Entry};
+
+    ghost Value = { List Entry };
+
+    ghost view = { λ entries. entries.items.items };
+}
+
+impl Entries {
+    ghost use Rattle.fp_entry.specs.Entries.{component_count};
+
+    /// No entry.
+    pub fn new(alloc: Global) -> Entries
+        ensures { result ≡ [] }
+    {
+        Entries {
+            items: Vec::new(alloc),
+        }
+    }
+
+    /// The entries.
+    pub fn as_slice(&self) -> &[Entry]
+        ensures { result.now ≡ self.now }
+    {
+        self.items.as_slice()
+    }
+
+    /// Puts an entry behind the others, or leaves them as they were.
+    pub fn push(&mut self, entry: Entry) -> Result<(), AllocError>
+        ensures ok { OnOk result (self.new ≡ self.old ++ entry ∷ []) }
+        ensures err { OnErr result (self.new ≡ self.old) }
+    {
+        self.items.push(entry)?;
+        Ok(())
+    }
+
+    /// How many there are.
+    pub fn len(&self) -> usize
+        ensures { result ≡ length self.now }
+    {
+        self.items.len()
+    }
+
+    /// Whether there is none.
+    pub fn is_empty(&self) -> bool
+        ensures { IsTrue result ↔ (self.now ≡ []) }
+    {
+        self.items.is_empty()
+    }
+
+    /// How many of them come from components.
+    pub fn component_count(&self) -> usize
+        ensures { result ≡ component_count self.now }
+    {
+        self.items
+            .iter()
+            .filter(|entry| entry.kind.is_from_component())
+            .count()
+    }
+
+    /// The entries of this list. Takes no memory.
+    pub fn from_vec(entries: Vec<Entry>) -> Entries
+        ensures { result ≡ entries.items }
+    {
+        Entries { items: entries }
+    }
+
+    /// The entries, as the list that holds them. Takes no memory.
+    pub fn into_vec(self) -> Vec<Entry>
+        ensures { result.items ≡ self }
+    {
+        self.items
+    }
+
+    /// One more of the same list. Want of memory is the only error.
+    pub fn try_clone(&self, alloc: Global) -> Result<Entries, AllocError>
+        ensures { IfOk result (λ copy. copy ≡ self.now) }
+    {
+        let mut copy = Entries::new(alloc);
+        'entries: for entry in self.as_slice() {
+            copy.push(entry.try_clone()?)?;
+        }
+        Ok(copy)
+    }
+}

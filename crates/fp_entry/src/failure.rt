@@ -1,0 +1,32 @@
+//! Why reading a frame gives no message.
+
+ghost use Rattle.std.specs.Prelude.{◌≡◌};
+ghost use Rattle.fp_entry.specs.declared.failure.Failure.TheVariants.{Memory};
+
+use crate::fault::Fault;
+use std::alloc::{AllocError, AllocFailed};
+
+/// Why a frame was not read to its end.
+#[derive(Clone, Copy, Debug)]
+pub enum Failure {
+    /// It is refused.
+    Refused(Fault),
+    /// Memory was wanting.
+    Memory,
+}
+
+impl From<AllocError> for Failure {
+    ghost from_gives = { λ _ failure. failure ≡ Memory };
+
+    fn from(_error: AllocError) -> Failure {
+        Failure::Memory
+    }
+}
+
+impl<T: Drop> From<AllocFailed<T>> for Failure {
+    ghost from_gives = { λ _ failure. failure ≡ Memory };
+
+    fn from(_error: AllocFailed<T>) -> Failure {
+        Failure::Memory
+    }
+}

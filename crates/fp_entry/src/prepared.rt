@@ -1,0 +1,164 @@
+//! What a frame is prepared to.
+
+ghost use Rattle.std.specs.Prelude.{◌≡◌, ◌≢◌, ℕ, List, IfOk, IfErr, min};
+ghost use Rattle.fp_ber.specs.declared.fault.BerFault.TheVariants as ber;
+ghost use Rattle.fp_ber.specs.Faults.{FirstFault};
+ghost use Rattle.fp_ber.specs.Tree.{Tree};
+ghost use Rattle.fp_ber.specs.View.{tree_of};
+ghost use Rattle.fp_q773.specs.declared.fault.MessageFault.TheVariants as faults;
+ghost use Rattle.fp_q773.specs.Fault.{IsFault};
+ghost use Rattle.fp_q773.specs.Grammar.{IsMessage};
+ghost use Rattle.fp_q773.specs.Value.{MessageValue};
+ghost use Rattle.fp_entry.specs.declared.prepared.Prepared.{Prepared};
+ghost use Rattle.fp_entry.specs.Failure.{IsElementFailure, IsFailure};
+ghost use Rattle.fp_entry.specs.Incoming.{IsIncoming};
+ghost use Rattle.fp_entry.specs.Prepared.{Answers, Brings, IsLost, IsPrepared, components_of};
+
+use crate::failure::Failure;
+use crate::fault::Fault;
+use crate::incoming::Incoming;
+use crate::message::incoming_of;
+use fp_apdu::Name;
+use fp_ber::{BerFault, Element};
+use fp_digits::Moment;
+use fp_frames::Frame;
+use fp_q773::{Ids, MessageFault, ids_of, message_of};
+use fp_records::Table;
+use std::alloc::Global;
+
+/// What a frame is prepared to, before its link is looked at.
+#[derive(Debug, Drop)]
+pub enum Prepared {
+    /// A readable message, and what it brings.
+    Message(Incoming),
+    /// The octets are no message that is taken.
+    Refused {
+        /// Why.
+        fault: Fault,
+        /// What can be known of the octets all the same.
+        ids: Ids,
+    },
+    /// Memory was wanting, and the frame wasn't read to its end.
+    Lost {
+        /// The frame.
+        frame: Frame,
+        /// When it came.
+        moment: Moment,
+        /// What can be known of its octets all the same.
+        ids: Ids,
+    },
+}
+
+/// The failure of octets that weren't read as an element.
+fn of_ber_fault(fault: BerFault) -> Failure
+    ensures { (contexts : List (List ℕ)) (octets : List ℕ)
+        → (fault ≢ ber.Memory → FirstFault octets fault) → IsFailure contexts octets result }
+{
+    match fault {
+        BerFault::Memory => Failure::Memory,
+        _ => Failure::Refused(Fault::Unreadable(fault)),
+    }
+}
+
+/// The failure of an element that wasn't read as a message.
+fn of_message_fault(fault: MessageFault) -> Failure
+    ensures { (contexts : List (List ℕ)) (element : Tree)
+        → (fault ≢ faults.Memory → IsFault element fault) → IsElementFailure contexts element result }
+{
+    match fault {
+        MessageFault::UnknownMessage => Failure::Refused(Fault::UnknownMessage),
+        MessageFault::Badly => Failure::Refused(Fault::Badly),
+        MessageFault::Memory => Failure::Memory,
+    }
+}
+
+/// The message that an element is, and what it brings.
+fn read_element(
+    alloc: Global,
+    table: &Table,
+    contexts: &[Name],
+    element: &Element,
+    moment: Moment,
+) -> Result<Incoming, Failure>
+    ensures ok { IfOk result (λ incoming. (message : MessageValue) × IsMessage (tree_of element.now) message
+        × IsIncoming table.now contexts.now moment message incoming) }
+    ensures err { IfErr result (IsElementFailure contexts.now (tree_of element.now)) }
+{
+    let message = match message_of(alloc, element) {
+        Ok(message) => message,
+        Err(fault) => return Err(of_message_fault(fault)),
+    };
+    incoming_of(alloc, table, contexts, &message, moment)
+}
+
+/// The message that octets are, and what it brings.
+fn read_octets(
+    alloc: Global,
+    table: &Table,
+    contexts: &[Name],
+    octets: &[u8],
+    moment: Moment,
+) -> Result<Incoming, Failure>
+    ensures ok { IfOk result (Brings table.now contexts.now octets.now moment) }
+    ensures err { IfErr result (IsFailure contexts.now octets.now) }
+{
+    let element = match fp_ber::read(alloc, octets) {
+        Ok(element) => element,
+        Err(fault) => return Err(of_ber_fault(fault)),
+    };
+    read_element(alloc, table, contexts, &element, moment)
+}
+
+impl Prepared {
+    /// Reads the message of a frame that came at this moment, over the records of a table and the application
+    /// context names that are accepted.
+    ///
+    /// What isn't readable, has the tag of no message, or has other contents than its own is
+    /// [`Prepared::Refused`], and so is a Begin whose dialogue portion is no request for a dialogue; the frame is
+    /// given up. The dialogue portion of any other message isn't looked at, nor what a Unidirectional holds. No
+    /// message is refused for how many components it has. Want of memory alone, also for one more share of a
+    /// record, gives [`Prepared::Lost`].
+    pub fn read(
+        alloc: Global,
+        table: &Table,
+        contexts: &[Name],
+        frame: Frame,
+        moment: Moment,
+    ) -> Prepared
+        // What is answered is what the octets are prepared to.
+        ensures is { IsPrepared table.now contexts.now frame moment result }
+
+        // There is no other answer, want of memory aside.
+        ensures only { (other : Prepared) → IsPrepared table.now contexts.now frame moment other → Answers result other }
+    {
+        match read_octets(alloc, table, contexts, frame.octets(), moment) {
+            Ok(incoming) => Prepared::Message(incoming),
+            Err(Failure::Refused(fault)) => Prepared::Refused {
+                fault,
+                ids: ids_of(frame.octets()),
+            },
+            Err(Failure::Memory) => Prepared::lost(frame, moment),
+        }
+    }
+
+    /// A frame that came at this moment and that isn't read, as if memory had been wanting. Takes no memory.
+    pub fn lost(frame: Frame, moment: Moment) -> Prepared
+        ensures { IsLost frame moment result }
+    {
+        let ids = ids_of(frame.octets());
+        Prepared::Lost { frame, moment, ids }
+    }
+
+    /// How many of its entries come from components; 0 where it is no message. A number above the greatest
+    /// `u32`, which no message of a frame has, is given as that. Takes no memory.
+    pub fn components(&self) -> u32
+        ensures { result ≡ min (components_of self.now) u32.MAX }
+    {
+        match self {
+            Prepared::Message(incoming) => {
+                u32::try_from(incoming.entries.component_count()).unwrap_or(u32::MAX)
+            }
+            _ => 0,
+        }
+    }
+}
