@@ -1,0 +1,60 @@
+-- What the service logic knows of a dialogue between two entries: its core.
+use Rattle.std.specs.Prelude.{ℕ, ◌+◌, [], Bool, true, false, min, if◌then◌else◌}
+use Rattle.std.specs.Option.{option_map_or}
+use Rattle.fp_apdu.specs.declared.opening.Opening.TheVariants as openings
+use Rattle.fp_entry.specs.declared.entry.Entry.{Entry}
+use Rattle.fp_entry.specs.declared.entry.EntryKind.{EntryKind}
+use Rattle.fp_entry.specs.declared.entry.EntryKind.TheVariants.{Opened, InitialDp, Event, UnknownInvoke, Result, Error, Reject, Faulty, PeerEnd, PeerAbort, Clock}
+use Rattle.fp_ism.specs.Due.{dues, least_of}
+use Rattle.fp_service.specs.declared.dialogue.Core.{Core}
+use Rattle.fp_service.specs.declared.state.State.{State}
+use Rattle.fp_service.specs.declared.state.State.TheVariants.{Fresh, Waiting, Over}
+
+-- the core of a dialogue whose Begin came at this moment
+abbrev pub fresh : ℕ → ℕ → Core
+fresh birth moment = record {
+  state = Fresh;
+  birth = birth;
+  opening = openings.None;
+  accepted = false;
+  invocations = record { last_started = 0; active = [] };
+  last = moment;
+}
+
+abbrev pub has_ended : State → Bool
+has_ended Fresh = false
+has_ended (Waiting left) = false
+has_ended Over = true
+
+-- whether the dialogue is over
+abbrev pub is_over : Core → Bool
+is_over core = has_ended core.state
+
+-- the dialogue is over
+abbrev pub ended : Core → Core
+ended core = record core { state = Over }
+
+abbrev pub is_clock : EntryKind → Bool
+is_clock (Opened opening) = false
+is_clock (InitialDp identifier linked calling found) = false
+is_clock (Event identifier linked event notification) = false
+is_clock (UnknownInvoke identifier linked problem) = false
+is_clock (Result identifier last) = false
+is_clock (Error identifier) = false
+is_clock (Reject identifier) = false
+is_clock (Faulty identifier problem) = false
+is_clock PeerEnd = false
+is_clock PeerAbort = false
+is_clock Clock = true
+
+-- an entry sets the moment of the last one, unless it is a Clock
+abbrev pub touched : Core → Entry → Core
+touched core entry = if is_clock entry.kind then core else record core { last = entry.moment }
+
+-- the moment at which the peer has been quiet for too long
+abbrev pub quiet_until : Core → ℕ
+quiet_until core = core.last + 300000
+
+-- the earliest moment at which a Clock does something: an invocation is due, or the peer has been quiet for too long
+abbrev pub next_due : Core → ℕ
+next_due core = option_map_or (min (quiet_until core)) (least_of (dues core.invocations.active)) (quiet_until core)

@@ -1,0 +1,9 @@
+pub mod Answer
+pub mod Attempt
+pub mod Dialogue
+pub mod Event
+pub mod Fold
+pub mod InitialDp
+pub mod Laws
+pub mod Outcome
+pub mod Serve

@@ -1,0 +1,84 @@
+-- The service step: what an entry makes of the core of a dialogue, and what is asked for. The lines of the table stand
+-- in its order, and the first that fits decides.
+use Rattle.std.specs.Prelude.{ℕ, ℤ, Option, Some, None, nat_le, if◌then◌else◌}
+use Rattle.fp_apdu.specs.declared.opening.Opening.{Opening}
+use Rattle.fp_apdu.specs.declared.opening.Opening.TheVariants as openings
+use Rattle.fp_entry.specs.declared.entry.Entry.{Entry}
+use Rattle.fp_entry.specs.declared.entry.EntryKind.{EntryKind}
+use Rattle.fp_entry.specs.declared.entry.EntryKind.TheVariants.{Opened, InitialDp, Event, UnknownInvoke, Result, Error, Reject, Faulty, PeerEnd, PeerAbort, Clock}
+use Rattle.fp_ism.specs.Invocation.{class_of, is_active}
+use Rattle.fp_ism.specs.Invocations.{after_moment}
+use Rattle.fp_ism.specs.Outcome.{outcome_of_result, outcome_of_error, outcome_of_reject}
+use Rattle.fp_q773.specs.declared.problem.InvokeProblem.TheVariants.{UnrecognizedLinkedIdentifier, LinkedResponseUnexpected}
+use Rattle.fp_q773.specs.declared.problem.Problem.TheVariants as problem
+use Rattle.fp_service.specs.declared.dialogue.Core.{Core}
+use Rattle.fp_service.specs.declared.request.AbortPortion.TheVariants.{NameNotSupported, NoCommonVersion}
+use Rattle.fp_service.specs.declared.request.Request.{Request}
+use Rattle.fp_service.specs.declared.state.State.{State}
+use Rattle.fp_service.specs.declared.state.State.TheVariants.{Fresh, Waiting, Over}
+use Rattle.fp_service.specs.Answer.{no_request, abort_with, user_abort, reject}
+use Rattle.fp_service.specs.Dialogue.{is_over, ended, touched, quiet_until}
+use Rattle.fp_service.specs.Event.{on_event}
+use Rattle.fp_service.specs.InitialDp.{calling_digits, on_initial_dp}
+use Rattle.fp_service.specs.Outcome.{on_outcome}
+
+-- a dialogue that isn't accepted is refused
+abbrev pub by_opening : Core → Opening → Core × Option Request
+by_opening core openings.None = no_request core
+by_opening core (openings.Known name) = no_request core
+by_opening core (openings.Unknown name) = abort_with core (NameNotSupported name)
+by_opening core (openings.BadVersion name) = abort_with core (NoCommonVersion name)
+
+-- a Begin, which doesn't come to a call that waits
+unfoldable pub on_opening : State → Core → Opening → Core × Option Request
+on_opening Fresh core opening = by_opening (record core { opening = opening }) opening
+on_opening (Waiting left) core opening = no_request core
+on_opening Over core opening = no_request core
+
+-- an Invoke with a linked identifier is rejected, since no operation that is invoked takes linked ones
+unfoldable pub reject_linked : Core → ℤ → ℤ → Core × Option Request
+reject_linked core identifier linked =
+    reject core (Some identifier)
+    (problem.Invoke (if is_active linked core.invocations.active then LinkedResponseUnexpected else UnrecognizedLinkedIdentifier))
+
+-- time has passed
+unfoldable pub on_clock : Core → ℕ → Core × Option Request
+on_clock core moment =
+    let left = record core { invocations = after_moment moment core.invocations } in
+    if nat_le (quiet_until core) moment then user_abort left else no_request left
+
+-- what comes at a moment to a dialogue that isn't over
+unfoldable pub on_kind : Core → ℕ → EntryKind → Core × Option Request
+on_kind core moment PeerEnd = no_request (ended core)
+on_kind core moment PeerAbort = no_request (ended core)
+on_kind core moment (Opened opening) = on_opening core.state core opening
+on_kind core moment (InitialDp identifier (Some linked) calling found) = reject_linked core identifier linked
+on_kind core moment (Event identifier (Some linked) reports notification) = reject_linked core identifier linked
+on_kind core moment (UnknownInvoke identifier (Some linked) unknown) = reject_linked core identifier linked
+on_kind core moment (UnknownInvoke identifier None unknown) = reject core (Some identifier) (problem.Invoke unknown)
+on_kind core moment (Faulty identifier fault) = reject core identifier (problem.General fault)
+on_kind core moment (Result identifier last) =
+    on_outcome core moment identifier (outcome_of_result last (class_of identifier core.invocations.active))
+on_kind core moment (Error identifier) =
+    on_outcome core moment identifier (outcome_of_error (class_of identifier core.invocations.active))
+on_kind core moment (Reject None) = no_request core
+on_kind core moment (Reject (Some identifier)) =
+    on_outcome core moment identifier (outcome_of_reject (class_of identifier core.invocations.active))
+on_kind core moment (InitialDp identifier None calling found) =
+    on_initial_dp core.state core moment identifier (calling_digits calling) found
+on_kind core moment (Event identifier None reports notification) = on_event core.state core moment reports notification
+on_kind core moment Clock = on_clock core moment
+
+-- the core after an entry, and what is asked for
+unfoldable pub serve : Core → Entry → Core × Option Request
+serve core entry =
+    if is_over core then no_request (touched core entry)
+    else on_kind (touched core entry) entry.moment entry.kind
+
+-- the core after an entry
+abbrev pub next : Core → Entry → Core
+next core entry = (serve core entry).0
+
+-- what is asked for
+abbrev pub request_of : Core → Entry → Option Request
+request_of core entry = (serve core entry).1

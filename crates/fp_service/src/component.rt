@@ -1,0 +1,31 @@
+//! Components that are sent.
+
+use crate::Instruction;
+use fp_inap::OperationError;
+use fp_q773::Problem;
+
+/// A component that is sent to the switch (Q.773, 4.2.2).
+#[derive(Clone, Copy, Debug)]
+pub enum Component {
+    /// An Invoke of an operation.
+    Invoke {
+        /// The invoke identifier, 1 to 127.
+        identifier: i8,
+        /// The operation and its argument.
+        instruction: Instruction,
+    },
+    /// A ReturnError to an operation of the switch.
+    ReturnError {
+        /// The invoke identifier of that operation.
+        identifier: i8,
+        /// The error.
+        error: OperationError,
+    },
+    /// A Reject of a component of the switch.
+    Reject {
+        /// The invoke identifier of that component, if it could be told.
+        identifier: Option<i8>,
+        /// What is wrong with it.
+        problem: Problem,
+    },
+}

@@ -1,0 +1,78 @@
+//! Continue messages that invoke operations.
+
+ghost use Rattle.std.specs.Prelude.{◌≡◌, ◌<◌, ◌↔◌, ◌∷◌, [], IfOk, IsOk, OnOk, length};
+ghost use Rattle.fp_service.specs.Answer.{instruct, invoke, with_invocation};
+
+use crate::{Component, Components, Core, Instruction, Request};
+use fp_digits::Moment;
+use fp_ism::{Full, Invocations};
+use std::alloc::{AllocError, Global};
+
+// Starts an invocation of an instruction at this moment, and gives its Invoke.
+fn start(
+    invocations: &mut Invocations,
+    instruction: Instruction,
+    moment: Moment,
+) -> Result<Component, Full>
+    ensures room { IsOk result ↔ (length invocations.old.active < 8) }
+    ensures invoke { IfOk result (λ component. component ≡ invoke invocations.old instruction) }
+    ensures started { OnOk result (invocations.new ≡ with_invocation moment invocations.old instruction) }
+{
+    let class = instruction.operation().class();
+    let identifier = invocations.start(class, moment)?;
+    Ok(Component::Invoke {
+        identifier,
+        instruction,
+    })
+}
+
+impl Core {
+    // A Continue message that invokes an operation; a user Abort where it finds no place.
+    #[tactic(auto, unfolding(crate::specs::Answer::instruct))]
+    pub(crate) fn instruct(
+        self,
+        alloc: Global,
+        moment: Moment,
+        instruction: Instruction,
+    ) -> Result<(Core, Option<Request>), AllocError>
+        ensures { IfOk result (λ served. served ≡ instruct self moment (instruction ∷ [])) }
+    {
+        let mut invocations = self.invocations;
+        let Ok(invoke) = start(&mut invocations, instruction, moment) else {
+            return Ok(self.user_abort());
+        };
+        let core = Core {
+            invocations,
+            ..self
+        };
+        Ok(core.continue_with(Components::one(alloc, invoke)?))
+    }
+
+    // A Continue message that invokes two operations; a user Abort where they don't both find a place.
+    #[tactic(auto, unfolding(crate::specs::Answer::instruct))]
+    pub(crate) fn instruct_both(
+        self,
+        alloc: Global,
+        moment: Moment,
+        first: Instruction,
+        second: Instruction,
+    ) -> Result<(Core, Option<Request>), AllocError>
+        ensures { IfOk result (λ served. served ≡ instruct self moment (first ∷ second ∷ [])) }
+    {
+        let mut invocations = self.invocations;
+        let Ok(first) = start(&mut invocations, first, moment) else {
+            return Ok(self.user_abort());
+        };
+        match start(&mut invocations, second, moment) {
+            Ok(second) => {
+                let core = Core {
+                    invocations,
+                    ..self
+                };
+                Ok(core.continue_with(Components::two(alloc, first, second)?))
+            }
+            // The first one isn't kept either.
+            Err(Full) => Ok(self.user_abort()),
+        }
+    }
+}

@@ -1,0 +1,25 @@
+//! What holds of the service step along all lists of entries.
+
+ghost use Rattle.fp_service.specs.Laws.{AsksOnceAtMost, CutIsFront, FoldsGrow, FoldsGrowByOne, StaysOver};
+
+/// Along entries that are followed by others the core, the requests and the entries served are those of the first
+/// ones, and then those of the others from there.
+pub fn folds_along_a_grown_list()
+    ensures both { FoldsGrow }
+    ensures one { FoldsGrowByOne }
+{}
+
+/// A dialogue that is over stays so, and nothing is asked for.
+pub fn over_stays_over()
+    ensures { StaysOver }
+{}
+
+/// The entries that are served are the first ones, up to that which ends the dialogue.
+pub fn cut_is_a_front()
+    ensures { CutIsFront }
+{}
+
+/// An entry asks for one message at most.
+pub fn entries_ask_once_at_most()
+    ensures { AsksOnceAtMost }
+{}

@@ -1,0 +1,86 @@
+//! The service logic of a freephone dialogue: what a call gets, one step for each entry.
+//!
+//! The layer is handed entries, what the messages of a dialogue and the clock bring, and gives requests, what is to be
+//! sent to the switch. It never asks the system for anything: moments and records come with the entries, and memory is
+//! taken for the components of a request alone.
+//!
+//! * [`Core`] is what the logic knows of a dialogue between two entries, in a value of fixed size that may be copied. Its
+//!   [`State`] tells how far the call has come.
+//! * [`step`] makes the core after an [`Entry`](fp_entry::Entry), and the [`Request`] if something is asked for: a
+//!   message of the dialogue (ITU-T Q.774, 3.2) with [`Components`], whose Invokes carry an [`Instruction`] for the
+//!   switch (after Q.1218).
+//!
+//! The step is this table, and the first line that fits decides. The lines and their order are those of the code
+//! (`step`, and the methods that begin with `on_`) and of `specs/Serve.antt`. Each entry but Clock sets the moment of
+//! the last entry, in any state.
+//!
+//! | State | Entry | Request |
+//! |---|---|---|
+//! | Over | any | none |
+//! | any | PeerEnd, PeerAbort | none, and the dialogue is over |
+//! | Fresh | Opened: None, Known | none |
+//! | Fresh | Opened: Unknown, BadVersion | Abort with the AARE NameNotSupported, NoCommonVersion |
+//! | Waiting | Opened | none |
+//! | any | InitialDp, Event or UnknownInvoke with a linked identifier | Reject: UnrecognizedLinkedIdentifier, or LinkedResponseUnexpected where an invocation has that identifier |
+//! | any | UnknownInvoke, Faulty | Reject with its problem |
+//! | any | Result, Error or Reject whose outcome is a problem | Reject with the problem |
+//! | Waiting | Error or Reject whose outcome is failure | next destination, NoRouteToDestination |
+//! | any | Result, Error or Reject of another outcome; Reject without identifier | none |
+//! | Fresh | InitialDp: Missing, WrongKey, NoRecord | End with ReturnError MissingParameter, UnexpectedDataValue, MissingCustomerRecord |
+//! | Fresh | InitialDp: Record, no rule fits | End with ReleaseCall NoRouteToDestination |
+//! | Fresh | InitialDp: Record, the rule refuses, passes | End with ReleaseCall CallRejected, with Continue |
+//! | Fresh | InitialDp: Record, the rule has one destination | End with Connect |
+//! | Fresh | InitialDp: Record, the rule has more | next destination, NoRouteToDestination |
+//! | Waiting | InitialDp | Continue message with ReturnError UnexpectedComponentSequence |
+//! | Fresh | Event | none |
+//! | Waiting | Event: RouteSelectFailure, OCalledPartyBusy, ONoAnswer | next destination, NoRouteToDestination, UserBusy, NoAnswerFromUser |
+//! | Waiting | Event: OAnswer, OAbandon | End without components |
+//! | Waiting | another Event, as a request | Continue message with Continue |
+//! | Waiting | another Event, as a notification | none |
+//! | any | Clock | due invocations end; a user Abort where 300,000 ms have passed since the last entry, else none |
+//!
+//! * Next destination, with a cause: where one is left, a Continue message with RequestReportBCSMEvent and with Connect
+//!   to the first, which is taken out, and the state is Waiting; else an End with ReleaseCall of that cause.
+//! * A Reject goes in a Continue message.
+//! * The rule is chosen by the calling number and the moment of the entry, and by the birth of the dialogue.
+//! * An End and an Abort end the dialogue: the state is Over.
+//! * Invokes in a Continue message are started as invocations, in order. Where they don't all find a place, of eight,
+//!   none is started and the request is a user Abort. Invokes in an End take the identifiers that come next and aren't
+//!   kept.
+//! * In a dialogue whose opening is Known the first Continue or End carries the AARE that accepts it, and a user Abort
+//!   carries an ABRT.
+//!
+//! The layer above may rely on this: a step is `serve` of `specs/Serve.antt`, want of memory aside, and `next` and
+//! `request_of` are its two parts, which are opaque outside this crate. Along the entries of a dialogue the core, the
+//! requests and the entries up to its end are the folds of `specs/Fold.antt`, whose laws ([`folds_along_a_grown_list`],
+//! [`over_stays_over`], [`cut_is_a_front`], [`entries_ask_once_at_most`]) are all that is to be known of them.
+//! [`Core::next_due`] is the earliest moment at which a Clock does something.
+#![tactic(auto)]
+
+mod answer;
+mod attempt;
+mod component;
+mod components;
+mod dialogue;
+mod event;
+mod initial_dp;
+mod instruction;
+mod invoking;
+mod laws;
+mod outcome;
+mod request;
+mod serve;
+mod state;
+#[cfg(test)]
+mod tests;
+
+pub use component::Component;
+pub use components::Components;
+pub use dialogue::Core;
+pub use instruction::Instruction;
+pub use laws::{
+    cut_is_a_front, entries_ask_once_at_most, folds_along_a_grown_list, over_stays_over,
+};
+pub use request::{AbortPortion, Request};
+pub use serve::step;
+pub use state::State;

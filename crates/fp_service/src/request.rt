@@ -1,0 +1,38 @@
+//! What the service logic asks to be sent.
+
+use crate::Components;
+use fp_apdu::Name;
+
+/// A message that the service logic asks to be sent to the peer of a dialogue (Q.774, 3.3.2).
+#[derive(Debug, Drop)]
+pub enum Request {
+    /// A Continue.
+    Continue {
+        /// The application context name of the AARE that accepts the dialogue, in the first answer alone.
+        acceptance: Option<Name>,
+        /// The components.
+        components: Components,
+    },
+    /// An End: the dialogue is over.
+    End {
+        /// The application context name of the AARE that accepts the dialogue, in the first answer alone.
+        acceptance: Option<Name>,
+        /// The components.
+        components: Components,
+    },
+    /// An Abort by the user: the dialogue is over.
+    Abort(AbortPortion),
+}
+
+/// The dialogue portion of an Abort by the user (Q.773, 4.2.3).
+#[derive(Clone, Copy, Debug)]
+pub enum AbortPortion {
+    /// None, in a dialogue without application context.
+    Absent,
+    /// An ABRT.
+    Abrt,
+    /// An AARE that refuses this application context name.
+    NameNotSupported(Name),
+    /// An AARE that refuses the version; it has this application context name.
+    NoCommonVersion(Name),
+}
