@@ -1,0 +1,26 @@
+//! The octets of what the service logic asks to be sent: a message of TCAP (ITU-T Q.773, 4.2) in its canonical spelling
+//! (ITU-T X.690, 10.1), with the head of a frame before it.
+//!
+//! The layer is handed a [`Request`](fp_service::Request) and the two transaction identifiers of its dialogue, and
+//! gives octets. It asks the system for nothing but memory, and want of memory is its only error.
+//!
+//! * [`bytes_of`] gives the frame of a request, of at most [`MOST_OCTETS`] octets.
+//!
+//! A Continue has the local identifier in four octets and the peer's as it came, an End and an Abort the peer's alone.
+//! The dialogue portion is an AARE where a dialogue is accepted or rejected, and an ABRT where it is aborted; without
+//! an application context there is none. Then come the components, if there are any.
+//!
+//! The layer above may rely on this: the frame is `frame_of` of `specs/Reply.antt`, which names nothing but the
+//! request and the identifiers, and whoever reads it finds the message that `reply` of the same file says.
+#![tactic(auto)]
+
+mod argument;
+mod arguments;
+mod component;
+mod dialogue_portion;
+mod frame;
+mod message;
+#[cfg(test)]
+mod tests;
+
+pub use frame::{MOST_OCTETS, bytes_of};
