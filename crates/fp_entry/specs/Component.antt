@@ -46,7 +46,7 @@ IsInvokeKind contents identifier linked code parameter kind =
 abbrev pub rejected_identifier : ProblemValue → Option ℤ → Option ℤ
 rejected_identifier problem identifier = if nat_lt (tag_of problem) 2 then identifier else None
 
--- the General problem of a value (Q.773, table 28)
+-- the General problem of a value (Q.773, 4.2.2)
 abbrev pub general_problem : ℕ → GeneralProblem
 general_problem value =
     if value == 0 then UnrecognizedComponent

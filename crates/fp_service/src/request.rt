@@ -3,7 +3,7 @@
 use crate::Components;
 use fp_apdu::Name;
 
-/// A message that the service logic asks to be sent to the peer of a dialogue (Q.774, 3.3.2).
+/// A message that the service logic asks to be sent to the peer of a dialogue (Q.774).
 #[derive(Debug, Drop)]
 pub enum Request {
     /// A Continue.
