@@ -18,7 +18,7 @@ const AARQ: u16 = 0;
 const USER_INFORMATION: u16 = 30;
 
 /// What an AARQ asks for.
-#[derive(Clone, Copy, Debug)]
+#[derive(Clone, Copy)]
 pub(crate) struct Aarq {
     /// Whether its protocol version, which is version 1 by default, has version 1.
     pub(crate) offers_version_1: bool,

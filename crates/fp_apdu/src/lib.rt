@@ -27,8 +27,6 @@ mod name;
 mod object_identifier;
 mod opening;
 mod protocol_version;
-#[cfg(test)]
-mod tests;
 mod verdict;
 
 pub use aare::write_aare;

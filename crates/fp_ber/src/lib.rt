@@ -23,8 +23,6 @@ mod laws;
 mod length;
 mod reading;
 mod tag;
-#[cfg(test)]
-mod tests;
 mod writing;
 
 pub use element::{Body, Class, Element};

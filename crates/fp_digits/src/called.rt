@@ -43,35 +43,3 @@ pub fn write_called(digits: &[u8]) -> CalledOctets
     octets.push_digits(digits);
     octets
 }
-
-#[cfg(test)]
-mod tests {
-    use super::*;
-
-    #[test]
-    fn writes_called_numbers(rt: HostRuntime) {
-        let table: [(&[u8], &[u8]); 5] = [
-            (
-                &[3, 0, 2, 2, 2, 3, 3, 4, 4],
-                &[0x83, 0x10, 0x03, 0x22, 0x32, 0x43, 0x04],
-            ),
-            (
-                &[3, 0, 2, 2, 2, 3, 3, 5, 5],
-                &[0x83, 0x10, 0x03, 0x22, 0x32, 0x53, 0x05],
-            ),
-            (&[7], &[0x83, 0x10, 0x07]),
-            (&[1, 9], &[0x03, 0x10, 0x91]),
-            (
-                &[1, 2, 3, 4, 5, 6, 7, 8, 9, 0, 1, 2, 3, 4, 5],
-                &[0x83, 0x10, 0x21, 0x43, 0x65, 0x87, 0x09, 0x21, 0x43, 0x05],
-            ),
-        ];
-        for (digits, octets) in table {
-            assert!(rt; !digits.is_empty() && digits.len() <= 15);
-            assert!(rt; digits.iter().all(|&digit| digit < 10));
-            let written = write_called(digits);
-            assert_eq!(rt; written.as_slice(), octets, "{digits:?}");
-            assert!(rt; read_called(octets).is_ok_and(|number| number.digits.as_slice() == digits));
-        }
-    }
-}

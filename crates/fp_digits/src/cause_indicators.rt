@@ -8,22 +8,3 @@ pub fn cause(value: u8) -> [u8; 2]
 {
     [0x82, 0x80 | value]
 }
-
-#[cfg(test)]
-mod tests {
-    use super::*;
-    use crate::Cause;
-
-    #[test]
-    fn spells_causes(rt: HostRuntime) {
-        let table = [
-            (Cause::NoRouteToDestination, [0x82, 0x83]),
-            (Cause::UserBusy, [0x82, 0x91]),
-            (Cause::NoAnswerFromUser, [0x82, 0x93]),
-            (Cause::CallRejected, [0x82, 0x95]),
-        ];
-        for (named, octets) in table {
-            assert_eq!(rt; cause(named.code()), octets, "{named:?}");
-        }
-    }
-}

@@ -44,25 +44,3 @@ impl Moment {
         self.milliseconds
     }
 }
-
-#[cfg(test)]
-mod tests {
-    use super::*;
-
-    #[test]
-    fn ends_with_the_year_2099(rt: HostRuntime) {
-        let table = [
-            (0, true),
-            (4_102_444_799_999, true),
-            (4_102_444_800_000, false),
-            (u64::MAX, false),
-        ];
-        for (milliseconds, is_moment) in table {
-            let moment = Moment::new(milliseconds);
-            assert_eq!(rt; moment.is_some(), is_moment, "{milliseconds}");
-            if let Some(moment) = moment {
-                assert_eq!(rt; moment.milliseconds(), milliseconds);
-            }
-        }
-    }
-}

@@ -7,7 +7,7 @@ use crate::fault::Fault;
 use std::alloc::{AllocError, AllocFailed};
 
 /// Why a frame was not read to its end.
-#[derive(Clone, Copy, Debug)]
+#[derive(Clone, Copy)]
 pub enum Failure {
     /// It is refused.
     Refused(Fault),

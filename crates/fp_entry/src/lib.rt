@@ -41,8 +41,6 @@ mod laws;
 mod message;
 mod prepared;
 mod shared_record;
-#[cfg(test)]
-mod tests;
 mod transaction;
 
 pub use entries::Entries;

@@ -13,8 +13,6 @@
 
 mod frame;
 mod head;
-#[cfg(test)]
-mod tests;
 
 pub use frame::Frame;
 pub use head::frame_head;

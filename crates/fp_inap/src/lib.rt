@@ -34,8 +34,6 @@ mod operation;
 mod operation_error;
 mod release_call;
 mod request_report;
-#[cfg(test)]
-mod tests;
 mod universal;
 
 pub use connect::write_connect;

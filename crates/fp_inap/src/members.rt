@@ -11,7 +11,7 @@ use crate::universal::SEQUENCE;
 use fp_ber::{Class, Element};
 
 /// The members of a sequence, each with a tag of the context class.
-#[derive(Clone, Copy, Debug)]
+#[derive(Clone, Copy)]
 pub(crate) struct Members<'a> {
     pub(crate) elements: &'a [Element],
 }

@@ -35,7 +35,7 @@ const CALLER: u8 = 1;
 const CALLED: u8 = 2;
 
 /// An event that a switch is to watch for, BCSMEvent, at a leg of the sending side.
-#[derive(Clone, Copy, Debug)]
+#[derive(Clone, Copy)]
 struct BcsmEvent {
     event: Event,
     mode: MonitorMode,

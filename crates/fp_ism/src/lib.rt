@@ -28,8 +28,6 @@ mod active;
 mod invocation;
 mod invocations;
 mod outcome;
-#[cfg(test)]
-mod tests;
 
 pub use invocations::{Full, Invocations};
 pub use outcome::Outcome;

@@ -43,8 +43,6 @@ mod provider_abort;
 mod reject;
 mod return_error;
 mod return_result;
-#[cfg(test)]
-mod tests;
 mod tid;
 mod transaction;
 

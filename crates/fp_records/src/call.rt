@@ -9,7 +9,7 @@ use crate::rule::Rule;
 
 /// What of a call the rules look at: the calling digits, none where there is no calling number, and
 /// the local time.
-#[derive(Clone, Copy, Debug)]
+#[derive(Clone, Copy)]
 pub(crate) struct Call<'a> {
     pub(crate) calling: &'a [u8],
     pub(crate) time: LocalTime,

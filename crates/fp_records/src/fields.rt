@@ -19,7 +19,7 @@ use csv::ByteRecord;
 const FIELDS: usize = 7;
 
 /// The word of an action.
-#[derive(Clone, Copy, Debug, PartialEq, Eq)]
+#[derive(Clone, Copy, PartialEq, Eq)]
 enum Verb {
     Route,
     Refuse,
@@ -27,7 +27,7 @@ enum Verb {
 }
 
 /// A rule, and the number that it is for.
-#[derive(Clone, Copy, Debug)]
+#[derive(Clone, Copy)]
 pub(crate) struct NumberedRule {
     pub(crate) number: DecimalDigits,
     pub(crate) rule: Rule,

@@ -30,7 +30,7 @@ const MOST_RULES: usize = 100_000;
 const MOST_OF_NUMBER: usize = 1_000;
 
 /// The rules that were read so far, by the digits of their numbers.
-#[derive(Debug, Drop)]
+#[derive(Drop)]
 pub(crate) struct Groups {
     count: usize,
     groups: BTreeMap<Vec<u8>, Vec<KeptRule>>,

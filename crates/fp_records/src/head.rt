@@ -17,7 +17,7 @@ const MOST_WEST: u64 = 720;
 const MOST_EAST: u64 = 840;
 
 /// What the first record says.
-#[derive(Clone, Copy, Debug, PartialEq, Eq)]
+#[derive(Clone, Copy, PartialEq, Eq)]
 pub(crate) struct Head {
     /// The service key.
     pub(crate) key: u32,

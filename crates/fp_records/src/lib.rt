@@ -38,8 +38,6 @@ mod reading;
 mod record;
 mod rule;
 mod table;
-#[cfg(test)]
-mod tests;
 mod weight;
 mod window;
 

@@ -10,7 +10,7 @@ use jiff::civil::Weekday;
 use jiff::tz::Offset;
 
 /// A weekday, and a minute of it.
-#[derive(Clone, Copy, Debug)]
+#[derive(Clone, Copy)]
 pub(crate) struct LocalTime {
     pub(crate) weekday: Weekday,
     pub(crate) minute: u16,

@@ -30,7 +30,7 @@ impl Model for Record {
 }
 
 // The longest prefix of the rules that fit, and the sum of the weights of those that have it.
-#[derive(Clone, Copy, Debug)]
+#[derive(Clone, Copy)]
 struct Share {
     longest: usize,
     total: u64,

@@ -20,7 +20,5 @@ mod component;
 mod dialogue_portion;
 mod frame;
 mod message;
-#[cfg(test)]
-mod tests;
 
 pub use frame::{MOST_OCTETS, bytes_of};

@@ -42,6 +42,20 @@ impl Core {
         }
     }
 
+    /// How far the call has come.
+    pub fn state(&self) -> State
+        ensures { result ≡ self.now.state }
+    {
+        self.state
+    }
+
+    /// The invocations of the dialogue.
+    pub fn invocations(&self) -> Invocations
+        ensures { result ≡ self.now.invocations }
+    {
+        self.invocations
+    }
+
     /// Whether the dialogue is over: nothing is asked for any more.
     pub fn is_over(&self) -> bool
         ensures value { result ≡ is_over self.now }

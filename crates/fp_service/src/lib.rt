@@ -71,8 +71,6 @@ mod outcome;
 mod request;
 mod serve;
 mod state;
-#[cfg(test)]
-mod tests;
 
 pub use component::Component;
 pub use components::Components;

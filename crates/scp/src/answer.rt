@@ -53,7 +53,7 @@ fn element_of(alloc: Global, message: &[u8]) -> Result<Element, AskFault>
 }
 
 /// What a message asks: where a call to a number goes.
-#[derive(Debug, Drop)]
+#[derive(Drop)]
 struct Asked {
     /// By which the caller knows the dialogue.
     caller: Tid,

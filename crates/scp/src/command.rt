@@ -31,6 +31,9 @@ pub enum Asked<'a> {
     Refused(String),
 }
 
+// The name of the program, in its texts too, whatever its file is called.
+const PROGRAM: &str = "scp";
+
 // The name of the subcommand that counts.
 const CHECK: &str = "check";
 
@@ -92,7 +95,8 @@ fn command<'a>(alloc: Global) -> Result<Command<'a>, AllocError> {
         .arg(records(alloc))?
         .arg(moment)?
         .arg(contexts)?;
-    Command::new(alloc, "scp")
+    Command::new(alloc, PROGRAM)
+        .bin_name(PROGRAM)?
         .about("A service control point for freephone numbers")
         .subcommand_required(true)
         .subcommand(check)?
