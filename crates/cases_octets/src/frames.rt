@@ -3,6 +3,7 @@
 //! | Case | What it gives |
 //! |---|---|
 //! | `frame HEX` | the octets of the frame of this message (`empty`: of no octets), or `none` |
+//! | `copy-frame HEX` | the octets of a copy of the frame of this message |
 //! | `frame-of COUNT` | how many octets the frame of a message of so many octets of 5A holds, or `none` |
 //! | `head COUNT` | the octets before a message of so many octets |
 
@@ -20,6 +21,18 @@ fn frame(alloc: Global, text: &str) -> anyhow::Result<String> {
         Some(frame) => octets_text(alloc, frame.octets()),
         None => Ok(format!(in alloc; "none")?),
     }
+}
+
+/// The octets of a copy of the frame of a message, which stays when the frame itself is given back.
+fn copy(alloc: Global, text: &str) -> anyhow::Result<String> {
+    let octets = octets_of(alloc, text)?;
+    let message = Bytes::copy_from_slice(alloc, octets.as_slice())?;
+    let Some(frame) = Frame::new(message) else {
+        return Ok(format!(in alloc; "none")?);
+    };
+    let copy = frame.try_clone()?;
+    drop(frame);
+    octets_text(alloc, copy.octets())
 }
 
 /// How many octets the frame of a message of so many octets of 5A holds.
@@ -45,6 +58,7 @@ fn head(alloc: Global, count: u16) -> anyhow::Result<String> {
 pub(crate) fn case(alloc: Global, words: &[&str]) -> anyhow::Result<Option<String>> {
     let text = match words {
         ["frame", text] => frame(alloc, text)?,
+        ["copy-frame", text] => copy(alloc, text)?,
         ["frame-of", count] => frame_of(alloc, count.parse()?)?,
         ["head", count] => head(alloc, count.parse()?)?,
         _ => return Ok(None),

@@ -7,6 +7,7 @@
 //! | `at MS HEX` | so many milliseconds after noon this message comes: what its entries ask for, one after the other |
 //! | `at MS clock` | the clock tells this moment: what it asks for |
 //! | `reply LOCAL PEER REQUEST` | the frame of a request, told as in `request`, where the dialogue has these two identifiers |
+//! | `provider-abort PEER CAUSE` | the frame of an Abort of the provider for this cause, where the peer has this identifier |
 //!
 //! Noon is 2024-05-06T12:00:00Z. The application context 2A0304 is accepted. A Begin begins the dialogue anew, the first
 //! of its link, whose identifier is 00000001 on this side and the Begin's on the other. What is asked for is told by the
@@ -21,10 +22,10 @@ use crate::steps::{NOON, after_noon};
 use bytes::Bytes;
 use fp_apdu::Name;
 use fp_digits::Moment;
-use fp_entry::{Entry, EntryKind, Incoming, Prepared, Transaction};
+use fp_entry::{Arrival, Entry, EntryKind, Incoming, Prepared};
 use fp_frames::Frame;
-use fp_q773::Tid;
-use fp_reply::bytes_of;
+use fp_q773::{Kind, Tid};
+use fp_reply::{abort_frame, bytes_of};
 use fp_service::{Core, Request, step};
 use std::alloc::Global;
 
@@ -109,13 +110,13 @@ fn prepared(alloc: Global, scene: &Scene, moment: Moment, text: &str) -> anyhow:
 fn serve_message(
     alloc: Global,
     scene: &mut Scene,
-    moment: Moment,
+    arrival: &Arrival,
     incoming: &Incoming,
     sent: &mut String,
 ) -> anyhow::Result<()> {
-    if let Transaction::Begin { originating } = incoming.transaction {
-        scene.core = Core::new(1, moment);
-        scene.peer = originating;
+    if let (Kind::Begin, Some(peer)) = (arrival.ids.kind, arrival.ids.orig) {
+        scene.core = Core::new(1, arrival.moment);
+        scene.peer = peer;
     }
     serve_all(alloc, scene, incoming.entries.as_slice(), sent)
 }
@@ -138,8 +139,8 @@ fn sent_for(
         return Ok(sent);
     }
     match prepared(alloc, scene, moment, event)? {
-        Prepared::Message(incoming) => {
-            serve_message(alloc, scene, moment, &incoming, &mut sent)?;
+        Prepared::Message { arrival, incoming } => {
+            serve_message(alloc, scene, &arrival, &incoming, &mut sent)?;
             Ok(sent)
         }
         _ => anyhow::bail!("no message"),
@@ -175,6 +176,14 @@ fn reply(alloc: Global, local: &str, peer: &str, words: &[&str]) -> anyhow::Resu
     frame_text(alloc, &request, local, &peer)
 }
 
+/// The frame of an Abort of the provider.
+fn provider_abort(alloc: Global, peer: &str, cause: &str) -> anyhow::Result<String> {
+    let peer = request::peer_of(alloc, peer)?;
+    let cause = request::abort_cause_of(cause)?;
+    let frame = abort_frame(peer, cause);
+    Ok(hex::encode_upper(alloc, frame.as_slice())?)
+}
+
 /// What a case of this module gives.
 pub(crate) fn case(
     alloc: Global,
@@ -192,6 +201,7 @@ pub(crate) fn case(
         }
         ["at", milliseconds, event] => at(alloc, scene, milliseconds, event)?,
         ["reply", local, peer, request @ ..] => reply(alloc, local, peer, request)?,
+        ["provider-abort", peer, cause] => provider_abort(alloc, peer, cause)?,
         _ => return Ok(None),
     };
     Ok(Some(text))

@@ -2,11 +2,12 @@
 //!
 //! | Case | What it gives |
 //! |---|---|
-//! | `prepare MOMENT CONTEXT HEX` | what the message of these octets is prepared to |
+//! | `prepare MOMENT CONTEXT HEX` | what the message of these octets is prepared to, and the frame that came: its identifiers, how many octets it has, and its moment |
 //! | `component HEX` | what a Continue from 0000002A to 00000001 that holds this component alone is prepared to at noon, with indefinite lengths around the component |
 //! | `lost MOMENT HEX` | what the frame of these octets is where memory was wanting |
 //! | `list MOMENTS KINDS` | a list before and behind its first entry, and copies of its entries when it came apart and together again |
-//! | `distinct MOMENTS KINDS` | how many of these entries are from components, how many are the same as their copy, and how many pairs of an entry and a copy are the same |
+//! | `append MOMENTS KINDS` | a list with no entry and then a copy of itself put behind it |
+//! | `distinct MOMENTS KINDS` | how many of these entries are from components, take a place or are the clock's, how many are the same as their copy, and how many pairs of an entry and a copy are the same |
 //!
 //! A MOMENT is a number of milliseconds after noon of 2024-05-06, and MOMENTS are some of them with commas. CONTEXT
 //! is the application context name that is accepted, in hexadecimal, or `-` where none is. KINDS are separated by
@@ -53,6 +54,7 @@ pub(crate) fn case(alloc: Global, words: &[&str]) -> anyhow::Result<Option<Strin
         ["component", octets] => Ok(Some(component(alloc, octets)?)),
         ["lost", moment, octets] => Ok(Some(lost(alloc, moment, octets)?)),
         ["list", moments, kinds @ ..] => Ok(Some(list(alloc, moments, kinds)?)),
+        ["append", moments, kinds @ ..] => Ok(Some(append(alloc, moments, kinds)?)),
         ["distinct", moments, kinds @ ..] => Ok(Some(distinct(alloc, moments, kinds)?)),
         _ => Ok(None),
     }
@@ -117,6 +119,14 @@ fn list(alloc: Global, moments: &str, kinds: &[&str]) -> anyhow::Result<String> 
     let kinds = text_of(alloc, kinds)?;
     let entries = entries_of(alloc, &table, moments, kinds.as_str())?;
     comparing::list(alloc, &table, entries)
+}
+
+/// A list and its copy, one behind the other.
+fn append(alloc: Global, moments: &str, kinds: &[&str]) -> anyhow::Result<String> {
+    let table = table(alloc)?;
+    let kinds = text_of(alloc, kinds)?;
+    let entries = entries_of(alloc, &table, moments, kinds.as_str())?;
+    comparing::append(alloc, &table, entries)
 }
 
 /// Entries that are compared with one another.

@@ -3,6 +3,7 @@ pub mod Aarq
 pub mod Abrt
 pub mod BitString
 pub mod DialoguePortion
+pub mod Laws
 pub mod Name
 pub mod ObjectIdentifier
 pub mod Opening

@@ -10,7 +10,7 @@
 //!   give the whole dialogue portion, tag 6B.
 //!
 //! The layer above may rely on this: an opening is answered exactly where `Opens` of `specs/Opening.antt` has
-//! it, which is at most one, and [`Badly`] exactly where it has none; the elements that are written are the
+//! it, which is at most one ([`openings_are_one`]), and [`Badly`] exactly where it has none; the elements that are written are the
 //! trees that `specs/Aare.antt` and `specs/Abrt.antt` say, and have tags and lengths that `fp_ber` can write.
 //! Contracts see a [`Name`] as the list of its octets, and two names are equal by `==` exactly where the lists
 //! are. Unstructured dialogue and the contents of user information aren't read.
@@ -22,6 +22,7 @@ mod abrt;
 mod bit_string;
 mod context_name;
 mod dialogue_portion;
+mod laws;
 mod members;
 mod name;
 mod object_identifier;
@@ -31,6 +32,7 @@ mod verdict;
 
 pub use aare::write_aare;
 pub use abrt::write_abrt;
+pub use laws::openings_are_one;
 pub use name::Name;
 pub use opening::{Badly, Opening, opening_of};
 pub use verdict::Verdict;

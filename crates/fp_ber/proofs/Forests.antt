@@ -1,10 +1,10 @@
 -- What holds of all elements holds of each.
-use Rattle.std.proofs.Common.{◌≡◌, ℕ, zero, suc, ◌+◌, ◌<◌, List, [], ◌∷◌, length, get_or, take, arith}
+use Rattle.std.proofs.Common.{◌≡◌, ℕ, zero, suc, ◌+◌, ◌<◌, ◌≤◌, List, [], ◌∷◌, length, length-append, get_or, take, drop, sym, subst, arith}
 use Rattle.std.proofs.lemmas.List.{take_more}
 use Rattle.fp_ber.specs.declared.element.Element.{Element}
 use Rattle.fp_ber.specs.Tree.{HasTags, AllHaveTags, trees_with}
 use Rattle.fp_ber.specs.View.{tree_of, forest_of}
-use Rattle.fp_ber.specs.Canon.{HasLengths, AllHaveLengths}
+use Rattle.fp_ber.specs.Canon.{HasLengths, AllHaveLengths, canon, canon_of_all}
 use Rattle.fp_ber.proofs.Parts.{forest_of-push}
 
 -- the element at a place has a tag that elements have
@@ -23,3 +23,18 @@ lengths_at (first ∷ es) (suc i) e h all = lengths_at es i e (omega arith) all.
 pub forest_of-take : (es : List Element) (i : ℕ) (e : Element) → i < length es → e ≡ get_or es i e
     → forest_of (take (i + 1) es) ≡ trees_with (forest_of (take i es)) (tree_of e)
 forest_of-take es i e h is = rw (take_more es i e h, ← is) (forest_of-push (take i es) e)
+
+-- the element at a place and those behind it take no more octets than all
+size_from : (es : List Element) (i : ℕ) (e : Element) → i < length es
+    → length (canon (tree_of (get_or es i e))) + length (canon_of_all (forest_of (drop (suc i) es))) ≤ length (canon_of_all (forest_of es))
+size_from [] i e h = absurd (omega arith)
+size_from (first ∷ es) zero e h = omega (arith, length-append (canon (tree_of first)) (canon_of_all (forest_of es)))
+size_from (first ∷ es) (suc i) e h =
+    let rest = size_from es i e (omega arith) in omega (arith, rest, length-append (canon (tree_of first)) (canon_of_all (forest_of es)))
+
+-- the same, where the place of those behind it has a name of its own
+pub size_at : (es : List Element) (i n : ℕ) (e : Element) → i < length es → n ≡ suc i
+    → length (canon (tree_of (get_or es i e))) + length (canon_of_all (forest_of (drop n es))) ≤ length (canon_of_all (forest_of es))
+size_at es i n e h is =
+    let P : ℕ → Type 0 = λ k. length (canon (tree_of (get_or es i e))) + length (canon_of_all (forest_of (drop k es))) ≤ length (canon_of_all (forest_of es)) in
+    subst P (sym is) (size_from es i e h)

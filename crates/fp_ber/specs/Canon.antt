@@ -1,5 +1,5 @@
 -- The spelling with definite lengths in as few octets as they take.
-use Rattle.std.specs.Prelude.{◌≡◌, ℕ, ◌+◌, ◌/◌, ◌%◌, ◌^◌, ◌<◌, Bool, true, false, List, [], ◌∷◌, ◌++◌, length, ⊤, nat_lt, if◌then◌else◌}
+use Rattle.std.specs.Prelude.{◌≡◌, ℕ, ◌+◌, ◌/◌, ◌%◌, ◌^◌, ◌<◌, Bool, true, false, List, [], ◌∷◌, ◌++◌, length, take, drop, ⊤, nat_lt, if◌then◌else◌}
 use Rattle.fp_ber.specs.declared.element.Class.{Class}
 use Rattle.fp_ber.specs.Tree.{Tree, Trees, primitive, constructed, none, more}
 use Rattle.fp_ber.specs.Spelling.{first_octet}
@@ -40,6 +40,7 @@ abbrev mutual
   AllHaveLengths none = ⊤
   AllHaveLengths (more t ts) = HasLengths t × AllHaveLengths ts
 
--- new is old with more behind it
-abbrev pub Extends : List ℕ → List ℕ → Type 0
-Extends old new = (more_octets : List ℕ) × (new ≡ old ++ more_octets)
+-- new is old with these octets in front of a place, from start on
+pub record Puts (octets old new : List ℕ) (start end : ℕ) : Type 0 where
+  pub starts : start + length octets ≡ end
+  pub whole : new ≡ take start old ++ (octets ++ drop end old)

@@ -4,10 +4,11 @@ use Rattle.fp_ber.specs.declared.element.Element.{Element}
 use Rattle.fp_ber.specs.declared.fault.BerFault.{BerFault}
 use Rattle.fp_ber.specs.declared.fault.BerFault.TheVariants.{Memory}
 use Rattle.std.specs.List.{AllByRecursion}
-use Rattle.fp_ber.specs.Tree.{Tree, HasTags}
+use Rattle.fp_ber.specs.Tree.{Tree, HasTags, InRange}
 use Rattle.fp_ber.specs.Canon.{canon, length_octets, HasLengths}
 use Rattle.fp_ber.specs.View.{tree_of}
 use Rattle.fp_ber.specs.Spelling.{Spells, IsLength}
+use Rattle.fp_ber.specs.Faults.{FirstFault}
 
 -- the answer is this element, unless memory ran out
 abbrev pub Reads : Result Element BerFault → Tree → Type 0
@@ -30,3 +31,11 @@ CanonSpells = (t : Tree) → HasTags t → HasLengths t → Spells (canon t) t
 -- no definite length of the same number takes fewer octets than the canonical one
 abbrev pub LengthsAreShortest : Type 0
 LengthsAreShortest = (size : List ℕ) (n : ℕ) → IsLength size n → AllByRecursion (λ octet. octet < 256) size → length (length_octets n) ≤ length size
+
+-- octets have one first fault at most
+abbrev pub FaultsAreOne : Type 0
+FaultsAreOne = (octets : List ℕ) (f g : BerFault) → FirstFault octets f → FirstFault octets g → f ≡ g
+
+-- octets that spell an element in range have no fault
+abbrev pub SpelledHaveNoFault : Type 0
+SpelledHaveNoFault = (octets : List ℕ) (t : Tree) (f : BerFault) → Spells octets t → InRange t → FirstFault octets f → ⊥

@@ -1,13 +1,14 @@
 //! The octets of a length, and the contents that it bounds (X.690, 8.1.3 and 10.1).
 
-ghost use Rattle.std.specs.Prelude.{◌≡◌, ◌<◌, ◌^◌, ◌++◌, ◌∷◌, true, IfOk, IfErr, OnOk, OnErr, MatchOption, reverse};
+ghost use Rattle.std.specs.Prelude.{◌≡◌, ◌<◌, ◌≤◌, ◌^◌, ◌∷◌, true, IfOk, IfErr, MatchOption};
+ghost use Rattle.std.specs.Prelude as lengths;
 ghost use Rattle.fp_ber.specs.Spelling.{BeginsLength};
 ghost use Rattle.fp_ber.specs.Faults.{LengthFault};
-ghost use Rattle.fp_ber.specs.Canon.{length_octets};
+ghost use Rattle.fp_ber.specs.Canon.{length_octets, Puts};
 ghost use Rattle.fp_ber.specs.Extents.{IsExtent, ExtentFault};
 
 use crate::fault::BerFault;
-use std::alloc::AllocError;
+use crate::placing::put;
 
 /// The first octet of an indefinite length.
 const INDEFINITE: u8 = 0x80;
@@ -86,27 +87,48 @@ pub fn extent_at(bytes: &[u8], constructed: bool) -> Result<Extent<'_>, BerFault
     Ok(Extent::Definite { contents, rest })
 }
 
-/// Appends the octets of the least definite length, last octet first.
-pub fn push_length_reversed(length: usize, out: &mut Vec<u8>) -> Result<(), AllocError>
+/// How many octets the least definite length takes.
+pub fn length_size(length: usize) -> usize
     requires { length < 2 ^ 32 }
-    ensures ok { OnOk result (out.new.items ≡ out.old.items ++ reverse (length_octets length)) }
-    ensures err { OnErr result (out.new.items ≡ out.old.items) }
+    ensures { result ≡ lengths.length (length_octets length) }
+{
+    if length < 0x80 {
+        return 1;
+    }
+    if length < 0x100 {
+        return 2;
+    }
+    if length < 0x1_0000 {
+        return 3;
+    }
+    if length < 0x100_0000 {
+        return 4;
+    }
+    5
+}
+
+/// Puts the octets of the least definite length in front of a place, and gives where they begin.
+pub fn put_length(length: usize, out: &mut [u8], end: usize) -> usize
+    requires length { length < 2 ^ 32 }
+    requires room { lengths.length (length_octets length) ≤ end }
+    requires end { end ≤ lengths.length out.old }
+    ensures { Puts (length_octets length) out.old out.new result end }
 {
     let last = (length % 0x100) as u8;
     if length < 0x80 {
-        return out.extend_from_slice(&[last]);
+        return put(&[last], out, end);
     }
     if length < 0x100 {
-        return out.extend_from_slice(&[last, 0x81]);
+        return put(&[0x81, last], out, end);
     }
     let third = (length / 0x100 % 0x100) as u8;
     if length < 0x1_0000 {
-        return out.extend_from_slice(&[last, third, 0x82]);
+        return put(&[0x82, third, last], out, end);
     }
     let second = (length / 0x1_0000 % 0x100) as u8;
     if length < 0x100_0000 {
-        return out.extend_from_slice(&[last, third, second, 0x83]);
+        return put(&[0x83, second, third, last], out, end);
     }
     let first = (length / 0x100_0000) as u8;
-    out.extend_from_slice(&[last, third, second, first, 0x84])
+    put(&[0x84, first, second, third, last], out, end)
 }

@@ -10,7 +10,8 @@
 //!
 //! The layer above may rely on this: `read` answers an element exactly where the octets spell it and it
 //! is in range (at most sixteen elements inside each other, tag numbers to 16,383), want of memory aside;
-//! no spelling begins another; and what `write` appends is a spelling of its element, which `read` reads
+//! no spelling begins another; octets have one first fault at most, and none where they spell an element in
+//! range; and what `write` appends is a spelling of its element, which `read` reads
 //! as that element. Contracts speak of an element as its tree (`specs/Tree.antt`), and of octets by
 //! `Spells` (`specs/Spelling.antt`) and `canon` (`specs/Canon.antt`).
 #![tactic(auto)]
@@ -21,6 +22,7 @@ mod fault;
 mod integer;
 mod laws;
 mod length;
+mod placing;
 mod reading;
 mod tag;
 mod writing;
@@ -29,7 +31,8 @@ pub use element::{Body, Class, Element};
 pub use fault::BerFault;
 pub use integer::{integer_of, octet_of, signed_of};
 pub use laws::{
-    canonical_lengths_are_shortest, canonical_spelling_spells, no_spelling_begins_another,
+    canonical_lengths_are_shortest, canonical_spelling_spells, faults_are_one,
+    no_spelling_begins_another, spelled_octets_have_no_fault,
 };
 pub use reading::read;
 pub use writing::write;

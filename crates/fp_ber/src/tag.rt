@@ -1,15 +1,15 @@
 //! The octets of a tag (X.690, 8.1.2).
 
-ghost use Rattle.std.specs.Prelude.{◌≡◌, ◌+◌, ◌/◌, ◌<◌, ◌++◌, ◌∷◌, Bool, IfOk, IfErr, OnOk, OnErr, reverse};
+ghost use Rattle.std.specs.Prelude.{◌≡◌, ◌+◌, ◌/◌, ◌<◌, ◌≤◌, ◌∷◌, Bool, IfOk, IfErr, length};
 ghost use Rattle.fp_ber.specs.declared.element.Class.{Class};
 ghost use Rattle.fp_ber.specs.Spelling.{BeginsTag, first_octet};
 ghost use Rattle.fp_ber.specs.Faults.{TagFault, HighFault};
-ghost use Rattle.fp_ber.specs.Canon.{tag_octets, Extends};
+ghost use Rattle.fp_ber.specs.Canon.{tag_octets, Puts};
 ghost use Rattle.fp_ber.specs.Tree.{IsTagNumber, class_code};
 
 use crate::element::Class;
 use crate::fault::BerFault;
-use std::alloc::AllocError;
+use crate::placing::put;
 
 /// A tag: a class, whether the contents are elements, and a number.
 #[derive(Clone, Copy, Debug)]
@@ -105,20 +105,38 @@ pub fn tag_at(bytes: &[u8]) -> Result<(Tag, &[u8]), BerFault>
     Ok((tag, rest))
 }
 
-/// Appends the octets of a tag, last octet first.
-pub fn push_tag_reversed(tag: Tag, out: &mut Vec<u8>) -> Result<(), AllocError>
-    requires { IsTagNumber tag.class tag.number }
-    ensures ok { OnOk result (out.new.items ≡ out.old.items ++ reverse (tag_octets tag.class tag.constructed tag.number)) }
-    ensures err { OnErr result (out.new.items ≡ out.old.items) }
+/// How many octets a tag takes.
+pub fn tag_size(tag: Tag) -> usize
+    ensures { result ≡ length (tag_octets tag.class tag.constructed tag.number) }
+{
+    if tag.number < 31 {
+        return 1;
+    }
+    if tag.number < 128 {
+        return 2;
+    }
+    3
+}
+
+/// Puts the octets of a tag in front of a place, and gives where they begin.
+pub fn put_tag(tag: Tag, out: &mut [u8], end: usize) -> usize
+    requires tag { IsTagNumber tag.class tag.number }
+    requires room { length (tag_octets tag.class tag.constructed tag.number) ≤ end }
+    requires end { end ≤ length out.old }
+    ensures { Puts (tag_octets tag.class tag.constructed tag.number) out.old out.new result end }
 {
     let number = tag.number;
     if number < 31 {
         let first = first_of(tag.class, tag.constructed, number as u8);
-        return out.extend_from_slice(&[first]);
+        return put(&[first], out, end);
     }
     let first = first_of(tag.class, tag.constructed, 31);
     if number < 128 {
-        return out.extend_from_slice(&[number as u8, first]);
+        return put(&[first, number as u8], out, end);
     }
-    out.extend_from_slice(&[(number % 128) as u8, (128 + number / 128) as u8, first])
+    put(
+        &[first, (128 + number / 128) as u8, (number % 128) as u8],
+        out,
+        end,
+    )
 }

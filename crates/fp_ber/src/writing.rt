@@ -1,99 +1,133 @@
 //! Writing the canonical spelling of an element.
 //!
-//! The length of an element stands in front of contents whose length isn't known before they are written.
-//! So all is appended last octet first, and turned round at the end: each octet is written twice, however
-//! deep it lies.
+//! The length of an element stands in front of contents whose length isn't known before they are written. So the
+//! room for all is made first, and then filled from its end to its front: each octet is written once, however deep
+//! it lies, memory is asked for once, and the element is gone through twice.
 
-ghost use Rattle.std.specs.Prelude.{◌≡◌, ◌<◌, ◌≤◌, ◌^◌, ◌++◌, OnOk, OnErr, reverse, take, drop, vec_len};
+ghost use Rattle.std.specs.Prelude.{◌≡◌, ◌<◌, ◌≤◌, ◌^◌, ◌++◌, OnOk, OnErr, length};
+ghost use Rattle.std.specs.Prelude as lists;
 ghost use Rattle.fp_ber.specs.Tree.{HasTags, AllHaveTags, IsTagNumber};
 ghost use Rattle.fp_ber.specs.View.{tree_of, forest_of};
-ghost use Rattle.fp_ber.specs.Canon.{canon, canon_of_all, tag_octets, length_octets, HasLengths, AllHaveLengths, Extends};
+ghost use Rattle.fp_ber.specs.Canon.{canon, canon_of_all, tag_octets, length_octets, HasLengths, AllHaveLengths, Puts};
 
 use crate::element::{Body, Element};
-use crate::length::push_length_reversed;
-use crate::tag::{Tag, push_tag_reversed};
+use crate::length::{length_size, put_length};
+use crate::placing::put;
+use crate::tag::{Tag, put_tag, tag_size};
 use std::alloc::AllocError;
 
-/// Turns round the octets from a place on.
-fn reverse_from(out: &mut Vec<u8>, start: usize)
-    requires { start ≤ vec_len out.old }
-    ensures { out.new.items ≡ take start out.old.items ++ reverse (drop start out.old.items) }
+/// How many octets the tag and the length of an element take.
+fn header_size(tag: Tag, length: usize) -> usize
+    requires { length < 2 ^ 32 }
+    ensures { result ≡ lists.length (tag_octets tag.class tag.constructed tag.number ++ length_octets length) }
 {
-    out[start..].reverse();
+    tag_size(tag) + length_size(length)
 }
 
-/// Appends octets, the last one first.
-fn push_octets_reversed(octets: &[u8], out: &mut Vec<u8>) -> Result<(), AllocError>
-    ensures ok { OnOk result (out.new.items ≡ out.old.items ++ reverse octets.now) }
-    ensures err { OnErr result (Extends out.old.items out.new.items) }
-{
-    let mut index = octets.len();
-    'octets: while index > 0 {
-        index -= 1;
-        out.push(octets[index])?;
-    }
-    Ok(())
-}
-
-/// Appends the tag and the length of an element, last octet first.
-fn push_header_reversed(tag: Tag, length: usize, out: &mut Vec<u8>) -> Result<(), AllocError>
-    requires tag { IsTagNumber tag.class tag.number }
-    requires length { length < 2 ^ 32 }
-    ensures ok { OnOk result (out.new.items
-        ≡ out.old.items ++ reverse (tag_octets tag.class tag.constructed tag.number ++ length_octets length)) }
-    ensures err { OnErr result (Extends out.old.items out.new.items) }
-{
-    push_length_reversed(length, out)?;
-    push_tag_reversed(tag, out)
-}
-
-/// Appends the canonical spelling of an element, last octet first.
-#[cycle(write)]
-fn push_reversed(element: &Element, out: &mut Vec<u8>) -> Result<(), AllocError>
-    requires tags { HasTags (tree_of element.now) }
+/// How many octets the canonical spelling of an element takes.
+#[cycle(size)]
+fn size_of(element: &Element) -> usize
     requires lengths { HasLengths (tree_of element.now) }
-    ensures ok { OnOk result (out.new.items ≡ out.old.items ++ reverse (canon (tree_of element.now))) }
-    ensures err { OnErr result (Extends out.old.items out.new.items) }
+    ensures { result ≡ length (canon (tree_of element.now)) }
 {
     let class = element.class;
     let number = element.number;
     match &element.body {
         Body::Primitive(octets) => {
-            push_octets_reversed(octets.as_slice(), out)?;
             let tag = Tag {
                 class,
                 constructed: false,
                 number,
             };
-            push_header_reversed(tag, octets.len(), out)
+            header_size(tag, octets.len()) + octets.len()
         }
         Body::Constructed(children) => {
-            let start = out.len();
-            push_all_reversed(children.as_slice(), out)?;
+            let size = size_of_all(children.as_slice());
             let tag = Tag {
                 class,
                 constructed: true,
                 number,
             };
-            push_header_reversed(tag, out.len() - start, out)
+            header_size(tag, size) + size
         }
     }
 }
 
-/// Appends the canonical spellings of elements, last octet of the last one first.
+/// How many octets the canonical spellings of elements take.
+#[cycle(size)]
+fn size_of_all(elements: &[Element]) -> usize
+    requires lengths { AllHaveLengths (forest_of elements.now) }
+    requires fits { length (canon_of_all (forest_of elements.now)) < 2 ^ 32 }
+    ensures { result ≡ length (canon_of_all (forest_of elements.now)) }
+{
+    let mut size = 0;
+    'elements: for element in elements {
+        size += size_of(element);
+    }
+    size
+}
+
+/// Puts the tag and the length of an element in front of a place, and gives where they begin.
+fn put_header(tag: Tag, length: usize, out: &mut [u8], end: usize) -> usize
+    requires tag { IsTagNumber tag.class tag.number }
+    requires length { length < 2 ^ 32 }
+    requires room { lists.length (tag_octets tag.class tag.constructed tag.number ++ length_octets length) ≤ end }
+    requires end { end ≤ lists.length out.old }
+    ensures { Puts (tag_octets tag.class tag.constructed tag.number ++ length_octets length) out.old out.new result end }
+{
+    let start = put_length(length, out, end);
+    put_tag(tag, out, start)
+}
+
+/// Puts the canonical spelling of an element in front of a place, and gives where it begins.
 #[cycle(write)]
-fn push_all_reversed(elements: &[Element], out: &mut Vec<u8>) -> Result<(), AllocError>
+fn put_element(element: &Element, out: &mut [u8], end: usize) -> usize
+    requires tags { HasTags (tree_of element.now) }
+    requires lengths { HasLengths (tree_of element.now) }
+    requires room { length (canon (tree_of element.now)) ≤ end }
+    requires end { end ≤ length out.old }
+    ensures { Puts (canon (tree_of element.now)) out.old out.new result end }
+{
+    let class = element.class;
+    let number = element.number;
+    match &element.body {
+        Body::Primitive(octets) => {
+            let start = put(octets.as_slice(), out, end);
+            let tag = Tag {
+                class,
+                constructed: false,
+                number,
+            };
+            put_header(tag, octets.len(), out, start)
+        }
+        Body::Constructed(children) => {
+            let start = put_all(children.as_slice(), out, end);
+            let tag = Tag {
+                class,
+                constructed: true,
+                number,
+            };
+            put_header(tag, end - start, out, start)
+        }
+    }
+}
+
+/// Puts the canonical spellings of elements in front of a place, and gives where the first one begins.
+#[cycle(write)]
+fn put_all(elements: &[Element], out: &mut [u8], end: usize) -> usize
     requires tags { AllHaveTags (forest_of elements.now) }
     requires lengths { AllHaveLengths (forest_of elements.now) }
-    ensures ok { OnOk result (out.new.items ≡ out.old.items ++ reverse (canon_of_all (forest_of elements.now))) }
-    ensures err { OnErr result (Extends out.old.items out.new.items) }
+    requires room { length (canon_of_all (forest_of elements.now)) ≤ end }
+    requires end { end ≤ length out.old }
+    ensures { Puts (canon_of_all (forest_of elements.now)) out.old out.new result end }
 {
+    let mut start = end;
     let mut index = elements.len();
     'elements: while index > 0 {
         index -= 1;
-        push_reversed(&elements[index], out)?;
+        start = put_element(&elements[index], out, start);
     }
-    Ok(())
+    start
 }
 
 /// Appends the canonical spelling of an element (X.690, 10.1): definite lengths in as few octets as they take.
@@ -106,15 +140,8 @@ pub fn write(element: &Element, out: &mut Vec<u8>) -> Result<(), AllocError>
     ensures ok { OnOk result (out.new.items ≡ out.old.items ++ canon (tree_of element.now)) }
     ensures err { OnErr result (out.new.items ≡ out.old.items) }
 {
-    let start = out.len();
-    match push_reversed(element, out) {
-        Ok(()) => {
-            reverse_from(out, start);
-            Ok(())
-        }
-        Err(error) => {
-            out.truncate(start);
-            Err(error)
-        }
-    }
+    let end = out.len() + size_of(element);
+    out.resize(end, 0)?;
+    put_element(element, out.as_mut_slice(), end);
+    Ok(())
 }

@@ -3,13 +3,13 @@ use Rattle.std.proofs.Common.{◌≡◌, ℕ, ◌+◌, ◌≤◌, inl, inr, cond
 use Rattle.std.proofs.lemmas.List.Sums.{sum_by-append, sum_by-cons}
 use Rattle.fp_ber.specs.Tree.{Tree}
 use Rattle.std.specs.Prelude.{ℤ}
-use Rattle.fp_q773.specs.Value.{CodeValue, ComponentValue, MessageValue, invoke, return_result_last, return_error, reject, return_result_not_last, faulty, unidirectional, begin, end, continuing, abort}
+use Rattle.fp_q773.specs.Value.{is_faulty, CodeValue, ComponentValue, MessageValue, invoke, return_result_last, return_error, reject, return_result_not_last, faulty, unidirectional, begin, end, continuing, abort}
 use Rattle.fp_records.specs.Table.{Contents}
 use Rattle.fp_entry.specs.declared.entry.Entry.{Entry}
 use Rattle.fp_entry.specs.declared.entry.EntryKind.{EntryKind}
 use Rattle.fp_entry.specs.declared.entry.EntryKind.TheVariants as kinds
 use Rattle.fp_entry.specs.Component.{IsInvokeKind, IsKind}
-use Rattle.fp_entry.specs.Delivered.{delivered, is_faulty}
+use Rattle.fp_entry.specs.Delivered.{delivered}
 use Rattle.fp_entry.specs.Entries.{AreGiven, Delivers, component_count, is_from_component, entry_at}
 use Rattle.fp_entry.specs.Incoming.{element_count}
 use Rattle.fp_entry.specs.Laws.{AreCounted, ComponentsAreCounted, components_in}

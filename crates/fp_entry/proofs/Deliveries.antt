@@ -1,13 +1,13 @@
 -- The entries of the components so far, and of those that are left.
 use Rattle.std.proofs.Common.{◌≡◌, ℕ, suc, ◌+◌, ◌<◌, true, false, List, [], ◌∷◌, ◌++◌, length, get_or, map, drop, refl, sym, ◌∙◌, ap, subst, append_assoc, append-nil, add-one, drop-cons}
 use Rattle.fp_q773.specs.declared.component.Component.{Component}
-use Rattle.fp_q773.specs.Value.{ComponentValue}
+use Rattle.fp_q773.specs.Value.{ComponentValue, is_faulty}
 use Rattle.fp_q773.specs.View.{component_of}
 use Rattle.fp_records.specs.Table.{Contents}
 use Rattle.fp_entry.specs.declared.entry.Entry.{Entry}
 use Rattle.fp_entry.specs.declared.entry.EntryKind.{EntryKind}
 use Rattle.fp_entry.specs.Component.{IsKind}
-use Rattle.fp_entry.specs.Delivered.{delivered, is_faulty}
+use Rattle.fp_entry.specs.Delivered.{delivered}
 use Rattle.fp_entry.specs.Entries.{AreGiven, Delivers, entry_at}
 
 -- whatever the components that are left give, behind the entries so far stands all that is delivered

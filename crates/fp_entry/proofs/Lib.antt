@@ -1,5 +1,5 @@
 pub mod Counts
 pub mod Deliveries
-pub mod Openings
+pub mod LowerLaws
 pub mod Readings
 pub mod Unique

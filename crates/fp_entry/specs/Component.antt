@@ -1,5 +1,5 @@
 -- The kind of entry that a component of TCAP gives (Q.773, 4.2.2), where the operations are those of INAP.
-use Rattle.std.specs.Prelude.{◌≡◌, ◌≢◌, ℕ, ℤ, true, false, Option, Some, None, ◌⊎◌, nat_lt, ◌==◌, if◌then◌else◌}
+use Rattle.std.specs.Prelude.{◌≡◌, ◌≢◌, ℤ, true, false, Option, Some, None, ◌⊎◌, nat_lt, if◌then◌else◌}
 use Rattle.fp_ber.specs.Tree.{Tree}
 use Rattle.fp_inap.specs.declared.event_report.EventReport.{EventReport}
 use Rattle.fp_inap.specs.declared.initial_dp.InitialDp.{InitialDp}
@@ -7,10 +7,8 @@ use Rattle.fp_inap.specs.declared.operation.Operation.TheVariants as operations
 use Rattle.fp_inap.specs.EventReport.{IsEventReport}
 use Rattle.fp_inap.specs.InitialDp.{IsInitialDp}
 use Rattle.fp_inap.specs.Operation.{code_of}
-use Rattle.fp_q773.specs.declared.problem.GeneralProblem.{GeneralProblem}
-use Rattle.fp_q773.specs.declared.problem.GeneralProblem.TheVariants.{UnrecognizedComponent, MistypedComponent, BadlyStructuredComponent, Other}
 use Rattle.fp_q773.specs.declared.problem.InvokeProblem.TheVariants.{UnrecognizedOperation, MistypedParameter}
-use Rattle.fp_q773.specs.Value.{CodeValue, ProblemValue, ComponentValue, local, tag_of, value_of, invoke, return_result_last, return_error, reject, return_result_not_last, faulty}
+use Rattle.fp_q773.specs.Value.{CodeValue, ProblemValue, ComponentValue, local, tag_of, invoke, return_result_last, return_error, reject, return_result_not_last, faulty}
 use Rattle.fp_records.specs.Table.{Contents}
 use Rattle.fp_entry.specs.declared.entry.EntryKind.{EntryKind}
 use Rattle.fp_entry.specs.declared.entry.EntryKind.TheVariants as kinds
@@ -46,14 +44,6 @@ IsInvokeKind contents identifier linked code parameter kind =
 abbrev pub rejected_identifier : ProblemValue → Option ℤ → Option ℤ
 rejected_identifier problem identifier = if nat_lt (tag_of problem) 2 then identifier else None
 
--- the General problem of a value (Q.773, 4.2.2)
-abbrev pub general_problem : ℕ → GeneralProblem
-general_problem value =
-    if value == 0 then UnrecognizedComponent
-    else if value == 1 then MistypedComponent
-    else if value == 2 then BadlyStructuredComponent
-    else Other value
-
 -- the table of components
 abbrev pub IsKind : Contents → ComponentValue → EntryKind → Type 0
 IsKind contents (invoke identifier linked code parameter) kind = IsInvokeKind contents identifier linked code parameter kind
@@ -61,4 +51,4 @@ IsKind contents (return_result_last identifier result) kind = kind ≡ kinds.Res
 IsKind contents (return_error identifier code parameter) kind = kind ≡ kinds.Error identifier
 IsKind contents (reject identifier problem) kind = kind ≡ kinds.Reject (rejected_identifier problem identifier)
 IsKind contents (return_result_not_last identifier result) kind = kind ≡ kinds.Result identifier false
-IsKind contents (faulty identifier problem) kind = kind ≡ kinds.Faulty identifier (general_problem (value_of problem))
+IsKind contents (faulty identifier problem) kind = kind ≡ kinds.Faulty identifier problem

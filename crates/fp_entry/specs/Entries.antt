@@ -1,4 +1,4 @@
--- The entries of a message, and which of them come from components.
+-- The entries of a message, which of them come from components, and which take a place of their dialogue.
 use Rattle.std.specs.Prelude.{◌≡◌, ℕ, Bool, true, false, List, [], ◌∷◌, ◌++◌, count_by, ⊤}
 use Rattle.fp_apdu.specs.declared.opening.Opening.{Opening}
 use Rattle.fp_apdu.specs.Opening.{Opens}
@@ -56,3 +56,35 @@ is_from_component Clock = false
 -- how many entries come from components
 abbrev pub component_count : List Entry → ℕ
 component_count = count_by (λ entry. is_from_component entry.kind)
+
+-- whether an entry is the clock's
+abbrev pub is_clock : EntryKind → Bool
+is_clock (Opened opening) = false
+is_clock (InitialDp identifier linked calling found) = false
+is_clock (Event identifier linked event notification) = false
+is_clock (UnknownInvoke identifier linked problem) = false
+is_clock (Result identifier last) = false
+is_clock (Error identifier) = false
+is_clock (Reject identifier) = false
+is_clock (Faulty identifier problem) = false
+is_clock PeerEnd = false
+is_clock PeerAbort = false
+is_clock Clock = true
+
+-- whether an entry takes one of the places that a dialogue has: each does but the peer's end, its abort and the clock
+abbrev pub takes_a_place : EntryKind → Bool
+takes_a_place (Opened opening) = true
+takes_a_place (InitialDp identifier linked calling found) = true
+takes_a_place (Event identifier linked event notification) = true
+takes_a_place (UnknownInvoke identifier linked problem) = true
+takes_a_place (Result identifier last) = true
+takes_a_place (Error identifier) = true
+takes_a_place (Reject identifier) = true
+takes_a_place (Faulty identifier problem) = true
+takes_a_place PeerEnd = false
+takes_a_place PeerAbort = false
+takes_a_place Clock = false
+
+-- how many entries take a place
+abbrev pub place_count : List Entry → ℕ
+place_count = count_by (λ entry. takes_a_place entry.kind)

@@ -1,4 +1,4 @@
--- A readable message, as the layer above has it.
+-- What a readable message brings, as the layer above has it.
 use Rattle.std.specs.Prelude.{◌≡◌, ℕ, List, length}
 use Rattle.fp_apdu.specs.declared.opening.Opening.{Opening}
 use Rattle.fp_apdu.specs.Opening.{Opens}
@@ -6,7 +6,6 @@ use Rattle.fp_q773.specs.Value.{MessageValue, unidirectional, begin, end, contin
 use Rattle.fp_records.specs.Table.{Contents}
 use Rattle.fp_entry.specs.declared.incoming.Incoming.{Incoming}
 use Rattle.fp_entry.specs.Entries.{AreEntries}
-use Rattle.fp_entry.specs.Transaction.{transaction_of, transaction_value}
 
 -- how many elements the component portion of a message holds
 abbrev pub element_count : MessageValue → ℕ
@@ -16,9 +15,8 @@ element_count (end destination dialogue components) = length components
 element_count (continuing originating destination dialogue components) = length components
 element_count (abort destination reason) = 0
 
--- a message and what it brings, at this moment
+-- this is what a message brings at this moment
 pub record IsIncoming (contents : Contents) (contexts : List (List ℕ)) (moment : ℕ) (message : MessageValue) (incoming : Incoming) : Type 0 where
-  pub is_transaction : transaction_value incoming.transaction ≡ transaction_of message
   pub are_entries : AreEntries contents contexts moment message incoming.entries
   pub are_elements : incoming.elements ≡ element_count message
 

@@ -1,3 +1,4 @@
+pub mod Arrival
 pub mod Component
 pub mod Delivered
 pub mod Entries
@@ -6,4 +7,3 @@ pub mod Found
 pub mod Incoming
 pub mod Laws
 pub mod Prepared
-pub mod Transaction

@@ -1,26 +1,24 @@
--- What a frame is prepared to: a message with its entries, a refusal, or neither, where memory was wanting.
-use Rattle.std.specs.Prelude.{◌≡◌, ◌≢◌, ℕ, List, option_map, ◌⊎◌, ⊤}
+-- What a frame is prepared to: its arrival, and with it a message with its entries, a refusal, or neither, where memory
+-- was wanting.
+use Rattle.std.specs.Prelude.{◌≡◌, ◌≢◌, ℕ, List, ◌⊎◌, ⊤}
 use Rattle.fp_ber.specs.declared.fault.BerFault.TheVariants as ber
 use Rattle.fp_ber.specs.Faults.{FirstFault}
 use Rattle.fp_ber.specs.Spelling.{Spells}
 use Rattle.fp_ber.specs.Tree.{Tree, InRange}
 use Rattle.fp_q773.specs.declared.fault.MessageFault.TheVariants as faults
-use Rattle.fp_q773.specs.declared.ids.Ids.{Ids}
 use Rattle.fp_q773.specs.Fault.{IsFault}
 use Rattle.fp_q773.specs.Grammar.{IsMessage}
-use Rattle.fp_q773.specs.Ids.{AreIds}
-use Rattle.fp_q773.specs.Laws.{SameIds}
-use Rattle.fp_q773.specs.Tid.{octets_of}
 use Rattle.fp_q773.specs.Value.{MessageValue}
 use Rattle.fp_records.specs.Table.{Contents}
+use Rattle.fp_entry.specs.declared.arrival.Arrival.{Arrival}
 use Rattle.fp_entry.specs.declared.fault.Fault.{Fault}
 use Rattle.fp_entry.specs.declared.fault.Fault.TheVariants.{Unreadable, UnknownMessage, Badly}
 use Rattle.fp_entry.specs.declared.incoming.Incoming.{Incoming}
 use Rattle.fp_entry.specs.declared.prepared.Prepared.{Prepared}
 use Rattle.fp_entry.specs.declared.prepared.Prepared.TheVariants.{Message, Refused, Lost}
+use Rattle.fp_entry.specs.Arrival.{IsArrival, SameArrival}
 use Rattle.fp_entry.specs.Entries.{component_count}
 use Rattle.fp_entry.specs.Incoming.{IsIncoming, OpensNothing}
-use Rattle.fp_entry.specs.Transaction.{transaction_value}
 
 -- the octets spell this element, and it is in range
 abbrev pub IsElement : List ℕ → Tree → Type 0
@@ -46,45 +44,51 @@ IsRefused contexts octets UnknownMessage =
     (element : Tree) × IsElement octets element × IsElementFault contexts element UnknownMessage
 IsRefused contexts octets Badly = (element : Tree) × IsElement octets element × IsElementFault contexts element Badly
 
--- what can be known of the octets, whatever they are
-abbrev pub HasIds : List ℕ → Ids → Type 0
-HasIds octets ids = AreIds octets ids.kind (option_map octets_of ids.orig) (option_map octets_of ids.dest)
+-- the frame, its moment and its identifiers, whatever it is prepared to
+abbrev pub arrival_of : Prepared → Arrival
+arrival_of (Message arrival incoming) = arrival
+arrival_of (Refused arrival fault) = arrival
+arrival_of (Lost arrival) = arrival
 
--- neither a message nor a refusal, but what was handed in
-abbrev pub IsLost : List ℕ → ℕ → Prepared → Type 0
-IsLost octets moment (Message incoming) = ⊥
-IsLost octets moment (Refused fault ids) = ⊥
-IsLost octets moment (Lost frame at ids) = (frame ≡ octets) × (at ≡ moment) × HasIds octets ids
+-- the octets are read as this: a message and what it brings, or a refusal; nothing is said where memory was wanting
+abbrev pub IsReading : Contents → List (List ℕ) → List ℕ → ℕ → Prepared → Type 0
+IsReading contents contexts octets moment (Message arrival incoming) = Brings contents contexts octets moment incoming
+IsReading contents contexts octets moment (Refused arrival fault) = IsRefused contexts octets fault
+IsReading contents contexts octets moment (Lost arrival) = ⊤
 
 -- a frame of these octets, which came at this moment, is prepared to this
-abbrev pub IsPrepared : Contents → List (List ℕ) → List ℕ → ℕ → Prepared → Type 0
-IsPrepared contents contexts octets moment (Message incoming) = Brings contents contexts octets moment incoming
-IsPrepared contents contexts octets moment (Refused fault ids) = IsRefused contexts octets fault × HasIds octets ids
-IsPrepared contents contexts octets moment (Lost frame at ids) = IsLost octets moment (Lost frame at ids)
+pub record IsPrepared (contents : Contents) (contexts : List (List ℕ)) (octets : List ℕ) (moment : ℕ) (prepared : Prepared) : Type 0 where
+  pub is_arrival : IsArrival octets moment (arrival_of prepared)
+  pub is_reading : IsReading contents contexts octets moment prepared
 
--- the same transaction, entries and number of elements
+-- neither a message nor a refusal, but what came
+abbrev pub IsLost : List ℕ → ℕ → Prepared → Type 0
+IsLost octets moment (Message arrival incoming) = ⊥
+IsLost octets moment (Refused arrival fault) = ⊥
+IsLost octets moment (Lost arrival) = IsArrival octets moment arrival
+
+-- the same entries and number of elements
 pub record SameIncoming (a b : Incoming) : Type 0 where
-  pub transactions : transaction_value a.transaction ≡ transaction_value b.transaction
   pub entries : a.entries ≡ b.entries
   pub elements : a.elements ≡ b.elements
 
--- the same kind and identifiers
-abbrev pub SameIdentifiers : Ids → Ids → Type 0
-SameIdentifiers a b =
-    SameIds a.kind b.kind (option_map octets_of a.orig) (option_map octets_of b.orig) (option_map octets_of a.dest) (option_map octets_of b.dest)
+-- both are a message that brings the same, or a refusal for the same fault, unless one is lost for want of memory
+abbrev pub SameReading : Prepared → Prepared → Type 0
+SameReading (Message arrival a) (Message other b) = SameIncoming a b
+SameReading (Message arrival a) (Refused other fault) = ⊥
+SameReading (Message arrival a) (Lost other) = ⊤
+SameReading (Refused arrival a) (Message other b) = ⊥
+SameReading (Refused arrival a) (Refused other b) = a ≡ b
+SameReading (Refused arrival a) (Lost other) = ⊤
+SameReading (Lost arrival) other = ⊤
 
--- the answer is the other, unless one of them is lost for want of memory
-abbrev pub Answers : Prepared → Prepared → Type 0
-Answers (Lost frame at ids) other = ⊤
-Answers (Message a) (Message b) = SameIncoming a b
-Answers (Message a) (Refused fault ids) = ⊥
-Answers (Message a) (Lost frame at ids) = ⊤
-Answers (Refused fault ids) (Message b) = ⊥
-Answers (Refused fault a) (Refused other b) = (fault ≡ other) × SameIdentifiers a b
-Answers (Refused fault a) (Lost frame at ids) = ⊤
+-- the answer is the other, the arrival in any case, and the rest unless one of them is lost for want of memory
+pub record Answers (answer other : Prepared) : Type 0 where
+  pub same_arrival : SameArrival (arrival_of answer) (arrival_of other)
+  pub same_reading : SameReading answer other
 
 -- how many of its entries come from components
 abbrev pub components_of : Prepared → ℕ
-components_of (Message incoming) = component_count incoming.entries
-components_of (Refused fault ids) = 0
-components_of (Lost frame at ids) = 0
+components_of (Message arrival incoming) = component_count incoming.entries
+components_of (Refused arrival fault) = 0
+components_of (Lost arrival) = 0

@@ -3,15 +3,14 @@
 ghost use Rattle.std.specs.Prelude.{◌≡◌, ◌↔◌, IsTrue, IfOk};
 ghost use Rattle.fp_inap.specs.Operation as operations;
 ghost use Rattle.fp_q773.specs.Problem.{problem_of};
-ghost use Rattle.fp_q773.specs.Value.{local, value_of};
+ghost use Rattle.fp_q773.specs.Value.{local};
 ghost use Rattle.fp_q773.specs.View.{code_of, component_of, tree_in};
-ghost use Rattle.fp_entry.specs.Component.{IsEventKind, IsInitialDpKind, IsInvokeKind, IsKind, general_problem, rejected_identifier};
-ghost use Rattle.fp_entry.specs.Delivered as delivered;
+ghost use Rattle.fp_entry.specs.Component.{IsEventKind, IsInitialDpKind, IsInvokeKind, IsKind, rejected_identifier};
 ghost use Rattle.fp_entry.specs.Found.{found};
 
 use crate::{EntryKind, Found, SharedRecord};
 use fp_inap::{InitialDp, Operation, read_event_report, read_initial_dp};
-use fp_q773::{Code, Component, GeneralProblem, Invoke, InvokeProblem, Problem, Reject};
+use fp_q773::{Code, Component, Invoke, InvokeProblem, Problem, Reject};
 use fp_records::Table;
 use std::alloc::AllocError;
 
@@ -118,13 +117,6 @@ fn rejected_identifier(reject: &Reject) -> Option<i8>
     }
 }
 
-/// The General problem of a faulty component.
-fn general_problem(problem: Problem) -> GeneralProblem
-    ensures { result ≡ general_problem (value_of (problem_of problem)) }
-{
-    GeneralProblem::from_code(problem.code())
-}
-
 /// The kind of entry that a component gives. Want of memory, for one more share of a record, is the only
 /// error.
 pub fn kind_of(table: &Table, component: &Component<'_>) -> Result<EntryKind, AllocError>
@@ -154,17 +146,7 @@ pub fn kind_of(table: &Table, component: &Component<'_>) -> Result<EntryKind, Al
             problem,
         } => Ok(EntryKind::Faulty {
             identifier: *identifier,
-            problem: general_problem(*problem),
+            problem: *problem,
         }),
-    }
-}
-
-/// Whether a component is a faulty one.
-pub fn is_faulty(component: &Component<'_>) -> bool
-    ensures { result ≡ delivered.is_faulty (component_of component.now) }
-{
-    match component {
-        Component::Faulty { .. } => true,
-        _ => false,
     }
 }

@@ -22,7 +22,7 @@ impl Model for Entries {
 }
 
 impl Entries {
-    ghost use Rattle.fp_entry.specs.Entries.{component_count};
+    ghost use Rattle.fp_entry.specs.Entries.{component_count, place_count};
 
     /// No entry.
     pub fn new(alloc: Global) -> Entries
@@ -49,6 +49,16 @@ impl Entries {
         Ok(())
     }
 
+    /// Puts all of the others behind these, in their order, or, where memory is wanting, leaves these as they were.
+    pub fn append(&mut self, others: Entries) -> Result<(), AllocError>
+        ensures ok { OnOk result (self.new ≡ self.old ++ others) }
+        ensures err { OnErr result (self.new ≡ self.old) }
+    {
+        let mut others = others.into_vec();
+        self.items.append(&mut others)?;
+        Ok(())
+    }
+
     /// How many there are.
     pub fn len(&self) -> usize
         ensures { result ≡ length self.now }
@@ -70,6 +80,16 @@ impl Entries {
         self.items
             .iter()
             .filter(|entry| entry.kind.is_from_component())
+            .count()
+    }
+
+    /// How many of them take a place of their dialogue.
+    pub fn place_count(&self) -> usize
+        ensures { result ≡ place_count self.now }
+    {
+        self.items
+            .iter()
+            .filter(|entry| entry.kind.takes_a_place())
             .count()
     }
 

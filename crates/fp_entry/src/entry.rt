@@ -110,7 +110,8 @@ impl Entry {
         })
     }
 
-    /// Whether both are the same, as far as the rules of their records. Takes no memory.
+    /// Whether both are the same, as far as the rules of their records. Takes no memory. The moments are compared
+    /// first, then the fields of fixed size, and the records last.
     pub fn same(&self, other: &Entry) -> bool
         ensures { IsTrue result ↔ (self.now ≡ other.now) }
     {
@@ -119,7 +120,7 @@ impl Entry {
 }
 
 impl EntryKind {
-    ghost use Rattle.fp_entry.specs.Entries.{is_from_component};
+    ghost use Rattle.fp_entry.specs.Entries.{is_clock, is_from_component, takes_a_place};
 
     /// Whether it comes from a component.
     pub fn is_from_component(&self) -> bool
@@ -130,6 +131,24 @@ impl EntryKind {
                 false,
             _ => true,
         }
+    }
+
+    /// Whether it is the clock's.
+    pub fn is_clock(&self) -> bool
+        ensures { result ≡ is_clock self.now }
+    {
+        matches!(self, EntryKind::Clock)
+    }
+
+    /// Whether it takes one of the places for entries that a dialogue has: each does but the peer's end, its abort
+    /// and the clock.
+    pub fn takes_a_place(&self) -> bool
+        ensures { result ≡ takes_a_place self.now }
+    {
+        !matches!(
+            self,
+            EntryKind::PeerEnd | EntryKind::PeerAbort | EntryKind::Clock
+        )
     }
 
     /// One more of the same. Want of memory, for one more share of a record, is the only error.

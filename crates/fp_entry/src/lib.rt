@@ -5,9 +5,9 @@
 //! that are accepted, and gives the entries of its message; or it says why there are none. It asks the system for
 //! nothing but memory: no clock, no input, no lock. It knows nothing of the dialogues that there are.
 //!
-//! * [`Prepared`] is what a frame is prepared to: a readable message, [`Incoming`], with its [`Transaction`] and its
-//!   [`Entries`]; or a refusal, with its [`Fault`]; or, where memory was wanting, the frame itself. A refusal and a
-//!   lost frame have what can be known of the octets all the same, their kind and identifiers.
+//! * [`Prepared`] is what a frame is prepared to: a readable message, with what it brings, [`Incoming`], and so its
+//!   [`Entries`]; or a refusal, with its [`Fault`]; or neither, where memory was wanting. Each of them has its
+//!   [`Arrival`]: the frame, its moment, and what can be known of its octets, their kind and identifiers.
 //! * [`Entry`] is what a dialogue is handed at a time: a moment, and an [`EntryKind`].
 //! * [`Found`] is what the table has of the number that an InitialDP asks for; a [`SharedRecord`] is a share of the
 //!   record itself, and no copy.
@@ -24,12 +24,13 @@
 //! for it, at the moment that was handed in. A [`EntryKind::Clock`] is made by the layers above.
 //!
 //! The layer above may rely on this: what is answered is what `specs/Prepared.antt` says of the octets, and want of
-//! memory aside there is no other answer; the entries are those that `specs/Entries.antt` has for the message, and
-//! `specs/Component.antt` for each component. Contracts see [`Entries`] as their list. Copies are equal to what they
-//! are copied from, and `same` tells exactly where two entries are equal, their records by their rules. All that
-//! takes memory is [`Prepared::read`], copies, and [`Entries::push`].
+//! memory aside nothing else could be ([`prepared_is_one`]); the entries are those that `specs/Entries.antt` has for
+//! the message, and `specs/Component.antt` for each component. Contracts see [`Entries`] as their list. Copies are equal
+//! to what they are copied from, and `same` tells exactly where two entries are equal, their records by their rules. All
+//! that takes memory is [`Prepared::read`], copies, [`Entries::push`] and [`Entries::append`].
 #![tactic(auto)]
 
+mod arrival;
 mod component;
 mod entries;
 mod entry;
@@ -41,14 +42,13 @@ mod laws;
 mod message;
 mod prepared;
 mod shared_record;
-mod transaction;
 
+pub use arrival::Arrival;
 pub use entries::Entries;
 pub use entry::{Entry, EntryKind};
 pub use fault::Fault;
 pub use found::Found;
 pub use incoming::Incoming;
-pub use laws::components_are_counted;
+pub use laws::{components_are_counted, prepared_is_one};
 pub use prepared::Prepared;
 pub use shared_record::SharedRecord;
-pub use transaction::Transaction;

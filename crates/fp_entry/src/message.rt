@@ -7,11 +7,10 @@ ghost use Rattle.fp_entry.specs.Entries.{Delivers};
 ghost use Rattle.fp_entry.specs.Incoming.{IsIncoming};
 ghost use Rattle.fp_entry.specs.Failure.{IsMessageFailure};
 
-use crate::component::{is_faulty, kind_of};
+use crate::component::kind_of;
 use crate::failure::Failure;
 use crate::fault::Fault;
 use crate::incoming::Incoming;
-use crate::transaction::Transaction;
 use crate::{Entries, Entry, EntryKind};
 use fp_apdu::{Name, opening_of};
 use fp_digits::Moment;
@@ -32,7 +31,7 @@ fn deliver(
     'components: for component in components {
         let kind = kind_of(table, component)?;
         entries.push(Entry { moment, kind })?;
-        if is_faulty(component) {
+        if component.is_faulty() {
             return Ok(entries);
         }
     }
@@ -61,9 +60,6 @@ fn of_begin(
     let components = begin.components.as_slice();
     let entries = deliver(table, components, moment, entries)?;
     Ok(Incoming {
-        transaction: Transaction::Begin {
-            originating: begin.originating,
-        },
         entries,
         elements: components.len(),
     })
@@ -81,10 +77,6 @@ fn of_continue(
     let components = continuing.components.as_slice();
     let entries = deliver(table, components, moment, Entries::new(alloc))?;
     Ok(Incoming {
-        transaction: Transaction::Continue {
-            originating: continuing.originating,
-            destination: continuing.destination,
-        },
         entries,
         elements: components.len(),
     })
@@ -106,9 +98,6 @@ fn of_end(
         kind: EntryKind::PeerEnd,
     })?;
     Ok(Incoming {
-        transaction: Transaction::End {
-            destination: end.destination,
-        },
         entries,
         elements: components.len(),
     })
@@ -124,9 +113,6 @@ fn of_abort(alloc: Global, abort: &Abort<'_>, moment: Moment) -> Result<Incoming
         kind: EntryKind::PeerAbort,
     })?;
     Ok(Incoming {
-        transaction: Transaction::Abort {
-            destination: abort.destination,
-        },
         entries,
         elements: 0,
     })
@@ -145,7 +131,6 @@ pub fn incoming_of(
 {
     match message {
         Message::Unidirectional => Ok(Incoming {
-            transaction: Transaction::Unidirectional,
             entries: Entries::new(alloc),
             elements: 0,
         }),

@@ -10,42 +10,46 @@ ghost use Rattle.fp_q773.specs.Fault.{IsFault};
 ghost use Rattle.fp_q773.specs.Grammar.{IsMessage};
 ghost use Rattle.fp_q773.specs.Value.{MessageValue};
 ghost use Rattle.fp_entry.specs.declared.prepared.Prepared.{Prepared};
+ghost use Rattle.fp_entry.specs.Arrival.{IsArrival};
 ghost use Rattle.fp_entry.specs.Failure.{IsElementFailure, IsFailure};
 ghost use Rattle.fp_entry.specs.Incoming.{IsIncoming};
-ghost use Rattle.fp_entry.specs.Prepared.{Answers, Brings, IsLost, IsPrepared, components_of};
+ghost use Rattle.fp_entry.specs.Prepared.{Answers, Brings, IsLost, IsPrepared, arrival_of, components_of};
 
+use crate::arrival::Arrival;
 use crate::failure::Failure;
 use crate::fault::Fault;
 use crate::incoming::Incoming;
+use crate::laws::prepared_is_one;
 use crate::message::incoming_of;
 use fp_apdu::Name;
 use fp_ber::{BerFault, Element};
 use fp_digits::Moment;
 use fp_frames::Frame;
-use fp_q773::{Ids, MessageFault, ids_of, message_of};
+use fp_q773::{MessageFault, message_of};
 use fp_records::Table;
 use std::alloc::Global;
 
 /// What a frame is prepared to, before its link is looked at.
 #[derive(Debug, Drop)]
 pub enum Prepared {
-    /// A readable message, and what it brings.
-    Message(Incoming),
+    /// The octets are a readable message.
+    Message {
+        /// The frame, its moment and its identifiers, which are those of the message.
+        arrival: Arrival,
+        /// What the message brings.
+        incoming: Incoming,
+    },
     /// The octets are no message that is taken.
     Refused {
+        /// The frame, its moment and what can be known of its octets all the same.
+        arrival: Arrival,
         /// Why.
         fault: Fault,
-        /// What can be known of the octets all the same.
-        ids: Ids,
     },
     /// Memory was wanting, and the frame wasn't read to its end.
     Lost {
-        /// The frame.
-        frame: Frame,
-        /// When it came.
-        moment: Moment,
-        /// What can be known of its octets all the same.
-        ids: Ids,
+        /// The frame, its moment and what can be known of its octets all the same.
+        arrival: Arrival,
     },
 }
 
@@ -109,15 +113,33 @@ fn read_octets(
     read_element(alloc, table, contexts, &element, moment)
 }
 
+/// What a frame that came is prepared to.
+fn prepare(alloc: Global, table: &Table, contexts: &[Name], arrival: Arrival) -> Prepared
+    ensures { (octets : List ℕ) (moment : ℕ) → IsArrival octets moment arrival → IsPrepared table.now contexts.now octets moment result }
+{
+    match read_octets(
+        alloc,
+        table,
+        contexts,
+        arrival.frame.octets(),
+        arrival.moment,
+    ) {
+        Ok(incoming) => Prepared::Message { arrival, incoming },
+        Err(Failure::Refused(fault)) => Prepared::Refused { arrival, fault },
+        Err(Failure::Memory) => Prepared::Lost { arrival },
+    }
+}
+
 impl Prepared {
     /// Reads the message of a frame that came at this moment, over the records of a table and the application
-    /// context names that are accepted.
+    /// context names that are accepted. Each answer has the frame, the moment and the identifiers, which are told
+    /// by the octets alone.
     ///
     /// What isn't readable, has the tag of no message, or has other contents than its own is
-    /// [`Prepared::Refused`], and so is a Begin whose dialogue portion is no request for a dialogue; the frame is
-    /// given up. The dialogue portion of any other message isn't looked at, nor what a Unidirectional holds. No
-    /// message is refused for how many components it has. Want of memory alone, also for one more share of a
-    /// record, gives [`Prepared::Lost`].
+    /// [`Prepared::Refused`], and so is a Begin whose dialogue portion is no request for a dialogue. The dialogue
+    /// portion of any other message isn't looked at, nor what a Unidirectional holds. No message is refused for
+    /// how many components it has. Want of memory alone, also for one more share of a record, gives
+    /// [`Prepared::Lost`].
     pub fn read(
         alloc: Global,
         table: &Table,
@@ -131,22 +153,39 @@ impl Prepared {
         // There is no other answer, want of memory aside.
         ensures only { (other : Prepared) → IsPrepared table.now contexts.now frame moment other → Answers result other }
     {
-        match read_octets(alloc, table, contexts, frame.octets(), moment) {
-            Ok(incoming) => Prepared::Message(incoming),
-            Err(Failure::Refused(fault)) => Prepared::Refused {
-                fault,
-                ids: ids_of(frame.octets()),
-            },
-            Err(Failure::Memory) => Prepared::lost(frame, moment),
-        }
+        prepared_is_one();
+        prepare(alloc, table, contexts, Arrival::new(frame, moment))
     }
 
     /// A frame that came at this moment and that isn't read, as if memory had been wanting. Takes no memory.
     pub fn lost(frame: Frame, moment: Moment) -> Prepared
         ensures { IsLost frame moment result }
     {
-        let ids = ids_of(frame.octets());
-        Prepared::Lost { frame, moment, ids }
+        Prepared::Lost {
+            arrival: Arrival::new(frame, moment),
+        }
+    }
+
+    /// The frame, its moment and its identifiers, whatever it is prepared to.
+    pub fn arrival(&self) -> &Arrival
+        ensures { result.now ≡ arrival_of self.now }
+    {
+        match self {
+            Prepared::Message { arrival, .. }
+            | Prepared::Refused { arrival, .. }
+            | Prepared::Lost { arrival } => arrival,
+        }
+    }
+
+    /// The frame, its moment and its identifiers, the rest given up. Takes no memory.
+    pub fn into_arrival(self) -> Arrival
+        ensures { result ≡ arrival_of self }
+    {
+        match self {
+            Prepared::Message { arrival, .. } => arrival,
+            Prepared::Refused { arrival, .. } => arrival,
+            Prepared::Lost { arrival } => arrival,
+        }
     }
 
     /// How many of its entries come from components; 0 where it is no message. A number above the greatest
@@ -155,7 +194,7 @@ impl Prepared {
         ensures { result ≡ min (components_of self.now) u32.MAX }
     {
         match self {
-            Prepared::Message(incoming) => {
+            Prepared::Message { incoming, .. } => {
                 u32::try_from(incoming.entries.component_count()).unwrap_or(u32::MAX)
             }
             _ => 0,

@@ -1,9 +1,10 @@
 //! The message of a frame.
 
-ghost use Rattle.std.specs.Prelude.{◌≡◌, length, SomeIff};
+ghost use Rattle.std.specs.Prelude.{◌≡◌, length, SomeIff, IfOk};
 ghost use Rattle.fp_frames.specs.Frame.{IsMessageLength};
 
 use bytes::Bytes;
+use std::alloc::AllocError;
 use std::marker::Model;
 
 /// The message of a frame: 1 to 4,096 octets. Contracts see it as the list of the octets.
@@ -44,5 +45,14 @@ impl Frame {
         ensures size { IsMessageLength (length self.now) }
     {
         self.message.as_slice()
+    }
+
+    /// A frame of the same message, which shares the octets and copies none. The error is that of the octets' own
+    /// [`Bytes::clone`]: there are as many shares as can be counted.
+    pub fn try_clone(&self) -> Result<Frame, AllocError>
+        ensures { IfOk result (λ copy. copy ≡ self.now) }
+    {
+        let message = self.message.clone()?;
+        Ok(Frame { message })
     }
 }

@@ -8,11 +8,14 @@
 //! * [`frame_head`] gives the four octets before a message.
 //!
 //! The layer above may rely on this: contracts see a [`Frame`] as the list of its octets, of which there are 1 to
-//! 4,096, and a head is the length in four digits to the base 256 (`specs/Frame.antt`).
+//! 4,096, and a head is the length in four digits to the base 256; `framed` is a head and its message
+//! (`specs/Frame.antt`), and [`message_stands_behind_its_head`] says that the message is found again.
 #![tactic(auto)]
 
 mod frame;
 mod head;
+mod laws;
 
 pub use frame::Frame;
 pub use head::frame_head;
+pub use laws::message_stands_behind_its_head;

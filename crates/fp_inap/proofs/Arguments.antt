@@ -93,7 +93,7 @@ same_report : (a a' : Event) (b b' : Option Leg) (c c' : Bool) → a ≡ a' → 
 same_report a a' b b' c c' event leg notification = cc
 
 -- an element is one argument of EventReportBCSM
-event_report_same : (t : Tree) (x y : EventReport) → IsEventReport t x → IsEventReport t y → x ≡ y
+pub event_report_same : (t : Tree) (x y : EventReport) → IsEventReport t x → IsEventReport t y → x ≡ y
 event_report_same t x y g h =
     let members = sequence_same t g.members h.members g.is_sequence h.is_sequence in
     let octets = octets_same h.members 0 (Some (g.event ∷ [])) (Some (h.event ∷ [])) (subst (λ ts. HoldsOctets ts 0 (Some (g.event ∷ []))) members g.has_event) h.has_event in

@@ -1,5 +1,5 @@
 -- The events of the basic call state model, eventTypeBCSM, after ITU-T Q.1218, by their codes.
-use Rattle.std.specs.Prelude.{ℕ, ◌==◌, if◌then◌else◌}
+use Rattle.std.specs.Prelude.{◌≡◌, ℕ, ◌==◌, if◌then◌else◌}
 use Rattle.fp_inap.specs.declared.event.Event.{Event}
 use Rattle.fp_inap.specs.declared.event.Event.TheVariants.{RouteSelectFailure, OCalledPartyBusy, ONoAnswer, OAnswer, ODisconnect, OAbandon, Other}
 
@@ -23,3 +23,7 @@ code_of OAnswer = 7
 code_of ODisconnect = 9
 code_of OAbandon = 10
 code_of (Other code) = code
+
+-- an event of its code: one that has a name is by its name, and never the other one of that code
+abbrev pub IsByName : Event → Type 0
+IsByName event = event_of (code_of event) ≡ event

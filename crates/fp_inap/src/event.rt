@@ -1,7 +1,7 @@
 //! Events of a call.
 
 ghost use Rattle.std.specs.Prelude.{◌≡◌};
-ghost use Rattle.fp_inap.specs.Event.{code_of, event_of};
+ghost use Rattle.fp_inap.specs.Event.{code_of, event_of, IsByName};
 
 /// An event of the basic call state model, eventTypeBCSM (after ITU-T Q.1218), by its name.
 #[derive(Clone, Copy, Debug, PartialEq, Eq)]
@@ -18,14 +18,17 @@ pub enum Event {
     ODisconnect,
     /// 10, oAbandon: the caller left before an answer.
     OAbandon,
-    /// An event of another code, which it has.
+    /// An event of another code, which it has. It can be written with the code of an event that has a name, but
+    /// [`Event::from_code`] never gives such a one, and nor does what is read.
     Other(u8),
 }
 
 impl Event {
-    /// The event with this code.
+    /// The event with this code, by its name where it has one.
     pub fn from_code(code: u8) -> Event
-        ensures { result ≡ event_of code }
+        ensures value { result ≡ event_of code }
+        ensures code { code_of result ≡ code }
+        ensures named { IsByName result }
     {
         match code {
             4 => Event::RouteSelectFailure,

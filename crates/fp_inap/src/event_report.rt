@@ -5,6 +5,7 @@ ghost use Rattle.fp_ber.specs.Tree as tree;
 ghost use Rattle.fp_ber.specs.View.{tree_of};
 ghost use Rattle.fp_inap.specs.declared.event_report.EventReport.{EventReport};
 ghost use Rattle.fp_inap.specs.declared.leg.Leg.{Leg};
+ghost use Rattle.fp_inap.specs.Event.{IsByName};
 ghost use Rattle.fp_inap.specs.EventReport.{IsEventReport, IsLeg, IsCallInfo, IsMessageType, leg_members};
 ghost use Rattle.fp_inap.specs.View.{octets_in, forest_in};
 
@@ -50,10 +51,11 @@ pub struct EventReport {
 /// eventTypeBCSM, tag 80, one octet, which must be there; A2, which is passed over; legID, A3, that holds
 /// just one 80 or 81 with one octet; miscCallInfo, A4, of members with context tags, among them at most one
 /// messageType, 80, with 0 (request) or 1 (notification). Where there is none, it is a request. Members with
-/// other context tags are passed over. Any other element is [`Mistyped`].
+/// other context tags are passed over. Any other element is [`Mistyped`]. An event that has a name is told by it.
 pub fn read_event_report(argument: &Element) -> Result<EventReport, Mistyped>
     ensures ok { IfOk result (IsEventReport (tree_of argument.now)) }
     ensures only { (report : EventReport) → IsEventReport (tree_of argument.now) report → result ≡ Ok report }
+    ensures named { IfOk result (λ report. IsByName report.event) }
 {
     event_report_of(argument)
 }
@@ -62,6 +64,7 @@ pub fn read_event_report(argument: &Element) -> Result<EventReport, Mistyped>
 fn event_report_of(argument: &Element) -> Result<EventReport, Mistyped>
     ensures ok { IfOk result (IsEventReport (tree_of argument.now)) }
     ensures err { IfErr result (λ _. (report : EventReport) → IsEventReport (tree_of argument.now) report → ⊥) }
+    ensures named { IfOk result (λ report. IsByName report.event) }
 {
     let members = Members::of_sequence(argument)?;
     let Some(event) = octet_in(members.octets(EVENT_TYPE_BCSM)?)? else {

@@ -1,8 +1,9 @@
 //! InitialDP: the argument that is read.
 
-ghost use Rattle.std.specs.Prelude.{◌≡◌, ◌∷◌, [], ℕ, List, Option, pos, Ok, IfOk, IfErr};
+ghost use Rattle.std.specs.Prelude.{◌≡◌, ◌∷◌, [], ℕ, List, Option, pos, Ok, IfOk, IfErr, IfSome};
 ghost use Rattle.fp_ber.specs.View.{tree_of};
 ghost use Rattle.fp_inap.specs.declared.initial_dp.InitialDp.{InitialDp};
+ghost use Rattle.fp_inap.specs.Event.{IsByName};
 ghost use Rattle.fp_inap.specs.InitialDp.{IsInitialDp, IsKey, number_in};
 ghost use Rattle.fp_inap.specs.View.{octets_in};
 
@@ -45,10 +46,11 @@ pub struct InitialDp {
 /// primitive: serviceKey, tag 0, an integer of one to four octets, not negative; calledPartyNumber, tag 2;
 /// callingPartyNumber, tag 3; callingPartysCategory, tag 5, one octet; eventTypeBCSM, tag 28, one octet.
 /// Members with other context tags are passed over. Any other element is [`Mistyped`]. A number whose octets
-/// hold none, as [`read_called`] says, is no error: it is absent.
+/// hold none, as [`read_called`] says, is no error: it is absent. An event that has a name is told by it.
 pub fn read_initial_dp(argument: &Element) -> Result<InitialDp, Mistyped>
     ensures ok { IfOk result (IsInitialDp (tree_of argument.now)) }
     ensures only { (dp : InitialDp) → IsInitialDp (tree_of argument.now) dp → result ≡ Ok dp }
+    ensures named { IfOk result (λ dp. IfSome dp.event IsByName) }
 {
     initial_dp_of(argument)
 }
@@ -57,6 +59,7 @@ pub fn read_initial_dp(argument: &Element) -> Result<InitialDp, Mistyped>
 fn initial_dp_of(argument: &Element) -> Result<InitialDp, Mistyped>
     ensures ok { IfOk result (IsInitialDp (tree_of argument.now)) }
     ensures err { IfErr result (λ _. (dp : InitialDp) → IsInitialDp (tree_of argument.now) dp → ⊥) }
+    ensures named { IfOk result (λ dp. IfSome dp.event IsByName) }
 {
     let members = Members::of_sequence(argument)?;
     let key = key_in(members.octets(SERVICE_KEY)?)?;

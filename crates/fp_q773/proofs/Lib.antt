@@ -1,11 +1,15 @@
 pub mod Answered
 pub mod Exact
 pub mod Faults
+pub mod Forests
 pub mod Fronts
+pub mod Identified
 pub mod Integers
 pub mod Joins
 pub mod Least
+pub mod Lengths
 pub mod Messages
+pub mod Numbers
 pub mod Parts
 pub mod Rooms
 pub mod Rows

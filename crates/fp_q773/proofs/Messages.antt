@@ -2,6 +2,7 @@
 use Rattle.std.proofs.Common.{◌≡◌, ℕ, ℤ, List, [], ◌∷◌, Option, Some, None, inl, inr, refl, sym, ◌∙◌, ap, subst}
 use Rattle.fp_ber.specs.Tree.{Tree, Trees, none, more}
 use Rattle.fp_ber.specs.Integer.{integer, signed}
+use Rattle.fp_q773.specs.declared.problem.GeneralProblem.{GeneralProblem}
 use Rattle.fp_q773.specs.Value.{CodeValue, ProblemValue, ResultValue, ComponentValue, ReasonValue, MessageValue, local, global, tagged, returned, invoke, return_result_last, return_error, reject, return_result_not_last, faulty, provider, user, unidirectional, begin, end, continuing, abort}
 use Rattle.fp_q773.specs.Grammar.{IsIdentifier, IsLinked, IsCode, IsParameter, IsCoded, IsAsked, IsReturned, IsRejected, IsProblem, IsInvoke, IsReturnResult, IsReturnError, IsReject, IsRow, IsTabled, BeginsWith, IsFaulty, IsComponent, AreComponents, IsPortion, ArePortions, IsReason, IsEnd, IsMessage}
 use Rattle.fp_q773.proofs.Fronts.{code_not_linked}
@@ -152,13 +153,13 @@ tabled t (return_result_not_last identifier result) h = (h.0, (7, h.1, inr (inr 
 tabled t (faulty identifier problem) h = absurd h
 
 -- a row of the table is no faulty component
-row_not_faulty : (t : Tree) (row : ComponentValue) (identifier : Option ℤ) (problem : ProblemValue) → IsRow t row → IsFaulty t identifier problem → ⊥
+row_not_faulty : (t : Tree) (row : ComponentValue) (identifier : Option ℤ) (problem : GeneralProblem) → IsRow t row → IsFaulty t identifier problem → ⊥
 row_not_faulty t row identifier problem h (inl f) =
     let at = tabled t row h in f.0 at.0 at.1
 row_not_faulty t row identifier problem h (inr f) = f.2 row h
 
 -- a faulty component says one thing
-faulty_same : (t : Tree) (i j : Option ℤ) (p q : ProblemValue) → IsFaulty t i p → IsFaulty t j q → faulty i p ≡ faulty j q
+faulty_same : (t : Tree) (i j : Option ℤ) (p q : GeneralProblem) → IsFaulty t i p → IsFaulty t j q → faulty i p ≡ faulty j q
 faulty_same t i j p q (inl g) (inl h) = cc (g.1, g.2, h.1, h.2)
 faulty_same t i j p q (inl g) (inr h) = absurd (g.0 h.0 h.1)
 faulty_same t i j p q (inr g) (inl h) = absurd (h.0 g.0 g.1)

@@ -134,7 +134,7 @@ portions_behind new middle old copy given dialogue values is same writable first
     let place : middle ≡ joined old (more (tree_of dialogue.now) none) = first ∙ ap (λ (t : Tree). joined old (more t none)) same in
     subst (λ g. HasMore new old (λ ts. ArePortions ts (tree_in g) values)) (sym is)
     (more_behind new middle old (tree_of dialogue.now) (λ ts. IsPortion ts values) (λ ts. ArePortions ts (tree_in (Some dialogue)) values) place h
-    (λ ts p. (ts, refl, may.0, p)))
+    (λ ts p. (ts, refl, may, p)))
 
 -- a linked identifier behind other elements, and an operation behind it
 pub asked_made : (new middle old : Trees) (t : Tree) (linked : ℤ) (code : CodeValue) (parameter : Option Tree) → middle ≡ joined old (more t none)

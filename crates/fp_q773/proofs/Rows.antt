@@ -2,8 +2,9 @@
 use Rattle.std.proofs.Common.{◌≡◌, ℤ, Option, inl, inr, refl, sym, subst}
 use Rattle.fp_ber.specs.declared.element.Class.TheVariants.{Context}
 use Rattle.fp_ber.specs.Tree.{Tree, Trees, constructed}
+use Rattle.fp_q773.specs.declared.problem.GeneralProblem.TheVariants.{MistypedComponent}
 use Rattle.fp_q773.specs.Value.{CodeValue, ProblemValue, ResultValue, ComponentValue, invoke, return_result_last, return_error, reject, return_result_not_last, faulty}
-use Rattle.fp_q773.specs.Grammar.{IsInvoke, IsReturnResult, IsReturnError, IsReject, IsRow, BeginsWith, IsComponent, mistyped_component}
+use Rattle.fp_q773.specs.Grammar.{IsInvoke, IsReturnResult, IsReturnError, IsReject, IsRow, BeginsWith, IsComponent}
 
 -- elements that no invoke holds are none under its tag
 no_invoke : (ts : Trees) → ((identifier : ℤ) (linked : Option ℤ) (code : CodeValue) (parameter : Option Tree) → IsInvoke ts identifier linked code parameter → ⊥) → (row : ComponentValue)
@@ -18,10 +19,10 @@ no_invoke ts isnt (faulty identifier problem) h = h
 
 -- and so the element is a mistyped component
 pub mistyped_invoke : (ts : Trees) (value : ComponentValue) → ((identifier : ℤ) (linked : Option ℤ) (code : CodeValue) (parameter : Option Tree) → IsInvoke ts identifier linked code parameter → ⊥)
-    → ((identifier : Option ℤ) × BeginsWith ts identifier × (value ≡ faulty identifier mistyped_component))
+    → ((identifier : Option ℤ) × BeginsWith ts identifier × (value ≡ faulty identifier MistypedComponent))
     → IsComponent (constructed Context 1 ts) value
 mistyped_invoke ts value isnt is =
-    let it : IsComponent (constructed Context 1 ts) (faulty is.0 mistyped_component) = inr (ts, (1, refl, inl refl), no_invoke ts isnt, is.1, refl) in
+    let it : IsComponent (constructed Context 1 ts) (faulty is.0 MistypedComponent) = inr (ts, (1, refl, inl refl), no_invoke ts isnt, is.1, refl) in
     subst (λ v. IsComponent (constructed Context 1 ts) v) (sym is.2) it
 
 -- elements that no return result last holds are none under its tag
@@ -37,10 +38,10 @@ no_return_result_last ts isnt (faulty identifier problem) h = h
 
 -- and so the element is a mistyped component
 pub mistyped_return_result_last : (ts : Trees) (value : ComponentValue) → ((identifier : ℤ) (result : Option ResultValue) → IsReturnResult ts identifier result → ⊥)
-    → ((identifier : Option ℤ) × BeginsWith ts identifier × (value ≡ faulty identifier mistyped_component))
+    → ((identifier : Option ℤ) × BeginsWith ts identifier × (value ≡ faulty identifier MistypedComponent))
     → IsComponent (constructed Context 2 ts) value
 mistyped_return_result_last ts value isnt is =
-    let it : IsComponent (constructed Context 2 ts) (faulty is.0 mistyped_component) = inr (ts, (2, refl, inr (inl refl)), no_return_result_last ts isnt, is.1, refl) in
+    let it : IsComponent (constructed Context 2 ts) (faulty is.0 MistypedComponent) = inr (ts, (2, refl, inr (inl refl)), no_return_result_last ts isnt, is.1, refl) in
     subst (λ v. IsComponent (constructed Context 2 ts) v) (sym is.2) it
 
 -- elements that no return error holds are none under its tag
@@ -56,10 +57,10 @@ no_return_error ts isnt (faulty identifier problem) h = h
 
 -- and so the element is a mistyped component
 pub mistyped_return_error : (ts : Trees) (value : ComponentValue) → ((identifier : ℤ) (code : CodeValue) (parameter : Option Tree) → IsReturnError ts identifier code parameter → ⊥)
-    → ((identifier : Option ℤ) × BeginsWith ts identifier × (value ≡ faulty identifier mistyped_component))
+    → ((identifier : Option ℤ) × BeginsWith ts identifier × (value ≡ faulty identifier MistypedComponent))
     → IsComponent (constructed Context 3 ts) value
 mistyped_return_error ts value isnt is =
-    let it : IsComponent (constructed Context 3 ts) (faulty is.0 mistyped_component) = inr (ts, (3, refl, inr (inr (inl refl))), no_return_error ts isnt, is.1, refl) in
+    let it : IsComponent (constructed Context 3 ts) (faulty is.0 MistypedComponent) = inr (ts, (3, refl, inr (inr (inl refl))), no_return_error ts isnt, is.1, refl) in
     subst (λ v. IsComponent (constructed Context 3 ts) v) (sym is.2) it
 
 -- elements that no reject holds are none under its tag
@@ -75,10 +76,10 @@ no_reject ts isnt (faulty identifier problem) h = h
 
 -- and so the element is a mistyped component
 pub mistyped_reject : (ts : Trees) (value : ComponentValue) → ((identifier : Option ℤ) (problem : ProblemValue) → IsReject ts identifier problem → ⊥)
-    → ((identifier : Option ℤ) × BeginsWith ts identifier × (value ≡ faulty identifier mistyped_component))
+    → ((identifier : Option ℤ) × BeginsWith ts identifier × (value ≡ faulty identifier MistypedComponent))
     → IsComponent (constructed Context 4 ts) value
 mistyped_reject ts value isnt is =
-    let it : IsComponent (constructed Context 4 ts) (faulty is.0 mistyped_component) = inr (ts, (4, refl, inr (inr (inr (inl refl)))), no_reject ts isnt, is.1, refl) in
+    let it : IsComponent (constructed Context 4 ts) (faulty is.0 MistypedComponent) = inr (ts, (4, refl, inr (inr (inr (inl refl)))), no_reject ts isnt, is.1, refl) in
     subst (λ v. IsComponent (constructed Context 4 ts) v) (sym is.2) it
 
 -- elements that no return result not last holds are none under its tag
@@ -94,8 +95,8 @@ no_return_result_not_last ts isnt (faulty identifier problem) h = h
 
 -- and so the element is a mistyped component
 pub mistyped_return_result_not_last : (ts : Trees) (value : ComponentValue) → ((identifier : ℤ) (result : Option ResultValue) → IsReturnResult ts identifier result → ⊥)
-    → ((identifier : Option ℤ) × BeginsWith ts identifier × (value ≡ faulty identifier mistyped_component))
+    → ((identifier : Option ℤ) × BeginsWith ts identifier × (value ≡ faulty identifier MistypedComponent))
     → IsComponent (constructed Context 7 ts) value
 mistyped_return_result_not_last ts value isnt is =
-    let it : IsComponent (constructed Context 7 ts) (faulty is.0 mistyped_component) = inr (ts, (7, refl, inr (inr (inr (inr refl)))), no_return_result_not_last ts isnt, is.1, refl) in
+    let it : IsComponent (constructed Context 7 ts) (faulty is.0 MistypedComponent) = inr (ts, (7, refl, inr (inr (inr (inr refl)))), no_return_result_not_last ts isnt, is.1, refl) in
     subst (λ v. IsComponent (constructed Context 7 ts) v) (sym is.2) it

@@ -5,16 +5,17 @@ use Rattle.fp_ber.specs.Tree.{HasTags}
 use Rattle.fp_ber.specs.View.{tree_of}
 use Rattle.fp_ber.specs.Canon.{canon, HasLengths}
 use Rattle.fp_q773.specs.Value.{MessageValue}
+use Rattle.fp_q773.specs.Copied.{CopiesHaveTags}
 use Rattle.fp_q773.specs.Room.{message_room}
 use Rattle.fp_q773.specs.Writable.{IsWritableMessage, IsBare}
 use Rattle.fp_q773.specs.Grammar.{IsMessage}
 use Rattle.fp_q773.proofs.Rooms.{message_size, has_lengths}
 use Rattle.fp_q773.proofs.Tags.{message_tags}
 
--- its tags are those that elements may have
+-- its tags are those that elements may have, if those of its copies are
 pub written_tags : {E : Type 0} (r : Result Element E) (value : MessageValue) → IsWritableMessage value → IfOk r (λ element. IsMessage (tree_of element) value)
-    → IfOk r (λ element. IsBare (tree_of element) value) → IfOk r (λ element. HasTags (tree_of element))
-written_tags (Ok element) value w found bare = message_tags (tree_of element) value found bare w
+    → IfOk r (λ element. IsBare (tree_of element) value) → IfOk r (λ element. CopiesHaveTags value → HasTags (tree_of element))
+written_tags (Ok element) value w found bare = λ tags. message_tags (tree_of element) value found bare w tags
 written_tags (Err error) value w found bare = tt
 
 -- it takes no more than its room

@@ -4,6 +4,8 @@ use Rattle.std.specs.Prelude.{◌≡◌, ℕ, ℤ, List, [], ◌∷◌, Option, 
 use Rattle.fp_ber.specs.declared.element.Class.TheVariants.{Universal, Application, Context}
 use Rattle.fp_ber.specs.Tree.{Tree, Trees, primitive, constructed, none, more}
 use Rattle.fp_ber.specs.Integer.{integer, signed}
+use Rattle.fp_q773.specs.declared.problem.GeneralProblem.{GeneralProblem}
+use Rattle.fp_q773.specs.declared.problem.GeneralProblem.TheVariants.{UnrecognizedComponent, MistypedComponent}
 use Rattle.fp_q773.specs.Tid.{IsTid}
 use Rattle.fp_q773.specs.Value.{CodeValue, ProblemValue, ResultValue, ComponentValue, ReasonValue, MessageValue, local, global, tagged, returned, invoke, return_result_last, return_error, reject, return_result_not_last, faulty, provider, user, unidirectional, begin, end, continuing, abort}
 
@@ -87,19 +89,12 @@ abbrev pub BeginsWith : Trees → Option ℤ → Type 0
 BeginsWith ts None = (first : Tree) (rest : Trees) (identifier : ℤ) → ts ≡ more first rest → IsIdentifier first identifier → ⊥
 BeginsWith ts (Some identifier) = (first : Tree) × (rest : Trees) × (ts ≡ more first rest) × IsIdentifier first identifier
 
--- General problems: a component with another tag, and one with other contents
-abbrev pub unrecognized_component : ProblemValue
-unrecognized_component = tagged 0 0
-
-abbrev pub mistyped_component : ProblemValue
-mistyped_component = tagged 0 1
-
 -- An element in no row of the table is a faulty component, and this is what a Reject of it has: where its tag isn't
 -- in the table, no identifier; else the identifier that stands first, if one does.
-abbrev pub IsFaulty : Tree → Option ℤ → ProblemValue → Type 0
+abbrev pub IsFaulty : Tree → Option ℤ → GeneralProblem → Type 0
 IsFaulty t identifier problem =
-    (((ts : Trees) → IsTabled t ts → ⊥) × (identifier ≡ None) × (problem ≡ unrecognized_component))
-    ⊎ ((ts : Trees) × IsTabled t ts × ((row : ComponentValue) → IsRow t row → ⊥) × BeginsWith ts identifier × (problem ≡ mistyped_component))
+    (((ts : Trees) → IsTabled t ts → ⊥) × (identifier ≡ None) × (problem ≡ UnrecognizedComponent))
+    ⊎ ((ts : Trees) × IsTabled t ts × ((row : ComponentValue) → IsRow t row → ⊥) × BeginsWith ts identifier × (problem ≡ MistypedComponent))
 
 -- each element is a component, if only a faulty one
 abbrev pub IsComponent : Tree → ComponentValue → Type 0

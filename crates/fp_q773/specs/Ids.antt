@@ -5,6 +5,7 @@ use Rattle.fp_ber.specs.Spelling.{BeginsLength}
 use Rattle.fp_q773.specs.declared.kind.Kind.{Kind}
 use Rattle.fp_q773.specs.declared.kind.Kind.TheVariants.{Unidirectional, Begin, End, Continue, Abort, Unknown}
 use Rattle.fp_q773.specs.Tid.{IsTid}
+use Rattle.fp_q773.specs.Value.{MessageValue, unidirectional, begin, end, continuing, abort}
 
 -- the kind that a first octet tells
 abbrev pub kind_of : ℕ → Kind
@@ -64,3 +65,27 @@ AreIds (first ∷ octets) kind originating destination =
     (kind ≡ kind_of first)
     × (((contents : List ℕ) × (first % 32 < 31) × PassesLength octets contents × AreIdsIn kind contents originating destination)
     ⊎ (((contents : List ℕ) → first % 32 < 31 → PassesLength octets contents → ⊥) × (originating ≡ None) × (destination ≡ None)))
+
+-- the kind of a message
+abbrev pub message_kind : MessageValue → Kind
+message_kind unidirectional = Unidirectional
+message_kind (begin originating dialogue components) = Begin
+message_kind (end destination dialogue components) = End
+message_kind (continuing originating destination dialogue components) = Continue
+message_kind (abort destination reason) = Abort
+
+-- by which its sender knows the dialogue
+abbrev pub originating_identifier : MessageValue → Option (List ℕ)
+originating_identifier unidirectional = None
+originating_identifier (begin originating dialogue components) = Some originating
+originating_identifier (end destination dialogue components) = None
+originating_identifier (continuing originating destination dialogue components) = Some originating
+originating_identifier (abort destination reason) = None
+
+-- by which its receiver knows the dialogue
+abbrev pub destination_identifier : MessageValue → Option (List ℕ)
+destination_identifier unidirectional = None
+destination_identifier (begin originating dialogue components) = None
+destination_identifier (end destination dialogue components) = Some destination
+destination_identifier (continuing originating destination dialogue components) = Some destination
+destination_identifier (abort destination reason) = Some destination

@@ -1,12 +1,14 @@
 -- What holds of all messages, of all numbers, and of all octets.
-use Rattle.std.specs.Prelude.{◌≡◌, ℕ, ℤ, ◌<◌, ◌≤◌, List, length, All, Option, Some}
+use Rattle.std.specs.Prelude.{◌≡◌, ℕ, ℤ, ◌<◌, ◌≤◌, ◌^◌, List, length, All, Option, Some}
 use Rattle.fp_ber.specs.Integer.{integer}
 use Rattle.fp_ber.specs.Tree.{Tree}
+use Rattle.fp_ber.specs.Spelling.{Spells}
 use Rattle.fp_q773.specs.declared.kind.Kind.{Kind}
+use Rattle.fp_q773.specs.Tid.{octets_of_number}
 use Rattle.fp_q773.specs.TwosComplement.{least_octets}
 use Rattle.fp_q773.specs.Value.{MessageValue, ComponentValue}
 use Rattle.fp_q773.specs.Grammar.{IsMessage, IsComponent}
-use Rattle.fp_q773.specs.Ids.{AreIds}
+use Rattle.fp_q773.specs.Ids.{AreIds, message_kind, originating_identifier, destination_identifier}
 
 -- an element is at most one message
 abbrev pub MessagesAreOne : Type 0
@@ -30,3 +32,17 @@ pub record SameIds (k l : Kind) (a b c d : Option (List ℕ)) : Type 0 where
 -- octets tell one kind and one identifier of each sort
 abbrev pub IdsAreOne : Type 0
 IdsAreOne = (octets : List ℕ) (k l : Kind) (a b c d : Option (List ℕ)) → AreIds octets k a c → AreIds octets l b d → SameIds k l a b c d
+
+-- octets that spell a message tell its kind and its identifiers
+abbrev pub IdentifiersAreThoseOfTheMessage : Type 0
+IdentifiersAreThoseOfTheMessage = (octets : List ℕ) (t : Tree) (message : MessageValue) → Spells octets t → IsMessage t message
+    → AreIds octets (message_kind message) (originating_identifier message) (destination_identifier message)
+
+-- different numbers have different identifiers
+abbrev pub NumbersAreOne : Type 0
+NumbersAreOne = (m n : ℕ) → m < 2 ^ 32 → n < 2 ^ 32 → octets_of_number m ≡ octets_of_number n → m ≡ n
+
+-- an identifier of four octets is that of a number
+abbrev pub FourOctetsAreANumber : Type 0
+FourOctetsAreANumber = (octets : List ℕ) → length octets ≡ 4 → All (λ octet. octet < 256) octets
+    → (n : ℕ) × (n < 2 ^ 32) × (octets_of_number n ≡ octets)

@@ -1,8 +1,10 @@
+pub mod Copied
 pub mod Fault
 pub mod Grammar
 pub mod Ids
 pub mod Laws
 pub mod Members
+pub mod Named
 pub mod Problem
 pub mod ProviderAbort
 pub mod Room

@@ -1,6 +1,7 @@
 -- What messages and components of TCAP say (Q.773), without where it lies in memory.
-use Rattle.std.specs.Prelude.{ℕ, ℤ, List, Option}
+use Rattle.std.specs.Prelude.{ℕ, ℤ, Bool, true, false, List, Option}
 use Rattle.fp_ber.specs.Tree.{Tree}
+use Rattle.fp_q773.specs.declared.problem.GeneralProblem.{GeneralProblem}
 
 -- the code of an operation or of an error: a number, or the octets of an object identifier
 pub data CodeValue : Type 0 where
@@ -33,7 +34,16 @@ pub data ComponentValue : Type 0 where
   return_error : ℤ → CodeValue → Option Tree → ComponentValue
   reject : Option ℤ → ProblemValue → ComponentValue
   return_result_not_last : ℤ → Option ResultValue → ComponentValue
-  faulty : Option ℤ → ProblemValue → ComponentValue
+  faulty : Option ℤ → GeneralProblem → ComponentValue
+
+-- whether a component is a faulty one
+abbrev pub is_faulty : ComponentValue → Bool
+is_faulty (invoke identifier linked code parameter) = false
+is_faulty (return_result_last identifier result) = false
+is_faulty (return_error identifier code parameter) = false
+is_faulty (reject identifier problem) = false
+is_faulty (return_result_not_last identifier result) = false
+is_faulty (faulty identifier problem) = true
 
 -- why a dialogue was aborted: a cause of the provider, or the dialogue portion of the user
 pub data ReasonValue : Type 0 where

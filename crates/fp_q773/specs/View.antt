@@ -42,7 +42,7 @@ component_of (components.ReturnResultLast r) = return_result_last r.identifier (
 component_of (components.ReturnError e) = return_error e.identifier (code_of e.code) (tree_in e.parameter)
 component_of (components.Reject r) = reject r.identifier (problem_of r.problem)
 component_of (components.ReturnResultNotLast r) = return_result_not_last r.identifier (option_map result_of r.result)
-component_of (components.Faulty identifier problem) = faulty identifier (problem_of problem)
+component_of (components.Faulty identifier problem) = faulty identifier problem
 
 abbrev pub reason_of : AbortReason → ReasonValue
 reason_of (reasons.Provider cause) = provider cause

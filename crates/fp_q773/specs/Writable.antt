@@ -1,43 +1,34 @@
 -- Which messages can be written, and how a portion without components is.
 use Rattle.std.specs.Prelude.{◌≡◌, List, [], ◌∷◌, Option, Some, None, ⊤}
 use Rattle.fp_ber.specs.declared.element.Class.TheVariants.{Application}
-use Rattle.fp_ber.specs.Tree.{Tree, Trees, HasTags, primitive, constructed, none, more}
+use Rattle.fp_ber.specs.Tree.{Tree, Trees, primitive, constructed, none, more}
 use Rattle.fp_q773.specs.Grammar.{IsDialogue}
-use Rattle.fp_q773.specs.Value.{ResultValue, ComponentValue, ReasonValue, MessageValue, returned, invoke, return_result_last, return_error, reject, return_result_not_last, faulty, provider, user, unidirectional, begin, end, continuing, abort}
-
--- tags that elements have
-abbrev pub IsWritableParameter : Option Tree → Type 0
-IsWritableParameter None = ⊤
-IsWritableParameter (Some t) = HasTags t
-
-abbrev pub IsWritableResult : Option ResultValue → Type 0
-IsWritableResult None = ⊤
-IsWritableResult (Some (returned code parameter)) = IsWritableParameter parameter
+use Rattle.fp_q773.specs.Value.{ComponentValue, ReasonValue, MessageValue, invoke, return_result_last, return_error, reject, return_result_not_last, faulty, provider, user, unidirectional, begin, end, continuing, abort}
 
 -- a component that isn't faulty
 abbrev pub IsWritable : ComponentValue → Type 0
-IsWritable (invoke identifier linked code parameter) = IsWritableParameter parameter
-IsWritable (return_result_last identifier result) = IsWritableResult result
-IsWritable (return_error identifier code parameter) = IsWritableParameter parameter
+IsWritable (invoke identifier linked code parameter) = ⊤
+IsWritable (return_result_last identifier result) = ⊤
+IsWritable (return_error identifier code parameter) = ⊤
 IsWritable (reject identifier problem) = ⊤
-IsWritable (return_result_not_last identifier result) = IsWritableResult result
+IsWritable (return_result_not_last identifier result) = ⊤
 IsWritable (faulty identifier problem) = ⊥
 
 abbrev pub AllWritable : List ComponentValue → Type 0
 AllWritable [] = ⊤
 AllWritable (component ∷ others) = IsWritable component × AllWritable others
 
--- a dialogue portion, with tags that elements have
+-- a dialogue portion
 abbrev pub IsWritableDialogue : Option Tree → Type 0
 IsWritableDialogue None = ⊤
-IsWritableDialogue (Some t) = IsDialogue t × HasTags t
+IsWritableDialogue (Some t) = IsDialogue t
 
 abbrev pub IsWritableReason : Option ReasonValue → Type 0
 IsWritableReason None = ⊤
 IsWritableReason (Some (provider cause)) = ⊤
-IsWritableReason (Some (user dialogue)) = IsDialogue dialogue × HasTags dialogue
+IsWritableReason (Some (user dialogue)) = IsDialogue dialogue
 
--- a message without a faulty component, whose other elements have tags that elements have
+-- a message without a faulty component, whose dialogue portion is one
 abbrev pub IsWritableMessage : MessageValue → Type 0
 IsWritableMessage unidirectional = ⊤
 IsWritableMessage (begin originating dialogue components) = IsWritableDialogue dialogue × AllWritable components

@@ -1,6 +1,6 @@
 //! Begin (Q.773, 4.2.1): a dialogue begins.
 
-ghost use Rattle.std.specs.Prelude.{◌≡◌, ℕ, List, Option, IfOk, IfErr, map};
+ghost use Rattle.std.specs.Prelude.{◌≡◌, All, ℕ, List, Option, IfOk, IfErr, map};
 ghost use Rattle.fp_ber.specs.Tree.{Tree};
 ghost use Rattle.fp_ber.specs.View.{tree_of, forest_of};
 ghost use Rattle.fp_q773.specs.Value as value;
@@ -8,6 +8,7 @@ ghost use Rattle.fp_q773.specs.View.{component_of, tree_in, begin_of};
 ghost use Rattle.fp_q773.specs.Tid.{octets_of};
 ghost use Rattle.fp_q773.specs.Fault.{Refused};
 ghost use Rattle.fp_q773.specs.Grammar.{IsBegin, IsMessage};
+ghost use Rattle.fp_q773.specs.Named.{HasNamedProblem};
 ghost use Rattle.fp_q773.specs.Writable.{IsWritableMessage};
 ghost use Rattle.fp_q773.specs.Written.{written};
 
@@ -39,6 +40,7 @@ impl<'a> Begin<'a> {
     pub(crate) fn read(alloc: Global, members: &'a [Element]) -> Result<Begin<'a>, MessageFault>
         ensures found { IfOk result (λ b. IsBegin (forest_of members.now) (octets_of b.originating) (tree_in b.dialogue)
             (map component_of b.components.items)) }
+        ensures named { IfOk result (λ b. All HasNamedProblem b.components.items) }
         ensures fault { IfErr result (λ fault. Refused fault ((originating : List ℕ) (dialogue : Option Tree)
             (components : List value.ComponentValue) → IsBegin (forest_of members.now) originating dialogue components → ⊥)) }
     {

@@ -5,16 +5,18 @@ ghost use Rattle.fp_ber.specs.declared.element.Class.TheVariants as classes;
 ghost use Rattle.fp_ber.specs.Tree as tree;
 ghost use Rattle.fp_ber.specs.Tree.{Tree};
 ghost use Rattle.fp_ber.specs.View.{tree_of, forest_of};
+ghost use Rattle.fp_q773.specs.declared.problem.GeneralProblem.TheVariants as general;
 ghost use Rattle.fp_q773.specs.Value as value;
 ghost use Rattle.fp_q773.specs.View.{invoke_of, component_of};
 ghost use Rattle.fp_q773.specs.Grammar.{BeginsWith, IsComponent, IsRow};
+ghost use Rattle.fp_q773.specs.Named.{HasNamedProblem};
 ghost use Rattle.fp_q773.specs.Writable.{IsWritable};
 ghost use Rattle.fp_q773.specs.Written.{component_tree};
 
 use crate::identifier::identifier_of;
 use crate::invoke::{INVOKE, Invoke};
 use crate::members::split_first;
-use crate::problem::{GeneralProblem, Problem};
+use crate::problem::GeneralProblem;
 use crate::reject::Reject;
 use crate::return_error::ReturnError;
 use crate::return_result::ReturnResult;
@@ -48,7 +50,7 @@ pub enum Component<'a> {
         /// The invoke identifier that stands first, if one does and the tag is that of a component.
         identifier: Option<i8>,
         /// An unrecognized component, or a mistyped one.
-        problem: Problem,
+        problem: GeneralProblem,
     },
 }
 
@@ -67,18 +69,20 @@ fn first_identifier(members: &[Element]) -> Option<i8>
 
 /// A component with a tag of the table and with these elements, which are not its own.
 fn mistyped(members: &[Element]) -> Component<'_>
-    ensures { (identifier : Option ℤ) × BeginsWith (forest_of members.now) identifier
-        × (component_of result ≡ value.faulty identifier (value.tagged 0 1)) }
+    ensures found { (identifier : Option ℤ) × BeginsWith (forest_of members.now) identifier
+        × (component_of result ≡ value.faulty identifier general.MistypedComponent) }
+    ensures named { HasNamedProblem result }
 {
     Component::Faulty {
         identifier: first_identifier(members),
-        problem: Problem::General(GeneralProblem::MistypedComponent),
+        problem: GeneralProblem::MistypedComponent,
     }
 }
 
 /// The component that holds these elements under the tag of an Invoke.
 fn invoke_in(members: &[Element]) -> Component<'_>
-    ensures { IsComponent (tree.constructed classes.Context 1 (forest_of members.now)) (component_of result) }
+    ensures found { IsComponent (tree.constructed classes.Context 1 (forest_of members.now)) (component_of result) }
+    ensures named { HasNamedProblem result }
 {
     let Some(invoke) = Invoke::read(members) else {
         return mistyped(members);
@@ -88,7 +92,8 @@ fn invoke_in(members: &[Element]) -> Component<'_>
 
 /// The component that holds these elements under the tag of a ReturnResultLast.
 fn return_result_last_in(members: &[Element]) -> Component<'_>
-    ensures { IsComponent (tree.constructed classes.Context 2 (forest_of members.now)) (component_of result) }
+    ensures found { IsComponent (tree.constructed classes.Context 2 (forest_of members.now)) (component_of result) }
+    ensures named { HasNamedProblem result }
 {
     let Some(result) = ReturnResult::read(members) else {
         return mistyped(members);
@@ -98,7 +103,8 @@ fn return_result_last_in(members: &[Element]) -> Component<'_>
 
 /// The component that holds these elements under the tag of a ReturnError.
 fn return_error_in(members: &[Element]) -> Component<'_>
-    ensures { IsComponent (tree.constructed classes.Context 3 (forest_of members.now)) (component_of result) }
+    ensures found { IsComponent (tree.constructed classes.Context 3 (forest_of members.now)) (component_of result) }
+    ensures named { HasNamedProblem result }
 {
     let Some(error) = ReturnError::read(members) else {
         return mistyped(members);
@@ -108,7 +114,8 @@ fn return_error_in(members: &[Element]) -> Component<'_>
 
 /// The component that holds these elements under the tag of a Reject.
 fn reject_in(members: &[Element]) -> Component<'_>
-    ensures { IsComponent (tree.constructed classes.Context 4 (forest_of members.now)) (component_of result) }
+    ensures found { IsComponent (tree.constructed classes.Context 4 (forest_of members.now)) (component_of result) }
+    ensures named { HasNamedProblem result }
 {
     let Some(reject) = Reject::read(members) else {
         return mistyped(members);
@@ -118,7 +125,8 @@ fn reject_in(members: &[Element]) -> Component<'_>
 
 /// The component that holds these elements under the tag of a ReturnResultNotLast.
 fn return_result_not_last_in(members: &[Element]) -> Component<'_>
-    ensures { IsComponent (tree.constructed classes.Context 7 (forest_of members.now)) (component_of result) }
+    ensures found { IsComponent (tree.constructed classes.Context 7 (forest_of members.now)) (component_of result) }
+    ensures named { HasNamedProblem result }
 {
     let Some(result) = ReturnResult::read(members) else {
         return mistyped(members);
@@ -140,9 +148,20 @@ impl<'a> Component<'a> {
         }
     }
 
+    /// Whether the component is a faulty one.
+    pub fn is_faulty(&self) -> bool
+        ensures { result ≡ value.is_faulty (component_of self.now) }
+    {
+        match self {
+            Component::Faulty { .. } => true,
+            _ => false,
+        }
+    }
+
     /// The component that an element is, if only a faulty one.
     pub(crate) fn read(element: &'a Element) -> Component<'a>
-        ensures { IsComponent (tree_of element.now) (component_of result) }
+        ensures found { IsComponent (tree_of element.now) (component_of result) }
+        ensures named { HasNamedProblem result }
     {
         if let Some(members) = element.children_with_tag(Class::Context, INVOKE) {
             return invoke_in(members);
@@ -161,7 +180,7 @@ impl<'a> Component<'a> {
         }
         Component::Faulty {
             identifier: None,
-            problem: Problem::General(GeneralProblem::UnrecognizedComponent),
+            problem: GeneralProblem::UnrecognizedComponent,
         }
     }
 

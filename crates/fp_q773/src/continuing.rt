@@ -1,6 +1,6 @@
 //! Continue (Q.773, 4.2.1): a dialogue goes on.
 
-ghost use Rattle.std.specs.Prelude.{◌≡◌, ℕ, List, Option, IfOk, IfErr, map};
+ghost use Rattle.std.specs.Prelude.{◌≡◌, All, ℕ, List, Option, IfOk, IfErr, map};
 ghost use Rattle.fp_ber.specs.Tree.{Tree};
 ghost use Rattle.fp_ber.specs.View.{tree_of, forest_of};
 ghost use Rattle.fp_q773.specs.Value as value;
@@ -8,6 +8,7 @@ ghost use Rattle.fp_q773.specs.View.{component_of, tree_in, continue_of};
 ghost use Rattle.fp_q773.specs.Tid.{octets_of};
 ghost use Rattle.fp_q773.specs.Fault.{Refused};
 ghost use Rattle.fp_q773.specs.Grammar.{IsContinue, IsMessage};
+ghost use Rattle.fp_q773.specs.Named.{HasNamedProblem};
 ghost use Rattle.fp_q773.specs.Writable.{IsWritableMessage};
 ghost use Rattle.fp_q773.specs.Written.{written};
 
@@ -42,6 +43,7 @@ impl<'a> Continue<'a> {
         ensures found { IfOk result (λ c. IsContinue (forest_of members.now) (octets_of c.originating) (octets_of c.destination)
             (tree_in c.dialogue)
             (map component_of c.components.items)) }
+        ensures named { IfOk result (λ c. All HasNamedProblem c.components.items) }
         ensures fault { IfErr result (λ fault. Refused fault ((originating destination : List ℕ) (dialogue : Option Tree)
             (components : List value.ComponentValue) → IsContinue (forest_of members.now) originating destination dialogue components → ⊥)) }
     {

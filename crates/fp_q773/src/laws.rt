@@ -1,6 +1,6 @@
 //! What holds of all messages, of all numbers, and of all octets.
 
-ghost use Rattle.fp_q773.specs.Laws.{MessagesAreOne, ComponentsAreOne, CodesAreLeast, IdsAreOne};
+ghost use Rattle.fp_q773.specs.Laws.{MessagesAreOne, ComponentsAreOne, CodesAreLeast, FourOctetsAreANumber, IdentifiersAreThoseOfTheMessage, IdsAreOne, NumbersAreOne};
 
 /// An element is at most one message.
 pub fn messages_are_one()
@@ -20,4 +20,19 @@ pub fn codes_are_least()
 /// Octets tell one kind of message and one identifier of each sort.
 pub fn ids_are_one()
     ensures { IdsAreOne }
+{
+    fp_ber::no_spelling_begins_another();
+}
+
+/// Of octets that spell a message [`ids_of`](crate::ids_of) tells the kind and the identifiers of that message, in
+/// whatever form its lengths are.
+pub fn identifiers_are_those_of_the_message()
+    ensures { IdentifiersAreThoseOfTheMessage }
+{}
+
+/// Different numbers have different identifiers, and each identifier of four octets is that of a number: so
+/// [`Tid::of_number`](crate::Tid::of_number) and [`Tid::number`](crate::Tid::number) are each other's inverse.
+pub fn numbers_are_four_octets()
+    ensures different { NumbersAreOne }
+    ensures each { FourOctetsAreANumber }
 {}

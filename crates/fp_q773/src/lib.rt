@@ -18,7 +18,9 @@
 //! has the element as that message, and each fault is answered exactly where `specs/Fault.antt` has it, want
 //! of memory aside; what is written is the message by the same grammar, and the very element that
 //! `specs/Written.antt` makes of it; and `ids_of` answers by `specs/Ids.antt`. An element is at most one
-//! message, and octets tell one kind and one identifier of each sort, so each answer is the only one.
+//! message, and octets tell one kind and one identifier of each sort, so each answer is the only one; of
+//! octets that spell a message they are those of the message. A problem that is read goes by its name,
+//! where it has one, and each number has one identifier of four octets.
 #![tactic(auto)]
 
 mod abort;
@@ -56,7 +58,10 @@ pub use fault::MessageFault;
 pub use ids::{Ids, ids_of};
 pub use invoke::Invoke;
 pub use kind::Kind;
-pub use laws::{codes_are_least, components_are_one, ids_are_one, messages_are_one};
+pub use laws::{
+    codes_are_least, components_are_one, identifiers_are_those_of_the_message, ids_are_one,
+    messages_are_one, numbers_are_four_octets,
+};
 pub use message::{Message, message_of, write_message};
 pub use operation_class::OperationClass;
 pub use problem::{

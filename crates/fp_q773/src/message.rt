@@ -9,7 +9,9 @@ ghost use Rattle.fp_ber.specs.View.{tree_of, forest_of};
 ghost use Rattle.fp_q773.specs.declared.fault.MessageFault.{MessageFault};
 ghost use Rattle.fp_q773.specs.declared.fault.MessageFault.TheVariants as faults;
 ghost use Rattle.fp_q773.specs.Grammar.{IsMessage};
+ghost use Rattle.fp_q773.specs.Copied.{CopiesHaveTags};
 ghost use Rattle.fp_q773.specs.Fault.{IsFault, Reads, Refuses};
+ghost use Rattle.fp_q773.specs.Named.{HasNamedProblems};
 ghost use Rattle.fp_q773.specs.Room.{message_room};
 ghost use Rattle.fp_q773.specs.Value.{MessageValue};
 ghost use Rattle.fp_q773.specs.View.{message_value};
@@ -46,6 +48,7 @@ pub enum Message<'a> {
 fn begin_in(alloc: Global, members: &[Element]) -> Result<Message<'_>, MessageFault>
     ensures found { IfOk result (λ message.
         IsMessage (tree.constructed classes.Application 2 (forest_of members.now)) (message_value message)) }
+    ensures named { IfOk result HasNamedProblems }
     ensures fault { IfErr result (λ fault. fault ≢ faults.Memory
         → IsFault (tree.constructed classes.Application 2 (forest_of members.now)) fault) }
 {
@@ -57,6 +60,7 @@ fn begin_in(alloc: Global, members: &[Element]) -> Result<Message<'_>, MessageFa
 fn end_in(alloc: Global, members: &[Element]) -> Result<Message<'_>, MessageFault>
     ensures found { IfOk result (λ message.
         IsMessage (tree.constructed classes.Application 4 (forest_of members.now)) (message_value message)) }
+    ensures named { IfOk result HasNamedProblems }
     ensures fault { IfErr result (λ fault. fault ≢ faults.Memory
         → IsFault (tree.constructed classes.Application 4 (forest_of members.now)) fault) }
 {
@@ -68,6 +72,7 @@ fn end_in(alloc: Global, members: &[Element]) -> Result<Message<'_>, MessageFaul
 fn continue_in(alloc: Global, members: &[Element]) -> Result<Message<'_>, MessageFault>
     ensures found { IfOk result (λ message.
         IsMessage (tree.constructed classes.Application 5 (forest_of members.now)) (message_value message)) }
+    ensures named { IfOk result HasNamedProblems }
     ensures fault { IfErr result (λ fault. fault ≢ faults.Memory
         → IsFault (tree.constructed classes.Application 5 (forest_of members.now)) fault) }
 {
@@ -79,6 +84,7 @@ fn continue_in(alloc: Global, members: &[Element]) -> Result<Message<'_>, Messag
 fn abort_in(members: &[Element]) -> Result<Message<'_>, MessageFault>
     ensures found { IfOk result (λ message.
         IsMessage (tree.constructed classes.Application 7 (forest_of members.now)) (message_value message)) }
+    ensures named { IfOk result HasNamedProblems }
     ensures fault { IfErr result (λ fault. fault ≢ faults.Memory
         → IsFault (tree.constructed classes.Application 7 (forest_of members.now)) fault) }
 {
@@ -91,6 +97,7 @@ fn abort_in(members: &[Element]) -> Result<Message<'_>, MessageFault>
 /// The message that an element is.
 fn read_message(alloc: Global, element: &Element) -> Result<Message<'_>, MessageFault>
     ensures found { IfOk result (λ message. IsMessage (tree_of element.now) (message_value message)) }
+    ensures named { IfOk result HasNamedProblems }
     ensures fault { IfErr result (λ fault. fault ≢ faults.Memory → IsFault (tree_of element.now) fault) }
 {
     if let Some(members) = element.children_with_tag(Class::Application, BEGIN) {
@@ -119,6 +126,9 @@ fn read_message(alloc: Global, element: &Element) -> Result<Message<'_>, Message
 pub fn message_of(alloc: Global, element: &Element) -> Result<Message<'_>, MessageFault>
     // What is read is what the element says.
     ensures found { IfOk result (λ message. IsMessage (tree_of element.now) (message_value message)) }
+
+    // A problem that has a name goes by it.
+    ensures named { IfOk result HasNamedProblems }
 
     // What the element says is read, unless memory runs out.
     ensures only { (value : MessageValue) → IsMessage (tree_of element.now) value → Reads result value }
@@ -153,8 +163,8 @@ fn element_of(alloc: Global, message: &Message<'_>) -> Result<Element, AllocErro
 
 /// The element of a message (Q.773, 4.2.1), with copies of its parameters and its dialogue portion.
 ///
-/// No component is faulty; a dialogue portion has the tag 6B; and the elements that are copied have tags
-/// that elements may have. A Unidirectional is written without components.
+/// No component is faulty, and a dialogue portion has the tag 6B. A Unidirectional is written without
+/// components.
 pub fn write_message(alloc: Global, message: &Message<'_>) -> Result<Element, AllocError>
     requires { IsWritableMessage (message_value message.now) }
 
@@ -167,8 +177,8 @@ pub fn write_message(alloc: Global, message: &Message<'_>) -> Result<Element, Al
     // Without components there is no component portion, and a Unidirectional holds nothing.
     ensures bare { IfOk result (λ element. IsBare (tree_of element) (message_value message.now)) }
 
-    // Its tags are those that elements may have.
-    ensures tags { IfOk result (λ element. HasTags (tree_of element)) }
+    // Its tags are those that elements may have, if those of the copies are.
+    ensures tags { IfOk result (λ element. CopiesHaveTags (message_value message.now) → HasTags (tree_of element)) }
 
     // Its canonical spelling is no longer than this.
     ensures size { IfOk result (λ element. length (canon (tree_of element)) ≤ message_room (message_value message.now)) }

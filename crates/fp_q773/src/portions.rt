@@ -1,6 +1,6 @@
 //! The portions of a message (Q.773, 4.2): of the dialogue, and of components.
 
-ghost use Rattle.std.specs.Prelude.{◌≡◌, [], Option, List, IfOk, IfErr, IfSome, IfNone, map};
+ghost use Rattle.std.specs.Prelude.{◌≡◌, All, [], Option, List, IfOk, IfErr, IfSome, IfNone, map};
 ghost use Rattle.fp_ber.specs.Tree as tree;
 ghost use Rattle.fp_ber.specs.Tree.{Tree};
 ghost use Rattle.fp_ber.specs.View.{tree_of, forest_of};
@@ -9,6 +9,7 @@ ghost use Rattle.fp_q773.specs.View.{component_of, tree_in};
 ghost use Rattle.fp_q773.specs.Fault.{Refused};
 ghost use Rattle.fp_q773.specs.Members.{joined, HasMore};
 ghost use Rattle.fp_q773.specs.Grammar.{AreComponents, IsPortion, IsDialogue, ArePortions};
+ghost use Rattle.fp_q773.specs.Named.{HasNamedProblem};
 ghost use Rattle.fp_q773.specs.Writable.{AllWritable, IsWritableDialogue};
 ghost use Rattle.fp_q773.specs.Written.{component_trees, portion_trees, portions_trees};
 
@@ -68,7 +69,8 @@ pub fn dialogue_at(members: &[Element]) -> Dialogue<'_>
 
 /// The components that elements are, in their order.
 fn components_in(alloc: Global, members: &[Element]) -> Result<Vec<Component<'_>>, AllocError>
-    ensures { IfOk result (λ v. AreComponents (forest_of members.now) (map component_of v.items)) }
+    ensures found { IfOk result (λ v. AreComponents (forest_of members.now) (map component_of v.items)) }
+    ensures named { IfOk result (λ v. All HasNamedProblem v.items) }
 {
     let mut components = Vec::new(alloc);
     'members: for member in members {
@@ -80,6 +82,7 @@ fn components_in(alloc: Global, members: &[Element]) -> Result<Vec<Component<'_>
 /// The components of a component portion, if there is one.
 fn portion_in(alloc: Global, members: &[Element]) -> Result<Vec<Component<'_>>, MessageFault>
     ensures found { IfOk result (λ v. IsPortion (forest_of members.now) (map component_of v.items)) }
+    ensures named { IfOk result (λ v. All HasNamedProblem v.items) }
     ensures fault { IfErr result (λ fault. Refused fault ((components : List ComponentValue)
         → IsPortion (forest_of members.now) components → ⊥)) }
 {
@@ -104,6 +107,7 @@ impl<'a> Portions<'a> {
     pub fn read(alloc: Global, members: &'a [Element]) -> Result<Portions<'a>, MessageFault>
         ensures found { IfOk result (λ p. ArePortions (forest_of members.now) (tree_in p.dialogue)
             (map component_of p.components.items)) }
+        ensures named { IfOk result (λ p. All HasNamedProblem p.components.items) }
         ensures fault { IfErr result (λ fault. Refused fault ((dialogue : Option Tree) (components : List ComponentValue)
             → ArePortions (forest_of members.now) dialogue components → ⊥)) }
     {

@@ -1,8 +1,9 @@
 //! An Abort of the provider (Q.773, 4.2.1), spelled without memory.
 
-ghost use Rattle.std.specs.Prelude.{◌≡◌};
+ghost use Rattle.std.specs.Prelude.{◌≡◌, IfSome};
 ghost use Rattle.fp_ber.specs.Canon.{canon};
 ghost use Rattle.fp_q773.specs.Tid.{octets_of};
+ghost use Rattle.fp_q773.specs.declared.provider_abort.AbortCause.{AbortCause};
 ghost use Rattle.fp_q773.specs.ProviderAbort.{cause_code, abort_octets, provider_abort};
 
 use crate::tid::Tid;
@@ -14,7 +15,7 @@ const DESTINATION: u8 = 0x49;
 /// The tag of a cause.
 const CAUSE: u8 = 0x4A;
 
-/// Why the provider cuts off a dialogue.
+/// Why the provider cuts off a dialogue. An incorrect transaction portion, 3, is never written.
 #[derive(Clone, Copy, Debug, PartialEq, Eq)]
 pub enum AbortCause {
     /// The tag is that of no message.
@@ -23,13 +24,25 @@ pub enum AbortCause {
     UnrecognizedTransactionIdentifier,
     /// The transaction portion isn't encoded as it should be.
     BadlyFormattedTransactionPortion,
-    /// The transaction portion isn't that of the message.
-    IncorrectTransactionPortion,
     /// There is no room for the dialogue.
     ResourceLimitation,
 }
 
 impl AbortCause {
+    /// The cause of this value; `None` for a value that is never written.
+    pub fn from_code(code: u8) -> Option<AbortCause>
+        ensures value { IfSome result (λ cause. cause_code cause ≡ code) }
+        ensures only { (cause : AbortCause) → cause_code cause ≡ code → result ≡ Some cause }
+    {
+        match code {
+            0 => Some(AbortCause::UnrecognizedMessageType),
+            1 => Some(AbortCause::UnrecognizedTransactionIdentifier),
+            2 => Some(AbortCause::BadlyFormattedTransactionPortion),
+            4 => Some(AbortCause::ResourceLimitation),
+            _ => None,
+        }
+    }
+
     /// The value of the cause.
     pub fn code(self) -> u8
         ensures { result ≡ cause_code self }
@@ -38,7 +51,6 @@ impl AbortCause {
             AbortCause::UnrecognizedMessageType => 0,
             AbortCause::UnrecognizedTransactionIdentifier => 1,
             AbortCause::BadlyFormattedTransactionPortion => 2,
-            AbortCause::IncorrectTransactionPortion => 3,
             AbortCause::ResourceLimitation => 4,
         }
     }

@@ -3,7 +3,7 @@
 ghost use Rattle.std.specs.Prelude.{◌≡◌, ℤ, Option, IfOk, IfSome, IfNone, MatchOption};
 ghost use Rattle.fp_ber.specs.View.{tree_of, forest_of};
 ghost use Rattle.fp_q773.specs.Value.{ProblemValue};
-ghost use Rattle.fp_q773.specs.Problem.{problem_of};
+ghost use Rattle.fp_q773.specs.Problem.{problem_of, IsNamed};
 ghost use Rattle.fp_q773.specs.Grammar.{IsRejected, IsProblem, IsReject};
 ghost use Rattle.fp_q773.specs.Written.{rejected_tree, problem_tree, reject_trees};
 
@@ -66,8 +66,9 @@ fn write_rejected(alloc: Global, identifier: Option<i8>) -> Result<Element, Allo
 
 /// The problem that an element is.
 fn problem_in(element: &Element) -> Option<Problem>
-    ensures { MatchOption result ((problem : ProblemValue) → IsProblem (tree_of element.now) problem → ⊥)
+    ensures value { MatchOption result ((problem : ProblemValue) → IsProblem (tree_of element.now) problem → ⊥)
         (λ p. IsProblem (tree_of element.now) (problem_of p)) }
+    ensures named { IfSome result IsNamed }
 {
     let Some(octets) = element.octets_with_tag(Class::Context, element.number) else {
         return None;
@@ -93,6 +94,7 @@ impl Reject {
         ensures some { IfSome result (λ r. IsReject (forest_of members.now) r.identifier (problem_of r.problem)) }
         ensures none { IfNone result ((identifier : Option ℤ) (problem : ProblemValue)
             → IsReject (forest_of members.now) identifier problem → ⊥) }
+        ensures named { IfSome result (λ r. IsNamed r.problem) }
     {
         let Some(members) = split_first(members) else {
             return None;

@@ -1,7 +1,7 @@
 //! Transaction identifiers (Q.773, 4.2.1.3).
 
-ghost use Rattle.std.specs.Prelude.{◌≡◌, MatchOption};
-ghost use Rattle.fp_q773.specs.Tid.{octets_of, IsTid};
+ghost use Rattle.std.specs.Prelude.{◌≡◌, ◌↔◌, length, IsSome, IfSome, MatchOption};
+ghost use Rattle.fp_q773.specs.Tid.{octets_of, octets_of_number, IsTid};
 
 /// A transaction identifier: one to four octets, kept as they came.
 #[derive(Clone, Copy, Debug, PartialEq, Eq)]
@@ -28,6 +28,24 @@ impl Tid {
             [a, b, c, d] => Some(Tid::Four([*a, *b, *c, *d])),
             _ => None,
         }
+    }
+
+    /// The identifier of a number: four octets, the most significant one first.
+    pub fn of_number(number: u32) -> Tid
+        ensures { octets_of result ≡ octets_of_number number }
+    {
+        Tid::Four(number.to_be_bytes())
+    }
+
+    /// The number whose identifier this is; `None` for fewer than four octets.
+    pub fn number(&self) -> Option<u32>
+        ensures value { IfSome result (λ number. octets_of self.now ≡ octets_of_number number) }
+        ensures four { IsSome result ↔ (length (octets_of self.now) ≡ 4) }
+    {
+        let [a, b, c, d] = self.as_slice() else {
+            return None;
+        };
+        Some(u32::from_be_bytes([*a, *b, *c, *d]))
     }
 
     /// The octets, one to four.

@@ -75,14 +75,14 @@ impl Destinations {
     pub fn same(&self, other: &Destinations) -> bool
         ensures { IsTrue result ↔ (self.now ≡ other.now) }
     {
-        match (*self, *other) {
-            (Destinations::One(places), Destinations::One(others)) => same_places(&places, &others),
-            (Destinations::Two(places), Destinations::Two(others)) => same_places(&places, &others),
+        match (self, other) {
+            (Destinations::One(places), Destinations::One(others)) => same_places(places, others),
+            (Destinations::Two(places), Destinations::Two(others)) => same_places(places, others),
             (Destinations::Three(places), Destinations::Three(others)) => {
-                same_places(&places, &others)
+                same_places(places, others)
             }
             (Destinations::Four(places), Destinations::Four(others)) => {
-                same_places(&places, &others)
+                same_places(places, others)
             }
             _ => false,
         }
@@ -112,8 +112,8 @@ impl Action {
     pub(crate) fn same(&self, other: &Action) -> bool
         ensures { IsTrue result ↔ (self.now ≡ other.now) }
     {
-        match (*self, *other) {
-            (Action::Route(destinations), Action::Route(others)) => destinations.same(&others),
+        match (self, other) {
+            (Action::Route(destinations), Action::Route(others)) => destinations.same(others),
             (Action::Refuse, Action::Refuse) | (Action::Pass, Action::Pass) => true,
             _ => false,
         }

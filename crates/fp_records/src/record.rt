@@ -60,7 +60,7 @@ impl Record {
     }
 
     /// Whether two records say the same: the same offset, and the same rules in the same order. It
-    /// takes no memory, and as many steps as there are rules.
+    /// takes no memory, and as many steps as there are rules, or one where they differ in how many.
     pub fn same(&self, other: &Record) -> bool
         ensures { IsTrue result ↔ (self.now ≡ other.now) }
     {

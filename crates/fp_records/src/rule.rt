@@ -29,10 +29,10 @@ impl Rule {
     pub(crate) fn same(&self, other: &Rule) -> bool
         ensures { IsTrue result ↔ (self.now ≡ other.now) }
     {
-        self.prefix == other.prefix
-            && self.days.same(&other.days)
+        self.weight == other.weight
             && self.window == other.window
-            && self.weight == other.weight
+            && self.days.same(&other.days)
+            && self.prefix == other.prefix
             && self.action.same(&other.action)
     }
 }

@@ -2,12 +2,12 @@
 use Rattle.std.proofs.Common.{◌≡◌, ℕ, ◌≤◌, Bool, true, false, List, ◌++◌, length, length-append, arith, nat_lt, if◌then◌else◌}
 use Rattle.fp_ber.specs.declared.element.Class.{Class}
 use Rattle.fp_ber.specs.Canon.{HasLengths, canon, canon_of_all, length_octets, tag_octets, with_header}
+use Rattle.fp_ber.specs.Laws.{CanonSpells}
 use Rattle.fp_ber.specs.Tree.{InRange, Tree, primitive, constructed}
-use Rattle.fp_ber.proofs.Canonical.{canon_spells}
-use Rattle.fp_frames.specs.Frame.{IsMessageLength}
+use Rattle.fp_frames.specs.Frame.{IsMessageLength, framed}
 use Rattle.fp_q773.specs.Grammar.{IsMessage}
 use Rattle.fp_q773.specs.Value.{MessageValue}
-use Rattle.fp_reply.specs.Reply.{IsFrameOf, framed}
+use Rattle.fp_reply.specs.Reply.{IsFrameOf}
 
 -- one of two lists is as long as both are at least
 if_some : (b : Bool) (x y : List ℕ) → 1 ≤ length x → 1 ≤ length y → 1 ≤ length (if b then x else y)
@@ -30,9 +30,9 @@ canon_some (primitive class number octets) = header_some class false number octe
 canon_some (constructed class number children) = header_some class true number (canon_of_all children)
 
 -- the frame of an element that is a message is a frame of that message
-pub frame_says : (frame : List ℕ) (t : Tree) (value : MessageValue) → frame ≡ framed (canon t) → IsMessageLength (length (canon t))
+pub frame_says : CanonSpells → (frame : List ℕ) (t : Tree) (value : MessageValue) → frame ≡ framed (canon t) → IsMessageLength (length (canon t))
     → InRange t → HasLengths t → IsMessage t value → IsFrameOf frame value
-frame_says frame t value whole fits in_range lengths says = record {
+frame_says canon_spells frame t value whole fits in_range lengths says = record {
   message = canon t;
   element = t;
   whole = whole;

@@ -5,6 +5,7 @@ use Rattle.std.specs.Prelude.{⊤}
 use Rattle.fp_ber.specs.Tree.{HasTags, InRange, Tree, nesting, nesting_of_all}
 use Rattle.fp_ber.specs.View.{tree_of}
 use Rattle.fp_ber.specs.declared.element.Element.{Element}
+use Rattle.fp_q773.specs.Copied.{CopiesHaveTags}
 use Rattle.fp_q773.specs.Problem.{problem_of}
 use Rattle.fp_q773.specs.Value.{ComponentValue, MessageValue, ProblemValue, tagged}
 use Rattle.fp_q773.specs.Written.{component_tree, component_trees, portions_trees, problem_tree, written}
@@ -63,12 +64,12 @@ nested (requests.Abort Abrt) local peer = omega arith
 nested (requests.Abort (NameNotSupported name)) local peer = omega arith
 nested (requests.Abort (NoCommonVersion name)) local peer = omega arith
 
--- so the element of a message is in range, if its tags are
+-- so the element of a message is in range, if the tags of its copies are
 pub written_in_range : {E : Type 0} (r : Result Element E) (value : MessageValue) (request : Request) (local : ℕ) (peer : List ℕ)
-    → IfOk r (λ element. tree_of element ≡ written value) → IfOk r (λ element. HasTags (tree_of element))
-    → value ≡ reply request local peer → IfOk r (λ element. InRange (tree_of element))
-written_in_range (Ok element) value request local peer is tags same = record {
+    → IfOk r (λ element. tree_of element ≡ written value) → IfOk r (λ element. CopiesHaveTags value → HasTags (tree_of element))
+    → CopiesHaveTags value → value ≡ reply request local peer → IfOk r (λ element. InRange (tree_of element))
+written_in_range (Ok element) value request local peer is tags copies same = record {
   nested = rw (is, same) (nested request local peer);
-  tags = tags;
+  tags = tags copies;
 }
-written_in_range (Err error) value request local peer is tags same = tt
+written_in_range (Err error) value request local peer is tags copies same = tt

@@ -3,8 +3,9 @@
 use Rattle.std.specs.Prelude.{◌≡◌, ◌≤◌, List, [], ◌∷◌, Option, None, option_map, ⊤}
 use Rattle.fp_ber.specs.Tree.{Tree}
 use Rattle.fp_ber.specs.View.{tree_of}
+use Rattle.fp_q773.specs.Copied.{CopyHasTags}
 use Rattle.fp_q773.specs.Room.{tree_room}
-use Rattle.fp_q773.specs.Writable.{IsWritableParameter, IsWritableDialogue}
+use Rattle.fp_q773.specs.Writable.{IsWritableDialogue}
 use Rattle.fp_reply.specs.Reply.{argument_of, acceptance_portion, abort_portion}
 use Rattle.fp_reply.specs.declared.arguments.Arguments.{Arguments}
 use Rattle.fp_service.specs.declared.component.Component.{Component}
@@ -34,12 +35,13 @@ argument_in (Reject identifier problem) = None
 pub record IsDialoguePortion (portion expected : Option Tree) : Type 0 where
   pub value : portion ≡ expected
   pub writable : IsWritableDialogue portion
+  pub tags : CopyHasTags portion
   pub size : tree_room portion ≤ 101
 
 -- an argument takes 69 octets at most: that is the one of RequestReportBCSMEvent
 pub record IsArgument (argument expected : Option Tree) : Type 0 where
   pub value : argument ≡ expected
-  pub writable : IsWritableParameter argument
+  pub tags : CopyHasTags argument
   pub size : tree_room argument ≤ 69
 
 -- these are the arguments of the components

@@ -1,6 +1,6 @@
 -- What is sent for a request of the service logic: a message (Q.773, 4.2) in its canonical spelling (X.690, 10.1), and
 -- before it the head of a frame.
-use Rattle.std.specs.Prelude.{◌≡◌, ℕ, ◌/◌, ◌%◌, List, [], ◌∷◌, ◌++◌, length, map, Option, Some, None, option_map}
+use Rattle.std.specs.Prelude.{◌≡◌, ℕ, List, ◌++◌, length, map, Option, Some, None, option_map}
 use Rattle.fp_ber.specs.Tree.{InRange, Tree}
 use Rattle.fp_ber.specs.Canon.{canon}
 use Rattle.fp_ber.specs.Spelling.{Spells}
@@ -8,7 +8,7 @@ use Rattle.fp_apdu.specs.Aare.{aare}
 use Rattle.fp_apdu.specs.Abrt.{abrt}
 use Rattle.fp_apdu.specs.DialoguePortion.{dialogue_portion}
 use Rattle.fp_apdu.specs.declared.verdict.Verdict.TheVariants.{Accepted, NoName, NoVersion}
-use Rattle.fp_frames.specs.Frame.{IsMessageLength, head_of}
+use Rattle.fp_frames.specs.Frame.{IsMessageLength, framed}
 use Rattle.fp_inap.specs.Connect.{connect}
 use Rattle.fp_inap.specs.ReleaseCall.{release_call}
 use Rattle.fp_inap.specs.RequestReport.{request_report}
@@ -16,6 +16,7 @@ use Rattle.fp_inap.specs.Operation.{code_of}
 use Rattle.fp_inap.specs.OperationError as errors
 use Rattle.fp_q773.specs.Grammar.{IsMessage}
 use Rattle.fp_q773.specs.Problem.{problem_of}
+use Rattle.fp_q773.specs.Tid.{octets_of_number}
 use Rattle.fp_q773.specs.Value as value
 use Rattle.fp_q773.specs.Value.{ComponentValue, MessageValue}
 use Rattle.fp_q773.specs.Written.{written}
@@ -54,21 +55,13 @@ abort_portion Abrt = Some (dialogue_portion abrt)
 abort_portion (NameNotSupported name) = Some (dialogue_portion (aare name NoName))
 abort_portion (NoCommonVersion name) = Some (dialogue_portion (aare name NoVersion))
 
--- a local identifier in four octets, the most significant one first
-abbrev pub identifier_octets : ℕ → List ℕ
-identifier_octets local = local / 16777216 % 256 ∷ local / 65536 % 256 ∷ local / 256 % 256 ∷ local % 256 ∷ []
-
 -- The message, in a dialogue that has a local identifier here and another one, of these octets, at the peer: only a
 -- Continue has the local one.
 abbrev pub reply : Request → ℕ → List ℕ → MessageValue
 reply (requests.Continue acceptance components) local peer =
-    value.continuing (identifier_octets local) peer (acceptance_portion acceptance) (map component_value components)
+    value.continuing (octets_of_number local) peer (acceptance_portion acceptance) (map component_value components)
 reply (requests.End acceptance components) local peer = value.end peer (acceptance_portion acceptance) (map component_value components)
 reply (requests.Abort portion) local peer = value.abort peer (option_map value.user (abort_portion portion))
-
--- the frame of a message
-abbrev pub framed : List ℕ → List ℕ
-framed message = head_of (length message) ++ message
 
 -- the frame of what is sent
 unfoldable pub frame_of : Request → ℕ → List ℕ → List ℕ

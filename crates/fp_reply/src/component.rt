@@ -1,6 +1,7 @@
 //! The components of a message, around their arguments.
 
 ghost use Rattle.std.specs.Prelude.{◌≡◌, ◌≤◌, IfOk, length, map};
+ghost use Rattle.fp_q773.specs.Copied.{ComponentHasTags, ComponentsHaveTags};
 ghost use Rattle.fp_q773.specs.Room.{component_room, components_room};
 ghost use Rattle.fp_q773.specs.View.{component_of, tree_in};
 ghost use Rattle.fp_q773.specs.Writable.{AllWritable, IsWritable};
@@ -18,6 +19,7 @@ fn component_of<'a>(component: &Component, argument: Option<&'a Element>) -> fp_
     requires { IsArgument (tree_in argument) (argument_in component.now) }
     ensures value { component_of result ≡ component_value component.now }
     ensures writable { IsWritable (component_of result) }
+    ensures tags { ComponentHasTags (component_of result) }
     ensures room { component_room (component_of result) ≤ 99 }
 {
     match component {
@@ -57,6 +59,7 @@ pub(crate) fn components_of<'a>(
     requires arguments { AreArguments arguments.now components.now }
     ensures values { IfOk result (λ all. map component_of all.items ≡ map component_value components.now) }
     ensures writable { IfOk result (λ all. AllWritable (map component_of all.items)) }
+    ensures tags { IfOk result (λ all. ComponentsHaveTags (map component_of all.items)) }
     ensures room { IfOk result (λ all. components_room (map component_of all.items) ≤ 198) }
 {
     match components {

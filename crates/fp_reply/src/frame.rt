@@ -4,18 +4,19 @@ ghost use Rattle.std.specs.Prelude.{◌≡◌, ◌≤◌, ◌++◌, IfOk, drop, 
 ghost use Rattle.fp_ber.specs.Canon.{HasLengths, canon};
 ghost use Rattle.fp_ber.specs.Tree.{HasTags};
 ghost use Rattle.fp_ber.specs.View.{tree_of};
+ghost use Rattle.fp_frames.specs.Frame.{framed};
 ghost use Rattle.fp_q773.specs.Tid.{octets_of};
-ghost use Rattle.fp_reply.specs.Reply.{IsFrameOf, frame_of, framed, reply};
+ghost use Rattle.fp_reply.specs.Reply.{IsFrameOf, frame_of, reply};
 
 use crate::message::write_element;
-use fp_ber::{Element, write};
+use fp_ber::{Element, canonical_spelling_spells, write};
 use fp_frames::frame_head;
 use fp_q773::Tid;
 use fp_service::Request;
 use std::alloc::{AllocError, Global};
 
 /// How many octets the head of a frame has.
-const HEAD: usize = 4;
+pub(crate) const HEAD: usize = 4;
 
 /// How many octets a frame takes at most, the head included.
 pub const MOST_OCTETS: usize = 335;
@@ -63,6 +64,7 @@ pub fn bytes_of(
     // A frame is short.
     ensures most { IfOk result (λ octets. length octets.items ≤ MOST_OCTETS) }
 {
+    canonical_spelling_spells();
     let element = write_element(alloc, request, local, peer)?;
     write_frame(alloc, &element)
 }

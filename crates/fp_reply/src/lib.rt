@@ -5,6 +5,7 @@
 //! gives octets. It asks the system for nothing but memory, and want of memory is its only error.
 //!
 //! * [`bytes_of`] gives the frame of a request, of at most [`MOST_OCTETS`] octets.
+//! * [`abort_frame`] gives the frame of an Abort of the provider, and takes no memory.
 //!
 //! A Continue has the local identifier in four octets and the peer's as it came, an End and an Abort the peer's alone.
 //! The dialogue portion is an AARE where a dialogue is accepted or rejected, and an ABRT where it is aborted; without
@@ -20,5 +21,7 @@ mod component;
 mod dialogue_portion;
 mod frame;
 mod message;
+mod provider_abort;
 
 pub use frame::{MOST_OCTETS, bytes_of};
+pub use provider_abort::{AbortFrame, abort_frame};

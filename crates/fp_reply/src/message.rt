@@ -5,6 +5,7 @@ ghost use Rattle.fp_ber.specs.Canon.{HasLengths, canon};
 ghost use Rattle.fp_ber.specs.Tree.{InRange};
 ghost use Rattle.fp_ber.specs.View.{tree_of};
 ghost use Rattle.fp_q773.specs.Grammar.{IsMessage};
+ghost use Rattle.fp_q773.specs.Copied.{CopiesHaveTags};
 ghost use Rattle.fp_q773.specs.Room.{message_room};
 ghost use Rattle.fp_q773.specs.Tid.{octets_of};
 ghost use Rattle.fp_q773.specs.View.{message_value, tree_in};
@@ -47,12 +48,13 @@ fn message_of<'a>(
     requires arguments { AreArguments arguments.now (components_in request.now) }
     ensures value { IfOk result (λ message. message_value message ≡ reply request.now local (octets_of peer.now)) }
     ensures writable { IfOk result (λ message. IsWritableMessage (message_value message)) }
+    ensures tags { IfOk result (λ message. CopiesHaveTags (message_value message)) }
     ensures room { IfOk result (λ message. message_room (message_value message) ≤ 331) }
 {
     let components = components_of(alloc, components_in(request), arguments)?;
     match request {
         Request::Continue { .. } => Ok(Message::Continue(Continue {
-            originating: Tid::Four(local.to_be_bytes()),
+            originating: Tid::of_number(local),
             destination: *peer,
             dialogue,
             components,

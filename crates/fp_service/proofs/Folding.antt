@@ -1,14 +1,17 @@
 -- The folds of the service step along lists of entries.
-use Rattle.std.proofs.Common.{◌≡◌, ◌≤◌, Bool, true, false, cond, Option, Some, None, List, [], ◌∷◌, ◌++◌, ◌⊎◌, inl, inr, length, refl, sym, ◌∙◌, ap, append_assoc, append-nil, length-append, arith}
+use Rattle.std.proofs.Common.{◌≡◌, ◌≤◌, Bool, true, false, cond, Option, Some, None, ℕ, List, [], ◌∷◌, ◌++◌, ◌⊎◌, inl, inr, length, refl, sym, ◌∙◌, ap, append_assoc, append-nil, length-append, arith}
 use Rattle.std.proofs.lemmas.Bool.{false≢true}
 use Rattle.std.specs.Prelude.{option_to_list}
 use Rattle.fp_entry.specs.declared.entry.Entry.{Entry}
+use Rattle.fp_entry.specs.declared.entry.EntryKind.{EntryKind}
 use Rattle.fp_service.specs.declared.dialogue.Core.{Core}
 use Rattle.fp_service.specs.declared.request.Request.{Request}
-use Rattle.fp_service.specs.Dialogue.{is_over, is_clock, touched}
+use Rattle.fp_entry.specs.declared.entry.EntryKind.TheVariants.{PeerEnd, PeerAbort}
+use Rattle.fp_entry.specs.Entries.{is_clock}
+use Rattle.fp_service.specs.Dialogue.{ended, is_over, touched}
 use Rattle.fp_service.specs.Answer.{no_request}
 use Rattle.fp_service.specs.Fold.{core_after, requests, cut}
-use Rattle.fp_service.specs.Laws.{FoldsGrow, FoldsGrowByOne, StaysOver, CutIsFront}
+use Rattle.fp_service.specs.Laws.{FoldsGrow, FoldsGrowByOne, IsPeersOwn, PeerEndsDialogue, StaysOver, CutIsFront}
 use Rattle.fp_service.specs.Serve.{on_kind, serve, next, request_of}
 
 -- an entry's moment doesn't change whether a dialogue is over
@@ -48,6 +51,43 @@ cut-over core (x ∷ xs) over = ap (λ b. cond b [] (x ∷ cut (next core x) xs)
 cut-going : (core : Core) (x : Entry) (xs : List Entry) → is_over core ≡ false → cut core (x ∷ xs) ≡ x ∷ cut (next core x) xs
 cut-going core x xs going = ap (λ b. cond b [] (x ∷ cut (next core x) xs)) going
 
+-- the peer ends or aborts the dialogue
+
+-- the line of the table for a dialogue that isn't over
+serve-going : (core : Core) (entry : Entry) → is_over core ≡ false → serve core entry ≡ on_kind (touched core entry) entry.moment entry.kind
+unfolding serve
+serve-going core entry going =
+    ap (λ b. cond b (no_request (touched core entry)) (on_kind (touched core entry) entry.moment entry.kind)) going
+
+-- the line for the peer's End and its Abort
+on_kind-peer : (core : Core) (moment : ℕ) (kind : EntryKind) → IsPeersOwn kind → on_kind core moment kind ≡ no_request (ended core)
+unfolding on_kind
+on_kind-peer core moment kind (inl end) = ap (on_kind core moment) end
+on_kind-peer core moment kind (inr abort) = ap (on_kind core moment) abort
+
+serve-peer : (core : Core) (entry : Entry) → is_over core ≡ false → IsPeersOwn entry.kind → serve core entry ≡ no_request (ended (touched core entry))
+serve-peer core entry going own =
+    serve-going core entry going ∙ on_kind-peer (touched core entry) entry.moment entry.kind own
+
+-- a dialogue is over or not
+is_over-or : (b : Bool) → (b ≡ true) ⊎ (b ≡ false)
+is_over-or true = inl refl
+is_over-or false = inr refl
+
+next-peer : (core : Core) (entry : Entry) → IsPeersOwn entry.kind → is_over (next core entry) ≡ true
+next-peer core entry own =
+    elim (is_over-or (is_over core)) as (λ _. is_over (next core entry) ≡ true) [
+      | inl over ↦ next-over core entry over
+      | inr going ↦ ap (λ (served : Core × Option Request). is_over served.0) (serve-peer core entry going own)
+    ]
+
+request_of-peer : (core : Core) (entry : Entry) → IsPeersOwn entry.kind → request_of core entry ≡ None
+request_of-peer core entry own =
+    elim (is_over-or (is_over core)) as (λ _. request_of core entry ≡ None) [
+      | inl over ↦ request_of-over core entry over
+      | inr going ↦ ap (λ (served : Core × Option Request). served.1) (serve-peer core entry going own)
+    ]
+
 -- a list and more
 
 pub core_after-append : (core : Core) (xs ys : List Entry) → core_after core (xs ++ ys) ≡ core_after (core_after core xs) ys
@@ -58,11 +98,6 @@ pub requests-append : (core : Core) (xs ys : List Entry) → requests core (xs +
 requests-append core [] ys = refl
 requests-append core (x ∷ xs) ys =
     ap (λ r. option_to_list (request_of core x) ++ r) (requests-append (next core x) xs ys) ∙ sym (append_assoc (option_to_list (request_of core x)) _ _)
-
--- a dialogue is over or not
-is_over-or : (b : Bool) → (b ≡ true) ⊎ (b ≡ false)
-is_over-or true = inl refl
-is_over-or false = inr refl
 
 pub cut-append : (core : Core) (xs ys : List Entry) → cut core (xs ++ ys) ≡ cut core xs ++ cut (core_after core xs) ys
 cut-append core [] ys = refl
@@ -185,6 +220,12 @@ stays_over = record {
   no_request = request_of-over;
   core_after_is_over = core_after-over;
   no_requests = requests-over;
+}
+
+pub peer_ends_dialogue : PeerEndsDialogue
+peer_ends_dialogue = record {
+  next_is_over = next-peer;
+  no_request = request_of-peer;
 }
 
 pub cut_is_front : CutIsFront

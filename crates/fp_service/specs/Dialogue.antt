@@ -3,8 +3,7 @@ use Rattle.std.specs.Prelude.{ℕ, ◌+◌, [], Bool, true, false, min, if◌the
 use Rattle.std.specs.Option.{option_map_or}
 use Rattle.fp_apdu.specs.declared.opening.Opening.TheVariants as openings
 use Rattle.fp_entry.specs.declared.entry.Entry.{Entry}
-use Rattle.fp_entry.specs.declared.entry.EntryKind.{EntryKind}
-use Rattle.fp_entry.specs.declared.entry.EntryKind.TheVariants.{Opened, InitialDp, Event, UnknownInvoke, Result, Error, Reject, Faulty, PeerEnd, PeerAbort, Clock}
+use Rattle.fp_entry.specs.Entries.{is_clock}
 use Rattle.fp_ism.specs.Due.{dues, least_of}
 use Rattle.fp_service.specs.declared.dialogue.Core.{Core}
 use Rattle.fp_service.specs.declared.state.State.{State}
@@ -33,19 +32,6 @@ is_over core = has_ended core.state
 -- the dialogue is over
 abbrev pub ended : Core → Core
 ended core = record core { state = Over }
-
-abbrev pub is_clock : EntryKind → Bool
-is_clock (Opened opening) = false
-is_clock (InitialDp identifier linked calling found) = false
-is_clock (Event identifier linked event notification) = false
-is_clock (UnknownInvoke identifier linked problem) = false
-is_clock (Result identifier last) = false
-is_clock (Error identifier) = false
-is_clock (Reject identifier) = false
-is_clock (Faulty identifier problem) = false
-is_clock PeerEnd = false
-is_clock PeerAbort = false
-is_clock Clock = true
 
 -- an entry sets the moment of the last one, unless it is a Clock
 abbrev pub touched : Core → Entry → Core

@@ -1,6 +1,8 @@
 -- What holds of the service step along all lists of entries.
-use Rattle.std.specs.Prelude.{◌≡◌, ◌≤◌, true, false, List, [], ◌∷◌, ◌++◌, None, length, option_to_list}
+use Rattle.std.specs.Prelude.{◌≡◌, ◌≤◌, true, false, List, [], ◌∷◌, ◌++◌, None, length, option_to_list, ◌⊎◌}
 use Rattle.fp_entry.specs.declared.entry.Entry.{Entry}
+use Rattle.fp_entry.specs.declared.entry.EntryKind.{EntryKind}
+use Rattle.fp_entry.specs.declared.entry.EntryKind.TheVariants.{PeerEnd, PeerAbort}
 use Rattle.fp_service.specs.declared.dialogue.Core.{Core}
 use Rattle.fp_service.specs.Dialogue.{is_over}
 use Rattle.fp_service.specs.Fold.{core_after, requests, cut}
@@ -24,6 +26,15 @@ pub record StaysOver : Type 0 where
   pub no_request : (core : Core) (entry : Entry) → is_over core ≡ true → request_of core entry ≡ None
   pub core_after_is_over : (core : Core) (entries : List Entry) → is_over core ≡ true → is_over (core_after core entries) ≡ true
   pub no_requests : (core : Core) (entries : List Entry) → is_over core ≡ true → requests core entries ≡ []
+
+-- the peer's own end of a dialogue, or its abort
+abbrev pub IsPeersOwn : EntryKind → Type 0
+IsPeersOwn kind = (kind ≡ PeerEnd) ⊎ (kind ≡ PeerAbort)
+
+-- after it the dialogue is over, and nothing is asked for
+pub record PeerEndsDialogue : Type 0 where
+  pub next_is_over : (core : Core) (entry : Entry) → IsPeersOwn entry.kind → is_over (next core entry) ≡ true
+  pub no_request : (core : Core) (entry : Entry) → IsPeersOwn entry.kind → request_of core entry ≡ None
 
 -- what is cut off is the end of a list: the entries behind the first after which the core is over, which ask for nothing
 pub record CutIsFront : Type 0 where

@@ -8,7 +8,7 @@ ghost use Rattle.fp_service.specs.Dialogue.{ended, fresh, is_over, next_due, qui
 use crate::State;
 use fp_apdu::{Name, Opening};
 use fp_digits::Moment;
-use fp_entry::{Entry, EntryKind};
+use fp_entry::Entry;
 use fp_ism::Invocations;
 
 /// What the service logic knows of a dialogue between two entries. It has a fixed size and may be copied.
@@ -100,7 +100,7 @@ impl Core {
     pub(crate) fn touched(self, entry: &Entry) -> Core
         ensures { result ≡ touched self entry.now }
     {
-        if let EntryKind::Clock = &entry.kind {
+        if entry.kind.is_clock() {
             return self;
         }
         Core {

@@ -1,6 +1,6 @@
 //! What holds of the service step along all lists of entries.
 
-ghost use Rattle.fp_service.specs.Laws.{AsksOnceAtMost, CutIsFront, FoldsGrow, FoldsGrowByOne, StaysOver};
+ghost use Rattle.fp_service.specs.Laws.{AsksOnceAtMost, CutIsFront, FoldsGrow, FoldsGrowByOne, PeerEndsDialogue, StaysOver};
 
 /// Along entries that are followed by others the core, the requests and the entries served are those of the first
 /// ones, and then those of the others from there.
@@ -12,6 +12,11 @@ pub fn folds_along_a_grown_list()
 /// A dialogue that is over stays so, and nothing is asked for.
 pub fn over_stays_over()
     ensures { StaysOver }
+{}
+
+/// Where the peer ends or aborts a dialogue, the dialogue is over, and nothing is asked for.
+pub fn peer_ends_dialogue()
+    ensures { PeerEndsDialogue }
 {}
 
 /// The entries that are served are the first ones, up to that which ends the dialogue.

@@ -53,7 +53,8 @@
 //! The layer above may rely on this: a step is `serve` of `specs/Serve.antt`, want of memory aside, and `next` and
 //! `request_of` are its two parts, which are opaque outside this crate. Along the entries of a dialogue the core, the
 //! requests and the entries up to its end are the folds of `specs/Fold.antt`, whose laws ([`folds_along_a_grown_list`],
-//! [`over_stays_over`], [`cut_is_a_front`], [`entries_ask_once_at_most`]) are all that is to be known of them.
+//! [`over_stays_over`], [`peer_ends_dialogue`], [`cut_is_a_front`], [`entries_ask_once_at_most`]) are all that is to
+//! be known of them.
 //! [`Core::next_due`] is the earliest moment at which a Clock does something.
 #![tactic(auto)]
 
@@ -78,6 +79,7 @@ pub use dialogue::Core;
 pub use instruction::Instruction;
 pub use laws::{
     cut_is_a_front, entries_ask_once_at_most, folds_along_a_grown_list, over_stays_over,
+    peer_ends_dialogue,
 };
 pub use request::{AbortPortion, Request};
 pub use serve::step;

@@ -10,9 +10,16 @@ fn cause_of(name: &str) -> anyhow::Result<AbortCause> {
         "UnrecognizedMessageType" => Ok(AbortCause::UnrecognizedMessageType),
         "UnrecognizedTransactionIdentifier" => Ok(AbortCause::UnrecognizedTransactionIdentifier),
         "BadlyFormattedTransactionPortion" => Ok(AbortCause::BadlyFormattedTransactionPortion),
-        "IncorrectTransactionPortion" => Ok(AbortCause::IncorrectTransactionPortion),
         "ResourceLimitation" => Ok(AbortCause::ResourceLimitation),
         _ => anyhow::bail!("{name} is no cause"),
+    }
+}
+
+/// The name of the cause of this value, or `none`.
+pub(crate) fn provider_cause(alloc: Global, code: u8) -> anyhow::Result<String> {
+    match AbortCause::from_code(code) {
+        Some(cause) => Ok(format!(in alloc; "{cause:?}")?),
+        None => Ok(format!(in alloc; "none")?),
     }
 }
 

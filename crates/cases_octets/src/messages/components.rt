@@ -93,7 +93,7 @@ pub(crate) fn component_text(alloc: Global, component: &Component<'_>) -> anyhow
         Component::Faulty {
             identifier,
             problem,
-        } => refused_text(alloc, "Faulty", *identifier, *problem),
+        } => refused_text(alloc, "Faulty", *identifier, Problem::General(*problem)),
     }
 }
 

@@ -31,6 +31,19 @@ pub(crate) fn transaction(alloc: Global, text: &str) -> anyhow::Result<String> {
     optional_tid_text(alloc, Tid::new(octets.as_slice()))
 }
 
+/// The transaction identifier of a number.
+pub(crate) fn identifier_of(alloc: Global, number: u32) -> anyhow::Result<String> {
+    tid_text(alloc, &Tid::of_number(number))
+}
+
+/// The number of a transaction identifier, or `none`.
+pub(crate) fn number_of(alloc: Global, text: &str) -> anyhow::Result<String> {
+    match tid_of(alloc, text)?.number() {
+        Some(number) => Ok(format!(in alloc; "{number}")?),
+        None => Ok(format!(in alloc; "none")?),
+    }
+}
+
 /// The kind and the transaction identifiers of these octets.
 pub(crate) fn identifiers(alloc: Global, text: &str) -> anyhow::Result<String> {
     let octets = hex::decode(alloc, text)?;

@@ -25,9 +25,10 @@
 
 ghost use Rattle.std.specs.Prelude.{◌≡◌, ◌<◌, ◌≤◌, ◌^◌, IfOk, None, length, map, option_map};
 ghost use Rattle.fp_ber.specs.View.{tree_of};
+ghost use Rattle.fp_q773.specs.Copied.{ComponentHasTags, ComponentsHaveTags, CopiesHaveTags, CopyHasTags, ReasonHasTags, ResultHasTags};
 ghost use Rattle.fp_q773.specs.Room.{code_room, component_room, components_room, message_room, reason_room, result_room, tree_room};
 ghost use Rattle.fp_q773.specs.View.{code_of, component_of, message_value, reason_of, result_of, tree_in};
-ghost use Rattle.fp_q773.specs.Writable.{AllWritable, IsWritable, IsWritableDialogue, IsWritableMessage, IsWritableParameter, IsWritableReason, IsWritableResult};
+ghost use Rattle.fp_q773.specs.Writable.{AllWritable, IsWritable, IsWritableDialogue, IsWritableMessage, IsWritableReason};
 
 use crate::messages::identifiers::tid_of;
 use fp_ber::{Class, Element};
@@ -58,6 +59,7 @@ struct Held {
 /// The octets of a message.
 fn octets_text(alloc: Global, message: &Message<'_>) -> anyhow::Result<String>
     requires writable { IsWritableMessage (message_value message.now) }
+    requires tags { CopiesHaveTags (message_value message.now) }
     requires room { message_room (message_value message.now) < 2 ^ 32 }
 {
     let element = write_message(alloc, message)?;
@@ -68,7 +70,7 @@ fn octets_text(alloc: Global, message: &Message<'_>) -> anyhow::Result<String>
 
 /// The element of a text, or `None` for `none`.
 fn optional_element(alloc: Global, text: &str) -> anyhow::Result<Option<Element>>
-    ensures writable { IfOk result (λ element. IsWritableParameter (option_map tree_of element)) }
+    ensures tags { IfOk result (λ element. CopyHasTags (option_map tree_of element)) }
     ensures room { IfOk result (λ element. tree_room (option_map tree_of element) ≤ 1000) }
 {
     if text == "none" {
@@ -99,7 +101,7 @@ fn octets_of_code(alloc: Global, code: &str) -> anyhow::Result<Vec<u8>>
 /// What a component with this code and this parameter borrows.
 fn held_of_parts(alloc: Global, code: &str, parameter: &str) -> anyhow::Result<Held>
     ensures octets { IfOk result (λ held. length held.octets.items ≤ 1000) }
-    ensures writable { IfOk result (λ held. IsWritableParameter (option_map tree_of held.parameter)) }
+    ensures tags { IfOk result (λ held. CopyHasTags (option_map tree_of held.parameter)) }
     ensures room { IfOk result (λ held. tree_room (option_map tree_of held.parameter) ≤ 1000) }
 {
     let octets = octets_of_code(alloc, code)?;
@@ -110,7 +112,7 @@ fn held_of_parts(alloc: Global, code: &str, parameter: &str) -> anyhow::Result<H
 /// What the component of a word borrows.
 fn held_of(alloc: Global, word: &str) -> anyhow::Result<Held>
     ensures octets { IfOk result (λ held. length held.octets.items ≤ 1000) }
-    ensures writable { IfOk result (λ held. IsWritableParameter (option_map tree_of held.parameter)) }
+    ensures tags { IfOk result (λ held. CopyHasTags (option_map tree_of held.parameter)) }
     ensures room { IfOk result (λ held. tree_room (option_map tree_of held.parameter) ≤ 1000) }
 {
     let parts: Vec<&str> = word.split(':').collect(alloc)?;
@@ -141,9 +143,10 @@ fn invoke_in<'a>(
     held: &'a Held,
 ) -> anyhow::Result<Component<'a>>
     requires octets { length held.now.octets.items ≤ 1000 }
-    requires writable { IsWritableParameter (option_map tree_of held.now.parameter) }
+    requires tags { CopyHasTags (option_map tree_of held.now.parameter) }
     requires room { tree_room (option_map tree_of held.now.parameter) ≤ 1000 }
     ensures writable { IfOk result (λ component. IsWritable (component_of component)) }
+    ensures tags { IfOk result (λ component. ComponentHasTags (component_of component)) }
     ensures room { IfOk result (λ component. component_room (component_of component) ≤ 3000) }
 {
     Ok(Component::Invoke(Invoke {
@@ -167,9 +170,9 @@ fn bare_result<'a>(identifier: &str) -> anyhow::Result<ReturnResult<'a>>
 /// A ReturnResult around what it borrows.
 fn result_in<'a>(identifier: &str, code: &str, held: &'a Held) -> anyhow::Result<ReturnResult<'a>>
     requires octets { length held.now.octets.items ≤ 1000 }
-    requires writable { IsWritableParameter (option_map tree_of held.now.parameter) }
+    requires tags { CopyHasTags (option_map tree_of held.now.parameter) }
     requires room { tree_room (option_map tree_of held.now.parameter) ≤ 1000 }
-    ensures writable { IfOk result (λ returned. IsWritableResult (option_map result_of returned.result)) }
+    ensures tags { IfOk result (λ returned. ResultHasTags (option_map result_of returned.result)) }
     ensures room { IfOk result (λ returned. result_room (option_map result_of returned.result) ≤ 2100) }
 {
     Ok(ReturnResult {
@@ -184,9 +187,10 @@ fn result_in<'a>(identifier: &str, code: &str, held: &'a Held) -> anyhow::Result
 /// A ReturnError around what it borrows.
 fn error_in<'a>(identifier: &str, code: &str, held: &'a Held) -> anyhow::Result<Component<'a>>
     requires octets { length held.now.octets.items ≤ 1000 }
-    requires writable { IsWritableParameter (option_map tree_of held.now.parameter) }
+    requires tags { CopyHasTags (option_map tree_of held.now.parameter) }
     requires room { tree_room (option_map tree_of held.now.parameter) ≤ 1000 }
     ensures writable { IfOk result (λ component. IsWritable (component_of component)) }
+    ensures tags { IfOk result (λ component. ComponentHasTags (component_of component)) }
     ensures room { IfOk result (λ component. component_room (component_of component) ≤ 3000) }
 {
     Ok(Component::ReturnError(ReturnError {
@@ -207,6 +211,7 @@ fn rejected_in(text: &str) -> anyhow::Result<Option<i8>> {
 /// A Reject.
 fn reject_in<'a>(identifier: &str, tag: &str, value: &str) -> anyhow::Result<Component<'a>>
     ensures writable { IfOk result (λ component. IsWritable (component_of component)) }
+    ensures tags { IfOk result (λ component. ComponentHasTags (component_of component)) }
     ensures room { IfOk result (λ component. component_room (component_of component) ≤ 3000) }
 {
     let identifier = rejected_in(identifier)?;
@@ -222,9 +227,10 @@ fn reject_in<'a>(identifier: &str, tag: &str, value: &str) -> anyhow::Result<Com
 /// The component of a word, around what it borrows.
 fn component_in<'a>(alloc: Global, word: &str, held: &'a Held) -> anyhow::Result<Component<'a>>
     requires octets { length held.now.octets.items ≤ 1000 }
-    requires writable { IsWritableParameter (option_map tree_of held.now.parameter) }
+    requires tags { CopyHasTags (option_map tree_of held.now.parameter) }
     requires room { tree_room (option_map tree_of held.now.parameter) ≤ 1000 }
     ensures writable { IfOk result (λ component. IsWritable (component_of component)) }
+    ensures tags { IfOk result (λ component. ComponentHasTags (component_of component)) }
     ensures room { IfOk result (λ component. component_room (component_of component) ≤ 3000) }
 {
     let parts: Vec<&str> = word.split(':').collect(alloc)?;
@@ -251,6 +257,7 @@ fn component_in<'a>(alloc: Global, word: &str, held: &'a Held) -> anyhow::Result
 /// The dialogue portion of a text, or `None` for `none`.
 fn dialogue_of(alloc: Global, text: &str) -> anyhow::Result<Option<Element>>
     ensures writable { IfOk result (λ dialogue. IsWritableDialogue (option_map tree_of dialogue)) }
+    ensures tags { IfOk result (λ dialogue. CopyHasTags (option_map tree_of dialogue)) }
     ensures room { IfOk result (λ dialogue. tree_room (option_map tree_of dialogue) ≤ 1000) }
 {
     let Some(element) = optional_element(alloc, text)? else {
@@ -270,8 +277,10 @@ fn portions_text(
     components: Vec<Component<'_>>,
 ) -> anyhow::Result<String>
     requires its_dialogue { IsWritableDialogue (tree_in dialogue) }
+    requires dialogue_tags { CopyHasTags (tree_in dialogue) }
     requires dialogue_room { tree_room (tree_in dialogue) ≤ 1000 }
     requires its_components { AllWritable (map component_of components.items) }
+    requires component_tags { ComponentsHaveTags (map component_of components.items) }
     requires room { components_room (map component_of components.items) ≤ 9000 }
 {
     let message = match frame {
@@ -303,6 +312,7 @@ fn one_text(
     only: &str,
 ) -> anyhow::Result<String>
     requires its_dialogue { IsWritableDialogue (tree_in dialogue) }
+    requires dialogue_tags { CopyHasTags (tree_in dialogue) }
     requires dialogue_room { tree_room (tree_in dialogue) ≤ 1000 }
 {
     let held = held_of(alloc, only)?;
@@ -319,6 +329,7 @@ fn two_text(
     second: &str,
 ) -> anyhow::Result<String>
     requires its_dialogue { IsWritableDialogue (tree_in dialogue) }
+    requires dialogue_tags { CopyHasTags (tree_in dialogue) }
     requires dialogue_room { tree_room (tree_in dialogue) ≤ 1000 }
 {
     let held_by_first = held_of(alloc, first)?;
@@ -338,6 +349,7 @@ fn three_text(
     third: &str,
 ) -> anyhow::Result<String>
     requires its_dialogue { IsWritableDialogue (tree_in dialogue) }
+    requires dialogue_tags { CopyHasTags (tree_in dialogue) }
     requires dialogue_room { tree_room (tree_in dialogue) ≤ 1000 }
 {
     let held_by_first = held_of(alloc, first)?;
@@ -379,6 +391,7 @@ fn abort_text(
     reason: Option<AbortReason<'_>>,
 ) -> anyhow::Result<String>
     requires writable { IsWritableReason (option_map reason_of reason) }
+    requires tags { ReasonHasTags (option_map reason_of reason) }
     requires room { reason_room (option_map reason_of reason) ≤ 1000 }
 {
     let message = Message::Abort(Abort {

@@ -21,7 +21,8 @@ use crate::steps::numbers::number_of;
 use fp_digits::Cause;
 use fp_inap::OperationError;
 use fp_q773::{
-    GeneralProblem, InvokeProblem, Problem, ReturnErrorProblem, ReturnResultProblem, Tid,
+    AbortCause, GeneralProblem, InvokeProblem, Problem, ReturnErrorProblem, ReturnResultProblem,
+    Tid,
 };
 use fp_records::{Action, Destination, Record, Table};
 use fp_service::{AbortPortion, Component, Components, Instruction, Request};
@@ -43,6 +44,17 @@ pub(super) fn peer_of(alloc: Global, text: &str) -> anyhow::Result<Tid> {
         anyhow::bail!("no identifier: {text}");
     };
     Ok(peer)
+}
+
+/// Why the provider aborts a dialogue.
+pub(super) fn abort_cause_of(text: &str) -> anyhow::Result<AbortCause> {
+    match text {
+        "UnrecognizedMessageType" => Ok(AbortCause::UnrecognizedMessageType),
+        "UnrecognizedTransactionIdentifier" => Ok(AbortCause::UnrecognizedTransactionIdentifier),
+        "BadlyFormattedTransactionPortion" => Ok(AbortCause::BadlyFormattedTransactionPortion),
+        "ResourceLimitation" => Ok(AbortCause::ResourceLimitation),
+        _ => anyhow::bail!("no cause: {text}"),
+    }
 }
 
 /// The only destination of a record.

@@ -45,15 +45,28 @@ fn count_places(entries: &[Entry], others: &[Entry]) -> u32 {
     count
 }
 
+/// How many entries are the clock's.
+fn count_clocks(entries: &[Entry]) -> u32 {
+    let mut count: u32 = 0;
+    for entry in entries {
+        if entry.kind.is_clock() {
+            count = count.saturating_add(1);
+        }
+    }
+    count
+}
+
 /// What entries are when each is compared with each copy.
 pub(crate) fn distinct(alloc: Global, entries: &Entries) -> anyhow::Result<String> {
     let copies = entries.try_clone(alloc)?;
     let own = count_places(entries.as_slice(), copies.as_slice());
     let pairs = pairs_of(entries.as_slice(), copies.as_slice());
     Ok(format!(in alloc;
-        "{} entries, {} from components; {} copies, {own} are the same as their entry; of {} pairs {} are the same",
+        "{} entries, {} from components, {} with a place, {} of the clock; {} copies, {own} are the same as their entry; of {} pairs {} are the same",
         entries.len(),
         entries.component_count(),
+        entries.place_count(),
+        count_clocks(entries.as_slice()),
         copies.len(),
         pairs.all,
         pairs.same
@@ -82,4 +95,12 @@ pub(crate) fn list(alloc: Global, table: &Table, entries: Entries) -> anyhow::Re
         count_places(together.as_slice(), copies.as_slice()),
         texts::entries(alloc, table, copies.as_slice())?
     )?)
+}
+
+/// A list, no entry, and a copy of the list, one behind the other.
+pub(crate) fn append(alloc: Global, table: &Table, mut entries: Entries) -> anyhow::Result<String> {
+    let copies = entries.try_clone(alloc)?;
+    entries.append(Entries::new(alloc))?;
+    entries.append(copies)?;
+    texts::entries(alloc, table, entries.as_slice())
 }

@@ -3,7 +3,7 @@
 use super::reading::NOON;
 use fp_apdu::{Name, Opening};
 use fp_digits::{Moment, NatureOfAddress, Number, read_called};
-use fp_entry::{Entry, EntryKind, Fault, Found, Incoming, Prepared, SharedRecord, Transaction};
+use fp_entry::{Arrival, Entry, EntryKind, Found, Incoming, Prepared, SharedRecord};
 use fp_inap::Event;
 use fp_q773::{GeneralProblem, Ids, InvokeProblem, Tid};
 use fp_records::Table;
@@ -247,76 +247,49 @@ pub(crate) fn entries(alloc: Global, table: &Table, entries: &[Entry]) -> anyhow
     Ok(text)
 }
 
-/// The kind of a message and its transaction identifiers.
-fn transaction_text(alloc: Global, transaction: &Transaction) -> anyhow::Result<String> {
-    match transaction {
-        Transaction::Unidirectional => Ok(String::from_str(alloc, "unidirectional")?),
-        Transaction::Begin { originating } => {
-            let from = tid_text(alloc, Some(*originating))?;
-            Ok(format!(in alloc; "begin from {from}")?)
-        }
-        Transaction::Continue {
-            originating,
-            destination,
-        } => {
-            let from = tid_text(alloc, Some(*originating))?;
-            let to = tid_text(alloc, Some(*destination))?;
-            Ok(format!(in alloc; "continue from {from} to {to}")?)
-        }
-        Transaction::End { destination } => {
-            let to = tid_text(alloc, Some(*destination))?;
-            Ok(format!(in alloc; "end to {to}")?)
-        }
-        Transaction::Abort { destination } => {
-            let to = tid_text(alloc, Some(*destination))?;
-            Ok(format!(in alloc; "abort to {to}")?)
-        }
-    }
-}
-
-/// What can be known of octets that are no message, or weren't read to their end.
+/// What can be known of octets, whatever they are.
 fn ids_text(alloc: Global, ids: &Ids) -> anyhow::Result<String> {
     let from = tid_text(alloc, ids.orig)?;
     let to = tid_text(alloc, ids.dest)?;
     Ok(format!(in alloc; "{:?} from {from} to {to}", ids.kind)?)
 }
 
+/// The identifiers of a frame that came, how many octets it has, and its moment.
+fn arrival_text(alloc: Global, arrival: &Arrival) -> anyhow::Result<String> {
+    let ids = ids_text(alloc, &arrival.ids)?;
+    let moment = moment_text(alloc, arrival.moment)?;
+    let octets = arrival.frame.octets();
+    Ok(format!(in alloc; "{ids}, {} octets {moment}", octets.len())?)
+}
+
 /// What a message brings.
 fn incoming_text(alloc: Global, table: &Table, incoming: &Incoming) -> anyhow::Result<String> {
-    let transaction = transaction_text(alloc, &incoming.transaction)?;
     let entries = entries(alloc, table, incoming.entries.as_slice())?;
-    Ok(format!(in alloc; "{transaction}, elements {}: {entries}", incoming.elements)?)
-}
-
-/// Why octets are refused, and what can be known of them.
-fn refused_text(alloc: Global, fault: Fault, ids: &Ids) -> anyhow::Result<String> {
-    let ids = ids_text(alloc, ids)?;
-    Ok(format!(in alloc; "refused, {fault}: {ids}")?)
-}
-
-/// A lost frame: its moment, what can be known of it, and its octets.
-fn lost_text(alloc: Global, octets: &[u8], moment: Moment, ids: &Ids) -> anyhow::Result<String> {
-    let moment = moment_text(alloc, moment)?;
-    let ids = ids_text(alloc, ids)?;
-    let octets = hex::encode_upper(alloc, octets)?;
-    Ok(format!(in alloc; "lost {moment}, {ids}: {octets}")?)
+    Ok(format!(in alloc; "elements {}: {entries}", incoming.elements)?)
 }
 
 /// What a frame is prepared to.
 fn outcome_text(alloc: Global, table: &Table, prepared: &Prepared) -> anyhow::Result<String> {
     match prepared {
-        Prepared::Message(incoming) => incoming_text(alloc, table, incoming),
-        Prepared::Refused { fault, ids } => refused_text(alloc, *fault, ids),
-        Prepared::Lost { frame, moment, ids } => lost_text(alloc, frame.octets(), *moment, ids),
+        Prepared::Message { incoming, .. } => incoming_text(alloc, table, incoming),
+        Prepared::Refused { fault, .. } => Ok(format!(in alloc; "refused: {fault}")?),
+        Prepared::Lost { arrival } => {
+            let octets = hex::encode_upper(alloc, arrival.frame.octets())?;
+            Ok(format!(in alloc; "lost: {octets}")?)
+        }
     }
 }
 
-/// How many entries come from components, and what a frame is prepared to.
+/// How many entries come from components, which frame came, and what it is prepared to.
 pub(crate) fn prepared(
     alloc: Global,
     table: &Table,
     prepared: &Prepared,
 ) -> anyhow::Result<String> {
+    let arrival = arrival_text(alloc, prepared.arrival())?;
     let outcome = outcome_text(alloc, table, prepared)?;
-    Ok(format!(in alloc; "components {}, {outcome}", prepared.components())?)
+    Ok(format!(in alloc;
+        "components {}, {arrival}, {outcome}",
+        prepared.components()
+    )?)
 }

@@ -1,6 +1,6 @@
 -- Where nothing is passed over no identifier is read.
 use Rattle.std.proofs.Common.{inr, refl, arith}
-use Rattle.fp_ber.proofs.Octets.{front_one}
+use Rattle.fp_q773.proofs.Lengths.{front_one}
 use Rattle.fp_q773.proofs.Spellings.{ids_by}
 use Rattle.fp_q773.proofs.ids.ids_of.Goals as goal
 

@@ -3,4 +3,4 @@ use Rattle.fp_q773.proofs.Standing as standing
 use Rattle.fp_q773.proofs.laws.ids_are_one.Goals as goal
 
 pub returns : goal.returns
-returns c = standing.ids_are_one
+returns c = standing.ids_are_one c.no_spelling_begins_another.ensures

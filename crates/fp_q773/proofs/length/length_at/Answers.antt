@@ -1,6 +1,6 @@
 -- The text of each form of a length.
 use Rattle.std.proofs.Common.{arith}
-use Rattle.fp_ber.proofs.Octets.{short_length, long_length_one, long_length_two, long_length_three, long_length_four}
+use Rattle.fp_q773.proofs.Lengths.{short_length, long_length_one, long_length_two, long_length_three, long_length_four}
 use Rattle.fp_q773.proofs.length.length_at.Goals as goal
 
 pub returns-in-0-to-127-clause-some : goal.returns-in-0-to-127-clause-some

@@ -3,7 +3,7 @@ use Rattle.std.proofs.Common.{map, take}
 use Rattle.std.proofs.lemmas.List.{take_more}
 use Rattle.fp_ber.specs.View.{tree_of}
 use Rattle.fp_q773.specs.View.{component_of}
-use Rattle.fp_ber.proofs.Parts.{forest_of-push}
+use Rattle.fp_q773.proofs.Forests.{forest_of-push}
 use Rattle.fp_q773.proofs.Parts.{one_more_component, values-behind, writable_at, row_is_component}
 use Rattle.fp_q773.proofs.Exact.{one_more_exact}
 use Rattle.fp_q773.proofs.portions.write_components.Goals as goal

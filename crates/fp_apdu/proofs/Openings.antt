@@ -40,6 +40,7 @@ accepted_same : (portion : Option Tree) (contexts : List (List ℕ)) (v w : Opti
 accepted_same portion contexts v w m n g h accepted not =
     not (subst (λ name. Contains contexts name) ((request_same portion v w m n g h).names) accepted)
 
+-- so a dialogue portion opens at most one thing
 pub opening_same : (portion : Option Tree) (contexts : List (List ℕ)) (x y : Opening) → Opens portion contexts x → Opens portion contexts y → x ≡ y
 opening_same portion contexts openings.None openings.None g h = refl
 opening_same portion contexts openings.None (openings.Known n) g h = absurd (no_request portion h.0 n g h.1)
