@@ -7,7 +7,7 @@
 //! | `connect DIGITS` | the octets of the argument of Connect to this destination |
 //! | `release CAUSE` | those of ReleaseCall with this cause, as `user-busy` |
 //! | `request-report` | those of RequestReportBCSMEvent |
-//! | `continue IDENTIFIER` | the component that asks for Continue |
+//! | `continue IDENTIFIER` | the octets of the Invoke of Continue |
 //! | `operation CODE` | the operation of this code, with its code and class; or `-` |
 //! | `event CODE` | the event of this code, and the code that it has |
 //! | `mode NAME` | the code of this monitor mode, as `interrupted` |
@@ -16,13 +16,12 @@
 //! A number is its nature of address and behind a colon its digits, as `3:800123456`; a leg is its side and its
 //! octet, as `receiving 2`. What is absent is `-`.
 
-use crate::elements::{element_of, text_of};
+use crate::elements::{element_of, new_writer, written_text};
 use fp_digits::{Cause, Number};
 use fp_inap::{
     Event, Leg, MonitorMode, Operation, OperationError, read_event_report, read_initial_dp,
     write_connect, write_continue, write_release, write_request_report,
 };
-use fp_q773::{Code, Component};
 use std::alloc::Global;
 use std::fmt;
 
@@ -99,8 +98,9 @@ fn connect(alloc: Global, text: &str) -> anyhow::Result<String> {
     if digits.is_empty() || digits.len() > 15 || !digits.iter().all(|&digit| digit < 10) {
         anyhow::bail!("a destination of no digits or more than 15");
     }
-    let argument = write_connect(alloc, digits)?;
-    text_of(alloc, &argument)
+    let mut argument = new_writer(alloc)?;
+    write_connect(digits, &mut argument)?;
+    written_text(alloc, argument)
 }
 
 /// The cause of this name.
@@ -116,34 +116,23 @@ fn cause_of(name: &str) -> anyhow::Result<Cause> {
 
 /// The octets of the argument of a ReleaseCall.
 fn release(alloc: Global, name: &str) -> anyhow::Result<String> {
-    let argument = write_release(alloc, cause_of(name)?)?;
-    text_of(alloc, &argument)
+    let mut argument = new_writer(alloc)?;
+    write_release(cause_of(name)?, &mut argument)?;
+    written_text(alloc, argument)
 }
 
 /// The octets of the argument of a RequestReportBCSMEvent.
 fn request_report(alloc: Global) -> anyhow::Result<String> {
-    let argument = write_request_report(alloc)?;
-    text_of(alloc, &argument)
+    let mut argument = new_writer(alloc)?;
+    write_request_report(&mut argument)?;
+    written_text(alloc, argument)
 }
 
-/// The component that asks for Continue.
+/// The octets of the Invoke of Continue.
 fn continuing(alloc: Global, identifier: i8) -> anyhow::Result<String> {
-    let Component::Invoke(invoke) = write_continue(identifier) else {
-        return Ok(format!(in alloc; "no Invoke")?);
-    };
-    let Code::Local(code) = invoke.code else {
-        return Ok(format!(in alloc; "no local code")?);
-    };
-    let linked = optional_text(alloc, invoke.linked)?;
-    let parameter = if invoke.parameter.is_some() {
-        "some"
-    } else {
-        "-"
-    };
-    Ok(format!(in alloc;
-        "invoke {}, linked {linked}, local code {code}, parameter {parameter}",
-        invoke.identifier
-    )?)
+    let mut invoke = new_writer(alloc)?;
+    write_continue(identifier, &mut invoke)?;
+    written_text(alloc, invoke)
 }
 
 /// The operation of a code, with its code and its class.

@@ -26,25 +26,10 @@ ghost use Rattle.fp_ber.specs.Canon.{HasLengths};
 ghost use Rattle.fp_ber.specs.Tree.{HasTags};
 ghost use Rattle.fp_ber.specs.View.{tree_of};
 
+use crate::elements::{element_of, octets_of, octets_text};
 use anyhow::{bail, ensure};
 use fp_ber::{BerFault, Body, Class, Element, integer_of, octet_of, read, signed_of, write};
 use std::alloc::Global;
-
-/// The octets that a text spells, and none for `empty`.
-pub(crate) fn octets_of(alloc: Global, text: &str) -> anyhow::Result<Vec<u8>> {
-    if text == "empty" {
-        return Ok(Vec::new(alloc));
-    }
-    Ok(hex::decode(alloc, text)?)
-}
-
-/// Octets as text, `empty` where there are none.
-pub(crate) fn octets_text(alloc: Global, octets: &[u8]) -> anyhow::Result<String> {
-    if octets.is_empty() {
-        return Ok(format!(in alloc; "empty")?);
-    }
-    Ok(hex::encode_upper(alloc, octets)?)
-}
 
 /// A class by its name.
 fn class_of(text: &str) -> anyhow::Result<Class> {
@@ -201,12 +186,6 @@ fn following(alloc: Global, text: &str) -> anyhow::Result<String> {
         faults.push(read(alloc, octets.as_slice()).err())?;
     }
     faults_text(alloc, faults.as_slice())
-}
-
-/// The element that these octets spell.
-fn element_of(alloc: Global, text: &str) -> anyhow::Result<Element> {
-    let octets = octets_of(alloc, text)?;
-    Ok(read(alloc, octets.as_slice())?)
 }
 
 /// A copy of the element that these octets spell.

@@ -7,7 +7,7 @@
 //! | `frame-of COUNT` | how many octets the frame of a message of so many octets of 5A holds, or `none` |
 //! | `head COUNT` | the octets before a message of so many octets |
 
-use crate::ber::{octets_of, octets_text};
+use crate::elements::{octets_of, octets_text};
 use anyhow::ensure;
 use bytes::Bytes;
 use fp_frames::{Frame, frame_head};

@@ -10,7 +10,7 @@
 //! | `cause NAME` | the value of this cause, and its contents octets |
 //! | `moment MILLISECONDS` | the moment so long after 1970-01-01T00:00:00Z, in milliseconds, or `none` |
 
-use crate::ber::{octets_of, octets_text};
+use crate::elements::{octets_of, octets_text};
 use anyhow::{bail, ensure};
 use fp_digits::{
     Cause, Moment, NatureOfAddress, NoNumber, Number, cause, read_called, read_calling,

@@ -10,9 +10,9 @@
 //! | `answer NAME VERDICT` | the octets of the dialogue portion that answers `accepted`, `no-name` or `no-version` |
 //! | `abort` | those of the dialogue portion that aborts |
 //!
-//! Names have commas between them. `-` stands for no octets, no names, or no dialogue portion.
+//! Names have commas between them. `empty` stands for no octets, and `-` for no names or no dialogue portion.
 
-use crate::elements::{element_of, octets_of, text_of};
+use crate::elements::{element_of, new_writer, octets_of, octets_text, written_text};
 use fp_apdu::{Badly, Name, Opening, Verdict, opening_of, write_aare, write_abrt};
 use std::alloc::Global;
 
@@ -41,7 +41,7 @@ fn names_of(alloc: Global, text: &str) -> anyhow::Result<Vec<Name>> {
 fn name(alloc: Global, text: &str) -> anyhow::Result<String> {
     let octets = octets_of(alloc, text)?;
     match Name::new(octets.as_slice()) {
-        Some(name) => Ok(hex::encode_upper(alloc, name.as_slice())?),
+        Some(name) => octets_text(alloc, name.as_slice()),
         None => Ok(format!(in alloc; "none")?),
     }
 }
@@ -76,7 +76,7 @@ fn same_name(alloc: Global, one: &str, other: &str) -> anyhow::Result<String> {
 
 /// What is opened, with its name.
 fn named_text(alloc: Global, kind: &str, name: &Name) -> anyhow::Result<String> {
-    let name = hex::encode_upper(alloc, name.as_slice())?;
+    let name = octets_text(alloc, name.as_slice())?;
     Ok(format!(in alloc; "{kind} {name}")?)
 }
 
@@ -128,14 +128,16 @@ fn verdict_of(name: &str) -> anyhow::Result<Verdict> {
 /// The octets of an answer.
 fn answer(alloc: Global, name: &str, verdict: &str) -> anyhow::Result<String> {
     let name = name_of(alloc, name)?;
-    let portion = write_aare(alloc, &name, verdict_of(verdict)?)?;
-    text_of(alloc, &portion)
+    let mut portion = new_writer(alloc)?;
+    write_aare(&name, verdict_of(verdict)?, &mut portion)?;
+    written_text(alloc, portion)
 }
 
 /// The octets of an abort.
 fn abort(alloc: Global) -> anyhow::Result<String> {
-    let portion = write_abrt(alloc)?;
-    text_of(alloc, &portion)
+    let mut portion = new_writer(alloc)?;
+    write_abrt(&mut portion)?;
+    written_text(alloc, portion)
 }
 
 /// What a case of this module gives, or `None` where the words are none.

@@ -186,7 +186,7 @@ fn same_record(
     let Some(other) = other.find(called) else {
         bail!("no record in the other file");
     };
-    same_text(alloc, record.same(other), other.same(record))
+    same_text(alloc, record == other, other == record)
 }
 
 /// A table of one number, 5, whose only rule routes to the destinations that a text writes.
@@ -247,11 +247,7 @@ fn same_routes(alloc: Global, rule: &Rule, other: &Rule) -> anyhow::Result<Strin
     let Action::Route(others) = other.action else {
         bail!("no destinations");
     };
-    same_text(
-        alloc,
-        destinations.same(&others),
-        others.same(&destinations),
-    )
+    same_text(alloc, destinations == others, others == destinations)
 }
 
 /// Whether two texts write the same destinations.

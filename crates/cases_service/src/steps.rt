@@ -86,7 +86,7 @@ fn steps(
 
 /// How two cores compare, whichever is asked about the other.
 fn comparison(core: &Core, other: &Core) -> &'static str {
-    match (core.same(other), other.same(core)) {
+    match (core == other, other == core) {
         (true, true) => "same",
         (false, false) => "different",
         _ => "same from one side alone",

@@ -1,6 +1,5 @@
 pub mod Answering
 pub mod Forests
 pub mod Openings
-pub mod Padding
 pub mod Requests
 pub mod Sizes

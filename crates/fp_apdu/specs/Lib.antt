@@ -7,6 +7,5 @@ pub mod Laws
 pub mod Name
 pub mod ObjectIdentifier
 pub mod Opening
-pub mod Padded
 pub mod ProtocolVersion
 pub mod Verdict

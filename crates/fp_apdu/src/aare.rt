@@ -1,17 +1,17 @@
 //! The answer to a request for a dialogue, AARE (Q.773, 4.2.3).
 
-ghost use Rattle.std.specs.Prelude.{◌≡◌, ◌+◌, length, IfOk, OnOk};
+ghost use Rattle.std.specs.Prelude.{◌≡◌, ◌+◌, ◌++◌, length, OnOk};
 ghost use Rattle.fp_ber.specs.Canon.{canon, HasLengths};
-ghost use Rattle.fp_ber.specs.Tree.{HasTags};
-ghost use Rattle.fp_ber.specs.View.{tree_of};
-ghost use Rattle.fp_apdu.specs.Aare.{integer, aare};
+ghost use Rattle.fp_ber.specs.declared.element.Class.TheVariants as classes;
+ghost use Rattle.fp_ber.specs.Tree.{HasTags, constructed, more, none};
+ghost use Rattle.fp_apdu.specs.Aare.{aare, integer};
 ghost use Rattle.fp_apdu.specs.DialoguePortion.{dialogue_portion};
-ghost use Rattle.fp_apdu.specs.Name.{IsName};
+ghost use Rattle.fp_apdu.specs.Verdict.{associate_result, diagnostic, source};
 
-use crate::members::holding;
 use crate::{Name, Verdict, context_name, dialogue_portion, protocol_version};
-use fp_ber::{Class, Element};
-use std::alloc::{AllocError, Global};
+use fp_ber::universal::INTEGER;
+use fp_ber::{Class, Writer};
+use std::alloc::AllocError;
 
 /// The number of the application tag of an AARE.
 const AARE: u16 = 1;
@@ -19,44 +19,70 @@ const AARE: u16 = 1;
 const RESULT: u16 = 2;
 /// The number of the context tag of a result's source and diagnostic.
 const RESULT_SOURCE_DIAGNOSTIC: u16 = 3;
-/// The number of the universal tag of an integer.
-const INTEGER: u16 = 2;
 
-/// An integer of one octet.
-fn write_integer(alloc: Global, octet: u8) -> Result<Element, AllocError>
-    ensures { IfOk result (λ element. tree_of element ≡ integer octet) }
+/// Puts an integer of one octet before what is there.
+fn write_integer(octet: u8, out: &mut Writer) -> Result<(), AllocError>
+    ensures { OnOk result (out.new ≡ canon (integer octet) ++ out.old) }
 {
-    let octets = vec![in alloc; octet]?;
-    Ok(Element::primitive(Class::Universal, INTEGER, octets))
+    out.put_primitive(Class::Universal, INTEGER, &[octet])
 }
 
-/// The AARE of a verdict, with the caller's name.
-fn write_apdu(alloc: Global, name: &Name, verdict: Verdict) -> Result<Element, AllocError>
-    ensures ok { IfOk result (λ apdu. tree_of apdu ≡ aare name.now verdict) }
-    ensures name { OnOk result (IsName name.now) }
+/// Puts the result of a verdict before what is there.
+fn write_result(verdict: Verdict, out: &mut Writer) -> Result<(), AllocError>
+    ensures { OnOk result (out.new ≡ canon (constructed classes.Context 2
+        (more (integer (associate_result verdict)) none)) ++ out.old) }
 {
-    let version = protocol_version::write(alloc)?;
-    let name = context_name::write(alloc, name)?;
-    let value = write_integer(alloc, verdict.result())?;
-    let result = holding(alloc, Class::Context, RESULT, value)?;
-    let value = write_integer(alloc, verdict.diagnostic())?;
-    let diagnostic = holding(alloc, Class::Context, verdict.source(), value)?;
-    let diagnostic = holding(alloc, Class::Context, RESULT_SOURCE_DIAGNOSTIC, diagnostic)?;
-    let members = vec![in alloc; version, name, result, diagnostic]?;
-    Ok(Element::constructed(Class::Application, AARE, members))
+    let behind = out.len();
+    write_integer(verdict.result(), out)?;
+    out.put_constructed(Class::Context, RESULT, behind)
 }
 
-/// The dialogue portion that answers a request for a dialogue of this name by a verdict: an AARE of version 1
-/// with the same name.
-pub fn write_aare(alloc: Global, name: &Name, verdict: Verdict) -> Result<Element, AllocError>
-    ensures ok { IfOk result (λ portion. tree_of portion ≡ dialogue_portion (aare name.now verdict)) }
-
-    // The element is in range to be spelled, in 37 octets and those of the name.
-    ensures tags { IfOk result (λ portion. HasTags (tree_of portion)) }
-    ensures lengths { IfOk result (λ portion. HasLengths (tree_of portion)) }
-    ensures size { IfOk result (λ portion. length (canon (tree_of portion)) ≡ 37 + length name.now) }
+/// Puts the diagnostic of a verdict, in the tag of its source, before what is there.
+fn write_source(verdict: Verdict, out: &mut Writer) -> Result<(), AllocError>
+    ensures { OnOk result (out.new ≡ canon (constructed classes.Context (source verdict)
+        (more (integer (diagnostic verdict)) none)) ++ out.old) }
 {
-    let apdu = write_apdu(alloc, name, verdict)?;
-    let portion = dialogue_portion::write(alloc, apdu)?;
-    Ok(portion)
+    let behind = out.len();
+    write_integer(verdict.diagnostic(), out)?;
+    out.put_constructed(Class::Context, verdict.source(), behind)
+}
+
+/// Puts the result's source and diagnostic of a verdict before what is there.
+fn write_diagnostic(verdict: Verdict, out: &mut Writer) -> Result<(), AllocError>
+    ensures { OnOk result (out.new ≡ canon (constructed classes.Context 3
+        (more (constructed classes.Context (source verdict) (more (integer (diagnostic verdict)) none))
+        none)) ++ out.old) }
+{
+    let behind = out.len();
+    write_source(verdict, out)?;
+    out.put_constructed(Class::Context, RESULT_SOURCE_DIAGNOSTIC, behind)
+}
+
+/// Puts the AARE of a verdict, with this application context name, before what is there.
+fn write_apdu(name: &[u8], verdict: Verdict, out: &mut Writer) -> Result<(), AllocError>
+    ensures { OnOk result (out.new ≡ canon (aare name.now verdict) ++ out.old) }
+{
+    let behind = out.len();
+    write_diagnostic(verdict, out)?;
+    write_result(verdict, out)?;
+    context_name::write(name, out)?;
+    protocol_version::write(out)?;
+    out.put_constructed(Class::Application, AARE, behind)
+}
+
+/// Puts the dialogue portion that answers a request for a dialogue of this name by a verdict before the octets that are
+/// there: an AARE of version 1 with the same name, 37 octets and those of the name. After want of memory nothing
+/// is promised of the octets.
+pub fn write_aare(name: &Name, verdict: Verdict, out: &mut Writer) -> Result<(), AllocError>
+    ensures ok { OnOk result (out.new ≡ canon (dialogue_portion (aare name.now verdict)) ++ out.old) }
+
+    // The dialogue portion is in range to be spelled.
+    ensures tags { HasTags (dialogue_portion (aare name.now verdict)) }
+    ensures lengths { HasLengths (dialogue_portion (aare name.now verdict)) }
+    ensures size { length (canon (dialogue_portion (aare name.now verdict))) ≡ 37 + length name.now }
+{
+    let name = name.as_slice();
+    let behind = out.len();
+    write_apdu(name, verdict, out)?;
+    dialogue_portion::write(behind, out)
 }

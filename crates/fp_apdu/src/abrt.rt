@@ -1,15 +1,14 @@
 //! The abort of a dialogue, ABRT (Q.773, 4.2.3).
 
-ghost use Rattle.std.specs.Prelude.{◌≡◌, length, IfOk};
+ghost use Rattle.std.specs.Prelude.{◌≡◌, ◌++◌, length, OnOk};
 ghost use Rattle.fp_ber.specs.Canon.{canon, HasLengths};
 ghost use Rattle.fp_ber.specs.Tree.{HasTags};
-ghost use Rattle.fp_ber.specs.View.{tree_of};
 ghost use Rattle.fp_apdu.specs.Abrt.{abrt};
 ghost use Rattle.fp_apdu.specs.DialoguePortion.{dialogue_portion};
 
 use crate::dialogue_portion;
-use fp_ber::{Class, Element};
-use std::alloc::{AllocError, Global};
+use fp_ber::{Class, Writer};
+use std::alloc::AllocError;
 
 /// The number of the application tag of an ABRT.
 const ABRT: u16 = 4;
@@ -18,18 +17,27 @@ const ABORT_SOURCE: u16 = 0;
 /// The source of an abort by the dialogue service user.
 const DIALOGUE_SERVICE_USER: u8 = 0;
 
-/// The dialogue portion of an abort by the dialogue service user: an ABRT.
-pub fn write_abrt(alloc: Global) -> Result<Element, AllocError>
-    ensures ok { IfOk result (λ portion. tree_of portion ≡ dialogue_portion abrt) }
-
-    // The element is in range to be spelled, in 20 octets.
-    ensures tags { IfOk result (λ portion. HasTags (tree_of portion)) }
-    ensures lengths { IfOk result (λ portion. HasLengths (tree_of portion)) }
-    ensures size { IfOk result (λ portion. length (canon (tree_of portion)) ≡ 20) }
+/// Puts the ABRT of an abort by the dialogue service user before what is there.
+fn write_apdu(out: &mut Writer) -> Result<(), AllocError>
+    ensures { OnOk result (out.new ≡ canon abrt ++ out.old) }
 {
-    let source = vec![in alloc; DIALOGUE_SERVICE_USER]?;
-    let source = Element::primitive(Class::Context, ABORT_SOURCE, source);
-    let members = vec![in alloc; source]?;
-    let apdu = Element::constructed(Class::Application, ABRT, members);
-    dialogue_portion::write(alloc, apdu)
+    let behind = out.len();
+    out.put_primitive(Class::Context, ABORT_SOURCE, &[DIALOGUE_SERVICE_USER])?;
+    out.put_constructed(Class::Application, ABRT, behind)
+}
+
+/// Puts the dialogue portion of an abort by the dialogue service user, an ABRT, before the octets that are there: 20
+/// octets. After want of memory nothing is promised of
+/// the octets.
+pub fn write_abrt(out: &mut Writer) -> Result<(), AllocError>
+    ensures ok { OnOk result (out.new ≡ canon (dialogue_portion abrt) ++ out.old) }
+
+    // The dialogue portion is in range to be spelled.
+    ensures tags { HasTags (dialogue_portion abrt) }
+    ensures lengths { HasLengths (dialogue_portion abrt) }
+    ensures size { length (canon (dialogue_portion abrt)) ≡ 20 }
+{
+    let behind = out.len();
+    write_apdu(out)?;
+    dialogue_portion::write(behind, out)
 }

@@ -1,13 +1,14 @@
 //! The application context name within AARQ and AARE (Q.773, 4.2.3).
 
-ghost use Rattle.std.specs.Prelude.{◌≡◌, ℕ, List, IfOk, MatchOption};
+ghost use Rattle.std.specs.Prelude.{◌≡◌, ◌++◌, ℕ, List, MatchOption, OnOk};
+ghost use Rattle.fp_ber.specs.Canon.{canon};
 ghost use Rattle.fp_ber.specs.View.{tree_of};
 ghost use Rattle.fp_apdu.specs.Name.{IsName, application_context_name};
 
-use crate::members::{holding, only_in};
+use crate::members::only_in;
 use crate::{Name, object_identifier};
-use fp_ber::{Class, Element};
-use std::alloc::{AllocError, Global};
+use fp_ber::{Class, Element, Writer};
+use std::alloc::AllocError;
 
 /// The number of the context tag of an application context name.
 const APPLICATION_CONTEXT_NAME: u16 = 1;
@@ -22,11 +23,11 @@ pub(crate) fn read(element: &Element) -> Option<Name>
     Name::new(octets)
 }
 
-/// The application context name of this name.
-pub(crate) fn write(alloc: Global, name: &Name) -> Result<Element, AllocError>
-    ensures ok { IfOk result (λ element. tree_of element ≡ application_context_name name.now) }
-    ensures name { IsName name.now }
+/// Puts the application context name of these octets before what is there.
+pub(crate) fn write(name: &[u8], out: &mut Writer) -> Result<(), AllocError>
+    ensures { OnOk result (out.new ≡ canon (application_context_name name.now) ++ out.old) }
 {
-    let identifier = object_identifier::write(alloc, name.as_slice())?;
-    holding(alloc, Class::Context, APPLICATION_CONTEXT_NAME, identifier)
+    let behind = out.len();
+    object_identifier::write(name, out)?;
+    out.put_constructed(Class::Context, APPLICATION_CONTEXT_NAME, behind)
 }

@@ -1,19 +1,19 @@
 //! The dialogue portion of structured dialogue around one APDU (Q.773, 4.2.3).
 
-ghost use Rattle.std.specs.Prelude.{◌≡◌, IfOk, MatchOption};
+ghost use Rattle.std.specs.Prelude.{◌≡◌, ◌++◌, ℕ, List, MatchOption, OnOk, length};
+ghost use Rattle.fp_ber.specs.Canon.{canon};
 ghost use Rattle.fp_ber.specs.Tree.{Tree};
 ghost use Rattle.fp_ber.specs.View.{tree_of};
 ghost use Rattle.fp_apdu.specs.DialoguePortion.{external, dialogue_portion};
 
-use crate::members::{holding, only, only_in, split_first};
+use crate::members::{only, only_in, split_first};
 use crate::object_identifier;
-use fp_ber::{Class, Element};
-use std::alloc::{AllocError, Global};
+use fp_ber::universal::EXTERNAL;
+use fp_ber::{Class, Element, Writer};
+use std::alloc::AllocError;
 
 /// The number of the application tag of a dialogue portion.
 const DIALOGUE_PORTION: u16 = 11;
-/// The number of the universal tag of an EXTERNAL.
-const EXTERNAL: u16 = 8;
 /// The number of the context tag of the encoding as a single ASN.1 type.
 const SINGLE_ASN1_TYPE: u16 = 0;
 
@@ -45,13 +45,15 @@ pub(crate) fn read(portion: &Element) -> Option<&Element>
     in_external(external)
 }
 
-/// The dialogue portion around an APDU.
-pub(crate) fn write(alloc: Global, apdu: Element) -> Result<Element, AllocError>
-    ensures { IfOk result (λ portion. tree_of portion ≡ dialogue_portion (tree_of apdu)) }
+/// Puts tags, lengths and the name of the abstract syntax before an APDU, so that with the APDU behind them they are a
+/// dialogue portion. All octets but the last ones, `behind` in number, are those of the APDU.
+pub(crate) fn write(behind: usize, out: &mut Writer) -> Result<(), AllocError>
+    requires { (apdu : Tree) × (rest : List ℕ) × (out.old ≡ canon apdu ++ rest) × (length rest ≡ behind) }
+    ensures { (apdu : Tree) (rest : List ℕ) → out.old ≡ canon apdu ++ rest → length rest ≡ behind
+        → OnOk result (out.new ≡ canon (dialogue_portion apdu) ++ rest) }
 {
-    let reference = object_identifier::write(alloc, &DIALOGUE_AS)?;
-    let encoding = holding(alloc, Class::Context, SINGLE_ASN1_TYPE, apdu)?;
-    let members = vec![in alloc; reference, encoding]?;
-    let external = Element::constructed(Class::Universal, EXTERNAL, members);
-    holding(alloc, Class::Application, DIALOGUE_PORTION, external)
+    out.put_constructed(Class::Context, SINGLE_ASN1_TYPE, behind)?;
+    object_identifier::write(&DIALOGUE_AS, out)?;
+    out.put_constructed(Class::Universal, EXTERNAL, behind)?;
+    out.put_constructed(Class::Application, DIALOGUE_PORTION, behind)
 }

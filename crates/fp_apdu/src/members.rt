@@ -1,11 +1,10 @@
 //! The elements that an element holds.
 
-ghost use Rattle.std.specs.Prelude.{◌≡◌, IfOk, MatchOption};
+ghost use Rattle.std.specs.Prelude.{◌≡◌, MatchOption};
 ghost use Rattle.fp_ber.specs.Tree.{Tree, constructed, none, more};
 ghost use Rattle.fp_ber.specs.View.{tree_of, forest_of};
 
 use fp_ber::{Class, Element};
-use std::alloc::{AllocError, Global};
 
 /// The first of the elements and the others; `None` where there is none.
 pub(crate) fn split_first(elements: &[Element]) -> Option<(&Element, &[Element])>
@@ -34,16 +33,4 @@ pub(crate) fn only_in(parent: &Element, class: Class, number: u16) -> Option<&El
 {
     let children = parent.children_with_tag(class, number)?;
     only(children)
-}
-
-/// The constructed element of this tag that holds one element.
-pub(crate) fn holding(
-    alloc: Global,
-    class: Class,
-    number: u16,
-    child: Element,
-) -> Result<Element, AllocError>
-    ensures { IfOk result (λ parent. tree_of parent ≡ constructed class number (more (tree_of child) none)) }
-{
-    Ok(Element::constructed(class, number, vec![in alloc; child]?))
 }

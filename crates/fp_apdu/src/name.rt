@@ -1,51 +1,31 @@
 //! Application context names.
 
-ghost use Rattle.std.specs.Prelude.{◌≡◌, ℕ, MatchOption, nat_eq};
-ghost use Rattle.std.specs.Cmp.{partial_equiv_from_equiv};
-ghost use Rattle.std.specs.Cmp.Lexicographic.{pointwise, nat_list_eq_equiv};
+ghost use Rattle.std.specs.Prelude.{◌≡◌, MatchOption};
 ghost use Rattle.fp_apdu.specs.Name.{IsName};
 
+use fp_octets::Octets;
 use std::marker::Model;
 
 /// An application context name (Q.773, 4.2.3): 1 to 64 octets, the contents of an object identifier, kept as
-/// they came. They needn't be those that X.690, 8.19 has. Contracts see it as their list.
-#[derive(Clone, Copy, Debug)]
+/// they came. They needn't be those that X.690, 8.19 has. Contracts see it as their list, and two are equal exactly
+/// where they have the same octets.
+#[derive(Clone, Copy, Debug, PartialEq, Eq)]
 pub struct Name {
-    places: [u8; 64],
-    used: usize,
+    octets: Octets<64>,
 }
 
 impl Model for Name {
-    ghost use Rattle.std.specs.Prelude.{ℕ, ◌≤◌, List, take, length};
-    ghost use Rattle.fp_apdu.specs.Padded.{IsPadded, padded, padded-take, length-take-padded};
+    ghost use Rattle.std.specs.Prelude.{ℕ, ◌≤◌, List, length};
 
     ghost Value = { List ℕ };
 
-    ghost view = { λ name. take name.used name.places };
+    ghost view = { λ name. name.octets };
 
-    ghost invariant = { λ name. (1 ≤ name.used) × IsPadded 64 name.places name.used };
+    ghost invariant = { λ name. 1 ≤ length name.octets };
 
-    ghost inverse = { λ list. record { places = padded 64 list; used = length list } };
+    ghost inverse = { λ list. record { octets = list } };
 
-    ghost inverse_ok = { λ name kept i. record {
-      places = padded-take 64 name.places name.used kept.1 i;
-      used = length-take-padded 64 name.places name.used kept.1 i;
-    } };
-}
-
-/// Two are equal exactly where they have the same octets.
-impl PartialEq for Name {
-    ghost eq = { λ a b. pointwise nat_eq a b };
-
-    ghost laws = { partial_equiv_from_equiv nat_list_eq_equiv };
-
-    fn eq(&self, other: &Self) -> bool {
-        self.as_slice() == other.as_slice()
-    }
-}
-
-impl Eq for Name {
-    ghost laws = { nat_list_eq_equiv };
+    ghost inverse_ok = { λ name some i. record { octets = name.octets } };
 }
 
 impl Name {
@@ -56,15 +36,13 @@ impl Name {
     pub fn new(octets: &[u8]) -> Option<Name>
         ensures { MatchOption result (¬ IsName octets.now) (λ name. name ≡ octets.now) }
     {
-        if octets.is_empty() || octets.len() > Self::MOST {
+        if octets.is_empty() {
             return None;
         }
-        let mut places = [0; Self::MOST];
-        places[..octets.len()].copy_from_slice(octets);
-        Some(Name {
-            places,
-            used: octets.len(),
-        })
+        let Some(octets) = Octets::from_slice(octets) else {
+            return None;
+        };
+        Some(Name { octets })
     }
 
     /// The octets, 1 to 64 of them.
@@ -72,6 +50,6 @@ impl Name {
         ensures value { result.now ≡ self.now }
         ensures size { IsName self.now }
     {
-        &self.places[..self.used]
+        self.octets.as_slice()
     }
 }

@@ -1,14 +1,13 @@
 //! Object identifiers (X.690, 8.19), whose octets aren't looked at.
 
-ghost use Rattle.std.specs.Prelude.{◌≡◌, List, ℕ, IfOk, MatchOption};
+ghost use Rattle.std.specs.Prelude.{◌≡◌, ◌++◌, List, ℕ, MatchOption, OnOk};
+ghost use Rattle.fp_ber.specs.Canon.{canon};
 ghost use Rattle.fp_ber.specs.View.{tree_of};
 ghost use Rattle.fp_apdu.specs.ObjectIdentifier.{object_identifier};
 
-use fp_ber::{Class, Element};
-use std::alloc::{AllocError, Global};
-
-/// The number of the universal tag of an object identifier.
-const OBJECT_IDENTIFIER: u16 = 6;
+use fp_ber::universal::OBJECT_IDENTIFIER;
+use fp_ber::{Class, Element, Writer};
+use std::alloc::AllocError;
 
 /// The octets of an object identifier.
 pub(crate) fn read(element: &Element) -> Option<&[u8]>
@@ -18,10 +17,9 @@ pub(crate) fn read(element: &Element) -> Option<&[u8]>
     element.octets_with_tag(Class::Universal, OBJECT_IDENTIFIER)
 }
 
-/// The object identifier of these octets.
-pub(crate) fn write(alloc: Global, octets: &[u8]) -> Result<Element, AllocError>
-    ensures { IfOk result (λ element. tree_of element ≡ object_identifier octets.now) }
+/// Puts the object identifier of these octets before what is there.
+pub(crate) fn write(octets: &[u8], out: &mut Writer) -> Result<(), AllocError>
+    ensures { OnOk result (out.new ≡ canon (object_identifier octets.now) ++ out.old) }
 {
-    let octets = Vec::from_slice(alloc, octets)?;
-    Ok(Element::primitive(Class::Universal, OBJECT_IDENTIFIER, octets))
+    out.put_primitive(Class::Universal, OBJECT_IDENTIFIER, octets)
 }

@@ -1,11 +1,12 @@
 //! The protocol version within AARQ and AARE (Q.773, 4.2.3).
 
-ghost use Rattle.std.specs.Prelude.{◌≡◌, ℕ, List, IfOk, MatchOption};
+ghost use Rattle.std.specs.Prelude.{◌≡◌, ◌++◌, ℕ, List, MatchOption, OnOk};
+ghost use Rattle.fp_ber.specs.Canon.{canon};
 ghost use Rattle.fp_ber.specs.View.{tree_of};
 ghost use Rattle.fp_apdu.specs.ProtocolVersion.{protocol_version, version_1};
 
-use fp_ber::{Class, Element};
-use std::alloc::{AllocError, Global};
+use fp_ber::{Class, Element, Writer};
+use std::alloc::AllocError;
 
 /// The number of the context tag of a protocol version.
 const PROTOCOL_VERSION: u16 = 0;
@@ -21,10 +22,9 @@ pub(crate) fn read(element: &Element) -> Option<&[u8]>
     element.octets_with_tag(Class::Context, PROTOCOL_VERSION)
 }
 
-/// The protocol version of version 1 alone.
-pub(crate) fn write(alloc: Global) -> Result<Element, AllocError>
-    ensures { IfOk result (λ element. tree_of element ≡ protocol_version version_1) }
+/// Puts the protocol version of version 1 alone before what is there.
+pub(crate) fn write(out: &mut Writer) -> Result<(), AllocError>
+    ensures { OnOk result (out.new ≡ canon (protocol_version version_1) ++ out.old) }
 {
-    let octets = Vec::from_slice(alloc, &VERSION_1)?;
-    Ok(Element::primitive(Class::Context, PROTOCOL_VERSION, octets))
+    out.put_primitive(Class::Context, PROTOCOL_VERSION, &VERSION_1)
 }

@@ -3,6 +3,7 @@ pub mod Extents
 pub mod Faults
 pub mod Integer
 pub mod Laws
+pub mod Putting
 pub mod Spelling
 pub mod Tree
 pub mod View

@@ -22,14 +22,15 @@ pub enum Extent<'a> {
     Indefinite { rest: &'a [u8] },
 }
 
-/// Reads the length at the front, `None` for an indefinite one, and gives what follows.
-fn length_at(bytes: &[u8], constructed: bool) -> Result<(Option<usize>, &[u8]), BerFault>
+/// Reads the length at the front of what stands behind a tag, `None` for an indefinite one, and gives what follows.
+/// A primitive element has no indefinite one.
+pub fn length_at(octets: &[u8], constructed: bool) -> Result<(Option<usize>, &[u8]), BerFault>
     ensures ok { IfOk result (λ x. MatchOption x.0
-        ((constructed ≡ true) × (bytes.now ≡ 0x80 ∷ x.1.now))
-        (λ n. BeginsLength bytes.now n x.1.now)) }
-    ensures err { IfErr result (LengthFault constructed bytes.now) }
+        ((constructed ≡ true) × (octets.now ≡ 0x80 ∷ x.1.now))
+        (λ n. BeginsLength octets.now n x.1.now)) }
+    ensures err { IfErr result (LengthFault constructed octets.now) }
 {
-    let [first, rest @ ..] = bytes else {
+    let [first, rest @ ..] = octets else {
         return Err(BerFault::Cut);
     };
     match *first {
@@ -72,11 +73,11 @@ fn length_at(bytes: &[u8], constructed: bool) -> Result<(Option<usize>, &[u8]), 
 }
 
 /// Reads the length at the front, and gives the contents and what follows.
-pub fn extent_at(bytes: &[u8], constructed: bool) -> Result<Extent<'_>, BerFault>
-    ensures ok { IfOk result (IsExtent bytes.now constructed) }
-    ensures err { IfErr result (ExtentFault constructed bytes.now) }
+pub fn extent_at(octets: &[u8], constructed: bool) -> Result<Extent<'_>, BerFault>
+    ensures ok { IfOk result (IsExtent octets.now constructed) }
+    ensures err { IfErr result (ExtentFault constructed octets.now) }
 {
-    let (length, rest) = length_at(bytes, constructed)?;
+    let (length, rest) = length_at(octets, constructed)?;
     let Some(length) = length else {
         return Ok(Extent::Indefinite { rest });
     };

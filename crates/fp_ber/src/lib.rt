@@ -5,8 +5,10 @@
 //!
 //! * [`read`] takes all three forms of a length (X.690, 8.1.3), minimal or not, and tags in one to three
 //!   octets (8.1.2). What it can't read it refuses by the first fault from left to right, a [`BerFault`].
-//! * [`write`] appends the canonical spelling: definite lengths in as few octets as they take (10.1).
+//! * [`write`] appends the canonical spelling: definite lengths in as few octets as they take (10.1). A [`Writer`] makes
+//!   it from its end to its front, without an element.
 //! * [`Element`] and [`Body`] are the value: a class, a number, and octets or elements.
+//! * [`length_at`] reads a length alone, where the octets needn't be an element.
 //!
 //! The layer above may rely on this: `read` answers an element exactly where the octets spell it and it
 //! is in range (at most sixteen elements inside each other, tag numbers to 16,383), want of memory aside;
@@ -25,6 +27,8 @@ mod length;
 mod placing;
 mod reading;
 mod tag;
+pub mod universal;
+mod writer;
 mod writing;
 
 pub use element::{Body, Class, Element};
@@ -34,5 +38,7 @@ pub use laws::{
     canonical_lengths_are_shortest, canonical_spelling_spells, faults_are_one,
     no_spelling_begins_another, spelled_octets_have_no_fault,
 };
+pub use length::length_at;
 pub use reading::read;
+pub use writer::Writer;
 pub use writing::write;

@@ -21,14 +21,14 @@ const DEPTH: u8 = 16;
 
 /// Reads the element at the front, with at most `depth` elements inside each other, and gives what follows.
 #[cycle(read)]
-fn element_at(alloc: Global, bytes: &[u8], depth: u8) -> Result<(Element, &[u8]), BerFault>
-    ensures ok { IfOk result (λ x. Begins depth bytes.now (tree_of x.0) x.1.now) }
-    ensures err { IfErr result (λ fault. fault ≢ faults.Memory → ElementFault depth bytes.now fault) }
+fn element_at(alloc: Global, octets: &[u8], depth: u8) -> Result<(Element, &[u8]), BerFault>
+    ensures ok { IfOk result (λ x. Begins depth octets.now (tree_of x.0) x.1.now) }
+    ensures err { IfErr result (λ fault. fault ≢ faults.Memory → ElementFault depth octets.now fault) }
 {
     if depth == 0 {
         return Err(BerFault::TooDeep);
     }
-    let (tag, after_tag) = tag_at(bytes)?;
+    let (tag, after_tag) = tag_at(octets)?;
     let contents = extent_at(after_tag, tag.constructed)?;
     match contents {
         Extent::Definite { contents, rest } => {
@@ -67,14 +67,14 @@ fn elements_of(alloc: Global, contents: &[u8], depth: u8) -> Result<Vec<Element>
 #[cycle(read)]
 fn elements_to_end(
     alloc: Global,
-    bytes: &[u8],
+    octets: &[u8],
     depth: u8,
 ) -> Result<(Vec<Element>, &[u8]), BerFault>
-    ensures ok { IfOk result (λ x. BeginAll depth bytes.now (forest_of x.0.items) (0 ∷ 0 ∷ x.1.now)) }
-    ensures err { IfErr result (λ fault. fault ≢ faults.Memory → InOpen depth (ElementFault depth) bytes.now fault) }
+    ensures ok { IfOk result (λ x. BeginAll depth octets.now (forest_of x.0.items) (0 ∷ 0 ∷ x.1.now)) }
+    ensures err { IfErr result (λ fault. fault ≢ faults.Memory → InOpen depth (ElementFault depth) octets.now fault) }
 {
     let mut children = Vec::new(alloc);
-    let mut rest = bytes;
+    let mut rest = octets;
     'children: loop {
         match rest {
             [] | [0] => return Err(BerFault::Cut),
@@ -89,11 +89,11 @@ fn elements_to_end(
 }
 
 /// Reads the element that all of the octets spell.
-fn element_of(alloc: Global, bytes: &[u8]) -> Result<Element, BerFault>
-    ensures found { IfOk result (λ e. Spells bytes.now (tree_of e) × InRange (tree_of e)) }
-    ensures fault { IfErr result (λ fault. fault ≢ faults.Memory → FirstFault bytes.now fault) }
+fn element_of(alloc: Global, octets: &[u8]) -> Result<Element, BerFault>
+    ensures found { IfOk result (λ e. Spells octets.now (tree_of e) × InRange (tree_of e)) }
+    ensures fault { IfErr result (λ fault. fault ≢ faults.Memory → FirstFault octets.now fault) }
 {
-    let (element, rest) = element_at(alloc, bytes, DEPTH)?;
+    let (element, rest) = element_at(alloc, octets, DEPTH)?;
     if !rest.is_empty() {
         return Err(BerFault::Trailing);
     }
@@ -105,22 +105,22 @@ fn element_of(alloc: Global, bytes: &[u8]) -> Result<Element, BerFault>
 /// Each length may have any of the three forms and needn't be minimal. At most sixteen elements may lie
 /// inside each other, and tag numbers go to 16,383. Octets that spell no such element are refused by their
 /// first fault from left to right; nothing is kept of them.
-pub fn read(alloc: Global, bytes: &[u8]) -> Result<Element, BerFault>
+pub fn read(alloc: Global, octets: &[u8]) -> Result<Element, BerFault>
     // What is read is spelled so, and in range.
-    ensures found { IfOk result (λ e. Spells bytes.now (tree_of e) × InRange (tree_of e)) }
+    ensures found { IfOk result (λ e. Spells octets.now (tree_of e) × InRange (tree_of e)) }
 
     // What is spelled so and in range is read, unless memory runs out.
-    ensures only { (t : Tree) → Spells bytes.now t → InRange t → Reads result t }
+    ensures only { (t : Tree) → Spells octets.now t → InRange t → Reads result t }
 
     // What a short text spells can be written, in no more octets.
-    ensures fits { IfOk result (λ e. length bytes.now < 65536
-        → HasLengths (tree_of e) × (length (canon (tree_of e)) ≤ length bytes.now)) }
+    ensures fits { IfOk result (λ e. length octets.now < 65536
+        → HasLengths (tree_of e) × (length (canon (tree_of e)) ≤ length octets.now)) }
 
     // A fault is the first from left to right.
-    ensures fault { IfErr result (λ fault. fault ≢ faults.Memory → FirstFault bytes.now fault) }
+    ensures fault { IfErr result (λ fault. fault ≢ faults.Memory → FirstFault octets.now fault) }
 
     // The first fault is answered, unless memory runs out before it.
-    ensures first { (fault : BerFault) → FirstFault bytes.now fault → Refuses result fault }
+    ensures first { (fault : BerFault) → FirstFault octets.now fault → Refuses result fault }
 {
-    element_of(alloc, bytes)
+    element_of(alloc, octets)
 }

@@ -47,12 +47,12 @@ fn first_of(class: Class, constructed: bool, low: u8) -> u8
 }
 
 /// Reads the number of a tag in the high form, behind its first octet, and gives what follows.
-fn high_number_at(bytes: &[u8]) -> Result<(u16, &[u8]), BerFault>
+fn high_number_at(octets: &[u8]) -> Result<(u16, &[u8]), BerFault>
     ensures ok { IfOk result (λ x. (class : Class) (form : Bool)
-        → BeginsTag (first_octet class form 31 ∷ bytes.now) class form x.0 x.1.now) }
-    ensures err { IfErr result (HighFault bytes.now) }
+        → BeginsTag (first_octet class form 31 ∷ octets.now) class form x.0 x.1.now) }
+    ensures err { IfErr result (HighFault octets.now) }
 {
-    let [first, rest @ ..] = bytes else {
+    let [first, rest @ ..] = octets else {
         return Err(BerFault::Cut);
     };
     if *first < 31 {
@@ -74,11 +74,11 @@ fn high_number_at(bytes: &[u8]) -> Result<(u16, &[u8]), BerFault>
 }
 
 /// Reads the tag at the front, and gives what follows.
-pub fn tag_at(bytes: &[u8]) -> Result<(Tag, &[u8]), BerFault>
-    ensures ok { IfOk result (λ x. BeginsTag bytes.now x.0.class x.0.constructed x.0.number x.1.now) }
-    ensures err { IfErr result (TagFault bytes.now) }
+pub fn tag_at(octets: &[u8]) -> Result<(Tag, &[u8]), BerFault>
+    ensures ok { IfOk result (λ x. BeginsTag octets.now x.0.class x.0.constructed x.0.number x.1.now) }
+    ensures err { IfErr result (TagFault octets.now) }
 {
-    let [first, rest @ ..] = bytes else {
+    let [first, rest @ ..] = octets else {
         return Err(BerFault::Cut);
     };
     let class = class_of(*first);

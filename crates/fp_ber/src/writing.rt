@@ -26,7 +26,7 @@ fn header_size(tag: Tag, length: usize) -> usize
 
 /// How many octets the canonical spelling of an element takes.
 #[cycle(size)]
-fn size_of(element: &Element) -> usize
+pub fn size_of(element: &Element) -> usize
     requires lengths { HasLengths (tree_of element.now) }
     ensures { result ≡ length (canon (tree_of element.now)) }
 {
@@ -68,7 +68,7 @@ fn size_of_all(elements: &[Element]) -> usize
 }
 
 /// Puts the tag and the length of an element in front of a place, and gives where they begin.
-fn put_header(tag: Tag, length: usize, out: &mut [u8], end: usize) -> usize
+pub fn put_header(tag: Tag, length: usize, out: &mut [u8], end: usize) -> usize
     requires tag { IsTagNumber tag.class tag.number }
     requires length { length < 2 ^ 32 }
     requires room { lists.length (tag_octets tag.class tag.constructed tag.number ++ length_octets length) ≤ end }

@@ -1,4 +1,3 @@
-pub mod Padding
 pub mod ReadBack
 pub mod Reading
 pub mod Writing

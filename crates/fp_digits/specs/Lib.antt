@@ -1,5 +1,5 @@
 pub mod Called
 pub mod Cause
+pub mod Exact
 pub mod NatureOfAddress
 pub mod Number
-pub mod Padded

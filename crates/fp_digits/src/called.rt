@@ -1,3 +1,5 @@
+//! Called party numbers (ITU-T Q.763, 3.9).
+
 ghost use Rattle.std.specs.Prelude.{◌≡◌, ℕ, ◌+◌, ◌/◌, ◌<◌, ◌≤◌, length, Some};
 ghost use Rattle.std.specs.List.{All};
 ghost use Rattle.std.specs.Result.{result_ok};
@@ -18,7 +20,7 @@ pub fn read_called(octets: &[u8]) -> Result<Number, NoNumber>
     read(octets)
 }
 
-// Routing to an internal network number is allowed, and the numbering plan is that of E.164.
+/// Routing to an internal network number is allowed, and the numbering plan is that of E.164.
 const PLAN: u8 = 0x10;
 
 /// The contents octets of a called party number (ITU-T Q.763, 3.9) with these digits: 1 to 15 of them,

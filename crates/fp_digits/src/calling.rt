@@ -1,3 +1,5 @@
+//! Calling party numbers (ITU-T Q.763, 3.10).
+
 ghost use Rattle.std.specs.Prelude.{◌≡◌};
 ghost use Rattle.std.specs.Result.{result_ok};
 ghost use Rattle.fp_digits.specs.Number.{number_of};

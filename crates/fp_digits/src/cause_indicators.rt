@@ -1,3 +1,5 @@
+//! Cause indicators (ITU-T Q.763, 3.12).
+
 ghost use Rattle.std.specs.Prelude.{◌≡◌, ℕ, ◌+◌, ◌<◌, [], ◌∷◌};
 
 /// The two contents octets of a cause with this value, which is below 128 (ITU-T Q.763, 3.12, and Q.850,

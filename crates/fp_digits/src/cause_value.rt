@@ -1,3 +1,5 @@
+//! Cause values (ITU-T Q.850).
+
 ghost use Rattle.std.specs.Prelude.{◌≡◌, ◌<◌};
 ghost use Rattle.fp_digits.specs.Cause.{cause_value};
 

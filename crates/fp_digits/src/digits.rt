@@ -1,50 +1,32 @@
-ghost use Rattle.std.specs.Prelude.{◌≡◌, ℕ, ◌+◌, ◌-◌, ◌<◌, ◌≤◌, ◌↔◌, IsTrue, List, [], ◌∷◌, ◌++◌, length, take, nat_eq};
-ghost use Rattle.std.specs.List.{All};
-ghost use Rattle.std.specs.Cmp.{partial_equiv_from_equiv};
-ghost use Rattle.std.specs.Cmp.Lexicographic.{pointwise, nat_list_eq_equiv};
+//! Digits.
 
+ghost use Rattle.std.specs.Prelude.{◌≡◌, ◌-◌, ◌<◌, ◌≤◌, ◌↔◌, IsTrue, [], ◌∷◌, ◌++◌, length, take};
+ghost use Rattle.std.specs.List.{All};
+
+use fp_octets::Octets;
 use std::marker::Model;
 
 /// At most 32 digits, each 0 to 15, in the order in which they are dialled (ITU-T Q.763, 3.9 e: 0 to 9
 /// are the decimal digits, 11 and 12 the codes 11 and 12, 15 the end of the number). Contracts see them
-/// as a list.
-#[derive(Clone, Copy, Debug)]
+/// as a list, and two are equal exactly where they have the same digits.
+#[derive(Clone, Copy, Debug, PartialEq, Eq)]
 pub struct Digits {
-    places: [u8; 32],
-    used: usize,
+    octets: Octets<32>,
 }
 
 impl Model for Digits {
-    ghost use Rattle.std.specs.Prelude.{ℕ, ◌<◌, List, take, length};
-    ghost use Rattle.fp_digits.specs.Padded.{IsPadded, padded, padded-take, length-take-padded};
+    ghost use Rattle.std.specs.Prelude.{ℕ, ◌<◌, List};
+    ghost use Rattle.std.specs.List.{All};
 
     ghost Value = { List ℕ };
 
-    ghost view = { λ digits. take digits.used digits.places };
+    ghost view = { λ digits. digits.octets };
 
-    ghost invariant = { λ digits. IsPadded 32 16 digits.places digits.used };
+    ghost invariant = { λ digits. All (λ digit. digit < 16) digits.octets };
 
-    ghost inverse = { λ list. record { places = padded 32 list; used = length list } };
+    ghost inverse = { λ list. record { octets = list } };
 
-    ghost inverse_ok = { λ digits padding i. record {
-      places = padded-take 32 16 digits.places digits.used padding i;
-      used = length-take-padded 32 16 digits.places digits.used padding i;
-    } };
-}
-
-/// Two are equal exactly where they have the same digits.
-impl PartialEq for Digits {
-    ghost eq = { λ a b. pointwise nat_eq a b };
-
-    ghost laws = { partial_equiv_from_equiv nat_list_eq_equiv };
-
-    fn eq(&self, other: &Self) -> bool {
-        self.as_slice() == other.as_slice()
-    }
-}
-
-impl Eq for Digits {
-    ghost laws = { nat_list_eq_equiv };
+    ghost inverse_ok = { λ digits all i. record { octets = digits.octets } };
 }
 
 impl Digits {
@@ -56,8 +38,7 @@ impl Digits {
         ensures { result ≡ [] }
     {
         Digits {
-            places: [0; 32],
-            used: 0,
+            octets: Octets::new(),
         }
     }
 
@@ -65,14 +46,14 @@ impl Digits {
     pub fn len(&self) -> usize
         ensures { result ≡ length self.now }
     {
-        self.used
+        self.octets.len()
     }
 
     /// Whether there is no digit.
     pub fn is_empty(&self) -> bool
         ensures { IsTrue result ↔ (self.now ≡ []) }
     {
-        self.used == 0
+        self.octets.is_empty()
     }
 
     /// The digits, each 0 to 15, at most [`Digits::MOST`] of them.
@@ -81,7 +62,7 @@ impl Digits {
         ensures most { length self.now ≤ Self.MOST }
         ensures digits { All (λ digit. digit < 16) self.now }
     {
-        &self.places[..self.used]
+        self.octets.as_slice()
     }
 
     /// Puts a digit, 0 to 15, behind the others. There is room for it.
@@ -90,8 +71,7 @@ impl Digits {
         requires digit { digit < 16 }
         ensures { self.new ≡ self.old ++ digit ∷ [] }
     {
-        self.places[self.used] = digit;
-        self.used += 1;
+        self.octets.push(digit);
     }
 
     /// Takes the last digit away. There is one.
@@ -99,7 +79,6 @@ impl Digits {
         requires { 0 < length self.old }
         ensures { self.new ≡ take (length self.old - 1) self.old }
     {
-        self.used -= 1;
-        self.places[self.used] = 0;
+        self.octets.drop_last();
     }
 }

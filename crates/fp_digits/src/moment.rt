@@ -1,3 +1,5 @@
+//! Moments.
+
 ghost use Rattle.std.specs.Prelude.{◌≡◌, ℕ, ◌<◌};
 ghost use Rattle.std.specs.Option.{SomeIff};
 
@@ -11,11 +13,14 @@ pub struct Moment {
 }
 
 impl Model for Moment {
+    ghost use Rattle.std.specs.Prelude.{ℕ, ◌<◌};
+    ghost use Rattle.fp_digits.specs.declared.moment.TheConstants.Moment.{END};
+
     ghost Value = { ℕ };
 
     ghost view = { λ moment. moment.milliseconds };
 
-    ghost invariant = { λ moment. moment.milliseconds < 4102444800000 };
+    ghost invariant = { λ moment. moment.milliseconds < END };
 
     ghost inverse = { λ milliseconds. record { milliseconds = milliseconds } };
 }

@@ -1,3 +1,5 @@
+//! The nature of an address (ITU-T Q.763, 3.9 and 3.10).
+
 ghost use Rattle.std.specs.Prelude.{◌≡◌, ℕ, ◌<◌};
 
 use std::marker::Model;

@@ -1,3 +1,5 @@
+//! Numbers, as called and calling party numbers have them.
+
 ghost use Rattle.std.specs.Prelude.{◌≡◌, ℕ, ◌*◌, ◌%◌, List, ◌≤◌, length};
 ghost use Rattle.std.specs.List.{flat_map};
 ghost use Rattle.std.specs.Result.{result_ok};
@@ -21,10 +23,10 @@ pub struct Number {
 #[error("no number")]
 pub struct NoNumber;
 
-// The nature of address and the numbering plan, and two digits in each of 16 octets.
+/// The nature of address and the numbering plan, and two digits in each of 16 octets.
 const MOST_OCTETS: usize = 18;
 
-// The number in the octets of either, which differ in the second octet alone.
+/// The number in the octets of either, which differ in the second octet alone.
 #[tactic(auto, unfolding(crate::specs::Number::number_of))]
 pub(crate) fn read(octets: &[u8]) -> Result<Number, NoNumber>
     ensures { result_ok result ≡ number_of octets.now }
@@ -46,14 +48,14 @@ pub(crate) fn read(octets: &[u8]) -> Result<Number, NoNumber>
     })
 }
 
-// The nature of address in the first octet, below the odd/even indicator.
+/// The nature of address in the first octet, below the odd/even indicator.
 fn nature_in(octet: u8) -> NatureOfAddress
     ensures { result ≡ octet % 128 }
 {
     NatureOfAddress::new(octet & 0x7f)
 }
 
-// The digits of these octets, two in each.
+/// The digits of these octets, two in each.
 fn digits_in(octets: &[u8]) -> Digits
     requires { length octets.now ≤ 16 }
     ensures digits { result ≡ flat_map halves octets.now }

@@ -7,3 +7,4 @@ pub mod Found
 pub mod Incoming
 pub mod Laws
 pub mod Prepared
+pub mod Same

@@ -98,8 +98,7 @@ fn invoke_kind(table: &Table, invoke: &Invoke<'_>) -> Result<EntryKind, AllocErr
         (tree_in invoke.now.parameter)) }
 {
     if is_operation(invoke.code, Operation::InitialDp) {
-        let kind = initial_dp_kind(table, invoke)?;
-        return Ok(kind);
+        return initial_dp_kind(table, invoke);
     }
     if is_operation(invoke.code, Operation::EventReportBcsm) {
         return Ok(event_kind(invoke));
@@ -123,10 +122,7 @@ pub fn kind_of(table: &Table, component: &Component<'_>) -> Result<EntryKind, Al
     ensures { IfOk result (IsKind table.now (component_of component.now)) }
 {
     match component {
-        Component::Invoke(invoke) => {
-            let kind = invoke_kind(table, invoke)?;
-            Ok(kind)
-        }
+        Component::Invoke(invoke) => invoke_kind(table, invoke),
         Component::ReturnResultLast(result) => Ok(EntryKind::Result {
             identifier: result.identifier,
             last: true,

@@ -107,7 +107,7 @@ impl Entries {
         self.items
     }
 
-    /// One more of the same list. Want of memory is the only error.
+    /// A copy. Want of memory is the only error.
     pub fn try_clone(&self, alloc: Global) -> Result<Entries, AllocError>
         ensures { IfOk result (λ copy. copy ≡ self.now) }
     {

@@ -1,6 +1,6 @@
 //! Entries.
 
-ghost use Rattle.std.specs.Prelude.{◌≡◌, ◌↔◌, IsTrue, IfOk};
+ghost use Rattle.std.specs.Prelude.{◌≡◌, IfOk};
 
 use crate::Found;
 use fp_apdu::Opening;
@@ -9,8 +9,10 @@ use fp_inap::Event;
 use fp_q773::{GeneralProblem, InvokeProblem};
 use std::alloc::AllocError;
 
-/// What a dialogue is handed at a time.
-#[derive(Debug, Drop)]
+/// What a dialogue is handed at a time. Two are equal exactly where they are the same, their records by their rules
+/// ([`equal_entries_are_the_same`](crate::equal_entries_are_the_same)). Comparing takes no memory: the moments come
+/// first, then the fields of fixed size, and the records last.
+#[derive(Debug, PartialEq, Eq, Drop)]
 pub struct Entry {
     /// When it came.
     pub moment: Moment,
@@ -30,7 +32,7 @@ pub struct Entry {
 /// | ReturnError | `Error` |
 /// | Reject | `Reject` |
 /// | a faulty component | `Faulty` |
-#[derive(Debug, Drop)]
+#[derive(Debug, PartialEq, Eq, Drop)]
 pub enum EntryKind {
     /// A Begin, and what it opens.
     Opened(Opening),
@@ -99,7 +101,7 @@ pub enum EntryKind {
 }
 
 impl Entry {
-    /// One more of the same. Want of memory, for one more share of a record, is the only error.
+    /// A copy. Want of memory, for one more share of a record, is the only error.
     pub fn try_clone(&self) -> Result<Entry, AllocError>
         ensures { IfOk result (λ copy. copy ≡ self.now) }
     {
@@ -108,14 +110,6 @@ impl Entry {
             moment: self.moment,
             kind,
         })
-    }
-
-    /// Whether both are the same, as far as the rules of their records. Takes no memory. The moments are compared
-    /// first, then the fields of fixed size, and the records last.
-    pub fn same(&self, other: &Entry) -> bool
-        ensures { IsTrue result ↔ (self.now ≡ other.now) }
-    {
-        self.moment == other.moment && self.kind.same(&other.kind)
     }
 }
 
@@ -151,7 +145,7 @@ impl EntryKind {
         )
     }
 
-    /// One more of the same. Want of memory, for one more share of a record, is the only error.
+    /// A copy. Want of memory, for one more share of a record, is the only error.
     pub fn try_clone(&self) -> Result<EntryKind, AllocError>
         ensures { IfOk result (λ copy. copy ≡ self.now) }
     {
@@ -210,195 +204,4 @@ impl EntryKind {
             EntryKind::Clock => Ok(EntryKind::Clock),
         }
     }
-
-    /// Whether both are the same, as far as the rules of their records. Takes no memory.
-    pub fn same(&self, other: &EntryKind) -> bool
-        ensures { IsTrue result ↔ (self.now ≡ other.now) }
-    {
-        match self {
-            EntryKind::Opened(opening) => other.is_opened(opening),
-            EntryKind::InitialDp {
-                identifier,
-                linked,
-                calling,
-                found,
-            } => other.is_initial_dp(*identifier, *linked, *calling, found),
-            EntryKind::Event {
-                identifier,
-                linked,
-                event,
-                notification,
-            } => other.is_event(*identifier, *linked, *event, *notification),
-            EntryKind::UnknownInvoke {
-                identifier,
-                linked,
-                problem,
-            } => other.is_unknown_invoke(*identifier, *linked, *problem),
-            EntryKind::Result { identifier, last } => other.is_result(*identifier, *last),
-            EntryKind::Error { identifier } => other.is_error(*identifier),
-            EntryKind::Reject { identifier } => other.is_reject(*identifier),
-            EntryKind::Faulty {
-                identifier,
-                problem,
-            } => other.is_faulty(*identifier, *problem),
-            EntryKind::PeerEnd => matches!(other, EntryKind::PeerEnd),
-            EntryKind::PeerAbort => matches!(other, EntryKind::PeerAbort),
-            EntryKind::Clock => matches!(other, EntryKind::Clock),
-        }
-    }
-
-    /// Whether it is a Begin that opens this.
-    fn is_opened(&self, opening: &Opening) -> bool
-        ensures { IsTrue result ↔ (EntryKind.Opened opening.now ≡ self.now) }
-    {
-        match self {
-            EntryKind::Opened(own) => same_opening(opening, own),
-            _ => false,
-        }
-    }
-
-    /// Whether it is this Invoke of InitialDP.
-    fn is_initial_dp(
-        &self,
-        identifier: i8,
-        linked: Option<i8>,
-        calling: Option<Number>,
-        found: &Found,
-    ) -> bool
-        ensures { IsTrue result ↔ (EntryKind.InitialDp identifier linked calling found.now ≡ self.now) }
-    {
-        match self {
-            EntryKind::InitialDp {
-                identifier: own_identifier,
-                linked: own_linked,
-                calling: own_calling,
-                found: own_found,
-            } => {
-                identifier == *own_identifier
-                    && linked == *own_linked
-                    && same_calling(calling, *own_calling)
-                    && found.same(own_found)
-            }
-            _ => false,
-        }
-    }
-
-    /// Whether it is this Invoke of EventReportBCSM.
-    fn is_event(&self, identifier: i8, linked: Option<i8>, event: Event, notification: bool) -> bool
-        ensures { IsTrue result ↔ (EntryKind.Event identifier linked event notification ≡ self.now) }
-    {
-        match self {
-            EntryKind::Event {
-                identifier: own_identifier,
-                linked: own_linked,
-                event: own_event,
-                notification: own_notification,
-            } => {
-                identifier == *own_identifier
-                    && linked == *own_linked
-                    && same_event(event, *own_event)
-                    && notification == *own_notification
-            }
-            _ => false,
-        }
-    }
-
-    /// Whether it is this other Invoke.
-    fn is_unknown_invoke(&self, identifier: i8, linked: Option<i8>, problem: InvokeProblem) -> bool
-        ensures { IsTrue result ↔ (EntryKind.UnknownInvoke identifier linked problem ≡ self.now) }
-    {
-        match self {
-            EntryKind::UnknownInvoke {
-                identifier: own_identifier,
-                linked: own_linked,
-                problem: own_problem,
-            } => {
-                identifier == *own_identifier
-                    && linked == *own_linked
-                    && same_invoke_problem(problem, *own_problem)
-            }
-            _ => false,
-        }
-    }
-
-    /// Whether it is this ReturnResult.
-    fn is_result(&self, identifier: i8, last: bool) -> bool
-        ensures { IsTrue result ↔ (EntryKind.Result identifier last ≡ self.now) }
-    {
-        match self {
-            EntryKind::Result {
-                identifier: own_identifier,
-                last: own_last,
-            } => identifier == *own_identifier && last == *own_last,
-            _ => false,
-        }
-    }
-
-    /// Whether it is this ReturnError.
-    fn is_error(&self, identifier: i8) -> bool
-        ensures { IsTrue result ↔ (EntryKind.Error identifier ≡ self.now) }
-    {
-        match self {
-            EntryKind::Error { identifier: own } => identifier == *own,
-            _ => false,
-        }
-    }
-
-    /// Whether it is this Reject.
-    fn is_reject(&self, identifier: Option<i8>) -> bool
-        ensures { IsTrue result ↔ (EntryKind.Reject identifier ≡ self.now) }
-    {
-        match self {
-            EntryKind::Reject { identifier: own } => identifier == *own,
-            _ => false,
-        }
-    }
-
-    /// Whether it is this faulty component.
-    fn is_faulty(&self, identifier: Option<i8>, problem: GeneralProblem) -> bool
-        ensures { IsTrue result ↔ (EntryKind.Faulty identifier problem ≡ self.now) }
-    {
-        match self {
-            EntryKind::Faulty {
-                identifier: own_identifier,
-                problem: own_problem,
-            } => identifier == *own_identifier && same_general_problem(problem, *own_problem),
-            _ => false,
-        }
-    }
-}
-
-/// Whether both open the same.
-fn same_opening(a: &Opening, b: &Opening) -> bool
-    ensures { IsTrue result ↔ (a.now ≡ b.now) }
-{
-    a == b
-}
-
-/// Whether both are the same number, or none.
-fn same_calling(a: Option<Number>, b: Option<Number>) -> bool
-    ensures { IsTrue result ↔ (a ≡ b) }
-{
-    a == b
-}
-
-/// Whether both are the same event.
-fn same_event(a: Event, b: Event) -> bool
-    ensures { IsTrue result ↔ (a ≡ b) }
-{
-    a == b
-}
-
-/// Whether both are the same problem of an Invoke.
-fn same_invoke_problem(a: InvokeProblem, b: InvokeProblem) -> bool
-    ensures { IsTrue result ↔ (a ≡ b) }
-{
-    a == b
-}
-
-/// Whether both are the same General problem.
-fn same_general_problem(a: GeneralProblem, b: GeneralProblem) -> bool
-    ensures { IsTrue result ↔ (a ≡ b) }
-{
-    a == b
 }

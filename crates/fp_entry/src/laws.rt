@@ -1,6 +1,8 @@
-//! What holds of the entries of all messages, and of what all frames are prepared to.
+//! What holds of the entries of all messages, of what all frames are prepared to, and of `==` on entries.
 
+ghost use Rattle.fp_digits.specs.Exact.{IsExact};
 ghost use Rattle.fp_entry.specs.Laws.{ComponentsAreCounted, PreparedIsOne};
+ghost use Rattle.fp_entry.specs.Same.{same_entry};
 
 /// The entries of a message that come from components are as many as its components up to the first faulty
 /// one, and so no more than the elements of its component portion.
@@ -21,3 +23,9 @@ pub fn prepared_is_one()
     fp_inap::initial_dps_are_one();
     fp_inap::event_reports_are_one();
 }
+
+/// Two entries are equal by `==` exactly where they are the same.
+#[tactic(auto, using(crate::specs::Same::exact_entry))]
+pub fn equal_entries_are_the_same()
+    ensures { IsExact same_entry }
+{}

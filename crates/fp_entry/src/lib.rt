@@ -1,5 +1,5 @@
-//! What a message brings to its dialogue, entry by entry. Messages and components are those of ITU-T Q.773, operations
-//! those of INAP CS-1; what each of them gives is this project's profile.
+//! What a message brings to its dialogue, entry by entry. Messages and components are those of ITU-T Q.773. The
+//! operations are written after INAP CS-1; what each of them gives is this project's profile.
 //!
 //! The layer is handed a frame, the moment at which it came, a table of records and the application context names
 //! that are accepted, and gives the entries of its message; or it says why there are none. It asks the system for
@@ -26,8 +26,9 @@
 //! The layer above may rely on this: what is answered is what `specs/Prepared.antt` says of the octets, and want of
 //! memory aside nothing else could be ([`prepared_is_one`]); the entries are those that `specs/Entries.antt` has for
 //! the message, and `specs/Component.antt` for each component. Contracts see [`Entries`] as their list. Copies are equal
-//! to what they are copied from, and `same` tells exactly where two entries are equal, their records by their rules. All
-//! that takes memory is [`Prepared::read`], copies, [`Entries::push`] and [`Entries::append`].
+//! to what they are copied from, and two entries are equal by `==` exactly where they are the same, their records by
+//! their rules ([`equal_entries_are_the_same`]). All that takes memory is [`Prepared::read`], copies, [`Entries::push`]
+//! and [`Entries::append`].
 #![tactic(auto)]
 
 mod arrival;
@@ -49,6 +50,6 @@ pub use entry::{Entry, EntryKind};
 pub use fault::Fault;
 pub use found::Found;
 pub use incoming::Incoming;
-pub use laws::{components_are_counted, prepared_is_one};
+pub use laws::{components_are_counted, equal_entries_are_the_same, prepared_is_one};
 pub use prepared::Prepared;
 pub use shared_record::SharedRecord;

@@ -134,21 +134,9 @@ pub fn incoming_of(
             entries: Entries::new(alloc),
             elements: 0,
         }),
-        Message::Begin(begin) => {
-            let incoming = of_begin(alloc, table, contexts, begin, moment)?;
-            Ok(incoming)
-        }
-        Message::End(end) => {
-            let incoming = of_end(alloc, table, end, moment)?;
-            Ok(incoming)
-        }
-        Message::Continue(continuing) => {
-            let incoming = of_continue(alloc, table, continuing, moment)?;
-            Ok(incoming)
-        }
-        Message::Abort(abort) => {
-            let incoming = of_abort(alloc, abort, moment)?;
-            Ok(incoming)
-        }
+        Message::Begin(begin) => of_begin(alloc, table, contexts, begin, moment),
+        Message::End(end) => Ok(of_end(alloc, table, end, moment)?),
+        Message::Continue(continuing) => Ok(of_continue(alloc, table, continuing, moment)?),
+        Message::Abort(abort) => Ok(of_abort(alloc, abort, moment)?),
     }
 }

@@ -1,6 +1,6 @@
 //! The record of a number, shared with the table.
 
-ghost use Rattle.std.specs.Prelude.{◌≡◌, ◌↔◌, IsTrue, IfOk};
+ghost use Rattle.std.specs.Prelude.{◌≡◌, IfOk};
 ghost use Rattle.std.specs.Arc.{arc_value};
 
 use fp_records::Record;
@@ -21,6 +21,25 @@ impl Model for SharedRecord {
     ghost Value = { Rules };
 
     ghost view = { λ shared. arc_value shared.record };
+}
+
+/// Two are equal exactly where their records say the same.
+impl PartialEq for SharedRecord {
+    ghost use Rattle.fp_records.specs.Same.{same_record, same_record_per};
+
+    ghost eq = { same_record };
+
+    ghost laws = { same_record_per };
+
+    fn eq(&self, other: &Self) -> bool {
+        self.record() == other.record()
+    }
+}
+
+impl Eq for SharedRecord {
+    ghost use Rattle.fp_records.specs.Same.{same_record_equiv};
+
+    ghost laws = { same_record_equiv };
 }
 
 impl SharedRecord {
@@ -47,13 +66,5 @@ impl SharedRecord {
         Ok(SharedRecord {
             record: self.record.clone()?,
         })
-    }
-
-    /// Whether both records say the same: the same offset, and the same rules in the same order. Takes no
-    /// memory, and as many steps as there are rules.
-    pub fn same(&self, other: &SharedRecord) -> bool
-        ensures { IsTrue result ↔ (self.now ≡ other.now) }
-    {
-        self.record().same(other.record())
     }
 }

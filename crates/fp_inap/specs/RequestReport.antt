@@ -3,10 +3,10 @@
 use Rattle.std.specs.Prelude.{ℕ, List, [], ◌∷◌}
 use Rattle.fp_ber.specs.declared.element.Class.TheVariants.{Universal, Context}
 use Rattle.fp_ber.specs.Tree.{Tree, Trees, primitive, constructed, none, more}
+use Rattle.fp_inap.specs.declared.event.Event.{Event}
 use Rattle.fp_inap.specs.declared.event.Event.TheVariants.{RouteSelectFailure, OCalledPartyBusy, ONoAnswer, OAnswer, OAbandon}
 use Rattle.fp_inap.specs.declared.monitor_mode.MonitorMode.{MonitorMode}
 use Rattle.fp_inap.specs.declared.monitor_mode.MonitorMode.TheVariants.{Interrupted, NotifyAndContinue, Transparent}
-use Rattle.fp_inap.specs.declared.request_report.BcsmEvent.{BcsmEvent}
 use Rattle.fp_inap.specs.Event.{code_of}
 
 -- the codes of the monitor modes
@@ -14,6 +14,12 @@ abbrev pub mode_code : MonitorMode → ℕ
 mode_code Interrupted = 0
 mode_code NotifyAndContinue = 1
 mode_code Transparent = 2
+
+-- an event that a switch is to watch for, with its monitor mode and its leg, of the sending side
+pub record BcsmEvent : Type 0 where
+  pub event : Event
+  pub mode : MonitorMode
+  pub leg : ℕ
 
 -- an event: eventTypeBCSM, 80, monitorMode, 81, and legID, A2, of the sending side, 80
 abbrev pub bcsm_event : BcsmEvent → Tree
@@ -28,7 +34,7 @@ abbrev pub bcsm_events : List BcsmEvent → Trees
 bcsm_events [] = none
 bcsm_events (event ∷ events) = more (bcsm_event event) (bcsm_events events)
 
--- the ends of an attempt that failed on leg 2, the answer on leg 2, and the caller's leaving on leg 1
+-- the ends of an attempt that failed on leg 2, the answer on leg 2, and the caller's abandoning on leg 1
 abbrev pub call_events : List BcsmEvent
 call_events =
     (record { event = RouteSelectFailure; mode = Interrupted; leg = 2 })

@@ -1,22 +1,26 @@
 //! Continue, which has no argument.
 
-ghost use Rattle.std.specs.Prelude.{◌≡◌, None};
+ghost use Rattle.std.specs.Prelude.{◌≡◌, ◌++◌, None, OnOk};
+ghost use Rattle.fp_ber.specs.Canon.{canon};
 ghost use Rattle.fp_inap.specs.declared.operation.Operation.TheVariants as operations;
 ghost use Rattle.fp_inap.specs.Operation.{code_of};
 ghost use Rattle.fp_q773.specs.Value as value;
-ghost use Rattle.fp_q773.specs.View.{component_of};
+ghost use Rattle.fp_q773.specs.Written.{component_tree, IsReadBack};
 
 use crate::operation::Operation;
-use fp_q773::{Code, Component, Invoke};
+use fp_ber::Writer;
+use fp_q773::{Code, write_invoke};
+use std::alloc::AllocError;
 
-/// The Invoke of Continue (after ITU-T Q.1218), which has no argument. Takes no memory.
-pub fn write_continue<'a>(identifier: i8) -> Component<'a>
-    ensures { component_of result ≡ value.invoke identifier None (value.local (code_of operations.Continue)) None }
+/// Writes the Invoke of Continue (after ITU-T Q.1218), which has no argument.
+pub fn write_continue(identifier: i8, out: &mut Writer) -> Result<(), AllocError>
+    ensures exact { OnOk result (out.new
+        ≡ canon (component_tree (value.invoke identifier None (value.local (code_of operations.Continue)) None)) ++ out.old) }
+
+    // It is read as that Invoke.
+    ensures found { OnOk result (IsReadBack (value.invoke identifier None (value.local (code_of operations.Continue)) None)) }
 {
-    Component::Invoke(Invoke {
-        identifier,
-        linked: None,
-        code: Code::Local(Operation::Continue.code()),
-        parameter: None,
-    })
+    let behind = out.len();
+    let code = Code::Local(Operation::Continue.code());
+    write_invoke(identifier, None, code, behind, out)
 }

@@ -1,24 +1,24 @@
 //! Operations of INAP and their arguments, written after INAP CS-1 of ITU-T Q.1218.
 //!
 //! The layer is handed the operation codes and the arguments that the components of a dialogue carry, and
-//! gives operations and values; or is handed values and gives arguments. An argument is an
-//! [`Element`](fp_ber::Element): this layer never sees octets of a message. It asks the system for nothing
-//! but the memory of what it writes; reading takes none.
+//! gives operations and values; or is handed values and puts arguments into a [`Writer`](fp_ber::Writer). An argument
+//! that is read is an [`Element`](fp_ber::Element): this layer never sees octets of a message that came. It asks the
+//! system for nothing but the memory of what it writes; reading takes none.
 //!
 //! * [`Operation`] and [`OperationError`] name the operations and their errors, and are the one place of
 //!   their codes and classes; [`Event`], [`MonitorMode`] and [`Leg`] name what the arguments speak of.
 //! * [`InitialDp`] and [`EventReport`] are what the arguments of InitialDP and EventReportBCSM say;
 //!   [`read_initial_dp`] and [`read_event_report`] read them.
-//! * [`write_connect`], [`write_release`] and [`write_request_report`] write arguments, and
-//!   [`write_continue`] the whole Invoke of Continue, which has none.
+//! * [`write_connect`], [`write_release`] and [`write_request_report`] put arguments, and
+//!   [`write_continue`] gives the whole Invoke of Continue, which has none.
 //!
 //! The names are the Recommendation's. The codes, classes, tags, orders and layouts are this project's
 //! profile, and no claim about Q.1218 is made of them.
 //!
 //! The layer above may rely on this: an argument is read exactly where `IsInitialDp` of
 //! `specs/InitialDp.antt` or `IsEventReport` of `specs/EventReport.antt` holds, as the value that it says,
-//! and [`Mistyped`] is answered exactly where it says none; what is written is the element of `specs/` for
-//! what was handed in, in range to be spelled in few octets.
+//! and [`Mistyped`] is answered exactly where it says none; what is put is the canonical spelling of the
+//! element of `specs/` for what was handed in, which is in range to be spelled, in few octets.
 #![tactic(auto)]
 
 mod connect;
@@ -35,7 +35,6 @@ mod operation;
 mod operation_error;
 mod release_call;
 mod request_report;
-mod universal;
 
 pub use connect::write_connect;
 pub use continuing::write_continue;

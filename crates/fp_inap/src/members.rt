@@ -7,7 +7,7 @@ ghost use Rattle.fp_inap.specs.Members.{AllContext, IsSequence, HoldsOctets, Hol
 ghost use Rattle.fp_inap.specs.View.{octets_in, forest_in, found_in};
 
 use crate::mistyped::Mistyped;
-use crate::universal::SEQUENCE;
+use fp_ber::universal::SEQUENCE;
 use fp_ber::{Class, Element};
 
 /// The members of a sequence, each with a tag of the context class.

@@ -1,26 +1,24 @@
 //! ReleaseCall: the argument that is written.
 
-ghost use Rattle.std.specs.Prelude.{◌≡◌, ◌≤◌, length, IfOk};
+ghost use Rattle.std.specs.Prelude.{◌≡◌, ◌++◌, length, OnOk};
 ghost use Rattle.fp_ber.specs.Canon.{canon, HasLengths};
 ghost use Rattle.fp_ber.specs.Tree.{HasTags};
-ghost use Rattle.fp_ber.specs.View.{tree_of};
 ghost use Rattle.fp_inap.specs.ReleaseCall.{release_call};
 
-use crate::universal::OCTET_STRING;
-use fp_ber::{Class, Element};
+use fp_ber::universal::OCTET_STRING;
+use fp_ber::{Class, Writer};
 use fp_digits::{Cause, cause};
-use std::alloc::{AllocError, Global};
+use std::alloc::AllocError;
 
-/// The argument of ReleaseCall (after ITU-T Q.1218) with this cause: an octet string with the octets of
-/// Q.763, 3.12.
-pub fn write_release(alloc: Global, value: Cause) -> Result<Element, AllocError>
-    ensures ok { IfOk result (λ argument. tree_of argument ≡ release_call value) }
+/// Puts the argument of ReleaseCall (after ITU-T Q.1218) with this cause before the octets that are there: an octet
+/// string with the octets of Q.763, 3.12. After want of memory nothing is promised of the octets.
+pub fn write_release(value: Cause, out: &mut Writer) -> Result<(), AllocError>
+    ensures ok { OnOk result (out.new ≡ canon (release_call value) ++ out.old) }
 
-    // The element is in range to be spelled, in four octets.
-    ensures tags { IfOk result (λ argument. HasTags (tree_of argument)) }
-    ensures lengths { IfOk result (λ argument. HasLengths (tree_of argument)) }
-    ensures size { IfOk result (λ argument. length (canon (tree_of argument)) ≤ 4) }
+    // The argument is in range to be spelled, in four octets.
+    ensures tags { HasTags (release_call value) }
+    ensures lengths { HasLengths (release_call value) }
+    ensures size { length (canon (release_call value)) ≡ 4 }
 {
-    let octets = Vec::from_slice(alloc, &cause(value.code()))?;
-    Ok(Element::primitive(Class::Universal, OCTET_STRING, octets))
+    out.put_primitive(Class::Universal, OCTET_STRING, &cause(value.code()))
 }

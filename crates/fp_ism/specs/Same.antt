@@ -1,12 +1,10 @@
 -- That `==` tells exactly where two values are the same.
-use Rattle.std.specs.Prelude.{◌≡◌, List, Bool, ◌&&◌, nat_eq}
-use Rattle.std.specs.Bool.{Decides}
+use Rattle.std.specs.Prelude.{List, Bool, ◌&&◌, nat_eq, refl}
 use Rattle.std.specs.Cmp.{IsEquivalence, IsPartialEquivalence, decided, partial_equiv_from_equiv}
-use Rattle.std.specs.Cmp.Lexicographic.{pointwise, pointwise_decides}
-use Rattle.std.proofs.Common.{refl, ap}
-use Rattle.std.proofs.lemmas.Bool.Decides.{Decides-and, Decides-like, Decides-int_eq, Decides-eqb}
+use Rattle.std.specs.Cmp.Lexicographic.{pointwise}
+use Rattle.fp_digits.specs.Exact.{IsExact, of_bare, of_both, of_integer, of_list, of_natural, of_struct}
 use Rattle.fp_q773.specs.declared.operation_class.OperationClass.{OperationClass}
-use Rattle.fp_q773.specs.declared.operation_class.OperationClass.TheVariants.{Class1, Class2, Class3, Class4}
+use Rattle.fp_q773.specs.contracts.operation_class.OperationClass as class
 use Rattle.fp_q773.specs.contracts.operation_class.OperationClassPartialEq.TheImpl as of_class
 use Rattle.fp_ism.specs.declared.invocation.Invocation.{Invocation}
 use Rattle.fp_ism.specs.Invocations.{InvocationsValue}
@@ -15,62 +13,44 @@ use Rattle.fp_ism.specs.contracts.invocation.InvocationPartialEq.TheImpl as of_i
 abbrev pub same_class : OperationClass → OperationClass → Bool
 same_class = (of_class.ghosts).eq
 
+exact_class : IsExact same_class
+exact_class = of_bare class.enum tt
+
 abbrev pub same_invocation : Invocation → Invocation → Bool
 same_invocation = (of_invocation.ghosts).eq
 
+exact_invocation : IsExact same_invocation
+exact_invocation =
+    of_struct
+    (λ invocation. (invocation.identifier, (invocation.class, invocation.due)))
+    (λ fields. record { identifier = fields.0; class = fields.1.0; due = fields.1.1 })
+    (λ invocation. refl)
+    (of_both of_integer (of_both exact_class of_natural))
+
 -- the same lists of invocations
-abbrev pub same_invocations : List Invocation → List Invocation → Bool
-same_invocations = pointwise same_invocation
+abbrev pub same_list : List Invocation → List Invocation → Bool
+same_list = pointwise same_invocation
 
-Decides-same_class : (a b : OperationClass) → Decides (same_class a b) (a ≡ b)
-Decides-same_class Class1 Class1 = (λ e. refl, λ e. refl)
-Decides-same_class Class1 Class2 = (λ e. (cc), λ e. (cc))
-Decides-same_class Class1 Class3 = (λ e. (cc), λ e. (cc))
-Decides-same_class Class1 Class4 = (λ e. (cc), λ e. (cc))
-Decides-same_class Class2 Class1 = (λ e. (cc), λ e. (cc))
-Decides-same_class Class2 Class2 = (λ e. refl, λ e. refl)
-Decides-same_class Class2 Class3 = (λ e. (cc), λ e. (cc))
-Decides-same_class Class2 Class4 = (λ e. (cc), λ e. (cc))
-Decides-same_class Class3 Class1 = (λ e. (cc), λ e. (cc))
-Decides-same_class Class3 Class2 = (λ e. (cc), λ e. (cc))
-Decides-same_class Class3 Class3 = (λ e. refl, λ e. refl)
-Decides-same_class Class3 Class4 = (λ e. (cc), λ e. (cc))
-Decides-same_class Class4 Class1 = (λ e. (cc), λ e. (cc))
-Decides-same_class Class4 Class2 = (λ e. (cc), λ e. (cc))
-Decides-same_class Class4 Class3 = (λ e. (cc), λ e. (cc))
-Decides-same_class Class4 Class4 = (λ e. refl, λ e. refl)
+pub exact_list : IsExact same_list
+exact_list = of_list exact_invocation
 
-Decides-same_invocation : (a b : Invocation) → Decides (same_invocation a b) (a ≡ b)
-Decides-same_invocation a b =
-    Decides-like (same_invocation a b)
-    (λ fields i. record { identifier = fields.0 i; class = fields.1.0 i; due = fields.1.1 i })
-    (λ same. (ap (λ invocation. invocation.identifier) same, (ap (λ invocation. invocation.class) same, ap (λ invocation. invocation.due) same)))
-    (Decides-and _ _ (Decides-int_eq a.identifier b.identifier) (Decides-and _ _ (Decides-same_class a.class b.class) (Decides-eqb a.due b.due)))
+pub same_list_equiv : IsEquivalence same_list
+same_list_equiv = decided same_list exact_list
 
--- two lists are the same exactly where the test says so
-pub Decides-same_invocations : (a b : List Invocation) → Decides (same_invocations a b) (a ≡ b)
-Decides-same_invocations = pointwise_decides Decides-same_invocation
+pub same_list_per : IsPartialEquivalence same_list
+same_list_per = partial_equiv_from_equiv same_list_equiv
+
+-- the same active invocations, and the same identifier started last
+abbrev pub same_invocations : InvocationsValue → InvocationsValue → Bool
+same_invocations a b = nat_eq a.last_started b.last_started && same_list a.active b.active
+
+pub exact_invocations : IsExact same_invocations
+exact_invocations =
+    of_struct (λ invocations. (invocations.last_started, invocations.active)) (λ fields. record { last_started = fields.0; active = fields.1 }) (λ invocations. refl)
+    (of_both of_natural exact_list)
 
 pub same_invocations_equiv : IsEquivalence same_invocations
-same_invocations_equiv = decided same_invocations Decides-same_invocations
+same_invocations_equiv = decided same_invocations exact_invocations
 
 pub same_invocations_per : IsPartialEquivalence same_invocations
 same_invocations_per = partial_equiv_from_equiv same_invocations_equiv
-
--- the same invocations of a dialogue
-abbrev pub same : InvocationsValue → InvocationsValue → Bool
-same a b = nat_eq a.last_started b.last_started && same_invocations a.active b.active
-
--- two are the same exactly where the test says so
-pub Decides-same : (a b : InvocationsValue) → Decides (same a b) (a ≡ b)
-Decides-same a b =
-    Decides-like (same a b)
-    (λ fields i. record { last_started = fields.0 i; active = fields.1 i })
-    (λ e. (ap (λ invocations. invocations.last_started) e, ap (λ invocations. invocations.active) e))
-    (Decides-and _ _ (Decides-eqb a.last_started b.last_started) (Decides-same_invocations a.active b.active))
-
-pub same_equiv : IsEquivalence same
-same_equiv = decided same Decides-same
-
-pub same_per : IsPartialEquivalence same
-same_per = partial_equiv_from_equiv same_equiv

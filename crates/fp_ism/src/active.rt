@@ -38,11 +38,11 @@ impl Model for ActiveInvocations {
 
 /// Two are equal exactly where they hold the same invocations.
 impl PartialEq for ActiveInvocations {
-    ghost use Rattle.fp_ism.specs.Same.{same_invocations, same_invocations_per};
+    ghost use Rattle.fp_ism.specs.Same.{same_list, same_list_per};
 
-    ghost eq = { same_invocations };
+    ghost eq = { same_list };
 
-    ghost laws = { same_invocations_per };
+    ghost laws = { same_list_per };
 
     fn eq(&self, other: &Self) -> bool {
         self.as_slice() == other.as_slice()
@@ -50,9 +50,9 @@ impl PartialEq for ActiveInvocations {
 }
 
 impl Eq for ActiveInvocations {
-    ghost use Rattle.fp_ism.specs.Same.{same_invocations_equiv};
+    ghost use Rattle.fp_ism.specs.Same.{same_list_equiv};
 
-    ghost laws = { same_invocations_equiv };
+    ghost laws = { same_list_equiv };
 }
 
 /// What stands in a place where no invocation is.

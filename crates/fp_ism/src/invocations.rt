@@ -35,13 +35,14 @@ impl Model for Invocations {
     ghost inverse = { λ value. record { last_started = value.last_started; active = value.active } };
 }
 
-/// Two are equal exactly where the same invocations are active and the same identifier was started last.
+/// Two are equal exactly where the same invocations are active and the same identifier was started last
+/// (`exact_invocations` of `specs/Same.antt`).
 impl PartialEq for Invocations {
-    ghost use Rattle.fp_ism.specs.Same.{same, same_per};
+    ghost use Rattle.fp_ism.specs.Same.{same_invocations, same_invocations_per};
 
-    ghost eq = { same };
+    ghost eq = { same_invocations };
 
-    ghost laws = { same_per };
+    ghost laws = { same_invocations_per };
 
     fn eq(&self, other: &Self) -> bool {
         self.last_started == other.last_started && self.active == other.active
@@ -49,9 +50,9 @@ impl PartialEq for Invocations {
 }
 
 impl Eq for Invocations {
-    ghost use Rattle.fp_ism.specs.Same.{same_equiv};
+    ghost use Rattle.fp_ism.specs.Same.{same_invocations_equiv};
 
-    ghost laws = { same_equiv };
+    ghost laws = { same_invocations_equiv };
 }
 
 /// Eight invocations are active, and no more may be.

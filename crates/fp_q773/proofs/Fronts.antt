@@ -7,7 +7,7 @@ use Rattle.fp_ber.specs.View.{forest_of}
 use Rattle.fp_q773.specs.declared.coded.Coded.{Coded}
 use Rattle.fp_q773.specs.Value.{CodeValue, ResultValue, ReasonValue, local, global, returned, provider, user}
 use Rattle.fp_q773.specs.Grammar.{IsIdentifier, IsLinked, IsCode, IsCoded, IsAsked, IsReturned, IsRejected, IsReason}
-use Rattle.fp_q773.proofs.Joins.{some_forest}
+use Rattle.fp_q773.proofs.Forests.{some_forest}
 
 -- what isn't first doesn't stand first
 pub not_first : (P : Tree → Type 0) (ts us : Trees) (a : Tree) → ts ≡ more a us → (P a → ⊥) → (first : Tree) (rest : Trees) → ts ≡ more first rest → P first → ⊥

@@ -1,20 +1,24 @@
 -- Numbers and the octets that stand for them.
-use Rattle.std.proofs.Common.{◌≡◌, ℕ, ℤ, pos, ◌+ℤ◌, ◌-ℤ◌, ◌+◌, ◌*◌, ◌/◌, ◌%◌, ◌<◌, ◌⊎◌, inl, inr, refl, List, [], ◌∷◌, Some, sym, ap, Bool, true, false, nat_lt, if◌then◌else◌, unsigned_abs, Result, Ok, Err, IfOk, Vec, Global, mod-eq_of_lt, arith}
+use Rattle.std.proofs.Common.{◌≡◌, ℕ, ℤ, pos, ◌+ℤ◌, ◌-ℤ◌, ◌+◌, ◌*◌, ◌/◌, ◌%◌, ◌<◌, ◌⊎◌, inl, inr, refl, List, [], ◌∷◌, Some, sym, ap, Bool, true, false, nat_lt, if◌then◌else◌, unsigned_abs, ◌++◌, Result, OnOk, subst, mod-eq_of_lt, arith}
 use Rattle.std.proofs.lemmas.Int.{ints, int_rem_euclid_is}
 use Rattle.std.specs.Int.{int_rem_euclid, bytes_high_first}
+use Rattle.fp_ber.specs.declared.element.Class.TheVariants.{Universal}
+use Rattle.fp_ber.specs.Tree.{primitive}
+use Rattle.fp_ber.specs.Canon.{canon}
 use Rattle.fp_ber.specs.Integer.{integer, signed, with_octet}
-use Rattle.fp_q773.specs.TwosComplement.{is_within, octets_in, least_octets}
+use Rattle.fp_q773.specs.TwosComplement.{is_within, least_octets}
+use Rattle.fp_q773.specs.Value.{local}
+use Rattle.fp_q773.specs.Written.{code_tree}
+use Rattle.fp_q773.specs.Grammar.{IsCode}
 
 -- four octets
 pub four_octets : (n f g h : ℤ) (a b c d : ℕ) → signed a ≡ h → g ≡ with_octet h b → f ≡ with_octet g c → n ≡ with_octet f d
     → integer (a ∷ b ∷ c ∷ d ∷ []) ≡ Some n
 four_octets n f g h a b c d first second third is = rw (first, ← second, ← third) (ap (λ (z : ℤ). Some z) (sym is))
 
--- octets that stand for a number, once they are written
-pub by_octets : {E : Type 0} (r : Result (Vec ℕ Global) E) (octets : List ℕ) (n : ℤ) → IfOk r (λ v. v.items ≡ octets) → integer octets ≡ Some n
-    → IfOk r (λ v. integer v.items ≡ Some n)
-by_octets (Ok v) octets n is h = rw is h
-by_octets (Err e) octets n is h = tt
+-- three octets
+pub three_octets : (n g h : ℤ) (a b c : ℕ) → signed a ≡ h → g ≡ with_octet h b → n ≡ with_octet g c → integer (a ∷ b ∷ c ∷ []) ≡ Some n
+three_octets n g h a b c first second is = rw (first, ← second) (ap (λ (z : ℤ). Some z) (sym is))
 
 -- a number is this remainder of a division by size, or lies size below it
 abbrev Leaves : ℤ → ℕ → ℕ → Type 0
@@ -36,12 +40,6 @@ first_leaves false a z h = inr (omega (arith, ints))
 next_leaves : (n h : ℤ) (size r b : ℕ) → Leaves h size r → n ≡ with_octet h b → Leaves n (256 * size) (256 * r + b)
 next_leaves n h size r b (inl e) is = inl (omega (arith, ints))
 next_leaves n h size r b (inr e) is = inr (omega (arith, ints))
-
--- the number of one octet
-pub one_octet : (a : ℕ) (z : ℤ) → a < 256 → signed a ≡ z → a ∷ [] ≡ octets_in 1 z
-one_octet a z low is =
-    let x = leaves z 256 a low (first_leaves (nat_lt a 128) a z is) in
-    let p : a % 256 ≡ a = omega arith in rw (x, p) refl
 
 -- a number beyond one octet is, with one more octet, beyond two
 beyond_two : (n h : ℤ) (b : ℕ) → b < 256 → n ≡ with_octet h b → is_within 1 h ≡ false → is_within 2 n ≡ false
@@ -93,8 +91,11 @@ three_least n g h a b c la lb lc first second is over over' =
     let x = leaves n 16777216 (256 * (256 * a + b) + c) (omega arith) three in
     rw (over, beyond_two n g c lc is over', within_three n g h a b c la lb lc first second is) (three_digits a b c _ la lb lc x)
 
--- the least octets of a number, once they are written
-pub by_least : {E : Type 0} (r : Result (Vec ℕ Global) E) (octets : List ℕ) (n : ℤ) → IfOk r (λ v. v.items ≡ octets) → octets ≡ least_octets n
-    → IfOk r (λ v. v.items ≡ least_octets n)
-by_least (Ok v) octets n is h = rw is h
-by_least (Err e) octets n is h = tt
+-- the least octets of a number, once they are put
+pub by_least : {T E : Type 0} (r : Result T E) (new old octets : List ℕ) (n : ℤ) → octets ≡ least_octets n
+    → OnOk r (new ≡ canon (primitive Universal 2 octets) ++ old) → OnOk r (new ≡ canon (code_tree (local n)) ++ old)
+by_least r new old octets n is h = subst (λ o. OnOk r (new ≡ canon (primitive Universal 2 o) ++ old)) is h
+
+-- the code that they are read as
+pub read_least : (octets : List ℕ) (n : ℤ) → octets ≡ least_octets n → integer octets ≡ Some n → IsCode (code_tree (local n)) (local n)
+read_least octets n is h = (least_octets n, refl, subst (λ o. integer o ≡ Some n) is h)

@@ -1,10 +1,13 @@
 -- The lengths that stand at the front of octets.
-use Rattle.std.proofs.Common.{◌≡◌, ℕ, ◌+◌, ◌-◌, ◌*◌, ◌<◌, ◌≤◌, List, [], ◌∷◌, ◌++◌, length, get_or, take, drop, replicate, refl, sym, ◌∙◌, ap, subst, append_assoc, length-append, arith}
+use Rattle.std.proofs.Common.{◌≡◌, ℕ, ◌+◌, ◌-◌, ◌<◌, ◌≤◌, ◌⊎◌, inl, inr, true, Option, Some, None, MatchOption, List, [], ◌∷◌, ◌++◌, length, get_or, take, drop, replicate, refl, sym, ◌∙◌, ap, subst, append_assoc, length-append, arith}
 use Rattle.std.proofs.lemmas.List.{take_rest, take-append-drop, length-take-le, length-replicate, append_cancel_left, append_cancel_right}
 use Rattle.fp_ber.specs.declared.element.Class.TheVariants.{Universal}
 use Rattle.fp_ber.specs.Tree.{primitive}
 use Rattle.fp_ber.specs.Spelling.{IsLength, Spells, BeginsLength}
+use Rattle.fp_ber.specs.declared.fault.BerFault.{BerFault}
+use Rattle.fp_ber.specs.Faults.{LengthFault}
 use Rattle.fp_ber.specs.Laws.{NoneBeginsAnother}
+use Rattle.fp_q773.specs.Ids.{HasNoLength}
 
 -- what stands behind the first octets, as a slice pattern gives it
 abbrev pub behind : ℕ → List ℕ → List ℕ
@@ -14,77 +17,6 @@ behind n s = take (length s - n) (drop n s)
 pub front_one : (s : List ℕ) → 1 ≤ length s → s ≡ get_or s 0 0 ∷ behind 1 s
 front_one [] h = absurd (omega arith)
 front_one (x ∷ xs) h = ap (λ (r : List ℕ). x ∷ r) (sym (take_rest (x ∷ xs) 1))
-
--- the same of two octets
-front_two : (s : List ℕ) → 2 ≤ length s → s ≡ get_or s 0 0 ∷ get_or s 1 0 ∷ behind 2 s
-front_two [] h = absurd (omega arith)
-front_two (x ∷ []) h = absurd (omega arith)
-front_two (x ∷ y ∷ xs) h = ap (λ (r : List ℕ). x ∷ y ∷ r) (sym (take_rest (x ∷ y ∷ xs) 2))
-
--- the same of three octets
-front_three : (s : List ℕ) → 3 ≤ length s → s ≡ get_or s 0 0 ∷ get_or s 1 0 ∷ get_or s 2 0 ∷ behind 3 s
-front_three [] h = absurd (omega arith)
-front_three (x ∷ []) h = absurd (omega arith)
-front_three (x ∷ y ∷ []) h = absurd (omega arith)
-front_three (x ∷ y ∷ z ∷ xs) h = ap (λ (r : List ℕ). x ∷ y ∷ z ∷ r) (sym (take_rest (x ∷ y ∷ z ∷ xs) 3))
-
--- the same of four octets
-front_four : (s : List ℕ) → 4 ≤ length s → s ≡ get_or s 0 0 ∷ get_or s 1 0 ∷ get_or s 2 0 ∷ get_or s 3 0 ∷ behind 4 s
-front_four [] h = absurd (omega arith)
-front_four (x ∷ []) h = absurd (omega arith)
-front_four (x ∷ y ∷ []) h = absurd (omega arith)
-front_four (x ∷ y ∷ z ∷ []) h = absurd (omega arith)
-front_four (x ∷ y ∷ z ∷ w ∷ xs) h = ap (λ (r : List ℕ). x ∷ y ∷ z ∷ w ∷ r) (sym (take_rest (x ∷ y ∷ z ∷ w ∷ xs) 4))
-
--- a length in the short form
-pub short_length : (s : List ℕ) (n : ℕ) → 1 ≤ length s → get_or s 0 0 < 128 → n ≡ get_or s 0 0 → BeginsLength s n (behind 1 s)
-short_length s n one small is = record {
-  text = get_or s 0 0 ∷ [];
-  is_length = (small, is);
-  whole = front_one s one;
-}
-
--- a length in one octet behind 81
-pub long_length_one : (s : List ℕ) (n : ℕ) → 1 ≤ length s → get_or s 0 0 ≡ 0x81 → 1 ≤ length (behind 1 s) → n ≡ get_or (behind 1 s) 0 0
-    → BeginsLength s n (behind 1 (behind 1 s))
-long_length_one s n one first rest is =
-    let r = behind 1 s in record {
-      text = get_or s 0 0 ∷ get_or r 0 0 ∷ [];
-      is_length = (first, is);
-      whole = front_one s one ∙ ap (λ (t : List ℕ). get_or s 0 0 ∷ t) (front_one r rest);
-    }
-
--- a length in two octets behind 82
-pub long_length_two : (s : List ℕ) (n : ℕ) → 1 ≤ length s → get_or s 0 0 ≡ 0x82 → 2 ≤ length (behind 1 s)
-    → n ≡ 256 * get_or (behind 1 s) 0 0 + get_or (behind 1 s) 1 0 → BeginsLength s n (behind 2 (behind 1 s))
-long_length_two s n one first rest is =
-    let r = behind 1 s in record {
-      text = get_or s 0 0 ∷ get_or r 0 0 ∷ get_or r 1 0 ∷ [];
-      is_length = (first, is);
-      whole = front_one s one ∙ ap (λ (t : List ℕ). get_or s 0 0 ∷ t) (front_two r rest);
-    }
-
--- a length in three octets behind 83
-pub long_length_three : (s : List ℕ) (n : ℕ) → 1 ≤ length s → get_or s 0 0 ≡ 0x83 → 3 ≤ length (behind 1 s)
-    → n ≡ 256 * (256 * get_or (behind 1 s) 0 0 + get_or (behind 1 s) 1 0) + get_or (behind 1 s) 2 0
-    → BeginsLength s n (behind 3 (behind 1 s))
-long_length_three s n one first rest is =
-    let r = behind 1 s in record {
-      text = get_or s 0 0 ∷ get_or r 0 0 ∷ get_or r 1 0 ∷ get_or r 2 0 ∷ [];
-      is_length = (first, is);
-      whole = front_one s one ∙ ap (λ (t : List ℕ). get_or s 0 0 ∷ t) (front_three r rest);
-    }
-
--- a length in four octets behind 84
-pub long_length_four : (s : List ℕ) (n : ℕ) → 1 ≤ length s → get_or s 0 0 ≡ 0x84 → 4 ≤ length (behind 1 s)
-    → n ≡ 256 * (256 * (256 * get_or (behind 1 s) 0 0 + get_or (behind 1 s) 1 0) + get_or (behind 1 s) 2 0) + get_or (behind 1 s) 3 0
-    → BeginsLength s n (behind 4 (behind 1 s))
-long_length_four s n one first rest is =
-    let r = behind 1 s in record {
-      text = get_or s 0 0 ∷ get_or r 0 0 ∷ get_or r 1 0 ∷ get_or r 2 0 ∷ get_or r 3 0 ∷ [];
-      is_length = (first, is);
-      whole = front_one s one ∙ ap (λ (t : List ℕ). get_or s 0 0 ∷ t) (front_four r rest);
-    }
 
 -- the first octet of a definite length isn't that of an indefinite one
 pub definite_not_open : (size x y : List ℕ) (n : ℕ) → IsLength size n → size ++ x ≡ 0x80 ∷ y → ⊥
@@ -100,6 +32,56 @@ definite_not_open (l ∷ a ∷ b ∷ c ∷ []) x y n h e =
 definite_not_open (l ∷ a ∷ b ∷ c ∷ d ∷ []) x y n h e =
     let first : l ≡ 0x80 = cc in omega arith
 definite_not_open (l ∷ a ∷ b ∷ c ∷ d ∷ f ∷ rest) x y n h e = absurd h
+
+-- no length begins where the reader finds a fault
+short_of : (size : List ℕ) (l : ℕ) (others rest : List ℕ) (n : ℕ) → IsLength size n → l ∷ others ≡ size ++ rest
+    → (0x85 ≤ l) ⊎ ((0x80 < l) × (l < 0x85) × (length others + 0x80 < l)) → ⊥
+short_of [] l others rest n h e fault = absurd h
+short_of (a ∷ []) l others rest n h e (inl high) =
+    let first : l ≡ a = cc in omega arith
+short_of (a ∷ []) l others rest n h e (inr cut) =
+    let first : l ≡ a = cc in omega arith
+short_of (a ∷ b ∷ []) l others rest n h e (inl high) =
+    let first : l ≡ a = cc in omega arith
+short_of (a ∷ b ∷ []) l others rest n h e (inr cut) =
+    let first : l ≡ a = cc in omega (arith, ap length e)
+short_of (a ∷ b ∷ c ∷ []) l others rest n h e (inl high) =
+    let first : l ≡ a = cc in omega arith
+short_of (a ∷ b ∷ c ∷ []) l others rest n h e (inr cut) =
+    let first : l ≡ a = cc in omega (arith, ap length e)
+short_of (a ∷ b ∷ c ∷ d ∷ []) l others rest n h e (inl high) =
+    let first : l ≡ a = cc in omega arith
+short_of (a ∷ b ∷ c ∷ d ∷ []) l others rest n h e (inr cut) =
+    let first : l ≡ a = cc in omega (arith, ap length e)
+short_of (a ∷ b ∷ c ∷ d ∷ f ∷ []) l others rest n h e (inl high) =
+    let first : l ≡ a = cc in omega arith
+short_of (a ∷ b ∷ c ∷ d ∷ f ∷ []) l others rest n h e (inr cut) =
+    let first : l ≡ a = cc in omega (arith, ap length e)
+short_of (a ∷ b ∷ c ∷ d ∷ f ∷ g ∷ more) l others rest n h e fault = absurd h
+
+nothing_of : (size rest : List ℕ) (n : ℕ) → IsLength size n → [] ≡ size ++ rest → ⊥
+nothing_of [] rest n h e = absurd h
+nothing_of (a ∷ size) rest n h e = cc
+
+pub no_length : (octets : List ℕ) (fault : BerFault) → LengthFault true octets fault → HasNoLength octets
+no_length [] fault h rest (inl passes) = nothing_of passes.1.text rest passes.0 passes.1.is_length passes.1.whole
+no_length [] fault h rest (inr indefinite) = cc
+no_length (l ∷ others) fault (inl h) rest passes =
+    let primitive_one = h.0 in cc
+no_length (l ∷ others) fault (inr (inl h)) rest (inl passes) =
+    short_of passes.1.text l others rest passes.0 passes.1.is_length passes.1.whole (inl h.0)
+no_length (l ∷ others) fault (inr (inl h)) rest (inr indefinite) =
+    let first : l ≡ 0x80 = cc in omega arith
+no_length (l ∷ others) fault (inr (inr h)) rest (inl passes) =
+    short_of passes.1.text l others rest passes.0 passes.1.is_length passes.1.whole (inr (h.0, h.1, h.2))
+no_length (l ∷ others) fault (inr (inr h)) rest (inr indefinite) =
+    let first : l ≡ 0x80 = cc in omega arith
+
+-- the length that was read, of a constructed element
+pub read_length : (value : Option ℕ) (octets rest : List ℕ)
+    → MatchOption value ((true ≡ true) × (octets ≡ 0x80 ∷ rest)) (λ n. BeginsLength octets n rest) → MatchOption value (octets ≡ 0x80 ∷ rest) (λ n. BeginsLength octets n rest)
+read_length None octets rest h = h.1
+read_length (Some n) octets rest h = h
 
 -- an octet string with this length, and what of its contents is there
 Spells-string : (size contents : List ℕ) (n : ℕ) → IsLength size n → length contents ≡ n → Spells (4 ∷ (size ++ contents)) (primitive Universal 4 contents)

@@ -7,7 +7,9 @@ use Rattle.fp_ber.specs.Integer.{integer}
 use Rattle.fp_ber.specs.Canon.{tag_octets, length_octets, with_header, canon, canon_of_all, HasLengths, AllHaveLengths}
 use Rattle.fp_q773.specs.Tid.{IsTid}
 use Rattle.fp_q773.specs.Value.{CodeValue, ProblemValue, ResultValue, ComponentValue, ReasonValue, MessageValue, local, global, tagged, returned, invoke, return_result_last, return_error, reject, return_result_not_last, faulty, provider, user, unidirectional, begin, end, continuing, abort}
-use Rattle.fp_q773.specs.Writable.{IsWritable, AllWritable, IsWritableMessage, IsBare}
+use Rattle.fp_q773.specs.Laws.{WrittenHasRoom, WrittenHasLengths}
+use Rattle.fp_q773.specs.Writable.{IsWritable, AllWritable, IsWritableMessage}
+use Rattle.fp_q773.specs.Written.{written}
 use Rattle.fp_q773.specs.Room.{tree_room, code_room, result_room, component_room, components_room, reason_room, message_room}
 use Rattle.fp_q773.specs.Grammar.{IsIdentifier, IsLinked, IsCode, IsParameter, IsCoded, IsAsked, IsReturned, IsRejected, IsProblem, IsComponent, AreComponents, IsPortion, ArePortions, IsReason, IsEnd, IsMessage}
 
@@ -200,21 +202,29 @@ reason_size ts (Some (provider cause)) h =
     one_size ts (primitive Application 10 (cause ∷ [])) 7 h (octets_size (primitive Application 10 (cause ∷ [])) Application 10 (cause ∷ []) refl (omega arith))
 reason_size ts (Some (user dialogue)) h = one_size ts dialogue (length (canon dialogue)) h.0 (omega arith)
 
--- a message that can be written takes no more than its room
-pub message_size : (t : Tree) (value : MessageValue) → IsMessage t value → IsBare t value → IsWritableMessage value → length (canon t) ≤ message_room value
-message_size t unidirectional h bare w =
-    let whole = members_size t Application 1 none 0 bare (omega arith) (omega arith) in omega arith
-message_size t (begin originating dialogue values) h bare w =
+-- what is written for a message takes no more than its room
+message_size : (t : Tree) (value : MessageValue) → t ≡ written value → IsWritableMessage value → IsMessage t value → length (canon t) ≤ message_room value
+message_size t unidirectional is w h =
+    let whole = members_size t Application 1 none 0 is (omega arith) (omega arith) in omega arith
+message_size t (begin originating dialogue values) is w h =
     let it = h.2 in
     let inside = more_size h.0 (primitive Application 8 originating) it.0 10 _ it.1.0 (tid_size 8 originating (omega arith) it.1.1) (portions_size it.0 dialogue values it.2 w.1) in
     let whole = members_size t Application 2 h.0 _ h.1 (omega arith) inside in omega arith
-message_size t (end destination dialogue values) h bare w =
+message_size t (end destination dialogue values) is w h =
     let whole = members_size t Application 4 h.0 _ h.1 (omega arith) (end_size h.0 destination dialogue values h.2 w.1) in omega arith
-message_size t (continuing originating destination dialogue values) h bare w =
+message_size t (continuing originating destination dialogue values) is w h =
     let it = h.2 in
     let inside = more_size h.0 (primitive Application 8 originating) it.0 10 _ it.1.0 (tid_size 8 originating (omega arith) it.1.1) (end_size it.0 destination dialogue values it.2 w.1) in
     let whole = members_size t Application 5 h.0 _ h.1 (omega arith) inside in omega arith
-message_size t (abort destination reason) h bare w =
+message_size t (abort destination reason) is w h =
     let it = h.2 in
     let inside = more_size h.0 (primitive Application 9 destination) it.0 10 _ it.1.0 (tid_size 9 destination (omega arith) it.1.1) (reason_size it.0 reason it.2) in
     let whole = members_size t Application 7 h.0 _ h.1 (omega arith) inside in omega arith
+
+pub written_size : WrittenHasRoom
+written_size value w h = message_size (written value) value refl w h
+
+-- and so four octets say its lengths, if that isn't too long
+pub written_lengths : WrittenHasLengths
+written_lengths value w h short =
+    let size = written_size value w h in has_lengths (written value) (omega arith)

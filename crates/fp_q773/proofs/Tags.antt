@@ -1,10 +1,12 @@
 -- The tags in messages are tags that elements may have.
-use Rattle.std.proofs.Common.{◌≡◌, ℕ, ℤ, List, [], ◌∷◌, Option, Some, None, inl, inr, arith}
+use Rattle.std.proofs.Common.{◌≡◌, ℕ, ℤ, List, [], ◌∷◌, Option, Some, None, inl, inr, refl, arith}
 use Rattle.fp_ber.specs.declared.element.Class.TheVariants.{Universal, Application}
 use Rattle.fp_ber.specs.Tree.{Tree, Trees, primitive, constructed, none, more, HasTags, AllHaveTags}
 use Rattle.fp_q773.specs.Value.{CodeValue, ProblemValue, ResultValue, ComponentValue, ReasonValue, MessageValue, local, global, tagged, returned, invoke, return_result_last, return_error, reject, return_result_not_last, faulty, provider, user, unidirectional, begin, end, continuing, abort}
 use Rattle.fp_q773.specs.Copied.{CopyHasTags, ResultHasTags, ComponentHasTags, ComponentsHaveTags, ReasonHasTags, CopiesHaveTags}
-use Rattle.fp_q773.specs.Writable.{IsWritable, AllWritable, IsWritableMessage, IsBare}
+use Rattle.fp_q773.specs.Laws.{WrittenHasTags}
+use Rattle.fp_q773.specs.Writable.{IsWritable, AllWritable, IsWritableMessage}
+use Rattle.fp_q773.specs.Written.{written}
 use Rattle.fp_q773.specs.Grammar.{IsIdentifier, IsLinked, IsCode, IsParameter, IsCoded, IsAsked, IsReturned, IsRejected, IsProblem, IsComponent, AreComponents, IsPortion, ArePortions, IsReason, IsEnd, IsMessage}
 
 -- the first element and those behind it
@@ -90,17 +92,19 @@ reason_tags ts None h w = rw h tt
 reason_tags ts (Some (provider cause)) h w = rw h ((omega arith, omega arith), tt)
 reason_tags ts (Some (user dialogue)) h w = more_tags ts dialogue none h.0 w tt
 
--- a message that can be written has tags that elements may have, if its copies have
-pub message_tags : (t : Tree) (value : MessageValue) → IsMessage t value → IsBare t value → IsWritableMessage value → CopiesHaveTags value
-    → HasTags t
-message_tags t unidirectional h bare sound w = rw bare ((omega arith, omega arith), tt)
-message_tags t (begin originating dialogue values) h bare sound w =
+-- what is written for a message has tags that elements may have, if what is copied into it has
+message_tags : (t : Tree) (value : MessageValue) → t ≡ written value → IsWritableMessage value → IsMessage t value → CopiesHaveTags value → HasTags t
+message_tags t unidirectional is sound h w = rw is ((omega arith, omega arith), tt)
+message_tags t (begin originating dialogue values) is sound h w =
     let it = h.2 in
     rw h.1 ((omega arith, omega arith), more_tags h.0 (primitive Application 8 originating) it.0 it.1.0 (omega arith, omega arith) (portions_tags it.0 dialogue values it.2 w.0 sound.1 w.1))
-message_tags t (end destination dialogue values) h bare sound w = rw h.1 ((omega arith, omega arith), end_tags h.0 destination dialogue values h.2 w.0 sound.1 w.1)
-message_tags t (continuing originating destination dialogue values) h bare sound w =
+message_tags t (end destination dialogue values) is sound h w = rw h.1 ((omega arith, omega arith), end_tags h.0 destination dialogue values h.2 w.0 sound.1 w.1)
+message_tags t (continuing originating destination dialogue values) is sound h w =
     let it = h.2 in
     rw h.1 ((omega arith, omega arith), more_tags h.0 (primitive Application 8 originating) it.0 it.1.0 (omega arith, omega arith) (end_tags it.0 destination dialogue values it.2 w.0 sound.1 w.1))
-message_tags t (abort destination reason) h bare sound w =
+message_tags t (abort destination reason) is sound h w =
     let it = h.2 in
     rw h.1 ((omega arith, omega arith), more_tags h.0 (primitive Application 9 destination) it.0 it.1.0 (omega arith, omega arith) (reason_tags it.0 reason it.2 w))
+
+pub written_tags : WrittenHasTags
+written_tags value w h tags = message_tags (written value) value refl w h tags

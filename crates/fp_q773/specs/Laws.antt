@@ -1,13 +1,18 @@
 -- What holds of all messages, of all numbers, and of all octets.
 use Rattle.std.specs.Prelude.{◌≡◌, ℕ, ℤ, ◌<◌, ◌≤◌, ◌^◌, List, length, All, Option, Some}
 use Rattle.fp_ber.specs.Integer.{integer}
-use Rattle.fp_ber.specs.Tree.{Tree}
+use Rattle.fp_ber.specs.Tree.{Tree, HasTags}
+use Rattle.fp_ber.specs.Canon.{canon, HasLengths}
 use Rattle.fp_ber.specs.Spelling.{Spells}
 use Rattle.fp_q773.specs.declared.kind.Kind.{Kind}
 use Rattle.fp_q773.specs.Tid.{octets_of_number}
 use Rattle.fp_q773.specs.TwosComplement.{least_octets}
 use Rattle.fp_q773.specs.Value.{MessageValue, ComponentValue}
 use Rattle.fp_q773.specs.Grammar.{IsMessage, IsComponent}
+use Rattle.fp_q773.specs.Copied.{CopiesHaveTags}
+use Rattle.fp_q773.specs.Room.{message_room}
+use Rattle.fp_q773.specs.Writable.{IsWritableMessage}
+use Rattle.fp_q773.specs.Written.{written}
 use Rattle.fp_q773.specs.Ids.{AreIds, message_kind, originating_identifier, destination_identifier}
 
 -- an element is at most one message
@@ -46,3 +51,18 @@ NumbersAreOne = (m n : ℕ) → m < 2 ^ 32 → n < 2 ^ 32 → octets_of_number m
 abbrev pub FourOctetsAreANumber : Type 0
 FourOctetsAreANumber = (octets : List ℕ) → length octets ≡ 4 → All (λ octet. octet < 256) octets
     → (n : ℕ) × (n < 2 ^ 32) × (octets_of_number n ≡ octets)
+
+-- what is written for a message has tags that elements may have, if what is copied into it has
+abbrev pub WrittenHasTags : Type 0
+WrittenHasTags = (message : MessageValue) → IsWritableMessage message → IsMessage (written message) message → CopiesHaveTags message
+    → HasTags (written message)
+
+-- its canonical spelling is no longer than the room of the message
+abbrev pub WrittenHasRoom : Type 0
+WrittenHasRoom = (message : MessageValue) → IsWritableMessage message → IsMessage (written message) message
+    → length (canon (written message)) ≤ message_room message
+
+-- four octets say its lengths, if that isn't too long
+abbrev pub WrittenHasLengths : Type 0
+WrittenHasLengths = (message : MessageValue) → IsWritableMessage message → IsMessage (written message) message → message_room message < 2 ^ 32
+    → HasLengths (written message)

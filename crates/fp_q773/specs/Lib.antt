@@ -3,7 +3,6 @@ pub mod Fault
 pub mod Grammar
 pub mod Ids
 pub mod Laws
-pub mod Members
 pub mod Named
 pub mod Problem
 pub mod ProviderAbort

@@ -8,6 +8,8 @@ use Rattle.fp_q773.specs.declared.coded.Code.{Code}
 use Rattle.fp_q773.specs.declared.coded.Code.TheVariants.{Local, Global}
 use Rattle.fp_q773.specs.declared.coded.Coded.{Coded}
 use Rattle.fp_q773.specs.declared.invoke.Invoke.{Invoke}
+use Rattle.fp_q773.specs.declared.return_error.ReturnError.{ReturnError}
+use Rattle.fp_q773.specs.declared.reject.Reject.{Reject}
 use Rattle.fp_q773.specs.declared.component.Component.{Component}
 use Rattle.fp_q773.specs.declared.component.Component.TheVariants as components
 use Rattle.fp_q773.specs.declared.begin.Begin.{Begin}
@@ -36,11 +38,17 @@ result_of c = returned (code_of c.code) (tree_in c.parameter)
 abbrev pub invoke_of : Invoke → ComponentValue
 invoke_of i = invoke i.identifier i.linked (code_of i.code) (tree_in i.parameter)
 
+abbrev pub return_error_of : ReturnError → ComponentValue
+return_error_of e = return_error e.identifier (code_of e.code) (tree_in e.parameter)
+
+abbrev pub reject_of : Reject → ComponentValue
+reject_of r = reject r.identifier (problem_of r.problem)
+
 abbrev pub component_of : Component → ComponentValue
 component_of (components.Invoke i) = invoke_of i
 component_of (components.ReturnResultLast r) = return_result_last r.identifier (option_map result_of r.result)
-component_of (components.ReturnError e) = return_error e.identifier (code_of e.code) (tree_in e.parameter)
-component_of (components.Reject r) = reject r.identifier (problem_of r.problem)
+component_of (components.ReturnError e) = return_error_of e
+component_of (components.Reject r) = reject_of r
 component_of (components.ReturnResultNotLast r) = return_result_not_last r.identifier (option_map result_of r.result)
 component_of (components.Faulty identifier problem) = faulty identifier problem
 

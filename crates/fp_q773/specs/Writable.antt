@@ -1,7 +1,6 @@
--- Which messages can be written, and how a portion without components is.
-use Rattle.std.specs.Prelude.{◌≡◌, List, [], ◌∷◌, Option, Some, None, ⊤}
-use Rattle.fp_ber.specs.declared.element.Class.TheVariants.{Application}
-use Rattle.fp_ber.specs.Tree.{Tree, Trees, primitive, constructed, none, more}
+-- Which messages can be written.
+use Rattle.std.specs.Prelude.{List, [], ◌∷◌, Option, Some, None, ⊤}
+use Rattle.fp_ber.specs.Tree.{Tree, Trees, none, more}
 use Rattle.fp_q773.specs.Grammar.{IsDialogue}
 use Rattle.fp_q773.specs.Value.{ComponentValue, ReasonValue, MessageValue, invoke, return_result_last, return_error, reject, return_result_not_last, faulty, provider, user, unidirectional, begin, end, continuing, abort}
 
@@ -40,15 +39,3 @@ IsWritableMessage (abort destination reason) = IsWritableReason reason
 abbrev pub only : Option Tree → Trees
 only None = none
 only (Some t) = more t none
-
--- a message without components has no component portion, and a Unidirectional holds nothing
-abbrev pub IsBare : Tree → MessageValue → Type 0
-IsBare t (begin originating dialogue []) = t ≡ constructed Application 2 (more (primitive Application 8 originating) (only dialogue))
-IsBare t (end destination dialogue []) = t ≡ constructed Application 4 (more (primitive Application 9 destination) (only dialogue))
-IsBare t (continuing originating destination dialogue []) =
-    t ≡ constructed Application 5 (more (primitive Application 8 originating) (more (primitive Application 9 destination) (only dialogue)))
-IsBare t (begin originating dialogue (component ∷ others)) = ⊤
-IsBare t (end destination dialogue (component ∷ others)) = ⊤
-IsBare t (continuing originating destination dialogue (component ∷ others)) = ⊤
-IsBare t (abort destination reason) = ⊤
-IsBare t unidirectional = t ≡ constructed Application 1 none

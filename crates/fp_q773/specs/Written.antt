@@ -7,6 +7,7 @@ use Rattle.fp_ber.specs.Tree.{Tree, Trees, primitive, constructed, none, more}
 use Rattle.fp_ber.specs.View.{trees_of}
 use Rattle.fp_q773.specs.TwosComplement.{octets_in, least_octets}
 use Rattle.fp_q773.specs.Value.{CodeValue, ProblemValue, ResultValue, ComponentValue, ReasonValue, MessageValue, local, global, tagged, returned, invoke, return_result_last, return_error, reject, return_result_not_last, faulty, provider, user, unidirectional, begin, end, continuing, abort}
+use Rattle.fp_q773.specs.Grammar.{IsComponent}
 use Rattle.fp_q773.specs.Writable.{only}
 
 -- an invoke identifier: an integer of one octet
@@ -66,6 +67,10 @@ component_tree (return_error identifier code parameter) = constructed Context 3 
 component_tree (reject identifier problem) = constructed Context 4 (reject_trees identifier problem)
 component_tree (return_result_not_last identifier result) = constructed Context 7 (return_result_trees identifier result)
 component_tree (faulty identifier problem) = primitive Universal 5 []
+
+-- what is written for a component is read as that component
+abbrev pub IsReadBack : ComponentValue → Type 0
+IsReadBack component = IsComponent (component_tree component) component
 
 -- components one after another
 abbrev pub component_trees : List ComponentValue → Trees

@@ -1,23 +1,25 @@
 //! Abort (Q.773, 4.2.1): a dialogue is cut off, by the provider or by the user.
 
-ghost use Rattle.std.specs.Prelude.{◌≡◌, ℕ, [], ◌∷◌, List, Option, Some, None, IfOk, IfSome, IfNone, option_map};
+ghost use Rattle.std.specs.Prelude.{◌≡◌, ◌<◌, ◌≤◌, ◌^◌, ◌++◌, ℕ, [], ◌∷◌, List, Option, Some, None, IfSome, IfNone, OnOk, length, option_map};
+ghost use Rattle.fp_ber.specs.Canon.{canon, canon_of_all};
 ghost use Rattle.fp_ber.specs.declared.element.Class.TheVariants as classes;
 ghost use Rattle.fp_ber.specs.Tree as tree;
 ghost use Rattle.fp_ber.specs.View.{tree_of, forest_of};
+ghost use Rattle.fp_q773.specs.Copied.{CopiesHaveTags, ReasonHasTags};
+ghost use Rattle.fp_q773.specs.Room.{message_room, reason_room};
 ghost use Rattle.fp_q773.specs.Value as value;
 ghost use Rattle.fp_q773.specs.View.{reason_of, abort_of};
 ghost use Rattle.fp_q773.specs.Tid.{octets_of};
 ghost use Rattle.fp_q773.specs.Grammar.{IsReason, IsAbort, IsMessage};
-ghost use Rattle.fp_q773.specs.Members.{joined, HasMore};
 ghost use Rattle.fp_q773.specs.Writable.{IsWritableMessage, IsWritableReason};
 ghost use Rattle.fp_q773.specs.Written.{reason_trees, written};
 
-use crate::members::{one_member, split_first, with_member};
+use crate::members::split_first;
 use crate::portions::DIALOGUE_PORTION;
 use crate::tid::Tid;
 use crate::transaction::{DESTINATION, transaction_at, write_transaction};
-use fp_ber::{Class, Element};
-use std::alloc::{AllocError, Global};
+use fp_ber::{Class, Element, Writer};
+use std::alloc::AllocError;
 
 /// The number of the application tag of an Abort.
 pub const ABORT: u16 = 7;
@@ -75,21 +77,17 @@ impl<'a> AbortReason<'a> {
         Some(AbortReason::User(element))
     }
 
-    /// The element of a reason.
-    fn write(&self, alloc: Global) -> Result<Element, AllocError>
-        requires { IsWritableReason (Some (reason_of self.now)) }
-        ensures found { IfOk result (λ element. IsReason (tree.more (tree_of element) tree.none) (Some (reason_of self.now))) }
-        ensures exact { IfOk result (λ element. tree.more (tree_of element) tree.none ≡ reason_trees (Some (reason_of self.now))) }
+    /// Writes a reason.
+    fn write(&self, out: &mut Writer) -> Result<(), AllocError>
+        requires tags { ReasonHasTags (Some (reason_of self.now)) }
+        requires room { reason_room (Some (reason_of self.now)) < 2 ^ 32 }
+        ensures { OnOk result (out.new ≡ canon_of_all (reason_trees (Some (reason_of self.now))) ++ out.old) }
     {
         match self {
             AbortReason::Provider(cause) => {
-                let octets = Vec::from_slice(alloc, &[*cause])?;
-                Ok(Element::primitive(Class::Application, CAUSE, octets))
+                out.put_primitive(Class::Application, CAUSE, &[*cause])
             }
-            AbortReason::User(dialogue) => {
-                let element = dialogue.try_clone(alloc)?;
-                Ok(element)
-            }
+            AbortReason::User(dialogue) => out.put_element(dialogue),
         }
     }
 }
@@ -123,31 +121,46 @@ impl<'a> Abort<'a> {
         })
     }
 
-    /// The elements with that of the reason behind them, if there is one.
-    fn write_reason(&self, alloc: Global, members: Vec<Element>) -> Result<Vec<Element>, AllocError>
-        requires { IsWritableReason (option_map reason_of self.now.reason) }
-        ensures found { IfOk result (λ all. HasMore (forest_of all.items) (forest_of members.items)
-            (λ ts. IsReason ts (option_map reason_of self.now.reason))) }
-        ensures exact { IfOk result (λ all. forest_of all.items
-            ≡ joined (forest_of members.items) (reason_trees (option_map reason_of self.now.reason))) }
+    /// Writes the reason, if there is one.
+    fn write_reason(&self, out: &mut Writer) -> Result<(), AllocError>
+        requires tags { ReasonHasTags (option_map reason_of self.now.reason) }
+        requires room { reason_room (option_map reason_of self.now.reason) < 2 ^ 32 }
+        ensures { OnOk result (out.new ≡ canon_of_all (reason_trees (option_map reason_of self.now.reason)) ++ out.old) }
     {
         let Some(reason) = self.reason else {
-            return Ok(members);
+            return Ok(());
         };
-        let reason = reason.write(alloc)?;
-        let members = with_member(members, reason)?;
-        Ok(members)
+        reason.write(out)
     }
 
-    /// The element of an Abort.
-    pub(crate) fn write(&self, alloc: Global) -> Result<Element, AllocError>
-        requires { IsWritableMessage (abort_of self.now) }
-        ensures found { IfOk result (λ element. IsMessage (tree_of element) (abort_of self.now)) }
-        ensures exact { IfOk result (λ element. tree_of element ≡ written (abort_of self.now)) }
+    /// Writes an Abort.
+    pub(crate) fn write(&self, out: &mut Writer) -> Result<(), AllocError>
+        requires writable { IsWritableMessage (abort_of self.now) }
+        requires tags { CopiesHaveTags (abort_of self.now) }
+        requires room { message_room (abort_of self.now) < 2 ^ 32 }
+        ensures exact { OnOk result (out.new ≡ canon (written (abort_of self.now)) ++ out.old) }
+        ensures found { OnOk result (IsMessage (written (abort_of self.now)) (abort_of self.now)) }
     {
-        let destination = write_transaction(alloc, self.destination, DESTINATION)?;
-        let members = one_member(alloc, destination)?;
-        let members = self.write_reason(alloc, members)?;
-        Ok(Element::constructed(Class::Application, ABORT, members))
+        let behind = out.len();
+        self.write_reason(out)?;
+        write_user_abort(self.destination, behind, out)
     }
+}
+
+/// Writes what stands before the reason of an Abort. The octets before the last `behind` ones are the spelling of
+/// its reason, and there are none where it has none. After want of memory nothing is promised of the octets.
+pub fn write_user_abort(destination: Tid, behind: usize, out: &mut Writer) -> Result<(), AllocError>
+    requires behind { behind ≤ length out.old }
+
+    // The Abort stands before the last octets.
+    ensures exact { (reason : Option value.ReasonValue) (rest : List ℕ)
+        → out.old ≡ canon_of_all (reason_trees reason) ++ rest → length rest ≡ behind
+        → OnOk result (out.new ≡ canon (written (value.abort (octets_of destination) reason)) ++ rest) }
+
+    // It is read as that Abort.
+    ensures found { OnOk result ((reason : Option value.ReasonValue) → IsWritableReason reason
+        → IsMessage (written (value.abort (octets_of destination) reason)) (value.abort (octets_of destination) reason)) }
+{
+    write_transaction(destination, DESTINATION, out)?;
+    out.put_constructed(Class::Application, ABORT, behind)
 }

@@ -1,24 +1,26 @@
 //! Begin (Q.773, 4.2.1): a dialogue begins.
 
-ghost use Rattle.std.specs.Prelude.{◌≡◌, All, ℕ, List, Option, IfOk, IfErr, map};
+ghost use Rattle.std.specs.Prelude.{◌≡◌, ◌<◌, ◌^◌, ◌++◌, All, ℕ, List, Option, IfOk, IfErr, OnOk, map};
+ghost use Rattle.fp_ber.specs.Canon.{canon};
 ghost use Rattle.fp_ber.specs.Tree.{Tree};
-ghost use Rattle.fp_ber.specs.View.{tree_of, forest_of};
+ghost use Rattle.fp_ber.specs.View.{forest_of};
 ghost use Rattle.fp_q773.specs.Value as value;
 ghost use Rattle.fp_q773.specs.View.{component_of, tree_in, begin_of};
 ghost use Rattle.fp_q773.specs.Tid.{octets_of};
+ghost use Rattle.fp_q773.specs.Copied.{CopiesHaveTags};
 ghost use Rattle.fp_q773.specs.Fault.{Refused};
 ghost use Rattle.fp_q773.specs.Grammar.{IsBegin, IsMessage};
 ghost use Rattle.fp_q773.specs.Named.{HasNamedProblem};
+ghost use Rattle.fp_q773.specs.Room.{message_room};
 ghost use Rattle.fp_q773.specs.Writable.{IsWritableMessage};
 ghost use Rattle.fp_q773.specs.Written.{written};
 
 use crate::component::Component;
 use crate::fault::MessageFault;
-use crate::members::one_member;
 use crate::portions::{Portions, write_portions};
 use crate::tid::Tid;
 use crate::transaction::{ORIGINATING, transaction_at, write_transaction};
-use fp_ber::{Class, Element};
+use fp_ber::{Class, Element, Writer};
 use std::alloc::{AllocError, Global};
 
 /// The number of the application tag of a Begin.
@@ -55,16 +57,17 @@ impl<'a> Begin<'a> {
         })
     }
 
-    /// The element of a Begin.
-    pub(crate) fn write(&self, alloc: Global) -> Result<Element, AllocError>
-        requires { IsWritableMessage (begin_of self.now) }
-        ensures found { IfOk result (λ element. IsMessage (tree_of element) (begin_of self.now)) }
-        ensures exact { IfOk result (λ element. tree_of element ≡ written (begin_of self.now)) }
+    /// Writes a Begin.
+    pub(crate) fn write(&self, out: &mut Writer) -> Result<(), AllocError>
+        requires writable { IsWritableMessage (begin_of self.now) }
+        requires tags { CopiesHaveTags (begin_of self.now) }
+        requires room { message_room (begin_of self.now) < 2 ^ 32 }
+        ensures exact { OnOk result (out.new ≡ canon (written (begin_of self.now)) ++ out.old) }
+        ensures found { OnOk result (IsMessage (written (begin_of self.now)) (begin_of self.now)) }
     {
-        let originating = write_transaction(alloc, self.originating, ORIGINATING)?;
-        let members = one_member(alloc, originating)?;
-        let components = self.components.as_slice();
-        let members = write_portions(alloc, members, self.dialogue, components)?;
-        Ok(Element::constructed(Class::Application, BEGIN, members))
+        let behind = out.len();
+        write_portions(self.dialogue, self.components.as_slice(), out)?;
+        write_transaction(self.originating, ORIGINATING, out)?;
+        out.put_constructed(Class::Application, BEGIN, behind)
     }
 }

@@ -1,23 +1,23 @@
 //! Codes of operations and errors, with what they are handed (Q.773, 4.2.2).
 
-ghost use Rattle.std.specs.Prelude.{◌≡◌, Option, Some, IfOk, IfSome, IfNone, pos, ◌+ℤ◌, ◌*ℤ◌, false};
+ghost use Rattle.std.specs.Prelude.{◌≡◌, ◌<◌, ◌^◌, ◌++◌, Option, None, Some, IfSome, IfNone, OnOk, pos, ◌+ℤ◌, ◌*ℤ◌, false};
+ghost use Rattle.fp_ber.specs.Canon.{canon, canon_of_all};
 ghost use Rattle.fp_ber.specs.Tree.{Tree};
 ghost use Rattle.fp_ber.specs.View.{tree_of, forest_of};
-ghost use Rattle.fp_ber.specs.Integer.{integer, signed};
-ghost use Rattle.fp_q773.specs.TwosComplement.{is_within, least_octets};
+ghost use Rattle.fp_ber.specs.Integer.{signed};
+ghost use Rattle.fp_q773.specs.TwosComplement.{is_within};
+ghost use Rattle.fp_q773.specs.Copied.{ResultHasTags};
+ghost use Rattle.fp_q773.specs.Room.{result_room};
+ghost use Rattle.fp_q773.specs.Value as value;
 ghost use Rattle.fp_q773.specs.Value.{CodeValue};
-ghost use Rattle.fp_q773.specs.View.{code_of, tree_in};
-ghost use Rattle.fp_q773.specs.Members.{joined, HasMore};
+ghost use Rattle.fp_q773.specs.View.{code_of, result_of, tree_in};
 ghost use Rattle.fp_q773.specs.Grammar.{IsCode, IsCoded};
 ghost use Rattle.fp_q773.specs.Written.{code_tree, coded_trees};
 
-use crate::identifier::INTEGER;
-use crate::members::{split_first, with_member};
-use fp_ber::{Class, Element, integer_of, octet_of};
-use std::alloc::{AllocError, Global};
-
-/// The number of the universal tag of an object identifier.
-const OBJECT_IDENTIFIER: u16 = 6;
+use crate::members::{split_first, write_optional};
+use fp_ber::universal::{INTEGER, OBJECT_IDENTIFIER};
+use fp_ber::{Class, Element, Writer, integer_of, octet_of};
+use std::alloc::AllocError;
 
 /// The code of an operation or of an error.
 #[derive(Clone, Copy, Debug)]
@@ -69,25 +69,27 @@ fn octet_in(number: i32) -> Option<u8>
     Some(octet_of(number as i8))
 }
 
-/// The least octets that stand for a number in two's complement.
-fn integer_octets(alloc: Global, number: i32) -> Result<Vec<u8>, AllocError>
-    ensures value { IfOk result (λ octets. integer octets.items ≡ Some number) }
-    ensures exact { IfOk result (λ octets. octets.items ≡ least_octets number) }
+/// Writes an integer with the least octets that stand for it in two's complement.
+fn write_integer(number: i32, out: &mut Writer) -> Result<(), AllocError>
+    ensures exact { OnOk result (out.new ≡ canon (code_tree (value.local number)) ++ out.old) }
+    ensures found { IsCode (code_tree (value.local number)) (value.local number) }
 {
     if let Some(first) = octet_in(number) {
-        return Vec::from_slice(alloc, &[first]);
+        return out.put_primitive(Class::Universal, INTEGER, &[first]);
     }
     let last = halves_of(number);
     if let Some(first) = octet_in(last.high) {
-        return Vec::from_slice(alloc, &[first, last.octet]);
+        return out.put_primitive(Class::Universal, INTEGER, &[first, last.octet]);
     }
     let third = halves_of(last.high);
     if let Some(first) = octet_in(third.high) {
-        return Vec::from_slice(alloc, &[first, third.octet, last.octet]);
+        let octets = [first, third.octet, last.octet];
+        return out.put_primitive(Class::Universal, INTEGER, &octets);
     }
     let second = halves_of(third.high);
     let first = octet_of(second.high as i8);
-    Vec::from_slice(alloc, &[first, second.octet, third.octet, last.octet])
+    let octets = [first, second.octet, third.octet, last.octet];
+    out.put_primitive(Class::Universal, INTEGER, &octets)
 }
 
 impl<'a> Code<'a> {
@@ -108,19 +110,15 @@ impl<'a> Code<'a> {
         Some(Code::Local(number))
     }
 
-    /// The element of a code.
-    pub(crate) fn write(&self, alloc: Global) -> Result<Element, AllocError>
-        ensures found { IfOk result (λ element. IsCode (tree_of element) (code_of self.now)) }
-        ensures exact { IfOk result (λ element. tree_of element ≡ code_tree (code_of self.now)) }
+    /// Writes a code.
+    pub(crate) fn write(&self, out: &mut Writer) -> Result<(), AllocError>
+        ensures exact { OnOk result (out.new ≡ canon (code_tree (code_of self.now)) ++ out.old) }
+        ensures found { IsCode (code_tree (code_of self.now)) (code_of self.now) }
     {
         match self {
-            Code::Local(number) => {
-                let octets = integer_octets(alloc, *number)?;
-                Ok(Element::primitive(Class::Universal, INTEGER, octets))
-            }
+            Code::Local(number) => write_integer(*number, out),
             Code::Global(octets) => {
-                let octets = Vec::from_slice(alloc, octets)?;
-                Ok(Element::primitive(Class::Universal, OBJECT_IDENTIFIER, octets))
+                out.put_primitive(Class::Universal, OBJECT_IDENTIFIER, octets)
             }
         }
     }
@@ -154,24 +152,16 @@ impl<'a> Coded<'a> {
         })
     }
 
-    /// The elements with the code and the parameter behind them.
-    pub(crate) fn write(
-        &self,
-        alloc: Global,
-        members: Vec<Element>,
-    ) -> Result<Vec<Element>, AllocError>
-        ensures found { IfOk result (λ all. HasMore (forest_of all.items) (forest_of members.items)
-            (λ ts. IsCoded ts (code_of self.now.code) (tree_in self.now.parameter))) }
-        ensures exact { IfOk result (λ all. forest_of all.items
-            ≡ joined (forest_of members.items) (coded_trees (code_of self.now.code) (tree_in self.now.parameter))) }
+    /// Writes a code, and a parameter, if there is one.
+    pub(crate) fn write(&self, out: &mut Writer) -> Result<(), AllocError>
+        requires tags { ResultHasTags (Some (result_of self.now)) }
+        requires room { result_room (Some (result_of self.now)) < 2 ^ 32 }
+        ensures exact { OnOk result (out.new
+            ≡ canon_of_all (coded_trees (code_of self.now.code) (tree_in self.now.parameter)) ++ out.old) }
+        ensures found { OnOk result (IsCoded (coded_trees (code_of self.now.code) (tree_in self.now.parameter))
+            (code_of self.now.code) (tree_in self.now.parameter)) }
     {
-        let code = self.code.write(alloc)?;
-        let members = with_member(members, code)?;
-        let Some(parameter) = self.parameter else {
-            return Ok(members);
-        };
-        let parameter = parameter.try_clone(alloc)?;
-        let members = with_member(members, parameter)?;
-        Ok(members)
+        write_optional(self.parameter, out)?;
+        self.code.write(out)
     }
 }

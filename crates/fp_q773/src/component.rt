@@ -1,6 +1,7 @@
 //! Components (Q.773, 4.2.2): what is asked and answered within a dialogue.
 
-ghost use Rattle.std.specs.Prelude.{◌≡◌, ℤ, Option, Some, None, IfOk, MatchOption};
+ghost use Rattle.std.specs.Prelude.{◌≡◌, ◌<◌, ◌^◌, ◌++◌, ℤ, Option, Some, None, MatchOption, OnOk};
+ghost use Rattle.fp_ber.specs.Canon.{canon};
 ghost use Rattle.fp_ber.specs.declared.element.Class.TheVariants as classes;
 ghost use Rattle.fp_ber.specs.Tree as tree;
 ghost use Rattle.fp_ber.specs.Tree.{Tree};
@@ -8,27 +9,25 @@ ghost use Rattle.fp_ber.specs.View.{tree_of, forest_of};
 ghost use Rattle.fp_q773.specs.declared.problem.GeneralProblem.TheVariants as general;
 ghost use Rattle.fp_q773.specs.Value as value;
 ghost use Rattle.fp_q773.specs.View.{invoke_of, component_of};
-ghost use Rattle.fp_q773.specs.Grammar.{BeginsWith, IsComponent, IsRow};
+ghost use Rattle.fp_q773.specs.Copied.{ComponentHasTags};
+ghost use Rattle.fp_q773.specs.Room.{component_room};
+ghost use Rattle.fp_q773.specs.Grammar.{BeginsWith, IsComponent};
 ghost use Rattle.fp_q773.specs.Named.{HasNamedProblem};
 ghost use Rattle.fp_q773.specs.Writable.{IsWritable};
-ghost use Rattle.fp_q773.specs.Written.{component_tree};
+ghost use Rattle.fp_q773.specs.Written.{component_tree, IsReadBack};
 
 use crate::identifier::identifier_of;
 use crate::invoke::{INVOKE, Invoke};
 use crate::members::split_first;
 use crate::problem::GeneralProblem;
-use crate::reject::Reject;
-use crate::return_error::ReturnError;
+use crate::reject::{REJECT, Reject};
+use crate::return_error::{RETURN_ERROR, ReturnError};
 use crate::return_result::ReturnResult;
-use fp_ber::{Class, Element};
-use std::alloc::{AllocError, Global};
+use fp_ber::{Class, Element, Writer};
+use std::alloc::AllocError;
 
 /// The number of the context tag of a ReturnResultLast.
 const RETURN_RESULT_LAST: u16 = 2;
-/// The number of the context tag of a ReturnError.
-const RETURN_ERROR: u16 = 3;
-/// The number of the context tag of a Reject.
-const REJECT: u16 = 4;
 /// The number of the context tag of a ReturnResultNotLast.
 const RETURN_RESULT_NOT_LAST: u16 = 7;
 
@@ -184,32 +183,27 @@ impl<'a> Component<'a> {
         }
     }
 
-    /// The element of a component.
-    pub(crate) fn write(&self, alloc: Global) -> Result<Element, AllocError>
-        requires { IsWritable (component_of self.now) }
-        ensures found { IfOk result (λ element. IsRow (tree_of element) (component_of self.now)) }
-        ensures exact { IfOk result (λ element. tree_of element ≡ component_tree (component_of self.now)) }
+    /// Writes a component.
+    pub(crate) fn write(&self, out: &mut Writer) -> Result<(), AllocError>
+        requires writable { IsWritable (component_of self.now) }
+        requires tags { ComponentHasTags (component_of self.now) }
+        requires room { component_room (component_of self.now) < 2 ^ 32 }
+        ensures exact { OnOk result (out.new ≡ canon (component_tree (component_of self.now)) ++ out.old) }
+        ensures found { OnOk result (IsReadBack (component_of self.now)) }
     {
         match self {
-            Component::Invoke(invoke) => {
-                let element = invoke.write(alloc)?;
-                Ok(element)
-            }
+            Component::Invoke(invoke) => invoke.write(out),
             Component::ReturnResultLast(result) => {
-                let members = result.write(alloc)?;
-                Ok(Element::constructed(Class::Context, RETURN_RESULT_LAST, members))
+                let behind = out.len();
+                result.write(out)?;
+                out.put_constructed(Class::Context, RETURN_RESULT_LAST, behind)
             }
-            Component::ReturnError(error) => {
-                let members = error.write(alloc)?;
-                Ok(Element::constructed(Class::Context, RETURN_ERROR, members))
-            }
-            Component::Reject(reject) => {
-                let members = reject.write(alloc)?;
-                Ok(Element::constructed(Class::Context, REJECT, members))
-            }
+            Component::ReturnError(error) => error.write(out),
+            Component::Reject(reject) => reject.write(out),
             Component::ReturnResultNotLast(result) => {
-                let members = result.write(alloc)?;
-                Ok(Element::constructed(Class::Context, RETURN_RESULT_NOT_LAST, members))
+                let behind = out.len();
+                result.write(out)?;
+                out.put_constructed(Class::Context, RETURN_RESULT_NOT_LAST, behind)
             }
             Component::Faulty { .. } => unreachable!(),
         }

@@ -1,24 +1,26 @@
 //! Continue (Q.773, 4.2.1): a dialogue goes on.
 
-ghost use Rattle.std.specs.Prelude.{◌≡◌, All, ℕ, List, Option, IfOk, IfErr, map};
+ghost use Rattle.std.specs.Prelude.{◌≡◌, ◌<◌, ◌≤◌, ◌^◌, ◌++◌, All, ℕ, List, Option, IfOk, IfErr, OnOk, length, map};
+ghost use Rattle.fp_ber.specs.Canon.{canon, canon_of_all};
 ghost use Rattle.fp_ber.specs.Tree.{Tree};
-ghost use Rattle.fp_ber.specs.View.{tree_of, forest_of};
+ghost use Rattle.fp_ber.specs.View.{forest_of};
 ghost use Rattle.fp_q773.specs.Value as value;
 ghost use Rattle.fp_q773.specs.View.{component_of, tree_in, continue_of};
 ghost use Rattle.fp_q773.specs.Tid.{octets_of};
+ghost use Rattle.fp_q773.specs.Copied.{CopiesHaveTags};
 ghost use Rattle.fp_q773.specs.Fault.{Refused};
 ghost use Rattle.fp_q773.specs.Grammar.{IsContinue, IsMessage};
 ghost use Rattle.fp_q773.specs.Named.{HasNamedProblem};
-ghost use Rattle.fp_q773.specs.Writable.{IsWritableMessage};
-ghost use Rattle.fp_q773.specs.Written.{written};
+ghost use Rattle.fp_q773.specs.Room.{message_room};
+ghost use Rattle.fp_q773.specs.Writable.{IsWritableDialogue, IsWritableMessage};
+ghost use Rattle.fp_q773.specs.Written.{written, portions_trees, IsReadBack};
 
 use crate::component::Component;
 use crate::fault::MessageFault;
-use crate::members::{one_member, with_member};
 use crate::portions::{Portions, write_portions};
 use crate::tid::Tid;
 use crate::transaction::{DESTINATION, ORIGINATING, transaction_at, write_transaction};
-use fp_ber::{Class, Element};
+use fp_ber::{Class, Element, Writer};
 use std::alloc::{AllocError, Global};
 
 /// The number of the application tag of a Continue.
@@ -62,18 +64,42 @@ impl<'a> Continue<'a> {
         })
     }
 
-    /// The element of a Continue.
-    pub(crate) fn write(&self, alloc: Global) -> Result<Element, AllocError>
-        requires { IsWritableMessage (continue_of self.now) }
-        ensures found { IfOk result (λ element. IsMessage (tree_of element) (continue_of self.now)) }
-        ensures exact { IfOk result (λ element. tree_of element ≡ written (continue_of self.now)) }
+    /// Writes a Continue.
+    pub(crate) fn write(&self, out: &mut Writer) -> Result<(), AllocError>
+        requires writable { IsWritableMessage (continue_of self.now) }
+        requires tags { CopiesHaveTags (continue_of self.now) }
+        requires room { message_room (continue_of self.now) < 2 ^ 32 }
+        ensures exact { OnOk result (out.new ≡ canon (written (continue_of self.now)) ++ out.old) }
+        ensures found { OnOk result (IsMessage (written (continue_of self.now)) (continue_of self.now)) }
     {
-        let originating = write_transaction(alloc, self.originating, ORIGINATING)?;
-        let members = one_member(alloc, originating)?;
-        let destination = write_transaction(alloc, self.destination, DESTINATION)?;
-        let members = with_member(members, destination)?;
-        let components = self.components.as_slice();
-        let members = write_portions(alloc, members, self.dialogue, components)?;
-        Ok(Element::constructed(Class::Application, CONTINUE, members))
+        let behind = out.len();
+        write_portions(self.dialogue, self.components.as_slice(), out)?;
+        write_continue(self.originating, self.destination, behind, out)
     }
+}
+
+/// Writes what stands before the portions of a Continue. The octets before the last `behind` ones are the spelling of
+/// its portions, and there are none where it has none. After want of memory nothing is promised of the octets.
+pub fn write_continue(
+    originating: Tid,
+    destination: Tid,
+    behind: usize,
+    out: &mut Writer,
+) -> Result<(), AllocError>
+    requires behind { behind ≤ length out.old }
+
+    // The Continue stands before the last octets.
+    ensures exact { (dialogue : Option Tree) (components : List value.ComponentValue) (rest : List ℕ)
+        → out.old ≡ canon_of_all (portions_trees dialogue components) ++ rest → length rest ≡ behind
+        → OnOk result (out.new ≡ canon (written (value.continuing (octets_of originating) (octets_of destination) dialogue components)) ++ rest) }
+
+    // It is read as that Continue.
+    ensures found { OnOk result ((dialogue : Option Tree) (components : List value.ComponentValue)
+        → IsWritableDialogue dialogue → All IsReadBack components
+        → IsMessage (written (value.continuing (octets_of originating) (octets_of destination) dialogue components))
+        (value.continuing (octets_of originating) (octets_of destination) dialogue components)) }
+{
+    write_transaction(destination, DESTINATION, out)?;
+    write_transaction(originating, ORIGINATING, out)?;
+    out.put_constructed(Class::Application, CONTINUE, behind)
 }

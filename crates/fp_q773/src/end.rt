@@ -1,24 +1,26 @@
 //! End (Q.773, 4.2.1): a dialogue ends.
 
-ghost use Rattle.std.specs.Prelude.{◌≡◌, All, ℕ, List, Option, IfOk, IfErr, map};
+ghost use Rattle.std.specs.Prelude.{◌≡◌, ◌<◌, ◌≤◌, ◌^◌, ◌++◌, All, ℕ, List, Option, IfOk, IfErr, OnOk, length, map};
+ghost use Rattle.fp_ber.specs.Canon.{canon, canon_of_all};
 ghost use Rattle.fp_ber.specs.Tree.{Tree};
-ghost use Rattle.fp_ber.specs.View.{tree_of, forest_of};
+ghost use Rattle.fp_ber.specs.View.{forest_of};
 ghost use Rattle.fp_q773.specs.Value as value;
 ghost use Rattle.fp_q773.specs.View.{component_of, tree_in, end_of};
 ghost use Rattle.fp_q773.specs.Tid.{octets_of};
+ghost use Rattle.fp_q773.specs.Copied.{CopiesHaveTags};
 ghost use Rattle.fp_q773.specs.Fault.{Refused};
 ghost use Rattle.fp_q773.specs.Grammar.{IsEnd, IsMessage};
 ghost use Rattle.fp_q773.specs.Named.{HasNamedProblem};
-ghost use Rattle.fp_q773.specs.Writable.{IsWritableMessage};
-ghost use Rattle.fp_q773.specs.Written.{written};
+ghost use Rattle.fp_q773.specs.Room.{message_room};
+ghost use Rattle.fp_q773.specs.Writable.{IsWritableDialogue, IsWritableMessage};
+ghost use Rattle.fp_q773.specs.Written.{written, portions_trees, IsReadBack};
 
 use crate::component::Component;
 use crate::fault::MessageFault;
-use crate::members::one_member;
 use crate::portions::{Portions, write_portions};
 use crate::tid::Tid;
 use crate::transaction::{DESTINATION, transaction_at, write_transaction};
-use fp_ber::{Class, Element};
+use fp_ber::{Class, Element, Writer};
 use std::alloc::{AllocError, Global};
 
 /// The number of the application tag of an End.
@@ -55,16 +57,36 @@ impl<'a> End<'a> {
         })
     }
 
-    /// The element of an End.
-    pub(crate) fn write(&self, alloc: Global) -> Result<Element, AllocError>
-        requires { IsWritableMessage (end_of self.now) }
-        ensures found { IfOk result (λ element. IsMessage (tree_of element) (end_of self.now)) }
-        ensures exact { IfOk result (λ element. tree_of element ≡ written (end_of self.now)) }
+    /// Writes an End.
+    pub(crate) fn write(&self, out: &mut Writer) -> Result<(), AllocError>
+        requires writable { IsWritableMessage (end_of self.now) }
+        requires tags { CopiesHaveTags (end_of self.now) }
+        requires room { message_room (end_of self.now) < 2 ^ 32 }
+        ensures exact { OnOk result (out.new ≡ canon (written (end_of self.now)) ++ out.old) }
+        ensures found { OnOk result (IsMessage (written (end_of self.now)) (end_of self.now)) }
     {
-        let destination = write_transaction(alloc, self.destination, DESTINATION)?;
-        let members = one_member(alloc, destination)?;
-        let components = self.components.as_slice();
-        let members = write_portions(alloc, members, self.dialogue, components)?;
-        Ok(Element::constructed(Class::Application, END, members))
+        let behind = out.len();
+        write_portions(self.dialogue, self.components.as_slice(), out)?;
+        write_end(self.destination, behind, out)
     }
+}
+
+/// Writes what stands before the portions of an End. The octets before the last `behind` ones are the spelling of
+/// its portions, and there are none where it has none. After want of memory nothing is promised of the octets.
+pub fn write_end(destination: Tid, behind: usize, out: &mut Writer) -> Result<(), AllocError>
+    requires behind { behind ≤ length out.old }
+
+    // The End stands before the last octets.
+    ensures exact { (dialogue : Option Tree) (components : List value.ComponentValue) (rest : List ℕ)
+        → out.old ≡ canon_of_all (portions_trees dialogue components) ++ rest → length rest ≡ behind
+        → OnOk result (out.new ≡ canon (written (value.end (octets_of destination) dialogue components)) ++ rest) }
+
+    // It is read as that End.
+    ensures found { OnOk result ((dialogue : Option Tree) (components : List value.ComponentValue)
+        → IsWritableDialogue dialogue → All IsReadBack components
+        → IsMessage (written (value.end (octets_of destination) dialogue components))
+        (value.end (octets_of destination) dialogue components)) }
+{
+    write_transaction(destination, DESTINATION, out)?;
+    out.put_constructed(Class::Application, END, behind)
 }

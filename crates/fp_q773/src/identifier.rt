@@ -1,15 +1,15 @@
 //! Invoke identifiers (Q.773, 4.2.2): integers of one octet.
 
-ghost use Rattle.std.specs.Prelude.{◌≡◌, ℤ, IfOk, MatchOption};
+ghost use Rattle.std.specs.Prelude.{◌≡◌, ◌++◌, ℤ, MatchOption, OnOk};
+ghost use Rattle.fp_ber.specs.Canon.{canon};
 ghost use Rattle.fp_ber.specs.View.{tree_of};
 ghost use Rattle.fp_q773.specs.Grammar.{IsIdentifier, IsLinked};
 ghost use Rattle.fp_q773.specs.Written.{identifier_tree, linked_tree};
 
-use fp_ber::{Class, Element, octet_of, signed_of};
-use std::alloc::{AllocError, Global};
+use fp_ber::universal::INTEGER;
+use fp_ber::{Class, Element, Writer, octet_of, signed_of};
+use std::alloc::AllocError;
 
-/// The number of the universal tag of an integer.
-pub const INTEGER: u16 = 2;
 /// The number of the context tag of a linked identifier.
 const LINKED: u16 = 0;
 
@@ -27,13 +27,12 @@ pub fn identifier_of(element: &Element) -> Option<i8>
     Some(signed_of(*octet))
 }
 
-/// The element of an invoke identifier.
-pub fn write_identifier(alloc: Global, identifier: i8) -> Result<Element, AllocError>
-    ensures found { IfOk result (λ element. IsIdentifier (tree_of element) identifier) }
-    ensures exact { IfOk result (λ element. tree_of element ≡ identifier_tree identifier) }
+/// Writes an invoke identifier.
+pub fn write_identifier(identifier: i8, out: &mut Writer) -> Result<(), AllocError>
+    ensures exact { OnOk result (out.new ≡ canon (identifier_tree identifier) ++ out.old) }
+    ensures found { IsIdentifier (identifier_tree identifier) identifier }
 {
-    let octets = Vec::from_slice(alloc, &[octet_of(identifier)])?;
-    Ok(Element::primitive(Class::Universal, INTEGER, octets))
+    out.put_primitive(Class::Universal, INTEGER, &[octet_of(identifier)])
 }
 
 /// The linked identifier that an element is.
@@ -50,11 +49,10 @@ pub fn linked_of(element: &Element) -> Option<i8>
     Some(signed_of(*octet))
 }
 
-/// The element of a linked identifier.
-pub fn write_linked(alloc: Global, identifier: i8) -> Result<Element, AllocError>
-    ensures found { IfOk result (λ element. IsLinked (tree_of element) identifier) }
-    ensures exact { IfOk result (λ element. tree_of element ≡ linked_tree identifier) }
+/// Writes a linked identifier.
+pub fn write_linked(identifier: i8, out: &mut Writer) -> Result<(), AllocError>
+    ensures exact { OnOk result (out.new ≡ canon (linked_tree identifier) ++ out.old) }
+    ensures found { IsLinked (linked_tree identifier) identifier }
 {
-    let octets = Vec::from_slice(alloc, &[octet_of(identifier)])?;
-    Ok(Element::primitive(Class::Context, LINKED, octets))
+    out.put_primitive(Class::Context, LINKED, &[octet_of(identifier)])
 }

@@ -1,20 +1,24 @@
 //! Invoke (Q.773, 4.2.2): an operation is asked for.
 
-ghost use Rattle.std.specs.Prelude.{◌≡◌, ℤ, Option, Some, None, IfOk, IfSome, IfNone};
+ghost use Rattle.std.specs.Prelude.{◌≡◌, ◌<◌, ◌≤◌, ◌^◌, ◌++◌, ℕ, ℤ, List, Option, None, IfSome, IfNone, OnOk, length};
+ghost use Rattle.fp_ber.specs.Canon.{canon, canon_of_all};
 ghost use Rattle.fp_ber.specs.Tree as tree;
 ghost use Rattle.fp_ber.specs.Tree.{Tree};
 ghost use Rattle.fp_ber.specs.View.{tree_of, forest_of};
+ghost use Rattle.fp_q773.specs.Copied.{ComponentHasTags};
+ghost use Rattle.fp_q773.specs.Room.{component_room};
+ghost use Rattle.fp_q773.specs.Value as value;
 ghost use Rattle.fp_q773.specs.Value.{CodeValue};
 ghost use Rattle.fp_q773.specs.View.{code_of, tree_in, invoke_of};
-ghost use Rattle.fp_q773.specs.Members.{joined, HasMore};
-ghost use Rattle.fp_q773.specs.Grammar.{IsLinked, IsAsked, IsInvoke, IsRow};
-ghost use Rattle.fp_q773.specs.Written.{asked_trees, component_tree};
+ghost use Rattle.fp_q773.specs.Grammar.{IsLinked, IsAsked, IsInvoke};
+ghost use Rattle.fp_q773.specs.Writable.{only};
+ghost use Rattle.fp_q773.specs.Written.{asked_trees, component_tree, IsReadBack};
 
 use crate::coded::{Code, Coded};
 use crate::identifier::{identifier_of, linked_of, write_identifier, write_linked};
-use crate::members::{one_member, split_first, with_member};
-use fp_ber::{Class, Element};
-use std::alloc::{AllocError, Global};
+use crate::members::{split_first, write_optional};
+use fp_ber::{Class, Element, Writer};
+use std::alloc::AllocError;
 
 /// The number of the context tag of an Invoke.
 pub const INVOKE: u16 = 1;
@@ -91,35 +95,51 @@ impl<'a> Invoke<'a> {
         })
     }
 
-    /// The elements with those of the operation behind them.
-    fn write_asked(&self, alloc: Global, members: Vec<Element>) -> Result<Vec<Element>, AllocError>
-        ensures found { IfOk result (λ all. HasMore (forest_of all.items) (forest_of members.items)
-            (λ ts. IsAsked ts self.now.linked (code_of self.now.code) (tree_in self.now.parameter))) }
-        ensures exact { IfOk result (λ all. forest_of all.items ≡ joined (forest_of members.items)
-            (asked_trees self.now.linked (code_of self.now.code) (tree_in self.now.parameter))) }
+    /// Writes an Invoke.
+    pub(crate) fn write(&self, out: &mut Writer) -> Result<(), AllocError>
+        requires tags { ComponentHasTags (invoke_of self.now) }
+        requires room { component_room (invoke_of self.now) < 2 ^ 32 }
+        ensures exact { OnOk result (out.new ≡ canon (component_tree (invoke_of self.now)) ++ out.old) }
+        ensures found { OnOk result (IsReadBack (invoke_of self.now)) }
     {
-        let operation = Coded {
-            code: self.code,
-            parameter: self.parameter,
-        };
-        let Some(linked) = self.linked else {
-            let members = operation.write(alloc, members)?;
-            return Ok(members);
-        };
-        let linked = write_linked(alloc, linked)?;
-        let members = with_member(members, linked)?;
-        let members = operation.write(alloc, members)?;
-        Ok(members)
+        let behind = out.len();
+        write_optional(self.parameter, out)?;
+        write_invoke(self.identifier, self.linked, self.code, behind, out)
     }
+}
 
-    /// The element of an Invoke.
-    pub(crate) fn write(&self, alloc: Global) -> Result<Element, AllocError>
-        ensures found { IfOk result (λ element. IsRow (tree_of element) (invoke_of self.now)) }
-        ensures exact { IfOk result (λ element. tree_of element ≡ component_tree (invoke_of self.now)) }
-    {
-        let identifier = write_identifier(alloc, self.identifier)?;
-        let members = one_member(alloc, identifier)?;
-        let members = self.write_asked(alloc, members)?;
-        Ok(Element::constructed(Class::Context, INVOKE, members))
-    }
+/// Writes a linked identifier, if there is one, and a code.
+fn write_asked(linked: Option<i8>, code: Code<'_>, out: &mut Writer) -> Result<(), AllocError>
+    ensures exact { OnOk result (out.new ≡ canon_of_all (asked_trees linked (code_of code.entry) None) ++ out.old) }
+    ensures found { OnOk result ((parameter : Option Tree)
+        → IsAsked (asked_trees linked (code_of code.entry) parameter) linked (code_of code.entry) parameter) }
+{
+    code.write(out)?;
+    let Some(linked) = linked else {
+        return Ok(());
+    };
+    write_linked(linked, out)
+}
+
+/// Writes what stands before the parameter of an Invoke. The octets before the last `behind` ones are the spelling of
+/// its parameter, and there are none where it has none. After want of memory nothing is promised of the octets.
+pub fn write_invoke(
+    identifier: i8,
+    linked: Option<i8>,
+    code: Code<'_>,
+    behind: usize,
+    out: &mut Writer,
+) -> Result<(), AllocError>
+    requires behind { behind ≤ length out.old }
+
+    // The Invoke stands before the last octets.
+    ensures exact { (parameter : Option Tree) (rest : List ℕ) → out.old ≡ canon_of_all (only parameter) ++ rest → length rest ≡ behind
+        → OnOk result (out.new ≡ canon (component_tree (value.invoke identifier linked (code_of code.entry) parameter)) ++ rest) }
+
+    // It is read as that Invoke.
+    ensures found { OnOk result ((parameter : Option Tree) → IsReadBack (value.invoke identifier linked (code_of code.entry) parameter)) }
+{
+    write_asked(linked, code, out)?;
+    write_identifier(identifier, out)?;
+    out.put_constructed(Class::Context, INVOKE, behind)
 }

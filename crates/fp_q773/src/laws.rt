@@ -1,6 +1,6 @@
 //! What holds of all messages, of all numbers, and of all octets.
 
-ghost use Rattle.fp_q773.specs.Laws.{MessagesAreOne, ComponentsAreOne, CodesAreLeast, FourOctetsAreANumber, IdentifiersAreThoseOfTheMessage, IdsAreOne, NumbersAreOne};
+ghost use Rattle.fp_q773.specs.Laws.{MessagesAreOne, ComponentsAreOne, CodesAreLeast, FourOctetsAreANumber, IdentifiersAreThoseOfTheMessage, IdsAreOne, NumbersAreOne, WrittenHasLengths, WrittenHasRoom, WrittenHasTags};
 
 /// An element is at most one message.
 pub fn messages_are_one()
@@ -35,4 +35,13 @@ pub fn identifiers_are_those_of_the_message()
 pub fn numbers_are_four_octets()
     ensures different { NumbersAreOne }
     ensures each { FourOctetsAreANumber }
+{}
+
+/// What is written for a message that can be written, and is read back as itself, is an element that can be spelled: its tags are those that elements may have, if those
+/// of its parameters and its dialogue portion are; its canonical spelling is no longer than the room of the message; and
+/// four octets say its lengths, if that isn't too long.
+pub fn written_messages_are_elements()
+    ensures tags { WrittenHasTags }
+    ensures room { WrittenHasRoom }
+    ensures lengths { WrittenHasLengths }
 {}

@@ -4,9 +4,6 @@ ghost use Rattle.std.specs.Prelude.{◌≡◌, ◌∷◌, MatchOption, IfSome, I
 ghost use Rattle.fp_ber.specs.Spelling.{BeginsLength};
 ghost use Rattle.fp_q773.specs.Ids.{HasNoLength};
 
-/// The first octet of an indefinite length.
-const INDEFINITE: u8 = 0x80;
-
 /// A length, and what follows it.
 #[derive(Clone, Copy)]
 pub struct Length<'a> {
@@ -22,54 +19,8 @@ pub fn length_at(octets: &[u8]) -> Option<Length<'_>>
         (λ n. BeginsLength octets.now n length.rest.now)) }
     ensures none { IfNone result (HasNoLength octets.now) }
 {
-    let [first, rest @ ..] = octets else {
-        return None;
-    };
-    match *first {
-        0..=0x7F => Some(Length {
-            value: Some(usize::from(*first)),
-            rest,
-        }),
-        INDEFINITE => Some(Length { value: None, rest }),
-        0x81 => {
-            let [a, rest @ ..] = rest else {
-                return None;
-            };
-            Some(Length {
-                value: Some(usize::from(*a)),
-                rest,
-            })
-        }
-        0x82 => {
-            let [a, b, rest @ ..] = rest else {
-                return None;
-            };
-            Some(Length {
-                value: Some(0x100 * usize::from(*a) + usize::from(*b)),
-                rest,
-            })
-        }
-        0x83 => {
-            let [a, b, c, rest @ ..] = rest else {
-                return None;
-            };
-            let high = 0x100 * usize::from(*a) + usize::from(*b);
-            Some(Length {
-                value: Some(0x100 * high + usize::from(*c)),
-                rest,
-            })
-        }
-        0x84 => {
-            let [a, b, c, d, rest @ ..] = rest else {
-                return None;
-            };
-            let high = 0x100 * usize::from(*a) + usize::from(*b);
-            let high = 0x100 * high + usize::from(*c);
-            Some(Length {
-                value: Some(0x100 * high + usize::from(*d)),
-                rest,
-            })
-        }
-        _ => None,
+    match fp_ber::length_at(octets, true) {
+        Ok((value, rest)) => Some(Length { value, rest }),
+        Err(_) => None,
     }
 }

@@ -1,12 +1,16 @@
 //! The elements that an element holds.
 
-ghost use Rattle.std.specs.Prelude.{◌≡◌, IfOk, MatchOption};
+ghost use Rattle.std.specs.Prelude.{◌≡◌, ◌<◌, ◌^◌, ◌++◌, MatchOption, OnOk};
+ghost use Rattle.fp_ber.specs.Canon.{canon_of_all};
 ghost use Rattle.fp_ber.specs.Tree as tree;
 ghost use Rattle.fp_ber.specs.View.{tree_of, forest_of};
-ghost use Rattle.fp_q773.specs.Members.{joined};
+ghost use Rattle.fp_q773.specs.Copied.{CopyHasTags};
+ghost use Rattle.fp_q773.specs.Room.{tree_room};
+ghost use Rattle.fp_q773.specs.View.{tree_in};
+ghost use Rattle.fp_q773.specs.Writable.{only};
 
-use fp_ber::Element;
-use std::alloc::{AllocError, Global};
+use fp_ber::{Element, Writer};
+use std::alloc::AllocError;
 
 /// An element, and those behind it.
 #[derive(Clone, Copy)]
@@ -26,20 +30,14 @@ pub fn split_first(members: &[Element]) -> Option<Split<'_>>
     Some(Split { first, rest })
 }
 
-/// One element alone.
-pub fn one_member(alloc: Global, member: Element) -> Result<Vec<Element>, AllocError>
-    ensures { IfOk result (λ members. forest_of members.items ≡ tree.more (tree_of member) tree.none) }
+/// Writes an element, if it is there.
+pub fn write_optional(element: Option<&Element>, out: &mut Writer) -> Result<(), AllocError>
+    requires tags { CopyHasTags (tree_in element) }
+    requires room { tree_room (tree_in element) < 2 ^ 32 }
+    ensures { OnOk result (out.new ≡ canon_of_all (only (tree_in element.entry)) ++ out.old) }
 {
-    let mut members = Vec::new(alloc);
-    members.push(member)?;
-    Ok(members)
-}
-
-/// The elements with one more behind them.
-pub fn with_member(mut members: Vec<Element>, member: Element) -> Result<Vec<Element>, AllocError>
-    ensures { IfOk result (λ all. forest_of all.items
-        ≡ joined (forest_of members.items) (tree.more (tree_of member) tree.none)) }
-{
-    members.push(member)?;
-    Ok(members)
+    let Some(element) = element else {
+        return Ok(());
+    };
+    out.put_element(element)
 }

@@ -1,10 +1,9 @@
 //! Messages (Q.773, 4.2.1): what the two ends of a dialogue send each other.
 
-ghost use Rattle.std.specs.Prelude.{◌≡◌, ◌≢◌, ◌<◌, ◌≤◌, ◌^◌, length, IfOk, IfErr};
+ghost use Rattle.std.specs.Prelude.{◌≡◌, ◌≢◌, ◌<◌, ◌^◌, ◌++◌, IfOk, IfErr, OnOk};
 ghost use Rattle.fp_ber.specs.declared.element.Class.TheVariants as classes;
 ghost use Rattle.fp_ber.specs.Tree as tree;
-ghost use Rattle.fp_ber.specs.Tree.{HasTags};
-ghost use Rattle.fp_ber.specs.Canon.{canon, HasLengths};
+ghost use Rattle.fp_ber.specs.Canon.{canon};
 ghost use Rattle.fp_ber.specs.View.{tree_of, forest_of};
 ghost use Rattle.fp_q773.specs.declared.fault.MessageFault.{MessageFault};
 ghost use Rattle.fp_q773.specs.declared.fault.MessageFault.TheVariants as faults;
@@ -15,7 +14,7 @@ ghost use Rattle.fp_q773.specs.Named.{HasNamedProblems};
 ghost use Rattle.fp_q773.specs.Room.{message_room};
 ghost use Rattle.fp_q773.specs.Value.{MessageValue};
 ghost use Rattle.fp_q773.specs.View.{message_value};
-ghost use Rattle.fp_q773.specs.Writable.{IsWritableMessage, IsBare};
+ghost use Rattle.fp_q773.specs.Writable.{IsWritableMessage};
 ghost use Rattle.fp_q773.specs.Written.{written};
 
 use crate::abort::{ABORT, Abort};
@@ -23,7 +22,7 @@ use crate::begin::{BEGIN, Begin};
 use crate::continuing::{CONTINUE, Continue};
 use crate::end::{END, End};
 use crate::fault::MessageFault;
-use fp_ber::{Class, Element};
+use fp_ber::{Class, Element, Writer};
 use std::alloc::{AllocError, Global};
 
 /// The number of the application tag of a Unidirectional.
@@ -142,50 +141,30 @@ pub fn message_of(alloc: Global, element: &Element) -> Result<Message<'_>, Messa
     read_message(alloc, element)
 }
 
-/// The element of a message.
-fn element_of(alloc: Global, message: &Message<'_>) -> Result<Element, AllocError>
-    requires { IsWritableMessage (message_value message.now) }
-    ensures found { IfOk result (λ element. IsMessage (tree_of element) (message_value message.now)) }
-    ensures exact { IfOk result (λ element. tree_of element ≡ written (message_value message.now)) }
+/// Writes a message (Q.773, 4.2.1) before the octets that are there.
+///
+/// No component is faulty, and a dialogue portion has the tag 6B. The elements that the message lends, its parameters and
+/// its dialogue portion, have tags that elements may have, and lengths that four octets tell. A Unidirectional is written
+/// without components. After want of memory nothing is promised of the octets.
+pub fn write_message(message: &Message<'_>, out: &mut Writer) -> Result<(), AllocError>
+    requires writable { IsWritableMessage (message_value message.now) }
+    requires tags { CopiesHaveTags (message_value message.now) }
+    requires room { message_room (message_value message.now) < 2 ^ 32 }
+
+    // The message determines the octets: what may be spelled in several ways is written in one.
+    ensures exact { OnOk result (out.new ≡ canon (written (message_value message.now)) ++ out.old) }
+
+    // What is written is read as the message.
+    ensures found { OnOk result (IsMessage (written (message_value message.now)) (message_value message.now)) }
 {
     match message {
-        Message::Unidirectional => Ok(Element::constructed(
-            Class::Application,
-            UNIDIRECTIONAL,
-            Vec::new(alloc),
-        )),
-        Message::Begin(begin) => begin.write(alloc),
-        Message::End(end) => end.write(alloc),
-        Message::Continue(continuing) => continuing.write(alloc),
-        Message::Abort(abort) => abort.write(alloc),
+        Message::Unidirectional => {
+            let behind = out.len();
+            out.put_constructed(Class::Application, UNIDIRECTIONAL, behind)
+        }
+        Message::Begin(begin) => begin.write(out),
+        Message::End(end) => end.write(out),
+        Message::Continue(continuing) => continuing.write(out),
+        Message::Abort(abort) => abort.write(out),
     }
-}
-
-/// The element of a message (Q.773, 4.2.1), with copies of its parameters and its dialogue portion.
-///
-/// No component is faulty, and a dialogue portion has the tag 6B. A Unidirectional is written without
-/// components.
-pub fn write_message(alloc: Global, message: &Message<'_>) -> Result<Element, AllocError>
-    requires { IsWritableMessage (message_value message.now) }
-
-    // What is written is the message.
-    ensures found { IfOk result (λ element. IsMessage (tree_of element) (message_value message.now)) }
-
-    // The message determines the element: what may be spelled in several ways is written in one.
-    ensures exact { IfOk result (λ element. tree_of element ≡ written (message_value message.now)) }
-
-    // Without components there is no component portion, and a Unidirectional holds nothing.
-    ensures bare { IfOk result (λ element. IsBare (tree_of element) (message_value message.now)) }
-
-    // Its tags are those that elements may have, if those of the copies are.
-    ensures tags { IfOk result (λ element. CopiesHaveTags (message_value message.now) → HasTags (tree_of element)) }
-
-    // Its canonical spelling is no longer than this.
-    ensures size { IfOk result (λ element. length (canon (tree_of element)) ≤ message_room (message_value message.now)) }
-
-    // Four octets say its lengths, if it isn't too long.
-    ensures lengths { IfOk result (λ element. message_room (message_value message.now) < 2 ^ 32
-        → HasLengths (tree_of element)) }
-{
-    element_of(alloc, message)
 }

@@ -1,22 +1,24 @@
 //! The portions of a message (Q.773, 4.2): of the dialogue, and of components.
 
-ghost use Rattle.std.specs.Prelude.{◌≡◌, All, [], Option, List, IfOk, IfErr, IfSome, IfNone, map};
+ghost use Rattle.std.specs.Prelude.{◌≡◌, ◌≢◌, ◌<◌, ◌≤◌, ◌+◌, ◌^◌, ◌++◌, ℕ, All, [], Option, List, IfOk, IfErr, IfSome, IfNone, OnOk, length, map};
+ghost use Rattle.fp_ber.specs.Canon.{canon_of_all};
 ghost use Rattle.fp_ber.specs.Tree as tree;
 ghost use Rattle.fp_ber.specs.Tree.{Tree};
 ghost use Rattle.fp_ber.specs.View.{tree_of, forest_of};
 ghost use Rattle.fp_q773.specs.Value.{ComponentValue};
 ghost use Rattle.fp_q773.specs.View.{component_of, tree_in};
 ghost use Rattle.fp_q773.specs.Fault.{Refused};
-ghost use Rattle.fp_q773.specs.Members.{joined, HasMore};
+ghost use Rattle.fp_q773.specs.Copied.{ComponentsHaveTags, CopyHasTags};
+ghost use Rattle.fp_q773.specs.Room.{components_room, tree_room};
 ghost use Rattle.fp_q773.specs.Grammar.{AreComponents, IsPortion, IsDialogue, ArePortions};
 ghost use Rattle.fp_q773.specs.Named.{HasNamedProblem};
-ghost use Rattle.fp_q773.specs.Writable.{AllWritable, IsWritableDialogue};
-ghost use Rattle.fp_q773.specs.Written.{component_trees, portion_trees, portions_trees};
+ghost use Rattle.fp_q773.specs.Writable.{AllWritable};
+ghost use Rattle.fp_q773.specs.Written.{component_trees, portion_trees, portions_trees, IsReadBack};
 
 use crate::component::Component;
 use crate::fault::MessageFault;
-use crate::members::{split_first, with_member};
-use fp_ber::{Class, Element};
+use crate::members::{split_first, write_optional};
+use fp_ber::{Class, Element, Writer};
 use std::alloc::{AllocError, Global};
 
 /// The number of the application tag of a dialogue portion.
@@ -120,61 +122,61 @@ impl<'a> Portions<'a> {
     }
 }
 
-/// The elements of components, in their order.
-fn write_components(alloc: Global, components: &[Component<'_>]) -> Result<Vec<Element>, AllocError>
-    requires { AllWritable (map component_of components.now) }
-    ensures found { IfOk result (λ members. AreComponents (forest_of members.items) (map component_of components.now)) }
-    ensures exact { IfOk result (λ members. forest_of members.items ≡ component_trees (map component_of components.now)) }
+/// Writes components, the last one first.
+fn write_components(components: &[Component<'_>], out: &mut Writer) -> Result<(), AllocError>
+    requires writable { AllWritable (map component_of components.now) }
+    requires tags { ComponentsHaveTags (map component_of components.now) }
+    requires room { components_room (map component_of components.now) < 2 ^ 32 }
+    ensures exact { OnOk result (out.new ≡ canon_of_all (component_trees (map component_of components.now)) ++ out.old) }
+    ensures found { OnOk result (All IsReadBack (map component_of components.now)) }
 {
-    let mut members = Vec::new(alloc);
-    'components: for component in components {
-        let member = component.write(alloc)?;
-        members.push(member)?;
+    'components: for index in (0..components.len()).rev() {
+        components[index].write(out)?;
     }
-    Ok(members)
+    Ok(())
 }
 
-/// The elements with a component portion behind them, if there are components.
-fn write_portion(
-    alloc: Global,
-    members: Vec<Element>,
-    components: &[Component<'_>],
-) -> Result<Vec<Element>, AllocError>
-    requires { AllWritable (map component_of components.now) }
-    ensures found { IfOk result (λ all. HasMore (forest_of all.items) (forest_of members.items)
-        (λ ts. IsPortion ts (map component_of components.now))) }
-    ensures exact { IfOk result (λ all. forest_of all.items
-        ≡ joined (forest_of members.items) (portion_trees (map component_of components.now))) }
+/// Writes what stands before components, of which there is one at least. The octets before the last `behind` ones are
+/// their spellings. After want of memory nothing is promised of the octets.
+pub fn write_component_portion(behind: usize, out: &mut Writer) -> Result<(), AllocError>
+    requires { behind ≤ length out.old }
+    ensures { (components : List ComponentValue) (rest : List ℕ) → components ≢ []
+        → out.old ≡ canon_of_all (component_trees components) ++ rest → length rest ≡ behind
+        → OnOk result (out.new ≡ canon_of_all (portion_trees components) ++ rest) }
+{
+    out.put_constructed(Class::Application, COMPONENT_PORTION, behind)
+}
+
+/// Writes a component portion, if there are components.
+fn write_portion(components: &[Component<'_>], out: &mut Writer) -> Result<(), AllocError>
+    requires writable { AllWritable (map component_of components.now) }
+    requires tags { ComponentsHaveTags (map component_of components.now) }
+    requires room { components_room (map component_of components.now) < 2 ^ 32 }
+    ensures exact { OnOk result (out.new ≡ canon_of_all (portion_trees (map component_of components.now)) ++ out.old) }
+    ensures found { OnOk result (All IsReadBack (map component_of components.now)) }
 {
     if components.is_empty() {
-        return Ok(members);
+        return Ok(());
     }
-    let inside = write_components(alloc, components)?;
-    let portion = Element::constructed(Class::Application, COMPONENT_PORTION, inside);
-    let members = with_member(members, portion)?;
-    Ok(members)
+    let behind = out.len();
+    write_components(components, out)?;
+    write_component_portion(behind, out)
 }
 
-/// The elements with the portions of a message behind them.
+/// Writes the portions of a message.
 pub fn write_portions(
-    alloc: Global,
-    members: Vec<Element>,
     dialogue: Option<&Element>,
     components: &[Component<'_>],
-) -> Result<Vec<Element>, AllocError>
-    requires its_dialogue { IsWritableDialogue (tree_in dialogue) }
-    requires its_components { AllWritable (map component_of components.now) }
-    ensures found { IfOk result (λ all. HasMore (forest_of all.items) (forest_of members.items)
-        (λ ts. ArePortions ts (tree_in dialogue.entry) (map component_of components.now))) }
-    ensures exact { IfOk result (λ all. forest_of all.items
-        ≡ joined (forest_of members.items) (portions_trees (tree_in dialogue.entry) (map component_of components.now))) }
+    out: &mut Writer,
+) -> Result<(), AllocError>
+    requires writable { AllWritable (map component_of components.now) }
+    requires dialogue_tags { CopyHasTags (tree_in dialogue) }
+    requires tags { ComponentsHaveTags (map component_of components.now) }
+    requires room { tree_room (tree_in dialogue) + components_room (map component_of components.now) < 2 ^ 32 }
+    ensures exact { OnOk result (out.new
+        ≡ canon_of_all (portions_trees (tree_in dialogue.entry) (map component_of components.now)) ++ out.old) }
+    ensures found { OnOk result (All IsReadBack (map component_of components.now)) }
 {
-    let Some(dialogue) = dialogue else {
-        let members = write_portion(alloc, members, components)?;
-        return Ok(members);
-    };
-    let dialogue = dialogue.try_clone(alloc)?;
-    let members = with_member(members, dialogue)?;
-    let members = write_portion(alloc, members, components)?;
-    Ok(members)
+    write_portion(components, out)?;
+    write_optional(dialogue, out)
 }

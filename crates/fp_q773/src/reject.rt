@@ -1,20 +1,23 @@
 //! Reject (Q.773, 4.2.2): a component can't be taken.
 
-ghost use Rattle.std.specs.Prelude.{◌≡◌, ℤ, Option, IfOk, IfSome, IfNone, MatchOption};
+ghost use Rattle.std.specs.Prelude.{◌≡◌, ◌++◌, ℤ, Option, IfSome, IfNone, MatchOption, OnOk};
+ghost use Rattle.fp_ber.specs.Canon.{canon};
 ghost use Rattle.fp_ber.specs.View.{tree_of, forest_of};
 ghost use Rattle.fp_q773.specs.Value.{ProblemValue};
 ghost use Rattle.fp_q773.specs.Problem.{problem_of, IsNamed};
+ghost use Rattle.fp_q773.specs.View.{reject_of};
 ghost use Rattle.fp_q773.specs.Grammar.{IsRejected, IsProblem, IsReject};
-ghost use Rattle.fp_q773.specs.Written.{rejected_tree, problem_tree, reject_trees};
+ghost use Rattle.fp_q773.specs.Written.{rejected_tree, problem_tree, component_tree, IsReadBack};
 
 use crate::identifier::{identifier_of, write_identifier};
-use crate::members::{one_member, split_first, with_member};
+use crate::members::split_first;
 use crate::problem::Problem;
-use fp_ber::{Class, Element};
-use std::alloc::{AllocError, Global};
+use fp_ber::universal::NULL;
+use fp_ber::{Class, Element, Writer};
+use std::alloc::AllocError;
 
-/// The number of the universal tag of null.
-const NULL: u16 = 5;
+/// The number of the context tag of a Reject.
+pub const REJECT: u16 = 4;
 
 /// A Reject: what is wrong with a component.
 #[derive(Clone, Copy, Debug, PartialEq, Eq)]
@@ -50,17 +53,14 @@ fn rejected_of(element: &Element) -> Option<Rejected>
     })
 }
 
-/// The element of the identifier of a rejected component, or null.
-fn write_rejected(alloc: Global, identifier: Option<i8>) -> Result<Element, AllocError>
-    ensures found { IfOk result (λ element. IsRejected (tree_of element) identifier) }
-    ensures exact { IfOk result (λ element. tree_of element ≡ rejected_tree identifier) }
+/// Writes the identifier of a rejected component, or null.
+fn write_rejected(identifier: Option<i8>, out: &mut Writer) -> Result<(), AllocError>
+    ensures exact { OnOk result (out.new ≡ canon (rejected_tree identifier) ++ out.old) }
+    ensures found { IsRejected (rejected_tree identifier) identifier }
 {
     match identifier {
-        Some(identifier) => {
-            let element = write_identifier(alloc, identifier)?;
-            Ok(element)
-        }
-        None => Ok(Element::primitive(Class::Universal, NULL, Vec::new(alloc))),
+        Some(identifier) => write_identifier(identifier, out),
+        None => out.put_primitive(Class::Universal, NULL, &[]),
     }
 }
 
@@ -79,13 +79,12 @@ fn problem_in(element: &Element) -> Option<Problem>
     Problem::new(element.number, *code)
 }
 
-/// The element of a problem.
-fn write_problem(alloc: Global, problem: Problem) -> Result<Element, AllocError>
-    ensures found { IfOk result (λ element. IsProblem (tree_of element) (problem_of problem)) }
-    ensures exact { IfOk result (λ element. tree_of element ≡ problem_tree (problem_of problem)) }
+/// Writes a problem.
+fn write_problem(problem: Problem, out: &mut Writer) -> Result<(), AllocError>
+    ensures exact { OnOk result (out.new ≡ canon (problem_tree (problem_of problem)) ++ out.old) }
+    ensures found { IsProblem (problem_tree (problem_of problem)) (problem_of problem) }
 {
-    let octets = Vec::from_slice(alloc, &[problem.code()])?;
-    Ok(Element::primitive(Class::Context, problem.tag(), octets))
+    out.put_primitive(Class::Context, problem.tag(), &[problem.code()])
 }
 
 impl Reject {
@@ -117,15 +116,16 @@ impl Reject {
         })
     }
 
-    /// The elements that a Reject holds.
-    pub(crate) fn write(&self, alloc: Global) -> Result<Vec<Element>, AllocError>
-        ensures found { IfOk result (λ members. IsReject (forest_of members.items) self.now.identifier (problem_of self.now.problem)) }
-        ensures exact { IfOk result (λ members. forest_of members.items ≡ reject_trees self.now.identifier (problem_of self.now.problem)) }
+    /// Writes a Reject.
+    pub fn write(&self, out: &mut Writer) -> Result<(), AllocError>
+        ensures exact { OnOk result (out.new ≡ canon (component_tree (reject_of self.now)) ++ out.old) }
+
+        // It is read as that Reject.
+        ensures found { OnOk result (IsReadBack (reject_of self.now)) }
     {
-        let identifier = write_rejected(alloc, self.identifier)?;
-        let members = one_member(alloc, identifier)?;
-        let problem = write_problem(alloc, self.problem)?;
-        let members = with_member(members, problem)?;
-        Ok(members)
+        let behind = out.len();
+        write_problem(self.problem, out)?;
+        write_rejected(self.identifier, out)?;
+        out.put_constructed(Class::Context, REJECT, behind)
     }
 }

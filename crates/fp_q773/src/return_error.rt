@@ -1,18 +1,26 @@
 //! ReturnError (Q.773, 4.2.2): an operation failed.
 
-ghost use Rattle.std.specs.Prelude.{◌≡◌, ℤ, Option, IfOk, IfSome, IfNone};
+ghost use Rattle.std.specs.Prelude.{◌≡◌, ◌<◌, ◌≤◌, ◌^◌, ◌++◌, ℕ, ℤ, List, Option, IfSome, IfNone, OnOk, length};
+ghost use Rattle.fp_ber.specs.Canon.{canon, canon_of_all};
 ghost use Rattle.fp_ber.specs.Tree.{Tree};
 ghost use Rattle.fp_ber.specs.View.{forest_of};
+ghost use Rattle.fp_q773.specs.Copied.{ComponentHasTags};
+ghost use Rattle.fp_q773.specs.Room.{component_room};
+ghost use Rattle.fp_q773.specs.Value as value;
 ghost use Rattle.fp_q773.specs.Value.{CodeValue};
-ghost use Rattle.fp_q773.specs.View.{code_of, tree_in};
+ghost use Rattle.fp_q773.specs.View.{code_of, return_error_of, tree_in};
 ghost use Rattle.fp_q773.specs.Grammar.{IsReturnError};
-ghost use Rattle.fp_q773.specs.Written.{return_error_trees};
+ghost use Rattle.fp_q773.specs.Writable.{only};
+ghost use Rattle.fp_q773.specs.Written.{component_tree, IsReadBack};
 
 use crate::coded::{Code, Coded};
 use crate::identifier::{identifier_of, write_identifier};
-use crate::members::{one_member, split_first};
-use fp_ber::Element;
-use std::alloc::{AllocError, Global};
+use crate::members::{split_first, write_optional};
+use fp_ber::{Class, Element, Writer};
+use std::alloc::AllocError;
+
+/// The number of the context tag of a ReturnError.
+pub const RETURN_ERROR: u16 = 3;
 
 /// A ReturnError: why an operation failed.
 #[derive(Clone, Copy, Debug)]
@@ -49,20 +57,37 @@ impl<'a> ReturnError<'a> {
         })
     }
 
-    /// The elements that a ReturnError holds.
-    pub(crate) fn write(&self, alloc: Global) -> Result<Vec<Element>, AllocError>
-        ensures found { IfOk result (λ members. IsReturnError (forest_of members.items) self.now.identifier
-            (code_of self.now.code) (tree_in self.now.parameter)) }
-        ensures exact { IfOk result (λ members. forest_of members.items
-            ≡ return_error_trees self.now.identifier (code_of self.now.code) (tree_in self.now.parameter)) }
+    /// Writes a ReturnError.
+    pub(crate) fn write(&self, out: &mut Writer) -> Result<(), AllocError>
+        requires tags { ComponentHasTags (return_error_of self.now) }
+        requires room { component_room (return_error_of self.now) < 2 ^ 32 }
+        ensures exact { OnOk result (out.new ≡ canon (component_tree (return_error_of self.now)) ++ out.old) }
+        ensures found { OnOk result (IsReadBack (return_error_of self.now)) }
     {
-        let identifier = write_identifier(alloc, self.identifier)?;
-        let members = one_member(alloc, identifier)?;
-        let error = Coded {
-            code: self.code,
-            parameter: self.parameter,
-        };
-        let members = error.write(alloc, members)?;
-        Ok(members)
+        let behind = out.len();
+        write_optional(self.parameter, out)?;
+        write_return_error(self.identifier, self.code, behind, out)
     }
+}
+
+/// Writes what stands before the parameter of a ReturnError. The octets before the last `behind` ones are the spelling of
+/// its parameter, and there are none where it has none. After want of memory nothing is promised of the octets.
+pub fn write_return_error(
+    identifier: i8,
+    code: Code<'_>,
+    behind: usize,
+    out: &mut Writer,
+) -> Result<(), AllocError>
+    requires behind { behind ≤ length out.old }
+
+    // The ReturnError stands before the last octets.
+    ensures exact { (parameter : Option Tree) (rest : List ℕ) → out.old ≡ canon_of_all (only parameter) ++ rest → length rest ≡ behind
+        → OnOk result (out.new ≡ canon (component_tree (value.return_error identifier (code_of code.entry) parameter)) ++ rest) }
+
+    // It is read as that ReturnError.
+    ensures found { OnOk result ((parameter : Option Tree) → IsReadBack (value.return_error identifier (code_of code.entry) parameter)) }
+{
+    code.write(out)?;
+    write_identifier(identifier, out)?;
+    out.put_constructed(Class::Context, RETURN_ERROR, behind)
 }

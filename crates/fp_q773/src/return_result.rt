@@ -1,23 +1,23 @@
 //! ReturnResultLast and ReturnResultNotLast (Q.773, 4.2.2): what an operation returns, whole or in parts.
 
-ghost use Rattle.std.specs.Prelude.{◌≡◌, ℤ, Option, Some, None, IfOk, IfSome, IfNone, option_map};
+ghost use Rattle.std.specs.Prelude.{◌≡◌, ◌<◌, ◌^◌, ◌++◌, ℤ, Option, Some, IfSome, IfNone, OnOk, option_map};
+ghost use Rattle.fp_ber.specs.Canon.{canon_of_all};
 ghost use Rattle.fp_ber.specs.declared.element.Class.TheVariants as classes;
 ghost use Rattle.fp_ber.specs.Tree as tree;
 ghost use Rattle.fp_ber.specs.View.{tree_of, forest_of};
+ghost use Rattle.fp_q773.specs.Copied.{ResultHasTags};
+ghost use Rattle.fp_q773.specs.Room.{result_room};
 ghost use Rattle.fp_q773.specs.Value.{ResultValue};
 ghost use Rattle.fp_q773.specs.View.{result_of};
-ghost use Rattle.fp_q773.specs.Members.{joined, HasMore};
 ghost use Rattle.fp_q773.specs.Grammar.{IsReturned, IsReturnResult};
 ghost use Rattle.fp_q773.specs.Written.{returned_trees, return_result_trees};
 
 use crate::coded::Coded;
 use crate::identifier::{identifier_of, write_identifier};
-use crate::members::{one_member, split_first, with_member};
-use fp_ber::{Class, Element};
-use std::alloc::{AllocError, Global};
-
-/// The number of the universal tag of a sequence.
-const SEQUENCE: u16 = 16;
+use crate::members::split_first;
+use fp_ber::universal::SEQUENCE;
+use fp_ber::{Class, Element, Writer};
+use std::alloc::AllocError;
 
 /// A ReturnResult: what an operation returns.
 #[derive(Clone, Copy, Debug)]
@@ -73,36 +73,34 @@ impl<'a> ReturnResult<'a> {
         })
     }
 
-    /// The elements with those of what is returned behind them.
-    fn write_returned(
-        &self,
-        alloc: Global,
-        members: Vec<Element>,
-    ) -> Result<Vec<Element>, AllocError>
-        ensures found { IfOk result (λ all. HasMore (forest_of all.items) (forest_of members.items)
-            (λ ts. IsReturned ts (option_map result_of self.now.result))) }
-        ensures exact { IfOk result (λ all. forest_of all.items
-            ≡ joined (forest_of members.items) (returned_trees (option_map result_of self.now.result))) }
+    /// Writes what is returned, if there is something.
+    fn write_returned(&self, out: &mut Writer) -> Result<(), AllocError>
+        requires tags { ResultHasTags (option_map result_of self.now.result) }
+        requires room { result_room (option_map result_of self.now.result) < 2 ^ 32 }
+        ensures exact { OnOk result (out.new
+            ≡ canon_of_all (returned_trees (option_map result_of self.now.result)) ++ out.old) }
+        ensures found { OnOk result (IsReturned (returned_trees (option_map result_of self.now.result))
+            (option_map result_of self.now.result)) }
     {
         let Some(returned) = self.result else {
-            return Ok(members);
+            return Ok(());
         };
-        let inside = returned.write(alloc, Vec::new(alloc))?;
-        let sequence = Element::constructed(Class::Universal, SEQUENCE, inside);
-        let members = with_member(members, sequence)?;
-        Ok(members)
+        let behind = out.len();
+        returned.write(out)?;
+        out.put_constructed(Class::Universal, SEQUENCE, behind)
     }
 
-    /// The elements that a ReturnResult holds.
-    pub(crate) fn write(&self, alloc: Global) -> Result<Vec<Element>, AllocError>
-        ensures found { IfOk result (λ members. IsReturnResult (forest_of members.items) self.now.identifier
-            (option_map result_of self.now.result)) }
-        ensures exact { IfOk result (λ members. forest_of members.items
-            ≡ return_result_trees self.now.identifier (option_map result_of self.now.result)) }
+    /// Writes what a ReturnResult holds.
+    pub(crate) fn write(&self, out: &mut Writer) -> Result<(), AllocError>
+        requires tags { ResultHasTags (option_map result_of self.now.result) }
+        requires room { result_room (option_map result_of self.now.result) < 2 ^ 32 }
+        ensures exact { OnOk result (out.new
+            ≡ canon_of_all (return_result_trees self.now.identifier (option_map result_of self.now.result)) ++ out.old) }
+        ensures found { OnOk result (IsReturnResult
+            (return_result_trees self.now.identifier (option_map result_of self.now.result))
+            self.now.identifier (option_map result_of self.now.result)) }
     {
-        let identifier = write_identifier(alloc, self.identifier)?;
-        let members = one_member(alloc, identifier)?;
-        let members = self.write_returned(alloc, members)?;
-        Ok(members)
+        self.write_returned(out)?;
+        write_identifier(self.identifier, out)
     }
 }

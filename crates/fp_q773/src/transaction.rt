@@ -1,16 +1,18 @@
 //! Transaction identifiers in a message (Q.773, 4.2.1.3).
 
-ghost use Rattle.std.specs.Prelude.{◌≡◌, ℕ, List, IfOk, IfSome, IfNone};
+ghost use Rattle.std.specs.Prelude.{◌≡◌, ◌++◌, ℕ, List, IfSome, IfNone, OnOk};
+ghost use Rattle.fp_ber.specs.Canon.{canon};
 ghost use Rattle.fp_ber.specs.declared.element.Class.TheVariants as classes;
 ghost use Rattle.fp_ber.specs.Tree as tree;
-ghost use Rattle.fp_ber.specs.View.{tree_of, forest_of};
+ghost use Rattle.fp_ber.specs.Tree.{IsTagNumber};
+ghost use Rattle.fp_ber.specs.View.{forest_of};
 ghost use Rattle.fp_q773.specs.Tid.{octets_of, IsTid};
 ghost use Rattle.fp_q773.specs.Grammar.{IsTransaction};
 
 use crate::members::split_first;
 use crate::tid::Tid;
-use fp_ber::{Class, Element};
-use std::alloc::{AllocError, Global};
+use fp_ber::{Class, Element, Writer};
+use std::alloc::AllocError;
 
 /// The number of the application tag of an originating transaction identifier.
 pub const ORIGINATING: u16 = 8;
@@ -45,11 +47,11 @@ pub fn transaction_at(members: &[Element], number: u16) -> Option<Transaction<'_
     })
 }
 
-/// The element of a transaction identifier, with the tag of this number.
-pub fn write_transaction(alloc: Global, identifier: Tid, number: u16) -> Result<Element, AllocError>
-    ensures value { IfOk result (λ element. tree_of element ≡ tree.primitive classes.Application number (octets_of identifier)) }
+/// Writes a transaction identifier, with the tag of this number.
+pub fn write_transaction(identifier: Tid, number: u16, out: &mut Writer) -> Result<(), AllocError>
+    requires { IsTagNumber classes.Application number }
+    ensures exact { OnOk result (out.new ≡ canon (tree.primitive classes.Application number (octets_of identifier)) ++ out.old) }
     ensures size { IsTid (octets_of identifier) }
 {
-    let octets = Vec::from_slice(alloc, identifier.as_slice())?;
-    Ok(Element::primitive(Class::Application, number, octets))
+    out.put_primitive(Class::Application, number, identifier.as_slice())
 }

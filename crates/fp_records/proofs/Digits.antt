@@ -1,10 +1,12 @@
--- How a number grows digit by digit.
-use Rattle.std.proofs.Common.{◌≡◌, ℕ, ◌+◌, ◌-◌, ◌*◌, ◌<◌, ◌≤◌, List, [], ◌∷◌, drop, length, get_or, Bool, true, false, ◌&&◌, Option, Some, None, nat_le, nat_lt, if◌then◌else◌, refl, arith, add-one}
+-- How a number grows digit by digit, and what digits a text writes.
+use Rattle.std.proofs.Common.{◌≡◌, ℕ, ◌+◌, ◌-◌, ◌*◌, ◌<◌, ◌≤◌, List, [], ◌∷◌, drop, length, map, get_or, Bool, true, false, ◌&&◌, Option, Some, None, nat_le, nat_lt, if◌then◌else◌, refl, arith, add-one}
 use Rattle.std.specs.Char.{is_ascii_digit}
 use Rattle.std.specs.List.{list_all}
 use Rattle.std.proofs.lemmas.List.{drop_all}
 use Rattle.std.proofs.Math.Seq.{drop-cons}
 use Rattle.std.proofs.lemmas.Bool.Decides.{nat_tests}
+use Rattle.std.proofs.lemmas.List.{length-map}
+use Rattle.fp_records.specs.Digits.{digits_of, is_decimal}
 use Rattle.fp_records.specs.Number.{number_after, number_up_to}
 
 -- the number that a text makes behind the digits of n, up to a limit
@@ -56,3 +58,27 @@ up_to-whole most (octet ∷ octets) some =
 
 -- how a loop over the digits of a text steps
 pub ruleset up_to_steps = (up_to-over, up_to-more, up_to-letter, up_to-end, up_to-whole)
+
+-- the values of decimal digits
+below_ten : (octets : List ℕ) → list_all is_ascii_digit octets ≡ true → list_all (λ digit. nat_lt digit 10) (map (λ octet. octet - 48) octets) ≡ true
+below_ten [] all = refl
+below_ten (octet ∷ octets) all = digit (is_ascii_digit octet) refl (λ rest. below_ten octets rest) all
+  where
+    digit : (here : Bool) → is_ascii_digit octet ≡ here → (list_all is_ascii_digit octets ≡ true → list_all (λ d. nat_lt d 10) (map (λ o. o - 48) octets) ≡ true)
+        → (here && list_all is_ascii_digit octets) ≡ true → (nat_lt (octet - 48) 10 && list_all (λ d. nat_lt d 10) (map (λ o. o - 48) octets)) ≡ true
+    digit true is more rest =
+        let below : nat_lt (octet - 48) 10 ≡ true = grind (arith, nat_tests, is) in
+        rw below (more rest)
+    digit false is more rest = cc
+
+-- the digits that a text of up to 15 writes are decimal ones
+pub digits_of-decimal : (text digits : List ℕ) → digits_of text ≡ Some digits → is_decimal digits ≡ true
+digits_of-decimal text digits is = by (nat_le (length text) 15) refl (list_all is_ascii_digit text) refl is
+  where
+    by : (short : Bool) → nat_le (length text) 15 ≡ short → (all : Bool) → list_all is_ascii_digit text ≡ all
+        → (if short && all then Some (map (λ octet. octet - 48) text) else None) ≡ Some digits → is_decimal digits ≡ true
+    by true few true all same =
+        let digits_are : map (λ octet. octet - 48) text ≡ digits = cc same in
+        rw (← digits_are, length-map, few, below_ten text all) refl
+    by true few false all same = cc
+    by false few all is_all same = cc

@@ -1,10 +1,13 @@
 pub mod Calendar
 pub mod Digits
 pub mod Entries
+pub mod FieldTable
 pub mod Grouping
 pub mod Lookups
+pub mod Numbers
 pub mod Orders
 pub mod Places
+pub mod Running
 pub mod Shares
 pub mod Tables
 pub mod WholeText

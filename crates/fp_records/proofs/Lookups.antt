@@ -6,22 +6,22 @@ use Rattle.std.specs.Map.{lookup}
 use Rattle.std.specs.Ordering.{is_eq, nat_cmp}
 
 -- what contracts see of entries
-abbrev pub seen : {K X Y : Type 0} → (K → List ℕ) → (X → Y) → List (K × X) → List (List ℕ × Y)
-seen digits_of shown entries = map (λ entry. (digits_of entry.0, shown entry.1)) entries
+abbrev pub seen : {X Y : Type 0} → (X → Y) → List (List ℕ × X) → List (List ℕ × Y)
+seen shown entries = map (λ entry. (entry.0, shown entry.1)) entries
 
-pub lookup-seen : {K X Y : Type 0} (digits_of : K → List ℕ) (shown : X → Y) (digits : List ℕ) (entries : List (K × X))
-    → lookup (bytes_eq digits) (seen digits_of shown entries) ≡ option_map shown (lookup (λ key. is_eq (slice_cmp nat_cmp digits (digits_of key))) entries)
-lookup-seen digits_of shown digits [] = refl
-lookup-seen digits_of shown digits (entry ∷ entries) =
-    rw (texts_ties digits (digits_of entry.0), lookup-seen digits_of shown digits entries) (by (is_eq (slice_cmp nat_cmp digits (digits_of entry.0))) _)
+pub lookup-seen : {X Y : Type 0} (shown : X → Y) (digits : List ℕ) (entries : List (List ℕ × X))
+    → lookup (bytes_eq digits) (seen shown entries) ≡ option_map shown (lookup (λ key. is_eq (slice_cmp nat_cmp digits key)) entries)
+lookup-seen shown digits [] = refl
+lookup-seen shown digits (entry ∷ entries) =
+    rw (texts_ties digits entry.0, lookup-seen shown digits entries) (by (is_eq (slice_cmp nat_cmp digits entry.0)) _)
   where
     by : (b : Bool) (rest : Option _) → cond b (Some (shown entry.1)) (option_map shown rest) ≡ option_map shown (cond b (Some entry.1) rest)
     by true rest = refl
     by false rest = refl
 
 -- what a look-up lends is what contracts see at the digits
-pub seen-found : {K X Y : Type 0} (digits_of : K → List ℕ) (shown : X → Y) (digits : List ℕ) (entries : List (K × X)) (found : Option (Bor X))
-    → option_map (λ lent. lent.now) found ≡ lookup (λ key. is_eq (slice_cmp nat_cmp digits (digits_of key))) entries
-    → option_map (λ lent. shown lent.now) found ≡ lookup (bytes_eq digits) (seen digits_of shown entries)
-seen-found digits_of shown digits entries None same = rw (lookup-seen digits_of shown digits entries, ← same) refl
-seen-found digits_of shown digits entries (Some lent) same = rw (lookup-seen digits_of shown digits entries, ← same) refl
+pub seen-found : {X Y : Type 0} (shown : X → Y) (digits : List ℕ) (entries : List (List ℕ × X)) (found : Option (Bor X))
+    → option_map (λ lent. lent.now) found ≡ lookup (λ key. is_eq (slice_cmp nat_cmp digits key)) entries
+    → option_map (λ lent. shown lent.now) found ≡ lookup (bytes_eq digits) (seen shown entries)
+seen-found shown digits entries None same = rw (lookup-seen shown digits entries, ← same) refl
+seen-found shown digits entries (Some lent) same = rw (lookup-seen shown digits entries, ← same) refl

@@ -9,17 +9,9 @@ use Rattle.std.specs.Ordering.{nat_cmp, ordering_reverse}
 use Rattle.std.specs.declared.cmp.Ordering.TheVariants.{Less, Greater}
 use Rattle.fp_records.proofs.Lookups.{seen}
 
-all_above : {K X Y : Type 0} (digits_of : K → List ℕ) (shown : X → Y) (key : K) (entries : List (K × X))
-    → AllByRecursion (λ other. slice_cmp nat_cmp (digits_of key) (digits_of other) ≡ Less) (keys_of entries)
-    → AllByRecursion (λ other. slice_cmp nat_cmp (digits_of key) other ≡ Less) (keys_of (seen digits_of shown entries))
-all_above digits_of shown key [] above = above
-all_above digits_of shown key (entry ∷ entries) above = (above.0, all_above digits_of shown key entries above.1)
-
-pub once-seen : {K X Y : Type 0} (digits_of : K → List ℕ) (shown : X → Y) (entries : List (K × X))
-    → IsStrictlySortedBy (λ a b. slice_cmp nat_cmp (digits_of a) (digits_of b)) (keys_of entries) → IsStrictlySortedBy (slice_cmp nat_cmp) (keys_of (seen digits_of shown entries))
-unfolding IsStrictlySortedBy
-once-seen digits_of shown [] sorted = sorted
-once-seen digits_of shown (entry ∷ entries) sorted = (all_above digits_of shown entry.0 entries sorted.0, once-seen digits_of shown entries sorted.1)
+pub keys-seen : {X Y : Type 0} (shown : X → Y) (entries : List (List ℕ × X)) → keys_of (seen shown entries) ≡ keys_of entries
+keys-seen shown [] = refl
+keys-seen shown (entry ∷ entries) = ap (λ keys. entry.0 ∷ keys) (keys-seen shown entries)
 
 above_last : (key last : List ℕ) (keys rest : List (List ℕ)) → AllByRecursion (λ other. slice_cmp nat_cmp key other ≡ Less) (keys ++ last ∷ rest) → slice_cmp nat_cmp key last ≡ Less
 above_last key last [] rest above = above.0

@@ -1,9 +1,11 @@
 -- The longest prefix and the sum of its weights, rule by rule.
-use Rattle.std.proofs.Common.{◌≡◌, ◌+◌, ◌%◌, ◌<◌, ◌≤◌, ℕ, max, List, [], ◌∷◌, ◌++◌, Bool, true, false, ◌==◌, length, nat_lt, nat_eq, filter, fold, get_or, take, None, if◌then◌else◌, refl, arith}
+use Rattle.std.proofs.Common.{◌≡◌, ◌+◌, ◌%◌, ◌<◌, ◌≤◌, ℕ, max, List, [], ◌∷◌, ◌++◌, Bool, true, false, ◌==◌, length, nat_lt, nat_eq, filter, fold, get_or, take, find, option_map, cond, Option, Some, None, if◌then◌else◌, refl, arith, append_assoc, length-append}
+use Rattle.std.specs.List.{enumerate_from}
+use Rattle.std.proofs.Math.Seq.{take-append-add}
 use Rattle.std.proofs.lemmas.List.{append-nil, take_more}
 use Rattle.std.proofs.lemmas.List.Elements.{filter-append}
 use Rattle.std.proofs.lemmas.Bool.Decides.{nat_tests}
-use Rattle.fp_records.specs.Choice.{by_share, first_above, longest_prefix, most_exact, of_length, total_weight}
+use Rattle.fp_records.specs.Choice.{by_share, longest_prefix, most_exact, of_length, rule_at_draw, total_weight}
 use Rattle.fp_records.specs.Share.{total_with}
 use Rattle.fp_records.specs.declared.rule.Rule.{Rule}
 
@@ -69,6 +71,32 @@ pub filter-same : (test : Rule → Bool) (rules : List Rule) (i : ℕ) (rule def
 filter-same test rules i rule default within is fails =
     rw (take_more rules i default within, ← is, filter-append test (take i rules) (rule ∷ []), fails) (append-nil (filter test (take i rules)))
 
+-- the first rule at which the sum of the weights, with those before, goes above the draw
+abbrev pub first_above : ℕ → ℕ → List Rule → Option Rule
+first_above draw before [] = None
+first_above draw before (rule ∷ rules) =
+    if nat_lt draw (before + rule.weight) then Some rule else first_above draw (before + rule.weight) rules
+
+-- it is found among the places of the rules by what the rules up to each of them weigh
+first_above-places : (draw : ℕ) (done rules : List Rule) → first_above draw (total_weight done) rules
+    ≡ option_map (λ at. at.1) (find (λ at. nat_lt draw (total_weight (take (at.0 + 1) (done ++ rules)))) (enumerate_from (length done) rules))
+first_above-places draw done [] = refl
+first_above-places draw done (rule ∷ rules) =
+    let front : take (length done + 1) (done ++ rule ∷ rules) ≡ done ++ rule ∷ [] = take-append-add done (rule ∷ rules) 1 in
+    let sum : total_weight (done ++ rule ∷ []) ≡ total_weight done + rule.weight = total_weight-append done (rule ∷ []) in
+    let more = rw (sum, append_assoc done (rule ∷ []) rules, length-append done (rule ∷ [])) at (first_above-places draw (done ++ rule ∷ []) rules) in
+    rw (front, sum) (by (nat_lt draw (total_weight done + rule.weight)) more)
+  where
+    by : (here : Bool)
+        → first_above draw (total_weight done + rule.weight) rules ≡ option_map (λ at. at.1) (find (λ at. nat_lt draw (total_weight (take (at.0 + 1) (done ++ rule ∷ rules)))) (enumerate_from (length done + 1) rules))
+        → (if here then Some rule else first_above draw (total_weight done + rule.weight) rules)
+        ≡ option_map (λ at. at.1) (cond here (Some (length done, rule)) (find (λ at. nat_lt draw (total_weight (take (at.0 + 1) (done ++ rule ∷ rules)))) (enumerate_from (length done + 1) rules)))
+    by true more = refl
+    by false more = more
+
+pub first_above-draw : (draw : ℕ) (rules : List Rule) → first_above draw 0 rules ≡ rule_at_draw draw rules
+first_above-draw draw rules = first_above-places draw [] rules
+
 -- no rule is above a draw that is no less than all weights
 none_above : (draw before : ℕ) (rules : List Rule) → fold (λ total rule. total + rule.weight) before rules ≤ draw → first_above draw before rules ≡ None
 none_above draw before [] above = refl
@@ -82,10 +110,10 @@ none_above draw before (rule ∷ rules) above =
     total-le from (other ∷ others) = omega (arith, total-le (from + other.weight) others)
 
 -- without weight there is no share
-pub none_without_weight : (draw : ℕ) (rules : List Rule) → total_weight rules ≡ 0 → first_above draw 0 rules ≡ None
-none_without_weight draw rules none = none_above draw 0 rules (omega arith)
+pub none_without_weight : (draw : ℕ) (rules : List Rule) → total_weight rules ≡ 0 → rule_at_draw draw rules ≡ None
+none_without_weight draw rules none = rw (← first_above-draw draw rules) (none_above draw 0 rules (omega arith))
 
 -- the rule at the draw, over what was found of the share
 pub by_share-is : (birth longest total : ℕ) (rules : List Rule) → longest ≡ longest_prefix rules → total ≡ total_weight (of_length longest rules)
-    → by_share birth (most_exact rules) ≡ first_above (birth % total) 0 (of_length longest rules)
+    → by_share birth (most_exact rules) ≡ rule_at_draw (birth % total) (of_length longest rules)
 by_share-is birth longest total rules same sum = rw (sum, same) refl

@@ -1,10 +1,9 @@
 -- The records made of the groups are the table of the file.
-use Rattle.std.proofs.Common.{◌≡◌, ℕ, ℤ, List, [], ◌∷◌, Bool, true, false, ◌≤◌, cond, drop, get_or, length, Option, Some, Ok, map, option_map, refl, ap, ◌∙◌, arith}
+use Rattle.std.proofs.Common.{◌≡◌, ℕ, ℤ, List, [], ◌∷◌, Bool, true, false, cond, Option, Some, Ok, map, option_map, refl, ap, ◌∙◌}
 use Rattle.std.specs.Prelude.{bytes_eq}
 use Rattle.std.specs.Map.{keys_of, lookup}
-use Rattle.csv.specs.Records.{Row, fields_of}
 use Rattle.fp_records.specs.Choice.{Rules}
-use Rattle.fp_records.specs.File.{rules_from, rules_of}
+use Rattle.fp_records.specs.File.{AreRules, rules_of}
 use Rattle.fp_records.specs.Groups.{Grouped, Groups, record_of_group, some_rules}
 use Rattle.fp_records.specs.Head.{head_of}
 use Rattle.fp_records.specs.Table.{Contents, Reads, record_with}
@@ -31,11 +30,11 @@ record_with-some offset [] = refl
 record_with-some offset (rule ∷ rules) = refl
 
 pub reads : (first : List (List ℕ)) (rows : List (List (List ℕ))) (head : Head) (rules : List NumberedRule) (grouped : Grouped) (contents : Contents)
-    → head_of first ≡ Some head → rules_from [] rows ≡ Ok rules → Groups rules grouped → contents.key ≡ head.key → contents.rule_count ≡ grouped.count
+    → head_of first ≡ Some head → AreRules rows rules → Groups rules grouped → contents.key ≡ head.key → contents.rule_count ≡ grouped.count
     → contents.records ≡ map (record_of_group head.offset) grouped.groups → Reads (Ok contents) (first ∷ rows)
-reads first rows head rules grouped contents is_head read holds key count records = (
+reads first rows head rules grouped contents is_head are holds key count records = (
   record { key = head.key; offset = head.offset; rules = rules },
-  rw (is_head, read) refl,
+  (is_head, are),
   record {
     key = key;
     rule_count = count ∙ holds.count;
@@ -43,8 +42,3 @@ reads first rows head rules grouped contents is_head read holds key count record
     once = rw (records, keys-records head.offset grouped.groups) holds.once;
   },
 )
-
--- the first record and those behind it
-pub rows-first : (rows : List Row) (first : Row) → 1 ≤ length rows → first ≡ get_or rows 0 first → map fields_of rows ≡ fields_of first ∷ map fields_of (drop 1 rows)
-rows-first [] first some is = absurd (omega arith)
-rows-first (row ∷ rows) first some is = rw is refl

@@ -1,7 +1,10 @@
--- The records that reads give in turn, up to a read that finds none, are the records of the text.
-use Rattle.std.proofs.Common.{◌≡◌, ◌+◌, ◌<◌, ◌≤◌, ℕ, zero, suc, List, [], ◌∷◌, length, Bool, true, false, Some, None, refl, arith, if◌then◌else◌, ◌==◌, ◌&&◌, ◌++◌, sym}
+-- What a read takes of the records that a reader has left.
+use Rattle.std.proofs.Common.{◌≡◌, ◌+◌, ◌<◌, ◌≤◌, ℕ, zero, suc, List, [], ◌∷◌, length, Bool, true, false, Some, None, refl, arith, if◌then◌else◌, ◌==◌, ◌&&◌, ◌++◌, sym, ap, ◌∙◌, Option, inl, Bor, add-one}
 use Rattle.csv.specs.Machine.{Read, after_end, ends_at_end, ends_with, field_after, fields_after, in_field, is_byte, is_end, next_record, start_field, start_record, step}
-use Rattle.csv.specs.Reading.{Reached, records, records_from}
+use Rattle.csv.specs.Reading.{Reached, ReadRecord, default_config, is_bom, records_from, records_next, strip_bom}
+use Rattle.csv.specs.declared.reader.Reader.{Reader}
+use Rattle.csv.proofs.ReadFacts.{rows-end, rows-more}
+use Rattle.fp_records.specs.Unread.{IsBetween, octets_left, rows_from, rows_left}
 use Rattle.csv.specs.declared.parser.Config.{Config}
 use Rattle.csv.specs.declared.parser.State.{State}
 use Rattle.csv.specs.declared.parser.State.TheVariants as st
@@ -81,26 +84,69 @@ shrinks-next_record cfg s fields field (c ∷ rest) p h = by (is_end (step cfg s
         let more = later q in
         record { no_more = omega (arith, more.no_more); less = λ _. omega (arith, more.no_more); outside = more.outside }
 
--- there are no more records than bytes
-fewer_records : (cfg : Config) (s s2 : State) (xs ys : List ℕ) (rows : List (List (List ℕ))) → ends_at_end s ≡ false → Reached cfg s xs rows s2 ys → length rows + length ys ≤ length xs
+-- turns enough find all records
+records-enough : (cfg : Config) (n m : ℕ) (s : State) (xs : List ℕ) → ends_at_end s ≡ false → length xs < n → length xs < m → records_from cfg n s xs ≡ records_from cfg m s xs
+unfolding records_from
+records-enough cfg zero m s xs out some more = absurd (omega arith)
+records-enough cfg (suc n) zero s xs out some more = absurd (omega arith)
+records-enough cfg (suc n) (suc m) s xs out some more =
+    by (next_record cfg s [] [] xs) refl (λ t ys outside less_n less_m. records-enough cfg n m t ys outside less_n less_m)
+  where
+    by : (read : Option Read) → next_record cfg s [] [] xs ≡ read
+        → ((t : State) (ys : List ℕ) → ends_at_end t ≡ false → length ys < n → length ys < m → records_from cfg n t ys ≡ records_from cfg m t ys)
+        → records_next (records_from cfg n) read ≡ records_next (records_from cfg m) read
+    by None is enough = refl
+    by (Some p) is enough =
+        let one = shrinks-next_record cfg s [] [] xs p is in
+        let less = one.less out in
+        ap (λ rows. p.0 ∷ rows) (enough p.1 p.2 one.outside (omega (arith, less)) (omega (arith, less)))
+
+rows_from-next : (s : State) (xs : List ℕ) (p : Read) → ends_at_end s ≡ false → next_record default_config s [] [] xs ≡ Some p → rows_from s xs ≡ p.0 ∷ rows_from p.1 p.2
+unfolding records_from
+rows_from-next s xs p out is =
+    let one = shrinks-next_record default_config s [] [] xs p is in
+    let less = one.less out in
+    rw (add-one (length xs), is) (ap (λ rows. p.0 ∷ rows) (records-enough default_config (length xs) (length p.2 + 1) p.1 p.2 one.outside less (omega arith)))
+
+rows_from-end : (s : State) (xs : List ℕ) → next_record default_config s [] [] xs ≡ None → rows_from s xs ≡ []
+unfolding records_from
+rows_from-end s xs is = rw (add-one (length xs), is) refl
+
+-- a read that finds a record takes the next of the records that are left
+pub read-next : (a b : Reader (Bor (List ℕ))) (fields : List (List ℕ)) (place : ℕ) → IsBetween a place → ReadRecord (λ text. Some text.now) a b true fields → b.first ≡ true
+    → (rows_left false a ≡ fields ∷ rows_left false b) × IsBetween b (place + 1)
 unfolding Reached
-fewer_records cfg s s2 xs ys [] out h = rw h.1 (omega arith)
-fewer_records cfg s s2 xs ys (row ∷ rows) out h =
-    let one = shrinks-next_record cfg s [] [] xs h.0 h.1 in
-    let more = fewer_records cfg h.0.1 s2 h.0.2 ys rows one.outside h.3 in
-    omega (arith, one.less out, more)
+read-next a b fields place at r first =
+    let m = rows-more (λ (text : Bor (List ℕ)). Some text.now) a b fields default_config a.state (octets_left a) (octets_left a) [] at.config at.source (refl, refl) r in
+    let p = m.2.0 in
+    let rest : octets_left b ≡ m.0 = rw m.1 refl in
+    let one = shrinks-next_record default_config a.state [] [] (octets_left a) p m.2.1 in
+    let less = one.less at.outside in
+    let same : length p.2 ≡ length (octets_left b) = ap length (m.2.3.1 ∙ sym rest) in (
+      rw (rows_from-next a.state (octets_left a) p at.outside m.2.1, ← m.2.2, m.2.3.0, m.2.3.1, rest) refl,
+      record {
+        trim = r.3 ∙ at.trim;
+        ready = inl first;
+        config = r.2 ∙ at.config;
+        outside = rw (← m.2.3.0) one.outside;
+        source = m.1 ∙ ap Some (sym rest);
+        size = omega (arith, at.size, less, same);
+      },
+    )
 
--- read far enough, they are all
-all_records : (cfg : Config) (s s2 : State) (xs ys : List ℕ) (rows : List (List (List ℕ))) (n : ℕ) → length rows < n
-    → Reached cfg s xs rows s2 ys → next_record cfg s2 [] [] ys ≡ None → records_from cfg n s xs ≡ rows
-unfolding Reached records_from
-all_records cfg s s2 xs ys [] zero most h end = absurd (omega arith)
-all_records cfg s s2 xs ys [] (suc n) most h end = rw (h.0, h.1, end) refl
-all_records cfg s s2 xs ys (row ∷ rows) zero most h end = absurd (omega arith)
-all_records cfg s s2 xs ys (row ∷ rows) (suc n) most h end =
-    let more = all_records cfg h.0.1 s2 h.0.2 ys rows n (omega arith) h.3 end in
-    rw (h.1, more, h.2) refl
+-- a read that finds none ends the records
+pub read-none : (a b : Reader (Bor (List ℕ))) (fields : List (List ℕ)) (place : ℕ) → IsBetween a place → ReadRecord (λ text. Some text.now) a b false fields → rows_left false a ≡ []
+read-none a b fields place at r =
+    rows_from-end a.state (octets_left a) (rows-end (λ (text : Bor (List ℕ)). Some text.now) a b fields default_config (octets_left a) at.config at.source r)
 
--- the records of a text are those that reads give from its start to its end
-pub records-read : (cfg : Config) (s2 : State) (xs ys : List ℕ) (rows : List (List (List ℕ))) → Reached cfg st.StartRecord xs rows s2 ys → next_record cfg s2 [] [] ys ≡ None → rows ≡ records cfg xs
-records-read cfg s2 xs ys rows h end = sym (all_records cfg st.StartRecord s2 xs ys rows (length xs + 1) (omega (arith, fewer_records cfg st.StartRecord s2 xs ys rows refl h)) h end)
+-- a text without its mark is no longer than with it
+pub strip_bom-length : (xs : List ℕ) → length (strip_bom xs) ≤ length xs
+unfolding strip_bom
+strip_bom-length [] = omega arith
+strip_bom-length (a ∷ []) = omega arith
+strip_bom-length (a ∷ b ∷ []) = omega arith
+strip_bom-length (a ∷ b ∷ c ∷ rest) = by (is_bom a b c)
+  where
+    by : (mark : Bool) → length (if mark then rest else a ∷ b ∷ c ∷ rest) ≤ length (a ∷ b ∷ c ∷ rest)
+    by true = omega arith
+    by false = omega arith

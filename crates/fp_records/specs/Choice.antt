@@ -1,7 +1,7 @@
 -- Which rule of a number a call gets. Of the rules that fit the call those of the longest prefix are kept, in the
 -- file's order, and the call's draw falls into the share of one of them.
-use Rattle.std.specs.Prelude.{ℕ, ◌+◌, ◌-◌, ◌%◌, ℤ, max, List, [], ◌∷◌, Bool, false, ◌&&◌, ◌==◌, Option, Some, None, filter, fold, get_or, length, nat_lt, sum_by, nat_eq, if◌then◌else◌, pos, neg_ℤ, ◌≤ℤ◌, ◌≤◌}
-use Rattle.std.specs.List.{starts_with}
+use Rattle.std.specs.Prelude.{ℕ, ◌+◌, ◌-◌, ◌%◌, ℤ, max, List, [], Bool, false, ◌&&◌, ◌==◌, Option, Some, None, filter, find, fold, get_or, length, nat_lt, option_map, sum_by, nat_eq, take, pos, neg_ℤ, ◌≤ℤ◌, ◌≤◌}
+use Rattle.std.specs.List.{enumerate_from, starts_with}
 use Rattle.std.specs.Borrow.{Bor}
 use Rattle.fp_digits.specs.declared.number.Number.{Number}
 use Rattle.fp_records.specs.Calendar.{local_minutes, minute_of_day, weekday_of}
@@ -13,10 +13,11 @@ pub record Rules : Type 0 where
   pub offset : ℤ
   pub rules : List Rule
 
--- what each record keeps
+-- what each record keeps: an offset from 720 minutes west to 840 east, and 1 to 1,000 rules
 pub record IsRules (record_of : Rules) : Type 0 where
   pub west : neg_ℤ (pos 720) ≤ℤ record_of.offset
   pub east : record_of.offset ≤ℤ pos 840
+  pub some : 1 ≤ length record_of.rules
   pub most : length record_of.rules ≤ 1000
 
 -- the digits of a calling number, none where there is none
@@ -50,15 +51,14 @@ most_exact rules = of_length (longest_prefix rules) rules
 abbrev pub total_weight : List Rule → ℕ
 total_weight rules = sum_by (λ rule. rule.weight) rules
 
--- the first rule at which the sum of the weights, with those before, goes above the draw
-abbrev pub first_above : ℕ → ℕ → List Rule → Option Rule
-first_above draw before [] = None
-first_above draw before (rule ∷ rules) =
-    if nat_lt draw (before + rule.weight) then Some rule else first_above draw (before + rule.weight) rules
+-- the rule at the least place where the rules up to it, itself among them, weigh more than the draw
+abbrev pub rule_at_draw : ℕ → List Rule → Option Rule
+rule_at_draw draw rules =
+    option_map (λ at. at.1) (find (λ at. nat_lt draw (total_weight (take (at.0 + 1) rules))) (enumerate_from 0 rules))
 
 -- the rule whose share a call's birth falls into
 abbrev pub by_share : ℕ → List Rule → Option Rule
-by_share birth rules = first_above (birth % total_weight rules) 0 rules
+by_share birth rules = rule_at_draw (birth % total_weight rules) rules
 
 -- the rules that fit a call at these local minutes
 abbrev pub fitting : List ℕ → ℤ → List Rule → List Rule

@@ -1,11 +1,14 @@
--- The rule that the fields of a record are, or what is first wrong with them: the fields that are there are tested
--- from left to right, their count behind the action, and the destinations last.
-use Rattle.std.specs.Prelude.{ℕ, List, [], ◌∷◌, Bool, Option, Some, None, Result, Ok, Err, codes, length, bytes_eq, nat_lt, ◌==◌, if◌then◌else◌}
+-- The rule that the fields of a record are, or what is first wrong with them. A record has these fields, and behind them
+-- its destinations:
+--
+--     0 number   1 prefix   2 days   3 from   4 to   5 weight   6 action   7.. destinations
+use Rattle.std.specs.Prelude.{ℕ, List, [], ◌∷◌, Bool, true, false, ◌&&◌, not, Option, Some, None, Result, Ok, Err, codes, drop, find, is_some, length, map, option_and_then, option_map, bytes_eq, nat_le, nat_lt, unwrap_or, ◌==◌, if◌then◌else◌}
+use Rattle.std.specs.List.{list_all}
 use Rattle.csv.specs.Records.{field_at}
 use Rattle.fp_records.specs.Digits.{digits_of, some_digits_of}
 use Rattle.fp_records.specs.Days.{days_of}
 use Rattle.fp_records.specs.Number.{number_up_to}
-use Rattle.fp_records.specs.Window.{Period, time_of}
+use Rattle.fp_records.specs.Window.{time_of}
 use Rattle.fp_records.specs.declared.action.Action.{Action}
 use Rattle.fp_records.specs.declared.action.Action.TheVariants.{Route, Refuse, Pass}
 use Rattle.fp_records.specs.declared.action.Destinations.{Destinations}
@@ -15,22 +18,6 @@ use Rattle.fp_records.specs.declared.fault.Reason.TheVariants.{FieldCount, BadNu
 use Rattle.fp_records.specs.declared.fields.NumberedRule.{NumberedRule}
 use Rattle.fp_records.specs.declared.fields.Verb.{Verb}
 use Rattle.fp_records.specs.declared.fields.Verb.TheVariants as verb
-use Rattle.fp_records.specs.declared.rule.Rule.{Rule}
-
--- the next test is of what this one gave, and a fault ends them
-abbrev pub and_then : {A B E : Type 0} → Result A E → (A → Result B E) → Result B E
-and_then (Ok value) next = next value
-and_then (Err reason) next = Err reason
-
--- a value, or else the reason why there is none
-abbrev pub or_else : {A : Type 0} → Option A → Reason → Result A Reason
-or_else (Some value) reason = Ok value
-or_else None reason = Err reason
-
--- what a field is by its own test; a field that is not there is a fault of the count
-abbrev pub field_by : {A : Type 0} → (List ℕ → Option A) → Reason → Option (List ℕ) → Result A Reason
-field_by test reason None = Err FieldCount
-field_by test reason (Some text) = or_else (test text) reason
 
 -- a weight, 1 to 1000
 abbrev pub weight_at_least_one : Option ℕ → Option ℕ
@@ -40,6 +27,7 @@ weight_at_least_one (Some weight) = if nat_lt 0 weight then Some weight else Non
 abbrev pub weight_of : List ℕ → Option ℕ
 weight_of text = weight_at_least_one (number_up_to 1000 text)
 
+-- the word of an action
 abbrev pub verb_of : List ℕ → Option Verb
 verb_of text =
     if bytes_eq text (codes "route") then Some verb.Route
@@ -47,78 +35,100 @@ verb_of text =
     else if bytes_eq text (codes "pass") then Some verb.Pass
     else None
 
-abbrev pub number_in : List (List ℕ) → Result (List ℕ) Reason
-number_in fields = field_by some_digits_of BadNumber (field_at fields 0)
+-- what the field at a place reads as, if it is there and has this form
+abbrev pub read_at : {A : Type 0} → ℕ → (List ℕ → Option A) → List (List ℕ) → Option A
+read_at place form fields = option_and_then form (field_at fields place)
 
-abbrev pub prefix_in : List (List ℕ) → Result (List ℕ) Reason
-prefix_in fields = field_by digits_of BadPrefix (field_at fields 1)
+-- a test of a record, and the fault where it fails
+pub record Check : Type 0 where
+  pub passes : List (List ℕ) → Bool
+  pub fault : Reason
 
-abbrev pub days_in : List (List ℕ) → Result (List Bool) Reason
-days_in fields = field_by days_of BadDays (field_at fields 2)
+-- a field that is there has this form
+abbrev pub has_form : {A : Type 0} → (List ℕ → Option A) → Option (List ℕ) → Bool
+has_form form None = true
+has_form form (Some text) = is_some (form text)
 
--- a window that is not empty
-abbrev pub period : ℕ → ℕ → Result Period Reason
-period from to = if from == to then Err BadTime else Ok (record { from = from; to = to })
+abbrev pub field : {A : Type 0} → ℕ → (List ℕ → Option A) → Reason → Check
+field place form fault = record { passes = λ fields. has_form form (field_at fields place); fault = fault }
 
-abbrev pub window_in : List (List ℕ) → Result Period Reason
-window_in fields =
-    and_then (field_by (time_of 1439) BadTime (field_at fields 3))
-    (λ from. and_then (field_by (time_of 1440) BadTime (field_at fields 4)) (λ to. period from to))
+-- the whole record passes a test
+abbrev pub whole : (List (List ℕ) → Bool) → Reason → Check
+whole test fault = record { passes = test; fault = fault }
 
-abbrev pub weight_in : List (List ℕ) → Result ℕ Reason
-weight_in fields = field_by weight_of BadWeight (field_at fields 5)
+-- two times, where both are there, are not the same
+abbrev pub differ : Option ℕ → Option ℕ → Bool
+differ None to = true
+differ (Some from) None = true
+differ (Some from) (Some to) = not (from == to)
 
-abbrev pub verb_in : List (List ℕ) → Result Verb Reason
-verb_in fields = field_by verb_of BadAction (field_at fields 6)
+abbrev pub times_differ : List (List ℕ) → Bool
+times_differ fields = differ (read_at 3 (time_of 1439) fields) (read_at 4 (time_of 1440) fields)
 
-abbrev pub destination_in : List (List ℕ) → ℕ → Result (List ℕ) Reason
-destination_in fields place = field_by some_digits_of BadDestination (field_at fields place)
+-- as many fields as an action takes: 7, and for `route` 1 to 4 destinations more
+abbrev pub takes : Option Verb → ℕ → Bool
+takes None count = false
+takes (Some verb.Route) count = nat_le 8 count && nat_le count 11
+takes (Some verb.Refuse) count = count == 7
+takes (Some verb.Pass) count = count == 7
 
--- one to four destinations, behind seven fields
-abbrev pub one_in : List (List ℕ) → Result Destinations Reason
-one_in fields = and_then (destination_in fields 7) (λ a. Ok (One (a ∷ [])))
+abbrev pub has_count : List (List ℕ) → Bool
+has_count fields = takes (read_at 6 verb_of fields) (length fields)
 
-abbrev pub two_in : List (List ℕ) → Result Destinations Reason
-two_in fields = and_then (destination_in fields 7) (λ a. and_then (destination_in fields 8) (λ b. Ok (Two (a ∷ b ∷ []))))
+-- the fields behind the action are destinations
+abbrev pub are_destinations : List (List ℕ) → Bool
+are_destinations fields = list_all (λ text. is_some (some_digits_of text)) (drop 7 fields)
 
-abbrev pub three_in : List (List ℕ) → Result Destinations Reason
-three_in fields =
-    and_then (destination_in fields 7) (λ a. and_then (destination_in fields 8) (λ b.
-    and_then (destination_in fields 9) (λ c. Ok (Three (a ∷ b ∷ c ∷ [])))))
+-- the tests of a record in their order: the fields that are there from left to right, their count, the destinations
+abbrev pub checks : List Check
+checks =
+    field 0 some_digits_of BadNumber
+    ∷ field 1 digits_of BadPrefix
+    ∷ field 2 days_of BadDays
+    ∷ field 3 (time_of 1439) BadTime
+    ∷ field 4 (time_of 1440) BadTime
+    ∷ whole times_differ BadTime
+    ∷ field 5 weight_of BadWeight
+    ∷ field 6 verb_of BadAction
+    ∷ whole has_count FieldCount
+    ∷ whole are_destinations BadDestination
+    ∷ []
 
-abbrev pub four_in : List (List ℕ) → Result Destinations Reason
-four_in fields =
-    and_then (destination_in fields 7) (λ a. and_then (destination_in fields 8) (λ b.
-    and_then (destination_in fields 9) (λ c. and_then (destination_in fields 10) (λ d. Ok (Four (a ∷ b ∷ c ∷ d ∷ []))))))
+-- the fault of the first test that fails
+abbrev pub first_fault : List Check → List (List ℕ) → Option Reason
+first_fault tests fields = option_map (λ check. check.fault) (find (λ check. not (check.passes fields)) tests)
 
-abbrev pub destinations_of : List (List ℕ) → Result Destinations Reason
-destinations_of fields =
-    if length fields == 8 then one_in fields
-    else if length fields == 9 then two_in fields
-    else if length fields == 10 then three_in fields
-    else if length fields == 11 then four_in fields
-    else Err FieldCount
+-- one to four destinations
+abbrev pub destinations_from : List (List ℕ) → Destinations
+destinations_from [] = One []
+destinations_from (a ∷ []) = One (a ∷ [])
+destinations_from (a ∷ b ∷ []) = Two (a ∷ b ∷ [])
+destinations_from (a ∷ b ∷ c ∷ []) = Three (a ∷ b ∷ c ∷ [])
+destinations_from (a ∷ b ∷ c ∷ d ∷ more) = Four (a ∷ b ∷ c ∷ d ∷ [])
 
--- an action without destinations
-abbrev pub alone : List (List ℕ) → Action → Result Action Reason
-alone fields action = if length fields == 7 then Ok action else Err FieldCount
+abbrev pub action_with : Option Verb → List (List ℕ) → Action
+action_with None texts = Pass
+action_with (Some verb.Route) texts = Route (destinations_from (map (λ text. unwrap_or (some_digits_of text) []) texts))
+action_with (Some verb.Refuse) texts = Refuse
+action_with (Some verb.Pass) texts = Pass
 
-abbrev pub action_by : Verb → List (List ℕ) → Result Action Reason
-action_by verb.Route fields = and_then (destinations_of fields) (λ destinations. Ok (Route destinations))
-action_by verb.Refuse fields = alone fields Refuse
-action_by verb.Pass fields = alone fields Pass
+-- the rule that fields write, each in its place, and the number that it is for
+abbrev pub written_in : List (List ℕ) → NumberedRule
+written_in fields = record {
+  number = unwrap_or (read_at 0 some_digits_of fields) [];
+  rule = record {
+    prefix = unwrap_or (read_at 1 digits_of fields) [];
+    days = unwrap_or (read_at 2 days_of fields) [];
+    window = record { from = unwrap_or (read_at 3 (time_of 1439) fields) 0; to = unwrap_or (read_at 4 (time_of 1440) fields) 0 };
+    weight = unwrap_or (read_at 5 weight_of fields) 0;
+    action = action_with (read_at 6 verb_of fields) (drop 7 fields);
+  };
+}
 
-abbrev pub action_in : List (List ℕ) → Result Action Reason
-action_in fields = and_then (verb_in fields) (λ verb. action_by verb fields)
-
--- the rule of a record, and the number that it is for
-abbrev pub rule_in : List (List ℕ) → Result Rule Reason
-rule_in fields =
-    and_then (prefix_in fields) (λ prefix. and_then (days_in fields) (λ days.
-    and_then (window_in fields) (λ window. and_then (weight_in fields) (λ weight.
-    and_then (action_in fields) (λ action.
-    Ok (record { prefix = prefix; days = days; window = window; weight = weight; action = action }))))))
+-- what a record reads as: the rule that it writes where all tests pass, or the fault of the first that fails
+abbrev pub unless : Option Reason → NumberedRule → Result NumberedRule Reason
+unless None numbered = Ok numbered
+unless (Some reason) numbered = Err reason
 
 abbrev pub numbered_in : List (List ℕ) → Result NumberedRule Reason
-numbered_in fields =
-    and_then (number_in fields) (λ number. and_then (rule_in fields) (λ rule. Ok (record { number = number; rule = rule })))
+numbered_in fields = unless (first_fault checks fields) (written_in fields)

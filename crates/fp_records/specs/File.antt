@@ -1,13 +1,11 @@
 -- What a file of records says, or which of its records is the first faulty one.
-use Rattle.std.specs.Prelude.{◌≡◌, ℕ, ℤ, ◌+◌, List, [], ◌∷◌, ◌++◌, ◌&&◌, Option, Some, None, Result, Ok, Err, bytes_eq, filter, length, map, nat_lt, if◌then◌else◌}
+use Rattle.std.specs.Prelude.{◌≡◌, ℕ, ℤ, ◌+◌, ◌≤◌, ◌⊎◌, List, [], ◌∷◌, ◌++◌, Option, Some, None, Result, Ok, Err, bytes_eq, filter, length, map}
 use Rattle.csv.specs.Reading.{default_config, records, strip_bom}
-use Rattle.fp_records.specs.Fields.{and_then, numbered_in}
+use Rattle.fp_records.specs.Fields.{numbered_in}
 use Rattle.fp_records.specs.Head.{head_of}
 use Rattle.fp_records.specs.declared.head.Head.{Head}
 use Rattle.fp_records.specs.declared.fault.Reason.{Reason}
 use Rattle.fp_records.specs.declared.fault.Reason.TheVariants.{BadHead, TooMany}
-use Rattle.fp_records.specs.declared.fault.RecordsFault.{RecordsFault}
-use Rattle.fp_records.specs.declared.fault.RecordsFault.TheVariants.{Record, Memory}
 use Rattle.fp_records.specs.declared.fields.NumberedRule.{NumberedRule}
 use Rattle.fp_records.specs.declared.rule.Rule.{Rule}
 
@@ -25,35 +23,43 @@ records_of text = records default_config (strip_bom text)
 abbrev pub rules_of : List ℕ → List NumberedRule → List Rule
 rules_of digits rules = map (λ numbered. numbered.rule) (filter (λ numbered. bytes_eq digits numbered.number) rules)
 
--- a rule behind those before it, unless they are 100,000 in all or 1,000 of its number
-abbrev pub within_limits : List NumberedRule → NumberedRule → Result NumberedRule Reason
-within_limits before numbered =
-    if nat_lt (length before) 100000 && nat_lt (length (rules_of numbered.number before)) 1000 then Ok numbered
-    else Err TooMany
+-- records are these rules: 100,000 at most, and 1,000 at most of each number
+pub record AreRules (rows : List (List (List ℕ))) (rules : List NumberedRule) : Type 0 where
+  pub read : map numbered_in rows ≡ map Ok rules
+  pub all : length rules ≤ 100000
+  pub each : (digits : List ℕ) → length (rules_of digits rules) ≤ 1000
 
--- a fault of the record at this place ends the reading
-abbrev pub unless_fault : ℕ → Result NumberedRule Reason → (NumberedRule → Result (List NumberedRule) RecordsFault) → Result (List NumberedRule) RecordsFault
-unless_fault at (Ok numbered) next = next numbered
-unless_fault at (Err reason) next = Err (Record at reason)
+-- the records of a text are this file: the head, and rules behind it
+abbrev pub IsFile : List (List (List ℕ)) → File → Type 0
+IsFile [] file = ⊥
+IsFile (first ∷ rows) file = (head_of first ≡ Some (record { key = file.key; offset = file.offset })) × AreRules rows file.rules
 
--- the rules that records are behind those before, the first of which is record 2
-abbrev pub rules_from : List NumberedRule → List (List (List ℕ)) → Result (List NumberedRule) RecordsFault
-rules_from before [] = Ok before
-rules_from before (fields ∷ rows) =
-    unless_fault (length before + 2) (and_then (numbered_in fields) (within_limits before))
-    (λ numbered. rules_from (before ++ numbered ∷ []) rows)
+-- what a record reads as is refused behind these rules: for its own fault, or where there are 100,000 rules, or 1,000
+-- of its number
+abbrev pub Refuses : List NumberedRule → Result NumberedRule Reason → Reason → Type 0
+Refuses rules (Err fault) reason = reason ≡ fault
+Refuses rules (Ok numbered) reason = (reason ≡ TooMany) × ((length rules ≡ 100000) ⊎ (length (rules_of numbered.number rules) ≡ 1000))
 
-abbrev pub file_under : Option Head → List (List (List ℕ)) → Result File RecordsFault
-file_under None rows = Err (Record 1 BadHead)
-file_under (Some head) rows =
-    and_then (rules_from [] rows) (λ rules. Ok (record { key = head.key; offset = head.offset; rules = rules }))
+-- records that stand behind so many others of the text, split at one: those before it are rules, and it is refused
+-- behind them. Its place is one more than the records before it.
+pub record SplitsAt (others : ℕ) (rows : List (List (List ℕ))) (at : ℕ) (reason : Reason) (before : List (List (List ℕ))) (fields : List (List ℕ)) (after : List (List (List ℕ))) (rules : List NumberedRule) : Type 0 where
+  pub split : rows ≡ before ++ fields ∷ after
+  pub place : at ≡ others + length before + 1
+  pub are_rules : AreRules before rules
+  pub refused : Refuses rules (numbered_in fields) reason
 
--- what records say, or the first of their faults
-abbrev pub file_of : List (List (List ℕ)) → Result File RecordsFault
-file_of [] = Err (Record 1 BadHead)
-file_of (first ∷ rows) = file_under (head_of first) rows
+-- the first of such records that is refused has this place and this fault
+abbrev pub FirstRefused : ℕ → List (List (List ℕ)) → ℕ → Reason → Type 0
+FirstRefused others rows at reason =
+    (before : List (List (List ℕ))) × (fields : List (List ℕ)) × (after : List (List (List ℕ))) × (rules : List NumberedRule)
+    × SplitsAt others rows at reason before fields after rules
 
--- a fault is what was wanted, or it is want of memory
-abbrev pub Fails : {A : Type 0} → RecordsFault → Result A RecordsFault → Type 0
-Fails Memory wanted = Unit {0}
-Fails (Record at reason) wanted = wanted ≡ Err (Record at reason)
+-- the first fault, where record 1 reads as this head
+abbrev pub FaultUnder : Option Head → List (List (List ℕ)) → ℕ → Reason → Type 0
+FaultUnder None rows at reason = (at ≡ 1) × (reason ≡ BadHead)
+FaultUnder (Some head) rows at reason = FirstRefused 1 rows at reason
+
+-- the first faulty record of a text has this place, counted from 1, and this fault; a text without records lacks the head
+abbrev pub FirstFault : List (List (List ℕ)) → ℕ → Reason → Type 0
+FirstFault [] at reason = (at ≡ 1) × (reason ≡ BadHead)
+FirstFault (first ∷ rows) at reason = FaultUnder (head_of first) rows at reason

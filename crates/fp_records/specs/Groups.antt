@@ -1,5 +1,5 @@
 -- The rules of a file by their numbers, while it is read.
-use Rattle.std.specs.Prelude.{◌≡◌, ℕ, ℤ, ◌+◌, ◌≤◌, List, [], ◌∷◌, ◌++◌, Bool, true, ◌&&◌, Option, Some, None, bytes_eq, length, nat_lt, nat_le, if◌then◌else◌}
+use Rattle.std.specs.Prelude.{◌≡◌, ℕ, ℤ, ◌+◌, ◌≤◌, List, [], ◌∷◌, ◌++◌, Bool, true, ◌&&◌, Option, Some, None, Result, Ok, Err, bytes_eq, length, nat_lt, nat_le, if◌then◌else◌}
 use Rattle.std.specs.List.{list_all}
 use Rattle.std.specs.Option.{unwrap_or}
 use Rattle.std.specs.List.Sorted.{IsStrictlySortedBy}
@@ -7,7 +7,14 @@ use Rattle.std.specs.Cmp.Lexicographic.{slice_cmp}
 use Rattle.std.specs.Ordering.{nat_cmp}
 use Rattle.std.specs.Map.{keys_of, lookup}
 use Rattle.fp_records.specs.Choice.{Rules}
-use Rattle.fp_records.specs.File.{rules_of}
+use Rattle.fp_records.specs.Digits.{is_decimal}
+use Rattle.fp_records.specs.Fields.{numbered_in}
+use Rattle.fp_records.specs.Steps.{and_then}
+use Rattle.fp_records.specs.File.{AreRules, FirstRefused, rules_of}
+use Rattle.fp_records.specs.declared.fault.Reason.{Reason}
+use Rattle.fp_records.specs.declared.fault.Reason.TheVariants.{TooMany}
+use Rattle.fp_records.specs.declared.fault.RecordsFault.{RecordsFault}
+use Rattle.fp_records.specs.declared.fault.RecordsFault.TheVariants.{Record, Memory}
 use Rattle.fp_records.specs.declared.fields.NumberedRule.{NumberedRule}
 use Rattle.fp_records.specs.declared.rule.Rule.{Rule}
 
@@ -16,15 +23,16 @@ pub record Grouped : Type 0 where
   pub count : ℕ
   pub groups : List (List ℕ × List Rule)
 
--- as many rules as a number may have
+-- as many rules as a number may have, and one at least
 abbrev pub few : List Rule → Bool
-few rules = nat_le (length rules) 1000
+few rules = nat_lt 0 (length rules) && nat_le (length rules) 1000
 
--- the limits on a file
+-- the limits on a file, and the numbers' digits
 pub record IsGrouped (grouped : Grouped) : Type 0 where
   pub rules : grouped.count ≤ 100000
   pub numbers : length grouped.groups ≤ grouped.count
   pub of_number : list_all (λ group. few group.1) grouped.groups ≡ true
+  pub decimal : list_all (λ group. is_decimal group.0) grouped.groups ≡ true
 
 -- rules, where there are some
 abbrev pub some_rules : List Rule → Option (List Rule)
@@ -45,6 +53,13 @@ group_of digits grouped = unwrap_or (lookup (bytes_eq digits) grouped.groups) []
 abbrev pub has_room : Grouped → List ℕ → Bool
 has_room grouped digits = nat_lt grouped.count 100000 && nat_lt (length (group_of digits grouped)) 1000
 
+-- the rule that a record is, where there is room for it
+abbrev pub with_room : Grouped → NumberedRule → Result NumberedRule Reason
+with_room grouped numbered = if has_room grouped numbered.number then Ok numbered else Err TooMany
+
+abbrev pub accepted : Grouped → List (List ℕ) → Result NumberedRule Reason
+accepted grouped fields = and_then (numbered_in fields) (with_room grouped)
+
 -- the old groups with one more rule
 pub record Adds (old : Grouped) (numbered : NumberedRule) (new : Grouped) : Type 0 where
   pub count : new.count ≡ old.count + 1
@@ -55,3 +70,10 @@ pub record Adds (old : Grouped) (numbered : NumberedRule) (new : Grouped) : Type
 -- the record of a number, with local time so many minutes east of UTC
 abbrev pub record_of_group : ℤ → List ℕ × List Rule → List ℕ × Rules
 record_of_group offset group = (group.0, record { offset = offset; rules = group.1 })
+
+-- an answer to records that stand behind so many others of the text: their rules by their numbers, or the first that
+-- is refused, want of memory aside
+abbrev pub Gathers : ℕ → List (List (List ℕ)) → Result Grouped RecordsFault → Type 0
+Gathers others rows (Ok grouped) = (rules : List NumberedRule) × AreRules rows rules × Groups rules grouped
+Gathers others rows (Err (Record at reason)) = FirstRefused others rows at reason
+Gathers others rows (Err Memory) = Unit {0}

@@ -9,6 +9,9 @@ pub mod Groups
 pub mod Head
 pub mod Listed
 pub mod Number
+pub mod Same
 pub mod Share
+pub mod Steps
 pub mod Table
+pub mod Unread
 pub mod Window

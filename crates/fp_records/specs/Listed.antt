@@ -2,16 +2,16 @@
 use Rattle.std.specs.Prelude.{ℕ, List, [], ◌∷◌, ◌++◌, bytes_eq, map}
 use Rattle.std.specs.BTreeMap.{insert_entry}
 use Rattle.std.specs.Cmp.Lexicographic.{slice_cmp}
-use Rattle.std.specs.Map.{lookup, remove_entry}
+use Rattle.std.specs.Map.{lookup}
 use Rattle.std.specs.Option.{unwrap_or}
 use Rattle.std.specs.Ordering.{nat_cmp}
 use Rattle.std.specs.declared.vec.Vec.{Vec}
 
 -- the entries of a map, each its number and its list
-abbrev pub listed : {T A : Type 0} → List (Vec ℕ A × Vec T A) → List (List ℕ × List T)
-listed entries = map (λ entry. (entry.0.items, entry.1.items)) entries
+abbrev pub listed : {T A : Type 0} → List (List ℕ × Vec T A) → List (List ℕ × List T)
+listed entries = map (λ entry. (entry.0, entry.1.items)) entries
 
 -- the entries with a value behind those at a number
 abbrev pub with_value : {T : Type 0} → List (List ℕ × List T) → List ℕ → T → List (List ℕ × List T)
 with_value entries number value =
-    insert_entry (slice_cmp nat_cmp) (remove_entry (bytes_eq number) entries) number (unwrap_or (lookup (bytes_eq number) entries) [] ++ value ∷ [])
+    insert_entry (slice_cmp nat_cmp) entries number (unwrap_or (lookup (bytes_eq number) entries) [] ++ value ∷ [])

@@ -1,12 +1,15 @@
 -- A table of records, and when it is that of a file.
-use Rattle.std.specs.Prelude.{◌≡◌, ℕ, ℤ, List, [], ◌∷◌, Option, Some, None, Result, Ok, Err, bytes_eq, length}
+use Rattle.std.specs.Prelude.{◌≡◌, ℕ, ℤ, List, [], ◌∷◌, Option, Some, None, Result, Ok, Err, bytes_eq, length, true, ◌≤◌}
+use Rattle.std.specs.List.{list_all}
 use Rattle.std.specs.List.Sorted.{IsStrictlySortedBy}
 use Rattle.std.specs.Cmp.Lexicographic.{slice_cmp}
 use Rattle.std.specs.Ordering.{nat_cmp}
 use Rattle.std.specs.Map.{keys_of, lookup}
 use Rattle.fp_records.specs.Choice.{Rules}
-use Rattle.fp_records.specs.File.{Fails, File, file_of, rules_of}
+use Rattle.fp_records.specs.Digits.{is_decimal}
+use Rattle.fp_records.specs.File.{File, FirstFault, IsFile, rules_of}
 use Rattle.fp_records.specs.declared.fault.RecordsFault.{RecordsFault}
+use Rattle.fp_records.specs.declared.fault.RecordsFault.TheVariants.{Record, Memory}
 use Rattle.fp_records.specs.declared.rule.Rule.{Rule}
 
 -- the service key, how many rules there are, and each number with its record
@@ -14,6 +17,11 @@ pub record Contents : Type 0 where
   pub key : ℕ
   pub rule_count : ℕ
   pub records : List (List ℕ × Rules)
+
+-- what the records of a table keep: there are at most 100,000, and each number is one of decimal digits
+pub record IsKept (records : List (List ℕ × Rules)) : Type 0 where
+  pub most : length records ≤ 100000
+  pub decimal : list_all (λ entry. is_decimal entry.0) records ≡ true
 
 -- the record of a number, by its digits alone
 abbrev pub record_at : Contents → List ℕ → Option Rules
@@ -32,7 +40,8 @@ pub record IsTable (file : File) (contents : Contents) : Type 0 where
   pub each : (digits : List ℕ) → record_at contents digits ≡ record_with file.offset (rules_of digits file.rules)
   pub once : IsStrictlySortedBy (slice_cmp nat_cmp) (keys_of contents.records)
 
--- an answer is what these records come to, want of memory aside
+-- an answer is what the records of a text are: a table of the file, or their first fault, want of memory aside
 abbrev pub Reads : Result Contents RecordsFault → List (List (List ℕ)) → Type 0
-Reads (Ok contents) rows = (file : File) × (file_of rows ≡ Ok file) × IsTable file contents
-Reads (Err fault) rows = Fails fault (file_of rows)
+Reads (Ok contents) rows = (file : File) × IsFile rows file × IsTable file contents
+Reads (Err (Record at reason)) rows = FirstFault rows at reason
+Reads (Err Memory) rows = Unit {0}

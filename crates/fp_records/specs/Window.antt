@@ -13,6 +13,10 @@ pub record IsPeriod (period : Period) : Type 0 where
   pub last : period.to ≤ 1440
   pub differ : period.from ≢ period.to
 
+-- the window between two minutes, where they differ
+abbrev pub period_between : ℕ → ℕ → Option Period
+period_between from to = if from == to then None else Some (record { from = from; to = to })
+
 -- whether a window holds a minute of the day
 abbrev pub holds_minute : Period → ℕ → Bool
 holds_minute period minute =

@@ -1,11 +1,12 @@
-// What a rule does with a call.
+//! What a rule does with a call.
 
-ghost use Rattle.std.specs.Prelude.{◌≡◌, ℕ, ◌≤◌, ◌↔◌, ◌∷◌, IsTrue, List, length};
+ghost use Rattle.std.specs.Prelude.{◌≡◌, ℕ, ◌≤◌, ◌∷◌, List, length};
 ghost use Rattle.fp_records.specs.Action.{destinations_in, destinations_left, first_of, rest_of};
 
 use crate::destination::Destination;
 
-/// One to four destinations, in the order in which they are tried.
+/// One to four destinations, in the order in which they are tried. Two are equal exactly where they are the same
+/// destinations in the same order (`exact_destinations` of `specs/Same.antt`).
 #[derive(Clone, Copy, Debug, PartialEq, Eq)]
 pub enum Destinations {
     /// One.
@@ -70,30 +71,6 @@ impl Destinations {
             }
         }
     }
-
-    /// Whether two are the same destinations in the same order.
-    pub fn same(&self, other: &Destinations) -> bool
-        ensures { IsTrue result ↔ (self.now ≡ other.now) }
-    {
-        match (self, other) {
-            (Destinations::One(places), Destinations::One(others)) => same_places(places, others),
-            (Destinations::Two(places), Destinations::Two(others)) => same_places(places, others),
-            (Destinations::Three(places), Destinations::Three(others)) => {
-                same_places(places, others)
-            }
-            (Destinations::Four(places), Destinations::Four(others)) => {
-                same_places(places, others)
-            }
-            _ => false,
-        }
-    }
-}
-
-// Whether two lists have the same destinations in the same order.
-fn same_places(places: &[Destination], others: &[Destination]) -> bool
-    ensures { IsTrue result ↔ (places.now ≡ others.now) }
-{
-    places == others
 }
 
 /// What a rule does with a call.
@@ -105,17 +82,4 @@ pub enum Action {
     Refuse,
     /// The call goes on with the number that was called.
     Pass,
-}
-
-impl Action {
-    /// Whether two are the same, their destinations too.
-    pub(crate) fn same(&self, other: &Action) -> bool
-        ensures { IsTrue result ↔ (self.now ≡ other.now) }
-    {
-        match (self, other) {
-            (Action::Route(destinations), Action::Route(others)) => destinations.same(others),
-            (Action::Refuse, Action::Refuse) | (Action::Pass, Action::Pass) => true,
-            _ => false,
-        }
-    }
 }

@@ -1,4 +1,4 @@
-// Which rules fit a call.
+//! Which rules fit a call.
 
 ghost use Rattle.std.specs.Prelude.{◌≡◌, ◌+◌};
 ghost use Rattle.jiff_core.specs.Weekday.{monday_zero};

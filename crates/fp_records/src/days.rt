@@ -1,6 +1,6 @@
-// The weekdays of a rule.
+//! The weekdays of a rule.
 
-ghost use Rattle.std.specs.Prelude.{◌≡◌, ◌↔◌, IsTrue, false, List, get_or, length};
+ghost use Rattle.std.specs.Prelude.{◌≡◌, false, List, get_or, length};
 ghost use Rattle.std.specs.List.{list_all};
 ghost use Rattle.jiff_core.specs.Weekday.{monday_zero};
 ghost use Rattle.fp_records.specs.Days.{days_of, has_every_day, has_octet, is_days};
@@ -28,7 +28,7 @@ impl Model for Days {
 
 impl Days {
     /// Whether a weekday is one of them.
-    pub fn has(self, weekday: Weekday) -> bool
+    pub(crate) fn has(self, weekday: Weekday) -> bool
         ensures { result ≡ get_or self (monday_zero weekday) false }
     {
         self.held[usize::from(weekday.index())]
@@ -39,13 +39,6 @@ impl Days {
         ensures { result ≡ has_every_day self }
     {
         all_set(&self.held)
-    }
-
-    /// Whether two sets have the same days.
-    pub(crate) fn same(&self, other: &Days) -> bool
-        ensures { IsTrue result ↔ (self.now ≡ other.now) }
-    {
-        self.held == other.held
     }
 
     /// The days that a text is, where it is one or more of the digits 1 (Monday) to 7 (Sunday), rising.
@@ -69,7 +62,7 @@ impl Days {
     }
 }
 
-// Whether each of the flags is set.
+/// Whether each of the flags is set.
 fn all_set(flags: &[bool]) -> bool
     ensures { result ≡ list_all (λ flag. flag) flags.now }
 {
@@ -81,14 +74,14 @@ fn all_set(flags: &[bool]) -> bool
     true
 }
 
-// Whether a text has an octet.
+/// Whether a text has an octet.
 fn has_octet(text: &[u8], octet: u8) -> bool
     ensures { result ≡ has_octet text.now octet }
 {
     text.contains(&octet)
 }
 
-// Whether a text is one or more of the digits 1 to 7, rising.
+/// Whether a text is one or more of the digits 1 to 7, rising.
 fn is_days(text: &[u8]) -> bool
     ensures { result ≡ is_days text.now }
 {

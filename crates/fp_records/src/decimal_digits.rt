@@ -1,52 +1,33 @@
-// Decimal digits, as those of a number or a prefix.
+//! Decimal digits, as those of a number or a prefix.
 
-ghost use Rattle.std.specs.Prelude.{◌≡◌, ℕ, ◌<◌, ◌≤◌, ◌↔◌, IsTrue, List, [], ◌∷◌, ◌++◌, length, nat_eq};
+ghost use Rattle.std.specs.Prelude.{◌≡◌, ◌<◌, ◌≤◌, ◌↔◌, IsTrue, [], ◌∷◌, ◌++◌, length};
 ghost use Rattle.std.specs.List.{All};
-ghost use Rattle.std.specs.Cmp.{partial_equiv_from_equiv};
-ghost use Rattle.std.specs.Cmp.Lexicographic.{pointwise, nat_list_eq_equiv};
-ghost use Rattle.fp_records.specs.Digits.{digits_of, some_digits_of};
+ghost use Rattle.fp_records.specs.Digits.{decimal_of, digits_of, some_digits_of};
 
+use fp_octets::Octets;
 use std::marker::Model;
 
-/// At most 15 decimal digits, each a value from 0 to 9, the first one first. Contracts see them as a
-/// list.
-#[derive(Clone, Copy, Debug)]
+/// At most 15 decimal digits, each a value from 0 to 9, the first one first. Contracts see them as a list. Two are equal
+/// exactly where they have the same digits; in their order the first digits that differ decide, and else the one with
+/// fewer digits is the less.
+#[derive(Clone, Copy, Debug, PartialEq, Eq, PartialOrd, Ord)]
 pub struct DecimalDigits {
-    places: [u8; 15],
-    used: usize,
+    digits: Octets<15>,
 }
 
 impl Model for DecimalDigits {
-    ghost use Rattle.std.specs.Prelude.{ℕ, List, take, length};
-    ghost use Rattle.fp_digits.specs.Padded.{IsPadded, padded, padded-take, length-take-padded};
+    ghost use Rattle.std.specs.Prelude.{ℕ, ◌<◌, List};
+    ghost use Rattle.std.specs.List.{All};
 
     ghost Value = { List ℕ };
 
-    ghost view = { λ digits. take digits.used digits.places };
+    ghost view = { λ decimal. decimal.digits };
 
-    ghost invariant = { λ digits. IsPadded 15 10 digits.places digits.used };
+    ghost invariant = { λ decimal. All (λ digit. digit < 10) decimal.digits };
 
-    ghost inverse = { λ list. record { places = padded 15 list; used = length list } };
+    ghost inverse = { λ list. record { digits = list } };
 
-    ghost inverse_ok = { λ digits padding i. record {
-      places = padded-take 15 10 digits.places digits.used padding i;
-      used = length-take-padded 15 10 digits.places digits.used padding i;
-    } };
-}
-
-/// Two are equal exactly where they have the same digits.
-impl PartialEq for DecimalDigits {
-    ghost eq = { λ a b. pointwise nat_eq a b };
-
-    ghost laws = { partial_equiv_from_equiv nat_list_eq_equiv };
-
-    fn eq(&self, other: &Self) -> bool {
-        self.as_slice() == other.as_slice()
-    }
-}
-
-impl Eq for DecimalDigits {
-    ghost laws = { nat_list_eq_equiv };
+    ghost inverse_ok = { λ decimal all i. record { digits = decimal.digits } };
 }
 
 impl DecimalDigits {
@@ -58,14 +39,14 @@ impl DecimalDigits {
         ensures value { result ≡ length self.now }
         ensures most { result ≤ Self.MOST }
     {
-        self.used
+        self.digits.len()
     }
 
     /// Whether there is no digit.
     pub fn is_empty(&self) -> bool
         ensures { IsTrue result ↔ (self.now ≡ []) }
     {
-        self.used == 0
+        self.digits.is_empty()
     }
 
     /// The digits, each 0 to 9, at most [`DecimalDigits::MOST`] of them.
@@ -74,7 +55,7 @@ impl DecimalDigits {
         ensures most { length self.now ≤ Self.MOST }
         ensures decimal { All (λ digit. digit < 10) self.now }
     {
-        &self.places[..self.used]
+        self.digits.as_slice()
     }
 
     /// The digits that a text writes, where it is at most 15 decimal digits and nothing else.
@@ -85,8 +66,7 @@ impl DecimalDigits {
             return None;
         }
         let mut digits = DecimalDigits {
-            places: [0; 15],
-            used: 0,
+            digits: Octets::new(),
         };
         for octet in text {
             if !octet.is_ascii_digit() {
@@ -97,14 +77,32 @@ impl DecimalDigits {
         Some(digits)
     }
 
-    // Puts a digit behind the others, where there is room for it.
+    /// The digits, where they are at most 15 and each is 0 to 9.
+    pub(crate) fn from_digits(digits: &[u8]) -> Option<DecimalDigits>
+        ensures { result ≡ decimal_of digits.now }
+    {
+        if digits.len() > Self::MOST {
+            return None;
+        }
+        let mut decimal = DecimalDigits {
+            digits: Octets::new(),
+        };
+        for digit in digits {
+            if *digit >= 10 {
+                return None;
+            }
+            decimal.push(*digit);
+        }
+        Some(decimal)
+    }
+
+    /// Puts a digit behind the others, where there is room for it.
     fn push(&mut self, digit: u8)
         requires room { length self.old < Self.MOST }
         requires digit { digit < 10 }
         ensures { self.new ≡ self.old ++ digit ∷ [] }
     {
-        self.places[self.used] = digit;
-        self.used += 1;
+        self.digits.push(digit);
     }
 
     /// The same, of 1 digit or more.

@@ -1,4 +1,4 @@
-// The digits of a destination.
+//! The digits of a destination.
 
 ghost use Rattle.std.specs.Prelude.{◌≡◌, ℕ, ◌<◌, ◌≤◌, List, length, nat_eq};
 ghost use Rattle.std.specs.List.{All};

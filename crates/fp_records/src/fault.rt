@@ -1,4 +1,4 @@
-// Why a text is no table of records.
+//! Why a text is no table of records.
 
 ghost use Rattle.std.specs.Prelude.{◌≡◌};
 ghost use Rattle.fp_records.specs.declared.fault.RecordsFault.TheVariants.{Memory};

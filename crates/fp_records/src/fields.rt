@@ -1,9 +1,10 @@
-// The rule that the fields of a record are.
+//! The rule that the fields of a record are.
 
 ghost use Rattle.std.specs.Prelude.{◌≡◌, ℕ, List, MatchResult, Some, None};
 ghost use Rattle.fp_records.specs.declared.fault.Reason.TheVariants.{FieldCount};
 ghost use Rattle.csv.specs.Records.{field_at, fields_of};
-ghost use Rattle.fp_records.specs.Fields.{action_by, action_in, alone, days_in, destination_in, destinations_of, four_in, numbered_in, number_in, one_in, prefix_in, rule_in, three_in, two_in, verb_in, verb_of, weight_in, window_in};
+ghost use Rattle.fp_records.specs.Fields.{numbered_in, verb_of};
+ghost use Rattle.fp_records.specs.Steps.{action_by, action_in, alone, days_in, destination_in, destinations_of, four_in, number_in, one_in, prefix_in, rule_in, three_in, two_in, verb_in, weight_in, window_in};
 
 use crate::action::{Action, Destinations};
 use crate::days::Days;
@@ -49,7 +50,7 @@ impl Verb {
     }
 }
 
-// The text of a field that the record has.
+/// The text of a field that the record has.
 fn field(row: &ByteRecord, place: usize) -> Result<&[u8], Reason>
     ensures { MatchResult result (λ text. field_at (fields_of row.now) place ≡ Some text.now) (λ reason. (reason ≡ FieldCount) × (field_at (fields_of row.now) place ≡ None)) }
 {
@@ -100,7 +101,7 @@ fn destination_in(row: &ByteRecord, place: usize) -> Result<Destination, Reason>
     Destination::from_text(field(row, place)?).ok_or(Reason::BadDestination)
 }
 
-// One to four destinations, behind the other fields.
+/// One to four destinations, behind the other fields.
 fn destinations_of(row: &ByteRecord) -> Result<Destinations, Reason>
     ensures { result ≡ destinations_of (fields_of row.now) }
 {
@@ -147,7 +148,7 @@ fn four_in(row: &ByteRecord) -> Result<Destinations, Reason>
     Ok(Destinations::Four([first, second, third, fourth]))
 }
 
-// An action that takes no destinations.
+/// An action that takes no destinations.
 fn alone(row: &ByteRecord, action: Action) -> Result<Action, Reason>
     ensures { result ≡ alone (fields_of row.now) action }
 {

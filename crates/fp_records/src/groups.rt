@@ -1,20 +1,20 @@
-// The rules of a file by their numbers, while it is read.
+//! The rules of a file by their numbers, while it is read.
 
-ghost use Rattle.std.specs.Prelude.{◌≡◌, ℕ, ℤ, ◌≤◌, ◌≤ℤ◌, pos, neg_ℤ, IsTrue, List, [], IfErr, IfOk, OnErr, OnOk, MatchResult, Ok, bytes_eq, length, map};
+ghost use Rattle.std.specs.Prelude.{◌≡◌, ◌≤◌, ◌≤ℤ◌, pos, neg_ℤ, IsTrue, [], IfErr, IfOk, OnErr, OnOk, length, map};
 ghost use Rattle.std.specs.Cmp.Lexicographic.{slice_cmp};
 ghost use Rattle.std.specs.List.Sorted.{IsStrictlySortedBy};
-ghost use Rattle.std.specs.Map.{keys_of, remove_entry};
+ghost use Rattle.std.specs.Map.{keys_of};
 ghost use Rattle.std.specs.Ordering.{nat_cmp};
+ghost use Rattle.fp_records.specs.Digits.{is_decimal};
 ghost use Rattle.fp_records.specs.Listed.{listed, with_value};
 ghost use Rattle.std.specs.Arc.{arc_value};
 ghost use Rattle.csv.specs.Records.{fields_of};
-ghost use Rattle.fp_records.specs.File.{Fails, rules_from};
 ghost use Rattle.fp_records.specs.declared.fault.RecordsFault.TheVariants.{Memory};
-ghost use Rattle.fp_records.specs.declared.fields.NumberedRule.{NumberedRule};
 
 use crate::decimal_digits::DecimalDigits;
 use crate::fault::{Reason, RecordsFault};
 use crate::fields::{NumberedRule, numbered_in};
+use crate::reading::RecordReader;
 use crate::record::Record;
 use crate::rule::KeptRule;
 use csv::ByteRecord;
@@ -33,7 +33,7 @@ const MOST_OF_NUMBER: usize = 1_000;
 #[derive(Drop)]
 pub(crate) struct Groups {
     count: usize,
-    groups: BTreeMap<Vec<u8>, Vec<KeptRule>>,
+    groups: BTreeMap<DecimalDigits, Vec<KeptRule>>,
 }
 
 impl Model for Groups {
@@ -42,35 +42,36 @@ impl Model for Groups {
 
     ghost Value = { Grouped };
 
-    ghost view = { λ a. record { count = a.count; groups = map (λ e. (e.0.items, e.1.items)) a.groups.entries } };
+    ghost view = { λ a. record { count = a.count; groups = map (λ e. (e.0, e.1.items)) a.groups.entries } };
 
-    ghost invariant = { λ a. IsGrouped (record { count = a.count; groups = map (λ e. (e.0.items, e.1.items)) a.groups.entries }) };
+    ghost invariant = { λ a. IsGrouped (record { count = a.count; groups = map (λ e. (e.0, e.1.items)) a.groups.entries }) };
 }
 
 impl Groups {
-    ghost use Rattle.fp_records.specs.Groups.{Adds, Groups as Holds, group_of, has_room, record_of_group};
+    ghost use Rattle.fp_records.specs.Groups.{Adds, Gathers, Groups as Holds, accepted, group_of, has_room, record_of_group};
+    ghost use Rattle.fp_records.specs.Table.{IsKept};
 
-    /// The rules of records, the first of which is record 2, or the first of their faults.
-    pub(crate) fn read(alloc: Global, rows: &[ByteRecord]) -> Result<Groups, RecordsFault>
-        ensures { MatchResult result (λ groups. (rules : List NumberedRule) × (rules_from [] (map fields_of rows.now) ≡ Ok rules) × Holds rules groups) (λ fault. Fails fault (rules_from [] (map fields_of rows.now))) }
+    /// The rules of the records that are left, or the first of their faults. Each record is read
+    /// into the same row.
+    pub(crate) fn read(
+        alloc: Global,
+        records: &mut RecordReader<'_>,
+        row: &mut ByteRecord,
+    ) -> Result<Groups, RecordsFault>
+        ensures { Gathers records.old.place records.old.rows result }
     {
         let mut groups = Groups::new(alloc);
-        for row in rows {
-            let at = groups.count + 2;
-            let numbered = match numbered_in(row) {
+        while let Some(at) = records.read(row)? {
+            let numbered = match groups.accepted(row) {
                 Ok(numbered) => numbered,
                 Err(reason) => return Err(RecordsFault::Record { at, reason }),
             };
-            if !groups.has_room(&numbered.number) {
-                let reason = Reason::TooMany;
-                return Err(RecordsFault::Record { at, reason });
-            }
             groups.add(alloc, &numbered)?;
         }
         Ok(groups)
     }
 
-    // No rules.
+    /// No rules.
     fn new(alloc: Global) -> Groups
         ensures { Holds [] result }
     {
@@ -88,33 +89,48 @@ impl Groups {
         self.count
     }
 
-    // Whether a rule of this number is within the limits.
+    /// The rule that a record is, where there is room for it.
+    fn accepted(&self, row: &ByteRecord) -> Result<NumberedRule, Reason>
+        ensures value { result ≡ accepted self.now (fields_of row.now) }
+        ensures room { IfOk result (λ numbered. IsTrue (has_room self.now numbered.number)) }
+        ensures decimal { IfOk result (λ numbered. IsTrue (is_decimal numbered.number)) }
+    {
+        let numbered = numbered_in(row)?;
+        if self.has_room(&numbered.number) {
+            Ok(numbered)
+        } else {
+            Err(Reason::TooMany)
+        }
+    }
+
+    /// Whether a rule of this number is within the limits.
     fn has_room(&self, number: &DecimalDigits) -> bool
         ensures { result ≡ has_room self.now number.now }
     {
         self.count < MOST_RULES && self.count_of(number) < MOST_OF_NUMBER
     }
 
-    // How many rules a number has.
+    /// How many rules a number has.
     fn count_of(&self, number: &DecimalDigits) -> usize
         ensures { result ≡ length (group_of number.now self.now) }
     {
-        match self.groups.get(number.as_slice()) {
+        match self.groups.get(number) {
             Some(rules) => rules.as_slice().len(),
             None => 0,
         }
     }
 
-    // Puts a rule behind those of its number, for which there is room.
+    /// Puts a rule behind those of its number, for which there is room.
     fn add(&mut self, alloc: Global, numbered: &NumberedRule) -> Result<(), RecordsFault>
-        requires { IsTrue (has_room self.old numbered.now.number) }
+        requires room { IsTrue (has_room self.old numbered.now.number) }
+        requires decimal { IsTrue (is_decimal numbered.now.number) }
         ensures added { OnOk result (Adds self.old numbered.now self.new) }
         ensures fault { IfErr result (λ fault. fault ≡ Memory) }
     {
         push_at(
             &mut self.groups,
             alloc,
-            numbered.number.as_slice(),
+            &numbered.number,
             KeptRule::new(numbered.rule),
         )?;
         self.count += 1;
@@ -126,11 +142,11 @@ impl Groups {
         self,
         alloc: Global,
         offset: i16,
-    ) -> Result<BTreeMap<Vec<u8>, Arc<Record>>, RecordsFault>
+    ) -> Result<BTreeMap<DecimalDigits, Arc<Record>>, RecordsFault>
         requires west { neg_ℤ (pos 720) ≤ℤ offset }
         requires east { offset ≤ℤ pos 840 }
-        ensures records { IfOk result (λ records. map (λ e. (e.0.items, arc_value e.1)) records.entries ≡ map (record_of_group offset) self.groups) }
-        ensures most { IfOk result (λ records. length records.entries ≤ 100000) }
+        ensures records { IfOk result (λ records. map (λ e. (e.0, arc_value e.1)) records.entries ≡ map (record_of_group offset) self.groups) }
+        ensures kept { IfOk result (λ records. IsKept (map (λ e. (e.0, arc_value e.1)) records.entries)) }
         ensures fault { IfErr result (λ fault. fault ≡ Memory) }
     {
         let mut records = BTreeMap::new(alloc);
@@ -143,23 +159,25 @@ impl Groups {
     }
 }
 
-// Puts a value behind the others of the list at a number.
+/// Puts a value behind the others of the list at a number.
 fn push_at<T: Drop>(
-    lists: &mut BTreeMap<Vec<u8>, Vec<T>>,
+    lists: &mut BTreeMap<DecimalDigits, Vec<T>>,
     alloc: Global,
-    number: &[u8],
+    number: &DecimalDigits,
     value: T,
 ) -> Result<(), RecordsFault>
     ensures entries { OnOk result (listed lists.new.entries ≡ with_value (listed lists.old.entries) number.now value) }
-    ensures refused { OnErr result (listed lists.new.entries ≡ remove_entry (bytes_eq number.now) (listed lists.old.entries)) }
+    ensures refused { OnErr result (listed lists.new.entries ≡ listed lists.old.entries) }
     ensures once { OnOk result (IsStrictlySortedBy (slice_cmp nat_cmp) (keys_of (listed lists.new.entries))) }
     ensures fault { IfErr result (λ fault. fault ≡ Memory) }
 {
-    let mut list = match lists.remove(number) {
-        Some(list) => list,
-        None => Vec::with_capacity(alloc, 1)?,
-    };
-    list.push(value)?;
-    lists.insert(Vec::from_slice(alloc, number)?, list)?;
+    match lists.get_mut(number) {
+        Some(list) => list.push(value)?,
+        None => {
+            let mut list = Vec::with_capacity(alloc, 1)?;
+            list.push(value)?;
+            drop(lists.insert(*number, list)?);
+        }
+    }
     Ok(())
 }

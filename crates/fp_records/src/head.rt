@@ -1,4 +1,4 @@
-// The first record, `key,SERVICEKEY,OFFSET`.
+//! The first record, `key,SERVICEKEY,OFFSET`.
 
 ghost use Rattle.std.specs.Prelude.{◌≡◌, ◌≢◌, ◌≤ℤ◌, pos, neg_ℤ, [], ◌∷◌, IfSome, MatchOption, length};
 ghost use Rattle.csv.specs.Records.{fields_of};

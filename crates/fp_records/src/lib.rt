@@ -11,16 +11,17 @@
 //! - [`Table`] is the records of a file. [`Table::read`] reads it, and [`Table::find`] finds the
 //!   [`Record`] of a called number by its digits.
 //! - [`Record`] is the rules of one number, and [`Record::choose`] is the [`Rule`] that a call gets:
-//!   by the calling number's prefix, the weekday, the minute and the rules' shares. [`Record::same`]
-//!   tells whether two say the same.
+//!   by the calling number's prefix, the weekday, the minute and the rules' shares. Two records,
+//!   rules or destinations are equal by `==` exactly where they say the same.
 //! - [`Destinations`] are those of a rule that routes. [`Destinations::split_first`] is the one that
 //!   is tried next and those that are left.
 //! - [`RecordsFault`] says why a text is no table: the first faulty record and its [`Reason`], or
 //!   want of memory.
 //!
 //! The layer above may rely on this: a table is what the text says and nothing else (`IsTable` of
-//! `specs/Table.antt` and `file_of` of `specs/File.antt`), a fault names the first faulty record,
-//! a choice is `choice` of `specs/Choice.antt`, and only [`Table::read`] takes memory.
+//! `specs/Table.antt` and `IsFile` of `specs/File.antt`), a fault names the first faulty record
+//! (`FirstFault`), a choice is `choice` of `specs/Choice.antt`, a record has a rule at least, and only
+//! [`Table::read`] takes memory.
 #![tactic(auto)]
 
 mod action;

@@ -1,4 +1,4 @@
-// Local time at a moment.
+//! Local time at a moment.
 
 ghost use Rattle.std.specs.Prelude.{◌≡◌, ℕ, ◌+◌, ◌<◌, ◌≤ℤ◌, pos, neg_ℤ};
 ghost use Rattle.jiff_core.specs.Weekday.{monday_zero};

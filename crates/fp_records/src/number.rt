@@ -1,4 +1,4 @@
-// Plain decimal numbers.
+//! Plain decimal numbers.
 
 ghost use Rattle.std.specs.Prelude.{◌≡◌, ◌<◌, ◌≤◌, IfSome};
 ghost use Rattle.fp_records.specs.Number.{number_up_to};

@@ -1,31 +1,72 @@
-// The records of a text.
+//! The records of a text, one after another.
 
-ghost use Rattle.std.specs.Prelude.{◌≡◌, IfErr, IfOk, map};
+ghost use Rattle.std.specs.Prelude.{◌≡◌, IfErr, IfOk};
 ghost use Rattle.csv.specs.Records.{fields_of};
 ghost use Rattle.fp_records.specs.File.{records_of};
 ghost use Rattle.fp_records.specs.declared.fault.RecordsFault.TheVariants.{Memory};
 
 use crate::fault::RecordsFault;
-use csv::{ByteRecord, ReaderBuilder};
+use csv::{ByteRecord, Reader, ReaderBuilder};
 use std::alloc::Global;
+use std::marker::Model;
 
-/// The records of a text, whatever the number of their fields.
-pub(crate) fn records_of(alloc: Global, text: &[u8]) -> Result<Vec<ByteRecord>, RecordsFault>
-    ensures read { IfOk result (λ records. map fields_of records.items ≡ records_of text.now) }
-    ensures fault { IfErr result (λ fault. fault ≡ Memory) }
-{
-    let reader = ReaderBuilder::new()
-        .has_headers(false)
-        .flexible(true)
-        .from_reader(alloc, text);
-    let mut records = Vec::new(alloc);
-    for record in reader.into_byte_records() {
+/// Reads the records of a text, whatever the number of their fields, and counts them. Contracts see
+/// it as how many records were read and those that are left.
+#[derive(Drop)]
+pub(crate) struct RecordReader<'a> {
+    reader: Reader<&'a [u8]>,
+    place: usize,
+    has_ended: bool,
+}
+
+impl<'a> Model for RecordReader<'a> {
+    ghost use Rattle.fp_records.specs.Unread.{IsReading, Unread, rows_left};
+
+    ghost Value = { Unread };
+
+    ghost view = { λ a. record { place = a.place; rows = rows_left a.has_ended a.reader } };
+
+    ghost invariant = { λ a. IsReading a.has_ended a.reader a.place };
+}
+
+impl<'a> RecordReader<'a> {
+    ghost use Rattle.fp_records.specs.Unread.{ReadsNext};
+
+    /// A reader of a text, from its start.
+    pub(crate) fn new(alloc: Global, text: &'a [u8]) -> RecordReader<'a>
+        ensures { result ≡ record { place = 0; rows = records_of text.now } }
+    {
+        let reader = ReaderBuilder::new()
+            .has_headers(false)
+            .flexible(true)
+            .from_reader(alloc, text);
+        RecordReader {
+            reader,
+            place: 0,
+            has_ended: false,
+        }
+    }
+
+    /// Reads the next record into a row, and gives its place in the text, or `None` where no record
+    /// is left. The first record is 1, and empty lines are no records.
+    pub(crate) fn read(&mut self, row: &mut ByteRecord) -> Result<Option<usize>, RecordsFault>
+        ensures next { IfOk result (λ at. ReadsNext self.old self.new (fields_of row.new) at) }
+        ensures fault { IfErr result (λ fault. fault ≡ Memory) }
+    {
+        if self.has_ended {
+            return Ok(None);
+        }
+        self.has_ended = true;
         // A text in memory has no failure of its own, records may differ in length and their
         // fields are octets: what is left of the reader's errors is want of memory.
-        let Ok(record) = record else {
+        let Ok(found) = self.reader.read_byte_record(row) else {
             return Err(RecordsFault::Memory);
         };
-        records.push(record)?;
+        if !found {
+            return Ok(None);
+        }
+        self.has_ended = false;
+        self.place += 1;
+        Ok(Some(self.place))
     }
-    Ok(records)
 }

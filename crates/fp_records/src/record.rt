@@ -1,8 +1,8 @@
-// The rules of a number, and the choice among them.
+//! The rules of a number, and the choice among them.
 
-ghost use Rattle.std.specs.Prelude.{◌≡◌, ◌↔◌, IsTrue, ◌≤◌, ◌+◌, ℕ, filter, length, max, option_map, ◌≢◌, [], ◌∷◌, IfNone, IfSome};
+ghost use Rattle.std.specs.Prelude.{◌≡◌, ◌≤◌, ◌+◌, ℕ, filter, length, max, option_map, ◌≢◌, [], ◌∷◌, IfNone, IfSome};
 ghost use Rattle.jiff_core.specs.Weekday.{monday_zero};
-ghost use Rattle.fp_records.specs.Choice.{IsRules, by_share, calling_digits, choice, first_above, fits, longest_prefix, most_exact, of_length, total_weight};
+ghost use Rattle.fp_records.specs.Choice.{IsRules, by_share, calling_digits, choice, fits, longest_prefix, most_exact, of_length, rule_at_draw, total_weight};
 ghost use Rattle.fp_records.specs.Share.{total_with};
 
 use crate::call::Call;
@@ -29,7 +29,28 @@ impl Model for Record {
     ghost invariant = { λ record_of. IsRules (record { offset = record_of.offset; rules = record_of.rules.items }) };
 }
 
-// The longest prefix of the rules that fit, and the sum of the weights of those that have it.
+/// Two are equal exactly where they say the same: the same offset, and the same rules in the same order
+/// (`exact_record` of `specs/Same.antt`). Comparing takes no memory, and at most as many steps as
+/// there are rules.
+impl PartialEq for Record {
+    ghost use Rattle.fp_records.specs.Same.{same_record, same_record_per};
+
+    ghost eq = { same_record };
+
+    ghost laws = { same_record_per };
+
+    fn eq(&self, other: &Self) -> bool {
+        self.offset == other.offset && self.rules.as_slice() == other.rules.as_slice()
+    }
+}
+
+impl Eq for Record {
+    ghost use Rattle.fp_records.specs.Same.{same_record_equiv};
+
+    ghost laws = { same_record_equiv };
+}
+
+/// The longest prefix of the rules that fit, and the sum of the weights of those that have it.
 #[derive(Clone, Copy)]
 struct Share {
     longest: usize,
@@ -49,6 +70,7 @@ impl Record {
     pub fn only_rule(&self) -> Option<&Rule>
         ensures some { IfSome result (λ rule. self.now.rules ≡ rule.now ∷ []) }
         ensures none { IfNone result (length self.now.rules ≢ 1) }
+        ensures kept { IsRules self.now }
     {
         let [kept, rest @ ..] = self.rules.as_slice() else {
             return None;
@@ -57,14 +79,6 @@ impl Record {
             return None;
         }
         Some(kept.rule())
-    }
-
-    /// Whether two records say the same: the same offset, and the same rules in the same order. It
-    /// takes no memory, and as many steps as there are rules, or one where they differ in how many.
-    pub fn same(&self, other: &Record) -> bool
-        ensures { IsTrue result ↔ (self.now ≡ other.now) }
-    {
-        self.offset == other.offset && same_rules(self.rules.as_slice(), other.rules.as_slice())
     }
 
     /// The rule that a call gets, `None` where no rule fits.
@@ -85,22 +99,7 @@ impl Record {
     }
 }
 
-// Whether two lists have the same rules in the same order.
-fn same_rules(rules: &[KeptRule], others: &[KeptRule]) -> bool
-    ensures { IsTrue result ↔ (rules.now ≡ others.now) }
-{
-    if rules.len() != others.len() {
-        return false;
-    }
-    for (kept, other) in rules.iter().zip(others) {
-        if !kept.rule().same(other.rule()) {
-            return false;
-        }
-    }
-    true
-}
-
-// The digits of a calling number, none where there is none.
+/// The digits of a calling number, none where there is none.
 fn calling_digits(calling: Option<&Number>) -> &[u8]
     ensures { result.now ≡ calling_digits calling.entry }
 {
@@ -110,7 +109,7 @@ fn calling_digits(calling: Option<&Number>) -> &[u8]
     }
 }
 
-// The rule that a call gets.
+/// The rule that a call gets.
 fn chosen<'a>(rules: &'a [KeptRule], call: &Call<'_>, birth: u64) -> Option<&'a Rule>
     requires { length rules.now ≤ 1000 }
     ensures { option_map (λ rule. rule.now) result ≡ by_share birth (most_exact (filter (fits call.now.calling.now (monday_zero call.now.time.weekday + 1) call.now.time.minute) rules.now)) }
@@ -122,7 +121,7 @@ fn chosen<'a>(rules: &'a [KeptRule], call: &Call<'_>, birth: u64) -> Option<&'a 
     rule_at(rules, call, share.longest, birth % share.total)
 }
 
-// The share of the rules that fit a call.
+/// The share of the rules that fit a call.
 fn share_of(rules: &[KeptRule], call: &Call<'_>) -> Share
     requires { length rules.now ≤ 1000 }
     ensures longest { result.longest ≡ longest_prefix (filter (fits call.now.calling.now (monday_zero call.now.time.weekday + 1) call.now.time.minute) rules.now) }
@@ -142,7 +141,7 @@ fn share_of(rules: &[KeptRule], call: &Call<'_>) -> Share
 }
 
 impl Share {
-    // The share with one more rule that fits.
+    /// The share with one more rule that fits.
     fn with(self, rule: &Rule) -> Share
         requires { self.total ≤ 999000 }
         ensures longest { result.longest ≡ max self.longest (length rule.now.prefix) }
@@ -167,8 +166,8 @@ impl Share {
     }
 }
 
-// The first rule that fits and has the longest prefix at which the sum of the weights goes above the
-// draw.
+/// The first rule that fits and has the longest prefix at which the sum of the weights goes above the
+/// draw.
 fn rule_at<'a>(
     rules: &'a [KeptRule],
     call: &Call<'_>,
@@ -176,7 +175,7 @@ fn rule_at<'a>(
     draw: u64,
 ) -> Option<&'a Rule>
     requires { length rules.now ≤ 1000 }
-    ensures { option_map (λ rule. rule.now) result ≡ first_above draw 0 (of_length longest (filter (fits call.now.calling.now (monday_zero call.now.time.weekday + 1) call.now.time.minute) rules.now)) }
+    ensures { option_map (λ rule. rule.now) result ≡ rule_at_draw draw (of_length longest (filter (fits call.now.calling.now (monday_zero call.now.time.weekday + 1) call.now.time.minute) rules.now)) }
 {
     let mut before = 0;
     for kept in rules {

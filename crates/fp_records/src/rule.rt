@@ -1,6 +1,6 @@
-// A rule of a number.
+//! A rule of a number.
 
-ghost use Rattle.std.specs.Prelude.{◌≡◌, ◌↔◌, IsTrue};
+ghost use Rattle.std.specs.Prelude.{◌≡◌};
 
 use crate::action::Action;
 use crate::days::Days;
@@ -9,7 +9,8 @@ use crate::weight::Weight;
 use crate::window::Window;
 use std::marker::Model;
 
-/// A rule of a number: which calls it fits, its share of them, and what it does.
+/// A rule of a number: which calls it fits, its share of them, and what it does. Two are equal exactly where they say the
+/// same (`exact_rule` of `specs/Same.antt`).
 #[derive(Clone, Copy, Debug, PartialEq, Eq)]
 pub struct Rule {
     /// The calling numbers that it fits begin with these digits.
@@ -24,21 +25,8 @@ pub struct Rule {
     pub action: Action,
 }
 
-impl Rule {
-    /// Whether two rules say the same.
-    pub(crate) fn same(&self, other: &Rule) -> bool
-        ensures { IsTrue result ↔ (self.now ≡ other.now) }
-    {
-        self.weight == other.weight
-            && self.window == other.window
-            && self.days.same(&other.days)
-            && self.prefix == other.prefix
-            && self.action.same(&other.action)
-    }
-}
-
 /// A rule as a list keeps it. Contracts see it as the rule.
-#[derive(Clone, Copy, Debug)]
+#[derive(Clone, Copy, Debug, PartialEq, Eq)]
 pub(crate) struct KeptRule {
     rule: Rule,
 }

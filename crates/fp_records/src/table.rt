@@ -1,13 +1,16 @@
-// The table of the records.
+//! The table of the records.
 
-ghost use Rattle.std.specs.Prelude.{◌≡◌, ℕ, List, length, option_map};
+ghost use Rattle.std.specs.Prelude.{◌≡◌, ◌⊎◌, ℕ, List, IsErrAnd, MatchResult, length, option_map};
 ghost use Rattle.std.specs.Arc.{arc_value};
+ghost use Rattle.fp_records.specs.declared.fault.Reason.{Reason};
 
+use crate::decimal_digits::DecimalDigits;
 use crate::fault::{Reason, RecordsFault};
 use crate::groups::Groups;
 use crate::head::head_of;
-use crate::reading::records_of;
+use crate::reading::RecordReader;
 use crate::record::Record;
+use csv::ByteRecord;
 use fp_digits::Number;
 use std::alloc::Global;
 use std::collections::BTreeMap;
@@ -19,24 +22,24 @@ use std::sync::Arc;
 pub struct Table {
     key: u32,
     rule_count: u32,
-    records: BTreeMap<Vec<u8>, Arc<Record>>,
+    records: BTreeMap<DecimalDigits, Arc<Record>>,
 }
 
 impl Model for Table {
-    ghost use Rattle.std.specs.Prelude.{◌≤◌, length, map};
+    ghost use Rattle.std.specs.Prelude.{map};
     ghost use Rattle.std.specs.Arc.{arc_value};
-    ghost use Rattle.fp_records.specs.Table.{Contents};
+    ghost use Rattle.fp_records.specs.Table.{Contents, IsKept};
 
     ghost Value = { Contents };
 
-    ghost view = { λ table. record { key = table.key; rule_count = table.rule_count; records = map (λ e. (e.0.items, arc_value e.1)) table.records.entries } };
+    ghost view = { λ table. record { key = table.key; rule_count = table.rule_count; records = map (λ e. (e.0, arc_value e.1)) table.records.entries } };
 
-    ghost invariant = { λ table. length table.records.entries ≤ 100000 };
+    ghost invariant = { λ table. IsKept (map (λ e. (e.0, arc_value e.1)) table.records.entries) };
 }
 
 impl Table {
-    ghost use Rattle.fp_records.specs.File.{records_of};
-    ghost use Rattle.fp_records.specs.Table.{Reads, record_at};
+    ghost use Rattle.fp_records.specs.File.{File, FirstFault, IsFile, records_of};
+    ghost use Rattle.fp_records.specs.Table.{IsTable, Reads, record_at};
 
     /// Reads the text of a records file.
     ///
@@ -47,24 +50,32 @@ impl Table {
     /// `FieldCount` behind the action, `BadDestination`, and `TooMany` where 100,000 rules or 1,000 of
     /// its number stand before it. Want of memory is `Memory`. No table is left then.
     pub fn read(alloc: Global, text: &[u8]) -> Result<Table, RecordsFault>
+        ensures answer { Reads result (records_of text.now) }
+        ensures file { (file : File) → IsFile (records_of text.now) file → MatchResult result (λ table. IsTable file table) (λ fault. fault ≡ RecordsFault.Memory) }
+        ensures fault { (at : ℕ) (reason : Reason) → FirstFault (records_of text.now) at reason → IsErrAnd result (λ fault. (fault ≡ RecordsFault.Record at reason) ⊎ (fault ≡ RecordsFault.Memory)) }
+    {
+        Table::read_in_turn(alloc, text)
+    }
+
+    /// Reads the records of a text one after another.
+    fn read_in_turn(alloc: Global, text: &[u8]) -> Result<Table, RecordsFault>
         ensures { Reads result (records_of text.now) }
     {
-        let records = records_of(alloc, text)?;
-        let [first, rows @ ..] = records.as_slice() else {
+        let mut records = RecordReader::new(alloc, text);
+        let mut row = ByteRecord::new(alloc);
+        let Some(_) = records.read(&mut row)? else {
             return Err(RecordsFault::Record {
                 at: 1,
                 reason: Reason::BadHead,
             });
         };
-        let Some(head) = head_of(first) else {
+        let Some(head) = head_of(&row) else {
             return Err(RecordsFault::Record {
                 at: 1,
                 reason: Reason::BadHead,
             });
         };
-        let groups = Groups::read(alloc, rows)?;
-        // The records' texts are given back before the table grows.
-        drop(records);
+        let groups = Groups::read(alloc, &mut records, &mut row)?;
         Ok(Table {
             key: head.key,
             rule_count: groups.count() as u32,
@@ -88,10 +99,14 @@ impl Table {
     }
 
     /// The record of a called number, by its digits alone: the nature of address is not looked at, and
-    /// a digit above 9 is no record's. It takes as many steps as the logarithm of the count of numbers.
+    /// a digit above 9 is no record's.
     pub fn find(&self, called: &Number) -> Option<&Arc<Record>>
         ensures { option_map (λ found. arc_value found.now) result ≡ record_at self.now called.now.digits }
     {
-        self.records.get(called.digits.as_slice())
+        let records = &self.records;
+        let Some(digits) = DecimalDigits::from_digits(called.digits.as_slice()) else {
+            return None;
+        };
+        records.get(&digits)
     }
 }

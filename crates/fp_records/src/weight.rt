@@ -1,4 +1,4 @@
-// The weight of a rule.
+//! The weight of a rule.
 
 ghost use Rattle.std.specs.Prelude.{◌≡◌, ◌≤◌};
 ghost use Rattle.fp_records.specs.Fields.{weight_of};

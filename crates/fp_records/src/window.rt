@@ -1,9 +1,7 @@
-// The window of the day in which a rule holds.
+//! The window of the day in which a rule holds.
 
 ghost use Rattle.std.specs.Prelude.{◌≡◌, ◌<◌, ◌≤◌};
-ghost use Rattle.fp_records.specs.Window.{holds_minute, minute_at, time_of, two_digits};
-ghost use Rattle.fp_records.specs.Fields.{period};
-ghost use Rattle.std.specs.Result.{result_ok};
+ghost use Rattle.fp_records.specs.Window.{holds_minute, minute_at, period_between, time_of, two_digits};
 
 use std::marker::Model;
 
@@ -65,7 +63,7 @@ impl Window {
     pub(crate) fn between(from: u16, to: u16) -> Option<Window>
         requires first { from < 1440 }
         requires last { to ≤ 1440 }
-        ensures { result ≡ result_ok (period from to) }
+        ensures { result ≡ period_between from to }
     {
         if from == to {
             None
@@ -75,7 +73,7 @@ impl Window {
     }
 }
 
-// The number that two decimal digits write.
+/// The number that two decimal digits write.
 fn two_digits(tens: u8, ones: u8) -> Option<u16>
     ensures { result ≡ two_digits tens ones }
 {

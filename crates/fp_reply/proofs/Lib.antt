@@ -1,2 +1,4 @@
+pub mod Components
 pub mod Frames
 pub mod Nesting
+pub mod Sending

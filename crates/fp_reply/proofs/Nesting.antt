@@ -13,7 +13,7 @@ use Rattle.fp_reply.specs.Reply.{acceptance_portion, component_value, reply}
 use Rattle.fp_service.specs.declared.component.Component.{Component}
 use Rattle.fp_service.specs.declared.component.Component.TheVariants.{Invoke, ReturnError, Reject}
 use Rattle.fp_service.specs.declared.instruction.Instruction.TheVariants as instructions
-use Rattle.fp_service.specs.declared.request.AbortPortion.TheVariants.{Absent, Abrt, NameNotSupported, NoCommonVersion}
+use Rattle.fp_service.specs.declared.request.AbortPortion.TheVariants.{Absent, Abrt, NoName, NoVersion}
 use Rattle.fp_service.specs.declared.request.Request.{Request}
 use Rattle.fp_service.specs.declared.request.Request.TheVariants as requests
 
@@ -61,15 +61,12 @@ nested (requests.End acceptance components) local peer =
     omega (arith, portions)
 nested (requests.Abort Absent) local peer = omega arith
 nested (requests.Abort Abrt) local peer = omega arith
-nested (requests.Abort (NameNotSupported name)) local peer = omega arith
-nested (requests.Abort (NoCommonVersion name)) local peer = omega arith
+nested (requests.Abort (NoName name)) local peer = omega arith
+nested (requests.Abort (NoVersion name)) local peer = omega arith
 
--- so the element of a message is in range, if the tags of its copies are
-pub written_in_range : {E : Type 0} (r : Result Element E) (value : MessageValue) (request : Request) (local : ℕ) (peer : List ℕ)
-    → IfOk r (λ element. tree_of element ≡ written value) → IfOk r (λ element. CopiesHaveTags value → HasTags (tree_of element))
-    → CopiesHaveTags value → value ≡ reply request local peer → IfOk r (λ element. InRange (tree_of element))
-written_in_range (Ok element) value request local peer is tags copies same = record {
-  nested = rw (is, same) (nested request local peer);
-  tags = tags copies;
+-- so it is in range, if its tags are those that elements may have
+pub reply_in_range : (request : Request) (local : ℕ) (peer : List ℕ) → HasTags (written (reply request local peer)) → InRange (written (reply request local peer))
+reply_in_range request local peer tags = record {
+  nested = nested request local peer;
+  tags = tags;
 }
-written_in_range (Err error) value request local peer is tags copies same = tt

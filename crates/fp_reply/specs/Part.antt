@@ -1,53 +1,47 @@
--- The elements that a message borrows: its dialogue portion, and the arguments of its components; and how many octets
--- they take at most.
-use Rattle.std.specs.Prelude.{◌≡◌, ◌≤◌, List, [], ◌∷◌, Option, None, option_map, ⊤}
-use Rattle.fp_ber.specs.Tree.{Tree}
-use Rattle.fp_ber.specs.View.{tree_of}
-use Rattle.fp_q773.specs.Copied.{CopyHasTags}
-use Rattle.fp_q773.specs.Room.{tree_room}
-use Rattle.fp_q773.specs.Writable.{IsWritableDialogue}
-use Rattle.fp_reply.specs.Reply.{argument_of, acceptance_portion, abort_portion}
-use Rattle.fp_reply.specs.declared.arguments.Arguments.{Arguments}
-use Rattle.fp_service.specs.declared.component.Component.{Component}
-use Rattle.fp_service.specs.declared.component.Component.TheVariants.{Invoke, ReturnError, Reject}
-use Rattle.fp_service.specs.declared.request.Request.{Request}
-use Rattle.fp_service.specs.declared.request.Request.TheVariants as requests
+-- The parts of a message that is sent: each is what the grammar has for it, can be spelled, and takes so many octets at
+-- most.
+use Rattle.std.specs.Prelude.{◌≤◌, List, [], ◌∷◌, length, Option, ⊤}
+use Rattle.fp_ber.specs.Canon.{HasLengths, canon}
+use Rattle.fp_ber.specs.Tree.{InRange, Tree}
+use Rattle.fp_q773.specs.Copied.{ComponentHasTags, CopiesHaveTags, CopyHasTags}
+use Rattle.fp_q773.specs.Grammar as grammar
+use Rattle.fp_q773.specs.Room.{component_room, message_room, tree_room}
+use Rattle.fp_q773.specs.Value.{ComponentValue, MessageValue}
+use Rattle.fp_q773.specs.Writable.{IsWritable, IsWritableDialogue, IsWritableMessage}
+use Rattle.fp_q773.specs.Written.{component_tree, written}
 
--- the dialogue portion of a request's message
-abbrev pub dialogue_in : Request → Option Tree
-dialogue_in (requests.Continue acceptance components) = acceptance_portion acceptance
-dialogue_in (requests.End acceptance components) = acceptance_portion acceptance
-dialogue_in (requests.Abort portion) = abort_portion portion
-
--- the components of a request
-abbrev pub components_in : Request → List Component
-components_in (requests.Continue acceptance components) = components
-components_in (requests.End acceptance components) = components
-components_in (requests.Abort portion) = []
-
--- the argument in a component
-abbrev pub argument_in : Component → Option Tree
-argument_in (Invoke identifier instruction) = argument_of instruction
-argument_in (ReturnError identifier error) = None
-argument_in (Reject identifier problem) = None
+-- an argument takes 69 octets at most: that is the one of RequestReportBCSMEvent
+pub record IsArgument (argument : Option Tree) : Type 0 where
+  pub tags : CopyHasTags argument
+  pub size : tree_room argument ≤ 69
 
 -- a dialogue portion takes 101 octets at most: that is an AARE with a name of 64
-pub record IsDialoguePortion (portion expected : Option Tree) : Type 0 where
-  pub value : portion ≡ expected
+pub record IsDialoguePortion (portion : Option Tree) : Type 0 where
   pub writable : IsWritableDialogue portion
   pub tags : CopyHasTags portion
   pub size : tree_room portion ≤ 101
 
--- an argument takes 69 octets at most: that is the one of RequestReportBCSMEvent
-pub record IsArgument (argument expected : Option Tree) : Type 0 where
-  pub value : argument ≡ expected
-  pub tags : CopyHasTags argument
-  pub size : tree_room argument ≤ 69
+-- a component takes 99 octets at most, with six counted for each tag and length
+pub record IsComponent (component : ComponentValue) : Type 0 where
+  pub is : grammar.IsComponent (component_tree component) component
+  pub writable : IsWritable component
+  pub tags : ComponentHasTags component
+  pub size : component_room component ≤ 99
 
--- these are the arguments of the components
-abbrev pub AreArguments : Arguments → List Component → Type 0
-AreArguments arguments [] = ⊤
-AreArguments arguments (only ∷ []) = IsArgument (option_map tree_of arguments.first) (argument_in only)
-AreArguments arguments (first ∷ second ∷ others) =
-    IsArgument (option_map tree_of arguments.first) (argument_in first)
-    × IsArgument (option_map tree_of arguments.second) (argument_in second)
+abbrev pub AreComponents : List ComponentValue → Type 0
+AreComponents [] = ⊤
+AreComponents (component ∷ others) = IsComponent component × AreComponents others
+
+-- a message that can be written and is read back as itself, in 331 octets at most, with six counted for each tag and
+-- length
+pub record CanBeSent (message : MessageValue) : Type 0 where
+  pub is : grammar.IsMessage (written message) message
+  pub writable : IsWritableMessage message
+  pub tags : CopiesHaveTags message
+  pub size : message_room message ≤ 331
+
+-- an element that can be spelled and read again, in so many octets at most
+pub record IsSpelled (element : Tree) : Type 0 where
+  pub in_range : InRange element
+  pub lengths : HasLengths element
+  pub size : length (canon element) ≤ 331

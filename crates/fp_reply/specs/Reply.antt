@@ -7,7 +7,7 @@ use Rattle.fp_ber.specs.Spelling.{Spells}
 use Rattle.fp_apdu.specs.Aare.{aare}
 use Rattle.fp_apdu.specs.Abrt.{abrt}
 use Rattle.fp_apdu.specs.DialoguePortion.{dialogue_portion}
-use Rattle.fp_apdu.specs.declared.verdict.Verdict.TheVariants.{Accepted, NoName, NoVersion}
+use Rattle.fp_apdu.specs.declared.verdict.Verdict.TheVariants as verdicts
 use Rattle.fp_frames.specs.Frame.{IsMessageLength, framed}
 use Rattle.fp_inap.specs.Connect.{connect}
 use Rattle.fp_inap.specs.ReleaseCall.{release_call}
@@ -25,7 +25,7 @@ use Rattle.fp_service.specs.declared.component.Component.TheVariants.{Invoke, Re
 use Rattle.fp_service.specs.declared.instruction.Instruction.{Instruction}
 use Rattle.fp_service.specs.declared.instruction.Instruction.TheVariants as instructions
 use Rattle.fp_service.specs.declared.request.AbortPortion.{AbortPortion}
-use Rattle.fp_service.specs.declared.request.AbortPortion.TheVariants.{Absent, Abrt, NameNotSupported, NoCommonVersion}
+use Rattle.fp_service.specs.declared.request.AbortPortion.TheVariants.{Absent, Abrt, NoName, NoVersion}
 use Rattle.fp_service.specs.declared.request.Request.{Request}
 use Rattle.fp_service.specs.declared.request.Request.TheVariants as requests
 use Rattle.fp_service.specs.Answer.{operation_of}
@@ -46,14 +46,14 @@ component_value (Reject identifier problem) = value.reject identifier (problem_o
 
 -- the dialogue portion that accepts a dialogue of an application context name: an AARE
 abbrev pub acceptance_portion : Option (List ℕ) → Option Tree
-acceptance_portion = option_map (λ name. dialogue_portion (aare name Accepted))
+acceptance_portion = option_map (λ name. dialogue_portion (aare name verdicts.Accepted))
 
 -- the dialogue portion of an Abort: an ABRT, or an AARE that rejects the dialogue
 abbrev pub abort_portion : AbortPortion → Option Tree
 abort_portion Absent = None
 abort_portion Abrt = Some (dialogue_portion abrt)
-abort_portion (NameNotSupported name) = Some (dialogue_portion (aare name NoName))
-abort_portion (NoCommonVersion name) = Some (dialogue_portion (aare name NoVersion))
+abort_portion (NoName name) = Some (dialogue_portion (aare name verdicts.NoName))
+abort_portion (NoVersion name) = Some (dialogue_portion (aare name verdicts.NoVersion))
 
 -- The message, in a dialogue that has a local identifier here and another one, of these octets, at the peer: only a
 -- Continue has the local one.

@@ -1,78 +1,100 @@
-//! The components of a message, around their arguments.
+//! The components of a message.
 
-ghost use Rattle.std.specs.Prelude.{◌≡◌, ◌≤◌, IfOk, length, map};
-ghost use Rattle.fp_q773.specs.Copied.{ComponentHasTags, ComponentsHaveTags};
-ghost use Rattle.fp_q773.specs.Room.{component_room, components_room};
-ghost use Rattle.fp_q773.specs.View.{component_of, tree_in};
-ghost use Rattle.fp_q773.specs.Writable.{AllWritable, IsWritable};
-ghost use Rattle.fp_reply.specs.Part.{AreArguments, IsArgument, argument_in};
-ghost use Rattle.fp_reply.specs.Reply.{component_value};
+ghost use Rattle.std.specs.Prelude.{◌≡◌, ◌++◌, None, OnOk, map};
+ghost use Rattle.fp_ber.specs.Canon.{canon, canon_of_all};
+ghost use Rattle.fp_q773.specs.Value as value;
+ghost use Rattle.fp_q773.specs.Written.{component_tree, component_trees, portion_trees};
+ghost use Rattle.fp_q773.specs.Writable.{only};
+ghost use Rattle.fp_reply.specs.Part.{AreComponents, IsArgument, IsComponent};
+ghost use Rattle.fp_reply.specs.Reply.{argument_of, component_value};
 
-use crate::arguments::Arguments;
-use fp_ber::Element;
-use fp_q773::{Code, Invoke, Reject, ReturnError};
-use fp_service::Component;
-use std::alloc::{AllocError, Global};
+use fp_ber::Writer;
+use fp_inap::{write_connect, write_release, write_request_report};
+use fp_q773::{Code, Reject, write_component_portion, write_invoke, write_return_error};
+use fp_service::{Component, Instruction};
+use std::alloc::AllocError;
 
-/// A component around its argument.
-fn component_of<'a>(component: &Component, argument: Option<&'a Element>) -> fp_q773::Component<'a>
-    requires { IsArgument (tree_in argument) (argument_in component.now) }
-    ensures value { component_of result ≡ component_value component.now }
-    ensures writable { IsWritable (component_of result) }
-    ensures tags { ComponentHasTags (component_of result) }
-    ensures room { component_room (component_of result) ≤ 99 }
+/// Puts the argument of the operation that an instruction names; Continue has none.
+fn write_argument(instruction: &Instruction, out: &mut Writer) -> Result<(), AllocError>
+    ensures exact { OnOk result (out.new ≡ canon_of_all (only (argument_of instruction.now)) ++ out.old) }
+    ensures argument { OnOk result (IsArgument (argument_of instruction.now)) }
+{
+    match instruction {
+        Instruction::Connect(destination) => write_connect(destination.as_slice(), out),
+        Instruction::ReleaseCall(cause) => write_release(*cause, out),
+        Instruction::RequestReportBcsmEvent => write_request_report(out),
+        Instruction::Continue => Ok(()),
+    }
+}
+
+/// Puts the Invoke of the operation that an instruction names.
+fn write_instruction(
+    identifier: i8,
+    instruction: &Instruction,
+    out: &mut Writer,
+) -> Result<(), AllocError>
+    ensures exact { OnOk result (out.new ≡ canon (component_tree (component_value (Component.Invoke identifier instruction.now))) ++ out.old) }
+    ensures component { OnOk result (IsComponent (component_value (Component.Invoke identifier instruction.now))) }
+{
+    let behind = out.len();
+    write_argument(instruction, out)?;
+    let code = Code::Local(instruction.operation().code());
+    write_invoke(identifier, None, code, behind, out)
+}
+
+/// Puts the ReturnError of the error with this code, which has no parameter.
+fn write_error(identifier: i8, code: i32, out: &mut Writer) -> Result<(), AllocError>
+    ensures exact { OnOk result (out.new ≡ canon (component_tree (value.return_error identifier (value.local code) None)) ++ out.old) }
+    ensures component { OnOk result (IsComponent (value.return_error identifier (value.local code) None)) }
+{
+    let behind = out.len();
+    write_return_error(identifier, Code::Local(code), behind, out)
+}
+
+/// Puts a component.
+fn write_component(component: &Component, out: &mut Writer) -> Result<(), AllocError>
+    ensures exact { OnOk result (out.new ≡ canon (component_tree (component_value component.now)) ++ out.old) }
+    ensures component { OnOk result (IsComponent (component_value component.now)) }
 {
     match component {
         Component::Invoke {
             identifier,
             instruction,
-        } => fp_q773::Component::Invoke(Invoke {
-            identifier: *identifier,
-            linked: None,
-            code: Code::Local(instruction.operation().code()),
-            parameter: argument,
-        }),
-        Component::ReturnError { identifier, error } => {
-            fp_q773::Component::ReturnError(ReturnError {
-                identifier: *identifier,
-                code: Code::Local(error.code()),
-                parameter: None,
-            })
-        }
+        } => write_instruction(*identifier, instruction, out),
+        Component::ReturnError { identifier, error } => write_error(*identifier, error.code(), out),
         Component::Reject {
             identifier,
             problem,
-        } => fp_q773::Component::Reject(Reject {
-            identifier: *identifier,
-            problem: *problem,
-        }),
+        } => {
+            let reject = Reject {
+                identifier: *identifier,
+                problem: *problem,
+            };
+            reject.write(out)
+        }
     }
 }
 
-/// The components around their arguments.
-pub(crate) fn components_of<'a>(
-    alloc: Global,
-    components: &[Component],
-    arguments: &'a Arguments,
-) -> Result<Vec<fp_q773::Component<'a>>, AllocError>
-    requires most { length components.now ≤ 2 }
-    requires arguments { AreArguments arguments.now components.now }
-    ensures values { IfOk result (λ all. map component_of all.items ≡ map component_value components.now) }
-    ensures writable { IfOk result (λ all. AllWritable (map component_of all.items)) }
-    ensures tags { IfOk result (λ all. ComponentsHaveTags (map component_of all.items)) }
-    ensures room { IfOk result (λ all. components_room (map component_of all.items) ≤ 198) }
+/// Puts components, one after another.
+fn write_all(components: &[Component], out: &mut Writer) -> Result<(), AllocError>
+    ensures exact { OnOk result (out.new ≡ canon_of_all (component_trees (map component_value components.now)) ++ out.old) }
+    ensures components { OnOk result (AreComponents (map component_value components.now)) }
 {
-    match components {
-        [] => Ok(Vec::new(alloc)),
-        [only] => {
-            let only = component_of(only, arguments.first.as_ref());
-            Ok(vec![in alloc; only]?)
-        }
-        [first, second] => {
-            let first = component_of(first, arguments.first.as_ref());
-            let second = component_of(second, arguments.second.as_ref());
-            Ok(vec![in alloc; first, second]?)
-        }
-        _ => unreachable!(),
+    'components: for index in (0..components.len()).rev() {
+        write_component(&components[index], out)?;
     }
+    Ok(())
+}
+
+/// Puts the component portion of a message, if there are components.
+pub(crate) fn write_components(components: &[Component], out: &mut Writer) -> Result<(), AllocError>
+    ensures exact { OnOk result (out.new ≡ canon_of_all (portion_trees (map component_value components.now)) ++ out.old) }
+    ensures components { OnOk result (AreComponents (map component_value components.now)) }
+{
+    if components.is_empty() {
+        return Ok(());
+    }
+    let behind = out.len();
+    write_all(components, out)?;
+    write_component_portion(behind, out)
 }

@@ -1,62 +1,49 @@
 //! The dialogue portion of a message.
 
-ghost use Rattle.std.specs.Prelude.{IfOk, Some, option_map};
+ghost use Rattle.std.specs.Prelude.{◌≡◌, ◌++◌, OnOk, Some};
 ghost use Rattle.fp_apdu.specs.Aare.{aare};
 ghost use Rattle.fp_apdu.specs.DialoguePortion as portion;
-ghost use Rattle.fp_ber.specs.View.{tree_of};
-ghost use Rattle.fp_reply.specs.Part.{IsDialoguePortion, dialogue_in};
+ghost use Rattle.fp_ber.specs.Canon.{canon_of_all};
+ghost use Rattle.fp_q773.specs.Writable.{only};
+ghost use Rattle.fp_reply.specs.Part.{IsDialoguePortion};
 ghost use Rattle.fp_reply.specs.Reply.{abort_portion, acceptance_portion};
 
 use fp_apdu::{Name, Verdict, write_aare, write_abrt};
-use fp_ber::Element;
-use fp_service::{AbortPortion, Request};
-use std::alloc::{AllocError, Global};
+use fp_ber::Writer;
+use fp_service::AbortPortion;
+use std::alloc::AllocError;
 
-/// The AARE of this verdict on an application context name.
-fn write_answer(alloc: Global, name: Name, verdict: Verdict) -> Result<Option<Element>, AllocError>
-    ensures { IfOk result (λ element. IsDialoguePortion (option_map tree_of element)
-        (Some (portion.dialogue_portion (aare name verdict)))) }
+/// Puts the AARE of this verdict on an application context name.
+fn write_answer(name: Name, verdict: Verdict, out: &mut Writer) -> Result<(), AllocError>
+    ensures exact { OnOk result (out.new ≡ canon_of_all (only (Some (portion.dialogue_portion (aare name verdict)))) ++ out.old) }
+    ensures portion { OnOk result (IsDialoguePortion (Some (portion.dialogue_portion (aare name verdict)))) }
 {
-    let element = write_aare(alloc, &name, verdict)?;
-    Ok(Some(element))
+    write_aare(&name, verdict, out)
 }
 
-/// The AARE that accepts a dialogue of this application context name, if there is one to be accepted.
-fn write_acceptance(alloc: Global, name: Option<Name>) -> Result<Option<Element>, AllocError>
-    ensures { IfOk result (λ element. IsDialoguePortion (option_map tree_of element) (acceptance_portion name)) }
+/// Puts the AARE that accepts a dialogue of this application context name, if there is one to be accepted.
+pub(crate) fn write_acceptance(name: Option<Name>, out: &mut Writer) -> Result<(), AllocError>
+    ensures exact { OnOk result (out.new ≡ canon_of_all (only (acceptance_portion name)) ++ out.old) }
+    ensures portion { OnOk result (IsDialoguePortion (acceptance_portion name)) }
 {
     match name {
-        Some(name) => write_answer(alloc, name, Verdict::Accepted),
-        None => Ok(None),
+        Some(name) => write_answer(name, Verdict::Accepted, out),
+        None => Ok(()),
     }
 }
 
-/// The dialogue portion of an Abort, if it has one.
-fn write_abort_portion(alloc: Global, portion: AbortPortion) -> Result<Option<Element>, AllocError>
-    ensures { IfOk result (λ element. IsDialoguePortion (option_map tree_of element) (abort_portion portion)) }
+/// Puts the dialogue portion of an Abort, if it has one.
+pub(crate) fn write_abort_portion(
+    portion: &AbortPortion,
+    out: &mut Writer,
+) -> Result<(), AllocError>
+    ensures exact { OnOk result (out.new ≡ canon_of_all (only (abort_portion portion.now)) ++ out.old) }
+    ensures portion { OnOk result (IsDialoguePortion (abort_portion portion.now)) }
 {
     match portion {
-        AbortPortion::Absent => Ok(None),
-        AbortPortion::Abrt => {
-            let element = write_abrt(alloc)?;
-            Ok(Some(element))
-        }
-        AbortPortion::NameNotSupported(name) => write_answer(alloc, name, Verdict::NoName),
-        AbortPortion::NoCommonVersion(name) => write_answer(alloc, name, Verdict::NoVersion),
-    }
-}
-
-/// The dialogue portion of a request's message, if it has one.
-pub(crate) fn write_dialogue_portion(
-    alloc: Global,
-    request: &Request,
-) -> Result<Option<Element>, AllocError>
-    ensures { IfOk result (λ element. IsDialoguePortion (option_map tree_of element) (dialogue_in request.now)) }
-{
-    match request {
-        Request::Continue { acceptance, .. } | Request::End { acceptance, .. } => {
-            write_acceptance(alloc, *acceptance)
-        }
-        Request::Abort(portion) => write_abort_portion(alloc, *portion),
+        AbortPortion::Absent => Ok(()),
+        AbortPortion::Abrt => write_abrt(out),
+        AbortPortion::NoName(name) => write_answer(*name, Verdict::NoName, out),
+        AbortPortion::NoVersion(name) => write_answer(*name, Verdict::NoVersion, out),
     }
 }

@@ -15,8 +15,6 @@
 //! request and the identifiers, and whoever reads it finds the message that `reply` of the same file says.
 #![tactic(auto)]
 
-mod argument;
-mod arguments;
 mod component;
 mod dialogue_portion;
 mod frame;

@@ -1,91 +1,122 @@
 //! The message of a request.
 
-ghost use Rattle.std.specs.Prelude.{◌≡◌, ◌≤◌, ◌<◌, ◌^◌, IfOk, length};
-ghost use Rattle.fp_ber.specs.Canon.{HasLengths, canon};
-ghost use Rattle.fp_ber.specs.Tree.{InRange};
-ghost use Rattle.fp_ber.specs.View.{tree_of};
+ghost use Rattle.std.specs.Prelude.{◌≡◌, ◌≤◌, ◌++◌, IfOk, OnOk, length, map, option_map};
+ghost use Rattle.fp_ber.specs.Canon.{canon, canon_of_all};
 ghost use Rattle.fp_q773.specs.Grammar.{IsMessage};
-ghost use Rattle.fp_q773.specs.Copied.{CopiesHaveTags};
-ghost use Rattle.fp_q773.specs.Room.{message_room};
-ghost use Rattle.fp_q773.specs.Tid.{octets_of};
-ghost use Rattle.fp_q773.specs.View.{message_value, tree_in};
-ghost use Rattle.fp_q773.specs.Writable.{IsWritableMessage};
-ghost use Rattle.fp_q773.specs.Written.{written};
-ghost use Rattle.fp_reply.specs.Part.{AreArguments, IsDialoguePortion, components_in, dialogue_in};
-ghost use Rattle.fp_reply.specs.Reply.{reply};
+ghost use Rattle.fp_q773.specs.Tid.{octets_of, octets_of_number};
+ghost use Rattle.fp_q773.specs.Value as value;
+ghost use Rattle.fp_q773.specs.Written.{portions_trees, written};
+ghost use Rattle.fp_reply.specs.Part.{AreComponents, CanBeSent, IsDialoguePortion, IsSpelled};
+ghost use Rattle.fp_reply.specs.Reply.{abort_portion, acceptance_portion, component_value, reply};
 
-use crate::arguments::Arguments;
-use crate::component::components_of;
-use crate::dialogue_portion::write_dialogue_portion;
-use fp_ber::Element;
-use fp_q773::{Abort, AbortReason, Continue, End, Message, Tid, write_message};
-use fp_service::{Component, Request};
+use crate::component::write_components;
+use crate::dialogue_portion::{write_abort_portion, write_acceptance};
+use crate::frame::MOST_OCTETS;
+use fp_apdu::Name;
+use fp_ber::Writer;
+use fp_q773::{Tid, write_continue, write_end, write_user_abort, written_messages_are_elements};
+use fp_service::{AbortPortion, Components, Request};
 use std::alloc::{AllocError, Global};
 
-/// The components of a request, at most two.
-fn components_in(request: &Request) -> &[Component]
-    ensures value { result.now ≡ components_in request.now }
-    ensures most { length result.now ≤ 2 }
+/// Puts the portions of a Continue or an End: the components, and before them the AARE that accepts the dialogue.
+fn write_portions(
+    acceptance: Option<Name>,
+    components: &Components,
+    out: &mut Writer,
+) -> Result<(), AllocError>
+    ensures exact { OnOk result (out.new
+        ≡ canon_of_all (portions_trees (acceptance_portion acceptance) (map component_value components.now)) ++ out.old) }
+    ensures dialogue { OnOk result (IsDialoguePortion (acceptance_portion acceptance)) }
+    ensures components { OnOk result (AreComponents (map component_value components.now)) }
+    ensures most { OnOk result (length components.now ≤ 2) }
+{
+    write_components(components.as_slice(), out)?;
+    write_acceptance(acceptance, out)
+}
+
+/// Puts a Continue.
+fn write_continuing(
+    acceptance: Option<Name>,
+    components: &Components,
+    local: u32,
+    peer: Tid,
+    out: &mut Writer,
+) -> Result<(), AllocError>
+    ensures exact { OnOk result (out.new ≡ canon (written (value.continuing (octets_of_number local) (octets_of peer)
+        (acceptance_portion acceptance) (map component_value components.now))) ++ out.old) }
+    ensures message { OnOk result (CanBeSent (value.continuing (octets_of_number local) (octets_of peer)
+        (acceptance_portion acceptance) (map component_value components.now))) }
+{
+    let behind = out.len();
+    write_portions(acceptance, components, out)?;
+    write_continue(Tid::of_number(local), peer, behind, out)
+}
+
+/// Puts an End.
+fn write_ending(
+    acceptance: Option<Name>,
+    components: &Components,
+    peer: Tid,
+    out: &mut Writer,
+) -> Result<(), AllocError>
+    ensures exact { OnOk result (out.new
+        ≡ canon (written (value.end (octets_of peer) (acceptance_portion acceptance) (map component_value components.now))) ++ out.old) }
+    ensures message { OnOk result (CanBeSent (value.end (octets_of peer) (acceptance_portion acceptance)
+        (map component_value components.now))) }
+{
+    let behind = out.len();
+    write_portions(acceptance, components, out)?;
+    write_end(peer, behind, out)
+}
+
+/// Puts an Abort of the user.
+fn write_aborting(portion: &AbortPortion, peer: Tid, out: &mut Writer) -> Result<(), AllocError>
+    ensures exact { OnOk result (out.new
+        ≡ canon (written (value.abort (octets_of peer) (option_map value.user (abort_portion portion.now)))) ++ out.old) }
+    ensures message { OnOk result (CanBeSent (value.abort (octets_of peer) (option_map value.user (abort_portion portion.now)))) }
+{
+    let behind = out.len();
+    write_abort_portion(portion, out)?;
+    write_user_abort(peer, behind, out)
+}
+
+/// Puts the message of a request.
+fn write_message(
+    request: &Request,
+    local: u32,
+    peer: Tid,
+    out: &mut Writer,
+) -> Result<(), AllocError>
+    ensures exact { OnOk result (out.new ≡ canon (written (reply request.now local (octets_of peer))) ++ out.old) }
+    ensures message { OnOk result (CanBeSent (reply request.now local (octets_of peer))) }
 {
     match request {
-        Request::Continue { components, .. } | Request::End { components, .. } => {
-            components.as_slice()
-        }
-        Request::Abort(_) => &[],
+        Request::Continue {
+            acceptance,
+            components,
+        } => write_continuing(*acceptance, components, local, peer, out),
+        Request::End {
+            acceptance,
+            components,
+        } => write_ending(*acceptance, components, peer, out),
+        Request::Abort(portion) => write_aborting(portion, peer, out),
     }
 }
 
-/// The message of a request, around its dialogue portion and the arguments in its components.
-fn message_of<'a>(
+/// The octets of a request's message, with room for the head of a frame.
+pub(crate) fn reply_to(
     alloc: Global,
     request: &Request,
     local: u32,
     peer: &Tid,
-    dialogue: Option<&'a Element>,
-    arguments: &'a Arguments,
-) -> Result<Message<'a>, AllocError>
-    requires dialogue { IsDialoguePortion (tree_in dialogue) (dialogue_in request.now) }
-    requires arguments { AreArguments arguments.now (components_in request.now) }
-    ensures value { IfOk result (λ message. message_value message ≡ reply request.now local (octets_of peer.now)) }
-    ensures writable { IfOk result (λ message. IsWritableMessage (message_value message)) }
-    ensures tags { IfOk result (λ message. CopiesHaveTags (message_value message)) }
-    ensures room { IfOk result (λ message. message_room (message_value message) ≤ 331) }
+) -> Result<Writer, AllocError>
+    ensures exact { IfOk result (λ out. out ≡ canon (written (reply request.now local (octets_of peer.now)))) }
+    ensures found { IfOk result (λ out. IsMessage (written (reply request.now local (octets_of peer.now)))
+        (reply request.now local (octets_of peer.now))) }
+    ensures spelled { IfOk result (λ out. IsSpelled (written (reply request.now local (octets_of peer.now)))) }
 {
-    let components = components_of(alloc, components_in(request), arguments)?;
-    match request {
-        Request::Continue { .. } => Ok(Message::Continue(Continue {
-            originating: Tid::of_number(local),
-            destination: *peer,
-            dialogue,
-            components,
-        })),
-        Request::End { .. } => Ok(Message::End(End {
-            destination: *peer,
-            dialogue,
-            components,
-        })),
-        Request::Abort(_) => Ok(Message::Abort(Abort {
-            destination: *peer,
-            reason: dialogue.map(AbortReason::User),
-        })),
-    }
-}
-
-/// The element of a request's message.
-pub(crate) fn write_element(
-    alloc: Global,
-    request: &Request,
-    local: u32,
-    peer: &Tid,
-) -> Result<Element, AllocError>
-    ensures exact { IfOk result (λ element. tree_of element ≡ written (reply request.now local (octets_of peer.now))) }
-    ensures found { IfOk result (λ element. IsMessage (tree_of element) (reply request.now local (octets_of peer.now))) }
-    ensures in_range { IfOk result (λ element. InRange (tree_of element)) }
-    ensures lengths { IfOk result (λ element. HasLengths (tree_of element)) }
-    ensures size { IfOk result (λ element. length (canon (tree_of element)) ≤ 331) }
-{
-    let dialogue = write_dialogue_portion(alloc, request)?;
-    let arguments = Arguments::new(alloc, components_in(request))?;
-    let message = message_of(alloc, request, local, peer, dialogue.as_ref(), &arguments)?;
-    write_message(alloc, &message)
+    written_messages_are_elements();
+    let mut out = Writer::with_capacity(alloc, MOST_OCTETS)?;
+    write_message(request, local, *peer, &mut out)?;
+    Ok(out)
 }

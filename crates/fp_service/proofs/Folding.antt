@@ -6,24 +6,32 @@ use Rattle.fp_entry.specs.declared.entry.Entry.{Entry}
 use Rattle.fp_entry.specs.declared.entry.EntryKind.{EntryKind}
 use Rattle.fp_service.specs.declared.dialogue.Core.{Core}
 use Rattle.fp_service.specs.declared.request.Request.{Request}
-use Rattle.fp_entry.specs.declared.entry.EntryKind.TheVariants.{PeerEnd, PeerAbort}
 use Rattle.fp_entry.specs.Entries.{is_clock}
-use Rattle.fp_service.specs.Dialogue.{ended, is_over, touched}
+use Rattle.fp_service.specs.declared.state.Stage.{Stage}
+use Rattle.fp_service.specs.declared.state.State.{State}
+use Rattle.fp_service.specs.declared.state.State.TheVariants.{Live, Over}
+use Rattle.fp_service.specs.Dialogue.{ended, has_ended, is_over, touched}
 use Rattle.fp_service.specs.Answer.{no_request}
 use Rattle.fp_service.specs.Fold.{core_after, requests, cut}
 use Rattle.fp_service.specs.Laws.{FoldsGrow, FoldsGrowByOne, IsPeersOwn, PeerEndsDialogue, StaysOver, CutIsFront}
-use Rattle.fp_service.specs.Serve.{on_kind, serve, next, request_of}
+use Rattle.fp_service.specs.Serve.{in_state, on_kind, serve, next, request_of}
 
--- an entry's moment doesn't change whether a dialogue is over
+-- an entry's moment doesn't change the state of a dialogue
+state-touched : (core : Core) (entry : Entry) → (touched core entry).state ≡ core.state
+state-touched core entry =
+    elim (is_clock entry.kind) as (λ b. (cond b core (record core { last = entry.moment })).state ≡ core.state) [ true ↦ refl | false ↦ refl ]
+
 is_over-touched : (core : Core) (entry : Entry) → is_over (touched core entry) ≡ is_over core
-is_over-touched core entry =
-    elim (is_clock entry.kind) as (λ b. is_over (cond b core (record core { last = entry.moment })) ≡ is_over core) [ true ↦ refl | false ↦ refl ]
+is_over-touched core entry = ap has_ended (state-touched core entry)
+
+in_state-over : (state : State) (core : Core) (entry : Entry) → has_ended state ≡ true → in_state state core entry ≡ no_request core
+in_state-over Over core entry over = refl
+in_state-over (Live stage) core entry over = absurd (false≢true over)
 
 -- the line of the table for a dialogue that is over
 pub serve-over : (core : Core) (entry : Entry) → is_over core ≡ true → serve core entry ≡ no_request (touched core entry)
 unfolding serve
-serve-over core entry over =
-    ap (λ b. cond b (no_request (touched core entry)) (on_kind (touched core entry) entry.moment entry.kind)) over
+serve-over core entry over = in_state-over core.state (touched core entry) entry over
 
 -- a dialogue that is over stays so
 pub next-over : (core : Core) (entry : Entry) → is_over core ≡ true → is_over (next core entry) ≡ true
@@ -53,21 +61,19 @@ cut-going core x xs going = ap (λ b. cond b [] (x ∷ cut (next core x) xs)) go
 
 -- the peer ends or aborts the dialogue
 
--- the line of the table for a dialogue that isn't over
-serve-going : (core : Core) (entry : Entry) → is_over core ≡ false → serve core entry ≡ on_kind (touched core entry) entry.moment entry.kind
-unfolding serve
-serve-going core entry going =
-    ap (λ b. cond b (no_request (touched core entry)) (on_kind (touched core entry) entry.moment entry.kind)) going
-
 -- the line for the peer's End and its Abort
-on_kind-peer : (core : Core) (moment : ℕ) (kind : EntryKind) → IsPeersOwn kind → on_kind core moment kind ≡ no_request (ended core)
+on_kind-peer : (stage : Stage) (core : Core) (moment : ℕ) (kind : EntryKind) → IsPeersOwn kind → on_kind stage core moment kind ≡ no_request (ended core)
 unfolding on_kind
-on_kind-peer core moment kind (inl end) = ap (on_kind core moment) end
-on_kind-peer core moment kind (inr abort) = ap (on_kind core moment) abort
+on_kind-peer stage core moment kind (inl end) = ap (on_kind stage core moment) end
+on_kind-peer stage core moment kind (inr abort) = ap (on_kind stage core moment) abort
+
+in_state-peer : (state : State) (core : Core) (entry : Entry) → has_ended state ≡ false → IsPeersOwn entry.kind → in_state state core entry ≡ no_request (ended core)
+in_state-peer Over core entry going own = absurd (false≢true (sym going))
+in_state-peer (Live stage) core entry going own = on_kind-peer stage core entry.moment entry.kind own
 
 serve-peer : (core : Core) (entry : Entry) → is_over core ≡ false → IsPeersOwn entry.kind → serve core entry ≡ no_request (ended (touched core entry))
-serve-peer core entry going own =
-    serve-going core entry going ∙ on_kind-peer (touched core entry) entry.moment entry.kind own
+unfolding serve
+serve-peer core entry going own = in_state-peer core.state (touched core entry) entry going own
 
 -- a dialogue is over or not
 is_over-or : (b : Bool) → (b ≡ true) ⊎ (b ≡ false)

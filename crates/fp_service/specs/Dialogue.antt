@@ -6,13 +6,14 @@ use Rattle.fp_entry.specs.declared.entry.Entry.{Entry}
 use Rattle.fp_entry.specs.Entries.{is_clock}
 use Rattle.fp_ism.specs.Due.{dues, least_of}
 use Rattle.fp_service.specs.declared.dialogue.Core.{Core}
+use Rattle.fp_service.specs.declared.state.Stage.TheVariants.{Fresh}
 use Rattle.fp_service.specs.declared.state.State.{State}
-use Rattle.fp_service.specs.declared.state.State.TheVariants.{Fresh, Waiting, Over}
+use Rattle.fp_service.specs.declared.state.State.TheVariants.{Live, Over}
 
 -- the core of a dialogue whose Begin came at this moment
 abbrev pub fresh : ℕ → ℕ → Core
 fresh birth moment = record {
-  state = Fresh;
+  state = Live Fresh;
   birth = birth;
   opening = openings.None;
   accepted = false;
@@ -21,8 +22,7 @@ fresh birth moment = record {
 }
 
 abbrev pub has_ended : State → Bool
-has_ended Fresh = false
-has_ended (Waiting left) = false
+has_ended (Live stage) = false
 has_ended Over = true
 
 -- whether the dialogue is over

@@ -7,8 +7,8 @@ use Rattle.fp_records.specs.declared.action.Destinations.{Destinations}
 use Rattle.fp_service.specs.declared.dialogue.Core.{Core}
 use Rattle.fp_service.specs.declared.instruction.Instruction.TheVariants.{Continue}
 use Rattle.fp_service.specs.declared.request.Request.{Request}
-use Rattle.fp_service.specs.declared.state.State.{State}
-use Rattle.fp_service.specs.declared.state.State.TheVariants.{Fresh, Waiting, Over}
+use Rattle.fp_service.specs.declared.state.Stage.{Stage}
+use Rattle.fp_service.specs.declared.state.Stage.TheVariants.{Fresh, Waiting}
 use Rattle.fp_service.specs.Answer.{no_request, end_with, instruct}
 use Rattle.fp_service.specs.Attempt.{try_next}
 
@@ -27,8 +27,7 @@ on_report core moment left OAbandon notification = end_with core []
 on_report core moment left ODisconnect notification = goes_on core moment notification
 on_report core moment left (Other code) notification = goes_on core moment notification
 
--- an event means something in a call that waits
-unfoldable pub on_event : State → Core → ℕ → Event → Bool → Core × Option Request
+-- an event is looked at only while a call waits
+unfoldable pub on_event : Stage → Core → ℕ → Event → Bool → Core × Option Request
 on_event Fresh core moment reports notification = no_request core
 on_event (Waiting left) core moment reports notification = on_report core moment left reports notification
-on_event Over core moment reports notification = no_request core

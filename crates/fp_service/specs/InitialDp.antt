@@ -15,9 +15,9 @@ use Rattle.fp_service.specs.declared.component.Component.TheVariants.{ReturnErro
 use Rattle.fp_service.specs.declared.dialogue.Core.{Core}
 use Rattle.fp_service.specs.declared.instruction.Instruction.TheVariants.{Connect, ReleaseCall, Continue}
 use Rattle.fp_service.specs.declared.request.Request.{Request}
-use Rattle.fp_service.specs.declared.state.State.{State}
-use Rattle.fp_service.specs.declared.state.State.TheVariants.{Fresh, Waiting, Over}
-use Rattle.fp_service.specs.Answer.{no_request, continue_with, end_with, conclude}
+use Rattle.fp_service.specs.declared.state.Stage.{Stage}
+use Rattle.fp_service.specs.declared.state.Stage.TheVariants.{Fresh, Waiting}
+use Rattle.fp_service.specs.Answer.{continue_with, end_with, conclude}
 use Rattle.fp_service.specs.Attempt.{try_next}
 
 -- the digits of the calling number, none where it isn't told
@@ -30,13 +30,13 @@ abbrev pub by_destinations : Core → ℕ → Destinations → Option Destinatio
 by_destinations core moment destinations None = conclude core (Connect (first_of destinations))
 by_destinations core moment destinations (Some others) = try_next core moment (Some destinations) NoRouteToDestination
 
--- a rule does what it says
+-- the request that a rule's action makes
 unfoldable pub by_action : Core → ℕ → Action → Core × Option Request
 by_action core moment Refuse = conclude core (ReleaseCall CallRejected)
 by_action core moment Pass = conclude core Continue
 by_action core moment (Route destinations) = by_destinations core moment destinations (rest_of destinations)
 
--- the rule that was chosen acts, and without one there is no route
+-- the action of the rule that was chosen; without a rule there is no route
 unfoldable pub by_rule : Core → ℕ → Option Rule → Core × Option Request
 by_rule core moment None = conclude core (ReleaseCall NoRouteToDestination)
 by_rule core moment (Some rule) = by_action core moment rule.action
@@ -49,8 +49,7 @@ on_call core moment identifier calling NoRecord = end_with core (ReturnError ide
 on_call core moment identifier calling (Record rules) = by_rule core moment (choice rules calling moment core.birth)
 
 -- an InitialDP begins the call, and has no place in a call that waits
-unfoldable pub on_initial_dp : State → Core → ℕ → ℤ → List ℕ → Found → Core × Option Request
+unfoldable pub on_initial_dp : Stage → Core → ℕ → ℤ → List ℕ → Found → Core × Option Request
 on_initial_dp Fresh core moment identifier calling found = on_call core moment identifier calling found
 on_initial_dp (Waiting left) core moment identifier calling found =
     continue_with core (ReturnError identifier UnexpectedComponentSequence ∷ [])
-on_initial_dp Over core moment identifier calling found = no_request core

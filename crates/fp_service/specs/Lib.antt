@@ -1,9 +1,11 @@
 pub mod Answer
 pub mod Attempt
+pub mod Components
 pub mod Dialogue
 pub mod Event
 pub mod Fold
 pub mod InitialDp
 pub mod Laws
 pub mod Outcome
+pub mod Same
 pub mod Serve

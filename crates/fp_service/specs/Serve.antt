@@ -12,12 +12,14 @@ use Rattle.fp_ism.specs.Outcome.{outcome_of_result, outcome_of_error, outcome_of
 use Rattle.fp_q773.specs.declared.problem.InvokeProblem.TheVariants.{UnrecognizedLinkedIdentifier, LinkedResponseUnexpected}
 use Rattle.fp_q773.specs.declared.problem.Problem.TheVariants as problem
 use Rattle.fp_service.specs.declared.dialogue.Core.{Core}
-use Rattle.fp_service.specs.declared.request.AbortPortion.TheVariants.{NameNotSupported, NoCommonVersion}
+use Rattle.fp_service.specs.declared.request.AbortPortion.TheVariants.{NoName, NoVersion}
 use Rattle.fp_service.specs.declared.request.Request.{Request}
+use Rattle.fp_service.specs.declared.state.Stage.{Stage}
+use Rattle.fp_service.specs.declared.state.Stage.TheVariants.{Fresh, Waiting}
 use Rattle.fp_service.specs.declared.state.State.{State}
-use Rattle.fp_service.specs.declared.state.State.TheVariants.{Fresh, Waiting, Over}
+use Rattle.fp_service.specs.declared.state.State.TheVariants.{Live, Over}
 use Rattle.fp_service.specs.Answer.{no_request, abort_with, user_abort, reject}
-use Rattle.fp_service.specs.Dialogue.{is_over, ended, touched, quiet_until}
+use Rattle.fp_service.specs.Dialogue.{ended, touched, quiet_until}
 use Rattle.fp_service.specs.Event.{on_event}
 use Rattle.fp_service.specs.InitialDp.{calling_digits, on_initial_dp}
 use Rattle.fp_service.specs.Outcome.{on_outcome}
@@ -26,14 +28,13 @@ use Rattle.fp_service.specs.Outcome.{on_outcome}
 abbrev pub by_opening : Core → Opening → Core × Option Request
 by_opening core openings.None = no_request core
 by_opening core (openings.Known name) = no_request core
-by_opening core (openings.Unknown name) = abort_with core (NameNotSupported name)
-by_opening core (openings.BadVersion name) = abort_with core (NoCommonVersion name)
+by_opening core (openings.Unknown name) = abort_with core (NoName name)
+by_opening core (openings.BadVersion name) = abort_with core (NoVersion name)
 
 -- a Begin, which doesn't come to a call that waits
-unfoldable pub on_opening : State → Core → Opening → Core × Option Request
+unfoldable pub on_opening : Stage → Core → Opening → Core × Option Request
 on_opening Fresh core opening = by_opening (record core { opening = opening }) opening
 on_opening (Waiting left) core opening = no_request core
-on_opening Over core opening = no_request core
 
 -- an Invoke with a linked identifier is rejected, since no operation that is invoked takes linked ones
 unfoldable pub reject_linked : Core → ℤ → ℤ → Core × Option Request
@@ -47,33 +48,36 @@ on_clock core moment =
     let left = record core { invocations = after_moment moment core.invocations } in
     if nat_le (quiet_until core) moment then user_abort left else no_request left
 
--- what comes at a moment to a dialogue that isn't over
-unfoldable pub on_kind : Core → ℕ → EntryKind → Core × Option Request
-on_kind core moment PeerEnd = no_request (ended core)
-on_kind core moment PeerAbort = no_request (ended core)
-on_kind core moment (Opened opening) = on_opening core.state core opening
-on_kind core moment (InitialDp identifier (Some linked) calling found) = reject_linked core identifier linked
-on_kind core moment (Event identifier (Some linked) reports notification) = reject_linked core identifier linked
-on_kind core moment (UnknownInvoke identifier (Some linked) unknown) = reject_linked core identifier linked
-on_kind core moment (UnknownInvoke identifier None unknown) = reject core (Some identifier) (problem.Invoke unknown)
-on_kind core moment (Faulty identifier fault) = reject core identifier (problem.General fault)
-on_kind core moment (Result identifier last) =
-    on_outcome core moment identifier (outcome_of_result last (class_of identifier core.invocations.active))
-on_kind core moment (Error identifier) =
-    on_outcome core moment identifier (outcome_of_error (class_of identifier core.invocations.active))
-on_kind core moment (Reject None) = no_request core
-on_kind core moment (Reject (Some identifier)) =
-    on_outcome core moment identifier (outcome_of_reject (class_of identifier core.invocations.active))
-on_kind core moment (InitialDp identifier None calling found) =
-    on_initial_dp core.state core moment identifier (calling_digits calling) found
-on_kind core moment (Event identifier None reports notification) = on_event core.state core moment reports notification
-on_kind core moment Clock = on_clock core moment
+-- what comes at a moment to a dialogue that isn't over, and whose call is at this stage
+unfoldable pub on_kind : Stage → Core → ℕ → EntryKind → Core × Option Request
+on_kind stage core moment PeerEnd = no_request (ended core)
+on_kind stage core moment PeerAbort = no_request (ended core)
+on_kind stage core moment (Opened opening) = on_opening stage core opening
+on_kind stage core moment (InitialDp identifier (Some linked) calling found) = reject_linked core identifier linked
+on_kind stage core moment (Event identifier (Some linked) reports notification) = reject_linked core identifier linked
+on_kind stage core moment (UnknownInvoke identifier (Some linked) unknown) = reject_linked core identifier linked
+on_kind stage core moment (UnknownInvoke identifier None unknown) = reject core (Some identifier) (problem.Invoke unknown)
+on_kind stage core moment (Faulty identifier fault) = reject core identifier (problem.General fault)
+on_kind stage core moment (Result identifier last) =
+    on_outcome stage core moment identifier (outcome_of_result last (class_of identifier core.invocations.active))
+on_kind stage core moment (Error identifier) =
+    on_outcome stage core moment identifier (outcome_of_error (class_of identifier core.invocations.active))
+on_kind stage core moment (Reject None) = no_request core
+on_kind stage core moment (Reject (Some identifier)) =
+    on_outcome stage core moment identifier (outcome_of_reject (class_of identifier core.invocations.active))
+on_kind stage core moment (InitialDp identifier None calling found) =
+    on_initial_dp stage core moment identifier (calling_digits calling) found
+on_kind stage core moment (Event identifier None reports notification) = on_event stage core moment reports notification
+on_kind stage core moment Clock = on_clock core moment
+
+-- what comes to a dialogue in this state
+abbrev pub in_state : State → Core → Entry → Core × Option Request
+in_state Over core entry = no_request core
+in_state (Live stage) core entry = on_kind stage core entry.moment entry.kind
 
 -- the core after an entry, and what is asked for
 unfoldable pub serve : Core → Entry → Core × Option Request
-serve core entry =
-    if is_over core then no_request (touched core entry)
-    else on_kind (touched core entry) entry.moment entry.kind
+serve core entry = in_state core.state (touched core entry) entry
 
 -- the core after an entry
 abbrev pub next : Core → Entry → Core

@@ -1,15 +1,14 @@
 //! What the service logic asks for, and what the core is then.
 
-ghost use Rattle.std.specs.Prelude.{◌≡◌, ◌∷◌, [], Some, IfOk};
+ghost use Rattle.std.specs.Prelude.{◌≡◌, ◌∷◌, [], Some};
 ghost use Rattle.fp_service.specs.Answer.{abort_portion, abort_with, acceptance, answered, conclude, continue_with, end_with, invoke, no_request, reject, user_abort};
 
 use crate::{AbortPortion, Component, Components, Core, Instruction, Request};
 use fp_apdu::{Name, Opening};
 use fp_q773::Problem;
-use std::alloc::{AllocError, Global};
 
 impl Core {
-    // The application context name in the AARE of a Continue or End.
+    /// The application context name in the AARE of a Continue or End.
     fn acceptance(&self) -> Option<Name>
         ensures { result ≡ acceptance self.now }
     {
@@ -22,7 +21,7 @@ impl Core {
         }
     }
 
-    // The core after a Continue or End.
+    /// The core after a Continue or End.
     fn answered(self) -> Core
         ensures { result ≡ answered self }
     {
@@ -35,7 +34,7 @@ impl Core {
         }
     }
 
-    // The dialogue portion of a user Abort.
+    /// The dialogue portion of a user Abort.
     fn abort_portion(&self) -> AbortPortion
         ensures { result ≡ abort_portion self.now.opening }
     {
@@ -45,14 +44,14 @@ impl Core {
         }
     }
 
-    // Nothing is asked for.
+    /// Nothing is asked for.
     pub(crate) fn no_request(self) -> (Core, Option<Request>)
         ensures { result ≡ no_request self }
     {
         (self, None)
     }
 
-    // A Continue message with these components.
+    /// A Continue message with these components.
     #[tactic(auto, unfolding(crate::specs::Answer::continue_with))]
     pub(crate) fn continue_with(self, components: Components) -> (Core, Option<Request>)
         ensures { result ≡ continue_with self components }
@@ -65,7 +64,7 @@ impl Core {
         (self.answered(), Some(request))
     }
 
-    // An End with these components.
+    /// An End with these components.
     #[tactic(auto, unfolding(crate::specs::Answer::end_with))]
     pub(crate) fn end_with(self, components: Components) -> (Core, Option<Request>)
         ensures { result ≡ end_with self components }
@@ -78,7 +77,7 @@ impl Core {
         (self.answered().ended(), Some(request))
     }
 
-    // An Abort with this dialogue portion.
+    /// An Abort with this dialogue portion.
     #[tactic(auto, unfolding(crate::specs::Answer::abort_with))]
     pub(crate) fn abort_with(self, portion: AbortPortion) -> (Core, Option<Request>)
         ensures { result ≡ abort_with self portion }
@@ -86,7 +85,7 @@ impl Core {
         (self.ended(), Some(Request::Abort(portion)))
     }
 
-    // A user Abort.
+    /// A user Abort.
     #[tactic(auto, unfolding(crate::specs::Answer::user_abort))]
     pub(crate) fn user_abort(self) -> (Core, Option<Request>)
         ensures { result ≡ user_abort self }
@@ -94,36 +93,26 @@ impl Core {
         self.abort_with(self.abort_portion())
     }
 
-    // A Continue message that rejects a component.
+    /// A Continue message that rejects a component.
     #[tactic(auto, unfolding(crate::specs::Answer::reject))]
-    pub(crate) fn reject(
-        self,
-        alloc: Global,
-        identifier: Option<i8>,
-        problem: Problem,
-    ) -> Result<(Core, Option<Request>), AllocError>
-        ensures { IfOk result (λ served. served ≡ reject self identifier problem) }
+    pub(crate) fn reject(self, identifier: Option<i8>, problem: Problem) -> (Core, Option<Request>)
+        ensures { result ≡ reject self identifier problem }
     {
-        let reject = Component::Reject {
+        self.continue_with(Components::one(Component::Reject {
             identifier,
             problem,
-        };
-        Ok(self.continue_with(Components::one(alloc, reject)?))
+        }))
     }
 
-    // An End that invokes an operation.
+    /// An End that invokes an operation.
     #[tactic(auto, unfolding(crate::specs::Answer::conclude))]
-    pub(crate) fn conclude(
-        self,
-        alloc: Global,
-        instruction: Instruction,
-    ) -> Result<(Core, Option<Request>), AllocError>
-        ensures { IfOk result (λ served. served ≡ conclude self instruction) }
+    pub(crate) fn conclude(self, instruction: Instruction) -> (Core, Option<Request>)
+        ensures { result ≡ conclude self instruction }
     {
-        let invoke = Component::Invoke {
-            identifier: self.invocations.next(),
+        let identifier = self.invocations.next();
+        self.end_with(Components::one(Component::Invoke {
+            identifier,
             instruction,
-        };
-        Ok(self.end_with(Components::one(alloc, invoke)?))
+        }))
     }
 }

@@ -1,26 +1,32 @@
 //! The components of a message that is sent.
 
-ghost use Rattle.std.specs.Prelude.{◌≡◌, ◌≤◌, ◌∷◌, [], IfOk, length};
+ghost use Rattle.std.specs.Prelude.{◌≡◌, ◌≤◌, ◌∷◌, [], length};
 
 use crate::Component;
-use std::alloc::{AllocError, Global};
 use std::marker::Model;
 
-/// The components of a message that is sent, at most two. Contracts see them as their list.
+/// The components of a message that is sent, at most two. It has a fixed size. Contracts see it as their list.
 #[derive(Debug, Drop)]
 pub struct Components {
-    items: Vec<Component>,
+    places: Places,
+}
+
+/// None, one or two components, the first one first.
+#[derive(Clone, Copy, Debug)]
+enum Places {
+    None,
+    One([Component; 1]),
+    Two([Component; 2]),
 }
 
 impl Model for Components {
-    ghost use Rattle.std.specs.Prelude.{List, ◌≤◌, length};
+    ghost use Rattle.std.specs.Prelude.{List};
     ghost use Rattle.fp_service.specs.declared.component.Component.{Component};
+    ghost use Rattle.fp_service.specs.Components.{components_in};
 
     ghost Value = { List Component };
 
-    ghost view = { λ components. components.items.items };
-
-    ghost invariant = { λ components. length components.items.items ≤ 2 };
+    ghost view = { λ components. components_in components.places };
 }
 
 impl Components {
@@ -28,30 +34,30 @@ impl Components {
     pub const MOST: usize = 2;
 
     /// No component.
-    pub fn none(alloc: Global) -> Components
+    pub fn none() -> Components
         ensures { result ≡ [] }
     {
         Components {
-            items: Vec::new(alloc),
+            places: Places::None,
         }
     }
 
     /// One component.
-    pub fn one(alloc: Global, only: Component) -> Result<Components, AllocError>
-        ensures { IfOk result (λ components. components ≡ only ∷ []) }
+    pub fn one(only: Component) -> Components
+        ensures { result ≡ only ∷ [] }
     {
-        Ok(Components {
-            items: vec![in alloc; only]?,
-        })
+        Components {
+            places: Places::One([only]),
+        }
     }
 
     /// Two components.
-    pub fn two(alloc: Global, first: Component, second: Component) -> Result<Components, AllocError>
-        ensures { IfOk result (λ components. components ≡ first ∷ second ∷ []) }
+    pub fn two(first: Component, second: Component) -> Components
+        ensures { result ≡ first ∷ second ∷ [] }
     {
-        Ok(Components {
-            items: vec![in alloc; first, second]?,
-        })
+        Components {
+            places: Places::Two([first, second]),
+        }
     }
 
     /// The components, the first one first, at most [`Components::MOST`] of them.
@@ -59,6 +65,10 @@ impl Components {
         ensures value { result.now ≡ self.now }
         ensures most { length self.now ≤ Self.MOST }
     {
-        self.items.as_slice()
+        match &self.places {
+            Places::None => &[],
+            Places::One(places) => places,
+            Places::Two(places) => places,
+        }
     }
 }

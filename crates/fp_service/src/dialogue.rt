@@ -5,14 +5,16 @@ ghost use Rattle.fp_ism.specs.Due.{dues};
 ghost use Rattle.fp_service.specs.declared.state.State.TheVariants.{Over};
 ghost use Rattle.fp_service.specs.Dialogue.{ended, fresh, is_over, next_due, quiet_until, touched};
 
-use crate::State;
-use fp_apdu::{Name, Opening};
+use crate::{Stage, State};
+use fp_apdu::Opening;
 use fp_digits::Moment;
 use fp_entry::Entry;
 use fp_ism::Invocations;
 
-/// What the service logic knows of a dialogue between two entries. It has a fixed size and may be copied.
-#[derive(Clone, Copy, Debug)]
+/// What the service logic knows of a dialogue between two entries. It has a fixed size and may be copied. Two are equal
+/// exactly where they are the same in all that they know
+/// ([`equal_cores_are_the_same`](crate::equal_cores_are_the_same)).
+#[derive(Clone, Copy, Debug, PartialEq, Eq)]
 pub struct Core {
     pub(crate) state: State,
     pub(crate) birth: u64,
@@ -33,7 +35,7 @@ impl Core {
         ensures { result ≡ fresh birth moment }
     {
         Core {
-            state: State::Fresh,
+            state: State::Live(Stage::Fresh),
             birth,
             opening: Opening::None,
             accepted: false,
@@ -42,7 +44,7 @@ impl Core {
         }
     }
 
-    /// How far the call has come.
+    /// How far the dialogue has come.
     pub fn state(&self) -> State
         ensures { result ≡ self.now.state }
     {
@@ -77,26 +79,7 @@ impl Core {
         }
     }
 
-    /// Whether two are the same in all that they know.
-    pub fn same(&self, other: &Core) -> bool
-        ensures { IsTrue result ↔ (self.now ≡ other.now) }
-    {
-        if !self.state.same(&other.state) {
-            return false;
-        }
-        if !same_opening(&self.opening, &other.opening) {
-            return false;
-        }
-        if !same_invocations(&self.invocations, &other.invocations) {
-            return false;
-        }
-        if self.birth != other.birth || self.accepted != other.accepted {
-            return false;
-        }
-        self.last == other.last
-    }
-
-    // The core when an entry comes.
+    /// The core when an entry comes.
     pub(crate) fn touched(self, entry: &Entry) -> Core
         ensures { result ≡ touched self entry.now }
     {
@@ -109,7 +92,7 @@ impl Core {
         }
     }
 
-    // The core of the dialogue when it is over.
+    /// The core of the dialogue when it is over.
     pub(crate) fn ended(self) -> Core
         ensures { result ≡ ended self }
     {
@@ -119,48 +102,10 @@ impl Core {
         }
     }
 
-    // The moment, in milliseconds since 1970-01-01T00:00:00Z, at which the peer has been quiet for too long.
+    /// The moment, in milliseconds since 1970-01-01T00:00:00Z, at which the peer has been quiet for too long.
     pub(crate) fn quiet_until(&self) -> u64
         ensures { result ≡ quiet_until self.now }
     {
         self.last.milliseconds() + QUIET
     }
-}
-
-// Whether two openings are the same, their names too.
-fn same_opening(opening: &Opening, other: &Opening) -> bool
-    ensures { IsTrue result ↔ (opening.now ≡ other.now) }
-{
-    match opening {
-        Opening::None => match other {
-            Opening::None => true,
-            _ => false,
-        },
-        Opening::Known(name) => match other {
-            Opening::Known(other) => same_name(name, other),
-            _ => false,
-        },
-        Opening::Unknown(name) => match other {
-            Opening::Unknown(other) => same_name(name, other),
-            _ => false,
-        },
-        Opening::BadVersion(name) => match other {
-            Opening::BadVersion(other) => same_name(name, other),
-            _ => false,
-        },
-    }
-}
-
-// Whether two names are the same.
-fn same_name(name: &Name, other: &Name) -> bool
-    ensures { IsTrue result ↔ (name.now ≡ other.now) }
-{
-    name.as_slice() == other.as_slice()
-}
-
-// Whether two are the same invocations.
-fn same_invocations(invocations: &Invocations, other: &Invocations) -> bool
-    ensures { IsTrue result ↔ (invocations.now ≡ other.now) }
-{
-    invocations == other
 }

@@ -6,9 +6,8 @@ ghost use Rattle.fp_service.specs.Answer.{instruct, invoke, with_invocation};
 use crate::{Component, Components, Core, Instruction, Request};
 use fp_digits::Moment;
 use fp_ism::{Full, Invocations};
-use std::alloc::{AllocError, Global};
 
-// Starts an invocation of an instruction at this moment, and gives its Invoke.
+/// Starts an invocation of an instruction at this moment, and gives its Invoke.
 fn start(
     invocations: &mut Invocations,
     instruction: Instruction,
@@ -27,41 +26,39 @@ fn start(
 }
 
 impl Core {
-    // A Continue message that invokes an operation; a user Abort where it finds no place.
+    /// A Continue message that invokes an operation; a user Abort where it finds no place.
     #[tactic(auto, unfolding(crate::specs::Answer::instruct))]
     pub(crate) fn instruct(
         self,
-        alloc: Global,
         moment: Moment,
         instruction: Instruction,
-    ) -> Result<(Core, Option<Request>), AllocError>
-        ensures { IfOk result (λ served. served ≡ instruct self moment (instruction ∷ [])) }
+    ) -> (Core, Option<Request>)
+        ensures { result ≡ instruct self moment (instruction ∷ []) }
     {
         let mut invocations = self.invocations;
         let Ok(invoke) = start(&mut invocations, instruction, moment) else {
-            return Ok(self.user_abort());
+            return self.user_abort();
         };
         let core = Core {
             invocations,
             ..self
         };
-        Ok(core.continue_with(Components::one(alloc, invoke)?))
+        core.continue_with(Components::one(invoke))
     }
 
-    // A Continue message that invokes two operations; a user Abort where they don't both find a place.
+    /// A Continue message that invokes two operations; a user Abort where they don't both find a place.
     #[tactic(auto, unfolding(crate::specs::Answer::instruct))]
     pub(crate) fn instruct_both(
         self,
-        alloc: Global,
         moment: Moment,
         first: Instruction,
         second: Instruction,
-    ) -> Result<(Core, Option<Request>), AllocError>
-        ensures { IfOk result (λ served. served ≡ instruct self moment (first ∷ second ∷ [])) }
+    ) -> (Core, Option<Request>)
+        ensures { result ≡ instruct self moment (first ∷ second ∷ []) }
     {
         let mut invocations = self.invocations;
         let Ok(first) = start(&mut invocations, first, moment) else {
-            return Ok(self.user_abort());
+            return self.user_abort();
         };
         match start(&mut invocations, second, moment) {
             Ok(second) => {
@@ -69,10 +66,10 @@ impl Core {
                     invocations,
                     ..self
                 };
-                Ok(core.continue_with(Components::two(alloc, first, second)?))
+                core.continue_with(Components::two(first, second))
             }
             // The first one isn't kept either.
-            Err(Full) => Ok(self.user_abort()),
+            Err(Full) => self.user_abort(),
         }
     }
 }

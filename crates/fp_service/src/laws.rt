@@ -1,6 +1,8 @@
-//! What holds of the service step along all lists of entries.
+//! What holds of the service step along all lists of entries, and of `==` on cores.
 
+ghost use Rattle.fp_digits.specs.Exact.{IsExact};
 ghost use Rattle.fp_service.specs.Laws.{AsksOnceAtMost, CutIsFront, FoldsGrow, FoldsGrowByOne, PeerEndsDialogue, StaysOver};
+ghost use Rattle.fp_service.specs.Same.{same_core};
 
 /// Along entries that are followed by others the core, the requests and the entries served are those of the first
 /// ones, and then those of the others from there.
@@ -27,4 +29,10 @@ pub fn cut_is_a_front()
 /// An entry asks for one message at most.
 pub fn entries_ask_once_at_most()
     ensures { AsksOnceAtMost }
+{}
+
+/// Two cores are equal by `==` exactly where they are the same in all that they know.
+#[tactic(auto, using(crate::specs::Same::exact_core))]
+pub fn equal_cores_are_the_same()
+    ensures { IsExact same_core }
 {}

@@ -1,25 +1,25 @@
 //! The service logic of a freephone dialogue: what a call gets, one step for each entry.
 //!
 //! The layer is handed entries, what the messages of a dialogue and the clock bring, and gives requests, what is to be
-//! sent to the switch. It never asks the system for anything: moments and records come with the entries, and memory is
-//! taken for the components of a request alone.
+//! sent to the switch. It never asks the system for anything: moments and records come with the entries, and its values
+//! have a fixed size.
 //!
 //! * [`Core`] is what the logic knows of a dialogue between two entries, in a value of fixed size that may be copied. Its
-//!   [`State`] tells how far the call has come.
+//!   [`State`] tells whether the dialogue is over, and if it isn't, the [`Stage`] of the call.
 //! * [`step`] makes the core after an [`Entry`](fp_entry::Entry), and the [`Request`] if something is asked for: a
 //!   message of the dialogue (ITU-T Q.774, 3.2) with [`Components`], whose Invokes carry an [`Instruction`] for the
 //!   switch (after Q.1218).
 //!
 //! The step is this table, and the first line that fits decides. The lines and their order are those of the code
 //! (`step`, and the methods that begin with `on_`) and of `specs/Serve.antt`. Each entry but Clock sets the moment of
-//! the last entry, in any state.
+//! the last entry, in any state. Fresh and Waiting are the stages of a dialogue that isn't over.
 //!
 //! | State | Entry | Request |
 //! |---|---|---|
 //! | Over | any | none |
 //! | any | PeerEnd, PeerAbort | none, and the dialogue is over |
 //! | Fresh | Opened: None, Known | none |
-//! | Fresh | Opened: Unknown, BadVersion | Abort with the AARE NameNotSupported, NoCommonVersion |
+//! | Fresh | Opened: Unknown, BadVersion | Abort with the AARE NoName, NoVersion |
 //! | Waiting | Opened | none |
 //! | any | InitialDp, Event or UnknownInvoke with a linked identifier | Reject: UnrecognizedLinkedIdentifier, or LinkedResponseUnexpected where an invocation has that identifier |
 //! | any | UnknownInvoke, Faulty | Reject with its problem |
@@ -50,12 +50,12 @@
 //! * In a dialogue whose opening is Known the first Continue or End carries the AARE that accepts it, and a user Abort
 //!   carries an ABRT.
 //!
-//! The layer above may rely on this: a step is `serve` of `specs/Serve.antt`, want of memory aside, and `next` and
-//! `request_of` are its two parts, which are opaque outside this crate. Along the entries of a dialogue the core, the
-//! requests and the entries up to its end are the folds of `specs/Fold.antt`, whose laws ([`folds_along_a_grown_list`],
-//! [`over_stays_over`], [`peer_ends_dialogue`], [`cut_is_a_front`], [`entries_ask_once_at_most`]) are all that is to
-//! be known of them.
-//! [`Core::next_due`] is the earliest moment at which a Clock does something.
+//! The layer above may rely on this: a step is `serve` of `specs/Serve.antt`, and `next` and `request_of` are its two
+//! parts. `serve` and the definitions below it stay folded unless a proof asks; no layer above should unfold them. Along
+//! the entries of a dialogue the core, the requests and the entries up to its end are the folds of `specs/Fold.antt`,
+//! whose laws ([`folds_along_a_grown_list`], [`over_stays_over`], [`peer_ends_dialogue`], [`cut_is_a_front`],
+//! [`entries_ask_once_at_most`]) are all that is to be known of them. Two cores are equal by `==` exactly where they are
+//! the same ([`equal_cores_are_the_same`]). [`Core::next_due`] is the earliest moment at which a Clock does something.
 #![tactic(auto)]
 
 mod answer;
@@ -78,9 +78,9 @@ pub use components::Components;
 pub use dialogue::Core;
 pub use instruction::Instruction;
 pub use laws::{
-    cut_is_a_front, entries_ask_once_at_most, folds_along_a_grown_list, over_stays_over,
-    peer_ends_dialogue,
+    cut_is_a_front, entries_ask_once_at_most, equal_cores_are_the_same, folds_along_a_grown_list,
+    over_stays_over, peer_ends_dialogue,
 };
 pub use request::{AbortPortion, Request};
 pub use serve::step;
-pub use state::State;
+pub use state::{Stage, State};

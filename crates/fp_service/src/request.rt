@@ -31,8 +31,8 @@ pub enum AbortPortion {
     Absent,
     /// An ABRT.
     Abrt,
-    /// An AARE that refuses this application context name.
-    NameNotSupported(Name),
-    /// An AARE that refuses the version; it has this application context name.
-    NoCommonVersion(Name),
+    /// An AARE that refuses this application context name: it isn't supported.
+    NoName(Name),
+    /// An AARE that refuses the version: none is common. It has this application context name.
+    NoVersion(Name),
 }

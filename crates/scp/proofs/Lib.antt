@@ -1,4 +1,5 @@
 pub mod Asking
+pub mod Ending
 pub mod Input
 pub mod Layouts
 pub mod Leading

@@ -5,6 +5,7 @@ use Rattle.std.specs.List.{list_all, starts_with}
 use Rattle.std.specs.Prelude.{nat_eq}
 use Rattle.hex.specs.Hex.{decode_of, encode_upper}
 use Rattle.hex.specs.declared.error.FromHexError.{FromHexError}
+use Rattle.fp_digits.specs.declared.moment.TheConstants.Moment.{END}
 use Rattle.scp.specs.declared.fault.AskFault.{AskFault}
 use Rattle.scp.specs.declared.fault.AskFault.TheVariants.{BadLine, Memory, NotYet}
 use Rattle.scp.specs.declared.line.Line.{Line}
@@ -56,4 +57,4 @@ abbrev pub IsLineFault : ℕ → ℕ → Option Said → AskFault → Type 0
 IsLineFault moment number None fault = (fault ≡ BadLine number) ⊎ (fault ≡ Memory)
 IsLineFault moment number (Some (message octets)) fault = (fault ≡ NotYet) ⊎ (fault ≡ Memory)
 IsLineFault moment number (Some (wait milliseconds)) fault =
-    (fault ≡ (if nat_lt (moment + milliseconds) 4102444800000 then NotYet else BadLine number)) ⊎ (fault ≡ Memory)
+    (fault ≡ (if nat_lt (moment + milliseconds) END then NotYet else BadLine number)) ⊎ (fault ≡ Memory)

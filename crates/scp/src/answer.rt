@@ -3,9 +3,6 @@
 ghost use Rattle.std.specs.Prelude.{◌≡◌, ◌≢◌, ◌⊎◌, List, [], ◌∷◌, ℕ, ℤ, Option, Some, None, IfOk, IfErr, IfSome, IfNone};
 ghost use Rattle.fp_ber.specs.Tree.{Tree};
 ghost use Rattle.fp_ber.specs.View.{tree_of};
-ghost use Rattle.fp_ber.specs.Tree.{HasTags};
-ghost use Rattle.fp_ber.specs.Canon.{HasLengths};
-ghost use Rattle.fp_ber.specs.Spelling.{Spells};
 ghost use Rattle.fp_digits.specs.declared.number.Number.{Number as SpecNumber};
 ghost use Rattle.fp_inap.specs.declared.operation.Operation.TheVariants as operations;
 ghost use Rattle.fp_inap.specs.Operation.{code_of};
@@ -19,11 +16,12 @@ ghost use Rattle.scp.specs.Answer.{IsCanonical, IsInvocation, Opens, IsConnect, 
 use crate::fault::AskFault;
 use crate::layout::is_laid_out;
 use crate::plain::plain_destination;
-use fp_ber::{BerFault, Element, read, write};
+use fp_ber::{BerFault, Element, Writer, canonical_spelling_spells, read, write};
 use fp_digits::Number;
 use fp_inap::{Operation, read_initial_dp, write_connect};
 use fp_q773::{
-    Begin, Code, Component, End, Invoke, Message, MessageFault, Tid, message_of, write_message,
+    Begin, Code, Component, Invoke, Message, MessageFault, Tid, message_of,
+    write_component_portion, write_end, write_invoke, written_messages_are_elements,
 };
 use fp_records::{Destination, Table};
 use std::alloc::{AllocError, Global};
@@ -177,38 +175,21 @@ fn destination_of(table: &Table, asked: &Asked) -> Option<Destination>
     plain_destination(table, &asked.called)
 }
 
-/// The octets that spell an element canonically.
-fn spelling_of(alloc: Global, element: &Element) -> Result<Vec<u8>, AllocError>
-    requires tags { HasTags (tree_of element.now) }
-    requires lengths { HasLengths (tree_of element.now) }
-    ensures { IfOk result (λ text. Spells text.items (tree_of element.now)) }
-{
-    let mut text = Vec::new(alloc);
-    write(element, &mut text)?;
-    Ok(text)
-}
+/// How many octets an End with Connect takes at most, and a few more.
+const END_ROOM: usize = 64;
 
 /// The octets of an End that connects a caller to a destination.
 fn connect_to(alloc: Global, caller: Tid, destination: Destination) -> Result<Vec<u8>, AllocError>
     ensures { IfOk result (λ text. IsConnect text.items (octets_of caller) destination) }
 {
-    let argument = write_connect(alloc, destination.as_slice())?;
-    let invoke = Invoke {
-        identifier: 1,
-        linked: None,
-        code: Code::Local(Operation::Connect.code()),
-        parameter: Some(&argument),
-    };
-    let mut components = Vec::new(alloc);
-    components.push(Component::Invoke(invoke))?;
-    let end = End {
-        destination: caller,
-        dialogue: None,
-        components,
-    };
-    let element = write_message(alloc, &Message::End(end))?;
-    let text = spelling_of(alloc, &element)?;
-    Ok(text)
+    canonical_spelling_spells();
+    written_messages_are_elements();
+    let mut end = Writer::with_capacity(alloc, END_ROOM)?;
+    write_connect(destination.as_slice(), &mut end)?;
+    write_invoke(1, None, Code::Local(Operation::Connect.code()), 0, &mut end)?;
+    write_component_portion(0, &mut end)?;
+    write_end(caller, 0, &mut end)?;
+    Ok(end.into_octets())
 }
 
 /// The answer to a message: where its called number has one rule and that rule is plain, an End for the

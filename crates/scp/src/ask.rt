@@ -1,4 +1,4 @@
-// The lines of an input, answered in their order.
+//! The lines of an input, answered in their order.
 
 ghost use Rattle.std.specs.Prelude.{◌≡◌, ◌⊎◌, ◌+◌, ℕ, nat_lt, List, OnOk, IfOk, IfErr, string_bytes};
 ghost use Rattle.std.specs.Io.KnownBytes.{Appends, Keeps};
@@ -41,7 +41,7 @@ pub fn ask<R: Read, W: Write>(
     Err(AskFault::ReadFault)
 }
 
-// The octets of the answer to the line of this number.
+/// The octets of the answer to the line of this number.
 fn respond(
     alloc: Global,
     table: &Table,
@@ -61,14 +61,14 @@ fn respond(
     }
 }
 
-// Whether there is a moment so many milliseconds later.
+/// Whether there is a moment so many milliseconds later.
 fn is_before_end(moment: Moment, milliseconds: u64) -> bool
     ensures { result ≡ nat_lt (moment + milliseconds) Moment.END }
 {
     Moment::new(moment.milliseconds().saturating_add(milliseconds)).is_some()
 }
 
-// Writes the line of an answer, and flushes the output.
+/// Writes the line of an answer, and flushes the output.
 fn write_answer<W: Write>(alloc: Global, octets: &[u8], output: &mut W) -> Result<(), AskFault>
     ensures written { OnOk result (Appends (W.contents output.old) (W.contents output.new) (answer_line octets.now)) }
     ensures fault { IfErr result (λ fault. (fault ≡ AskFault.WriteFault) ⊎ ((fault ≡ AskFault.Memory) × Keeps (W.contents output.old) (W.contents output.new))) }
@@ -77,7 +77,7 @@ fn write_answer<W: Write>(alloc: Global, octets: &[u8], output: &mut W) -> Resul
     write_text(text.as_str(), output)
 }
 
-// The line of an answer with these octets: hexadecimal digits in upper case, and a line feed.
+/// The line of an answer with these octets: hexadecimal digits in upper case, and a line feed.
 fn text_of(alloc: Global, octets: &[u8]) -> Result<String, AllocError>
     ensures { IfOk result (λ text. string_bytes text ≡ answer_line octets.now) }
 {

@@ -19,7 +19,7 @@ pub fn check<W: Write>(alloc: Global, table: &Table, output: &mut W) -> Result<(
     write_text(text.as_str(), output)
 }
 
-// The line that tells what a table has.
+/// The line that tells what a table has.
 fn text_of(alloc: Global, table: &Table) -> Result<String, AllocError>
     ensures { IfOk result (λ text. string_bytes text ≡ counts_line table.now) }
 {

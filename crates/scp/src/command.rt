@@ -1,4 +1,4 @@
-// The words of the command line, and the moment among them.
+//! The words of the command line, and the moment among them.
 
 ghost use Rattle.std.specs.Prelude.{◌≡◌};
 ghost use Rattle.jiff.specs.Words.{parse_timestamp};
@@ -31,10 +31,10 @@ pub enum Asked<'a> {
     Refused(String),
 }
 
-// The name of the program, in its texts too, whatever its file is called.
+/// The name of the program, in its texts too, whatever its file is called.
 const PROGRAM: &str = "scp";
 
-// The name of the subcommand that counts.
+/// The name of the subcommand that counts.
 const CHECK: &str = "check";
 
 /// What the words ask for. The first of them names the program.
@@ -58,7 +58,7 @@ pub fn asked_by<'a>(alloc: Global, words: &'a [String]) -> Result<Asked<'a>, All
     Ok(Asked::Ask { records, moment })
 }
 
-// The text of what clap answers in place of matches.
+/// The text of what clap answers in place of matches.
 fn told_by<'a>(alloc: Global, error: &Error) -> Result<Asked<'a>, AllocError> {
     if error.kind() == ErrorKind::OutOfMemory {
         return Err(AllocError);
@@ -71,14 +71,14 @@ fn told_by<'a>(alloc: Global, error: &Error) -> Result<Asked<'a>, AllocError> {
     }
 }
 
-// The argument that names the file of the records.
+/// The argument that names the file of the records.
 fn records<'a>(alloc: Global) -> Arg<'a> {
     Arg::new(alloc, "RECORDS")
         .required(true)
         .help("The file of the number translation records")
 }
 
-// The command line that there is.
+/// The command line that there is.
 fn command<'a>(alloc: Global) -> Result<Command<'a>, AllocError> {
     let check = Command::new(alloc, CHECK)
         .about("Reads a file of records and tells how many numbers and rules it has")

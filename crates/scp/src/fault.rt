@@ -1,4 +1,4 @@
-// Why a run ends early, and the line that says so.
+//! Why a run ends early, and the line that says so.
 
 ghost use Rattle.std.specs.Prelude.{◌≡◌};
 

@@ -1,4 +1,4 @@
-// One line of the input: how it is read, and what it says.
+//! One line of the input: how it is read, and what it says.
 
 ghost use Rattle.std.specs.Prelude.{◌≡◌, ◌⊎◌, IfOk, IfErr, option_map};
 ghost use Rattle.scp.specs.Input.{GivesOctet, GivesLine};
@@ -19,12 +19,12 @@ pub enum Line {
     Wait(u64),
 }
 
-// The most octets of a message, and the most digits of a line.
+/// The most octets of a message, and the most digits of a line.
 const MOST_OCTETS: usize = 4096;
 
 const MOST_DIGITS: usize = 8192;
 
-// The most digits of a wait.
+/// The most digits of a wait.
 const MOST_WAIT_DIGITS: usize = 13;
 
 /// What a line says, or `None` where it is a bad line.
@@ -46,7 +46,7 @@ pub fn line_of(alloc: Global, text: &[u8]) -> Result<Option<Line>, AllocError>
     }
 }
 
-// The number that 1 to 13 decimal digits write.
+/// The number that 1 to 13 decimal digits write.
 #[tactic(auto, using(crate::proofs::Waits::waits))]
 fn milliseconds_in(digits: &[u8]) -> Option<u64>
     ensures { result ≡ wait_in digits.now }
@@ -87,7 +87,7 @@ pub fn read_line<R: Read>(alloc: Global, input: &mut R) -> Result<Option<Vec<u8>
     Ok(Some(text))
 }
 
-// Reads one octet, or `None` at the end of the input. A read that was interrupted is tried again.
+/// Reads one octet, or `None` at the end of the input. A read that was interrupted is tried again.
 fn read_octet<R: Read>(input: &mut R) -> io::Result<Option<u8>>
     ensures { IfOk result (λ octet. GivesOctet (R.remaining input.old) octet (R.remaining input.new)) }
 {

@@ -1,4 +1,4 @@
-// One run of the program, from its words to its status.
+//! One run of the program, from its words to its status.
 
 ghost use Rattle.std.specs.Prelude.{◌≡◌, ◌≤◌, is_ok, if◌then◌else◌, OnOk};
 ghost use Rattle.scp.specs.Served.{Serves};
@@ -53,7 +53,7 @@ pub fn refuse_words<E: Write>(error: &io::Error, errors: &mut E) -> u8
     2
 }
 
-// 0, or 1 behind the line of the fault.
+/// 0, or 1 behind the line of the fault.
 fn status_of<E: Write>(outcome: Result<(), RunFault>, errors: &mut E) -> u8
     ensures { result ≡ (if is_ok outcome then 0 else 1) }
 {
@@ -71,7 +71,7 @@ fn show<W: Write>(text: &str, output: &mut W) -> Result<(), RunFault> {
     Ok(())
 }
 
-// Tells what the records of a file hold.
+/// Tells what the records of a file hold.
 fn check_file<H: Files + AllocGlobal, W: Write>(
     rt: &H,
     records: &str,
@@ -82,7 +82,7 @@ fn check_file<H: Files + AllocGlobal, W: Write>(
     Ok(())
 }
 
-// Answers the lines of the input from the records of a file.
+/// Answers the lines of the input from the records of a file.
 fn run<H, R, W>(
     rt: &H,
     records: &str,
@@ -102,7 +102,7 @@ where
     answer_lines(rt, &table, moment, input, output)
 }
 
-// The table in a file.
+/// The table in a file.
 fn table_in<H: Files + AllocGlobal>(rt: &H, path: &str) -> Result<Table, RunFault> {
     match fs::read(rt, path) {
         Ok(text) => Ok(Table::read(rt.alloc(), text.as_slice())?),
@@ -113,7 +113,7 @@ fn table_in<H: Files + AllocGlobal>(rt: &H, path: &str) -> Result<Table, RunFaul
     }
 }
 
-// Answers the lines of the input, read through a buffer.
+/// Answers the lines of the input, read through a buffer.
 #[tactic(auto, using(crate::proofs::Serving::prepend_nothing))]
 fn answer_lines<H, R, W>(
     rt: &H,

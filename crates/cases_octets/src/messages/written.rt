@@ -31,7 +31,7 @@ ghost use Rattle.fp_q773.specs.View.{code_of, component_of, message_value, reaso
 ghost use Rattle.fp_q773.specs.Writable.{AllWritable, IsWritable, IsWritableDialogue, IsWritableMessage, IsWritableReason};
 
 use crate::messages::identifiers::tid_of;
-use fp_ber::{Class, Element};
+use fp_ber::{Class, Element, Writer};
 use fp_q773::{
     Abort, AbortReason, Begin, Code, Coded, Component, Continue, End, Invoke, Message, Problem,
     Reject, ReturnError, ReturnResult, Tid, write_message,
@@ -62,9 +62,9 @@ fn octets_text(alloc: Global, message: &Message<'_>) -> anyhow::Result<String>
     requires tags { CopiesHaveTags (message_value message.now) }
     requires room { message_room (message_value message.now) < 2 ^ 32 }
 {
-    let element = write_message(alloc, message)?;
-    let mut octets = Vec::new(alloc);
-    fp_ber::write(&element, &mut octets)?;
+    let mut out = Writer::with_capacity(alloc, 64)?;
+    write_message(message, &mut out)?;
+    let octets = out.into_octets();
     Ok(hex::encode_upper(alloc, octets.as_slice())?)
 }
 

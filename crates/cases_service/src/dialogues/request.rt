@@ -178,15 +178,11 @@ fn read_component(alloc: Global, text: &str, place: &mut Option<Component>) -> a
 }
 
 /// The components that were read.
-fn built(
-    alloc: Global,
-    first: &Option<Component>,
-    second: &Option<Component>,
-) -> anyhow::Result<Components> {
+fn built(first: &Option<Component>, second: &Option<Component>) -> Components {
     match (first, second) {
-        (Some(first), Some(second)) => Ok(Components::two(alloc, *first, *second)?),
-        (Some(only), None) => Ok(Components::one(alloc, *only)?),
-        _ => Ok(Components::none(alloc)),
+        (Some(first), Some(second)) => Components::two(*first, *second),
+        (Some(only), None) => Components::one(*only),
+        _ => Components::none(),
     }
 }
 
@@ -203,7 +199,7 @@ fn components_of(alloc: Global, texts: &[&str]) -> anyhow::Result<Components> {
         }
         _ => anyhow::bail!("more than two components"),
     }
-    built(alloc, &first, &second)
+    Ok(built(&first, &second))
 }
 
 /// The Abort of these words.
@@ -212,10 +208,10 @@ fn abort_of(alloc: Global, words: &[&str]) -> anyhow::Result<Request> {
         ["abort"] => AbortPortion::Absent,
         ["abort", "abrt"] => AbortPortion::Abrt,
         ["abort", "aare", "name-not-supported", name] => {
-            AbortPortion::NameNotSupported(name_of(alloc, name)?)
+            AbortPortion::NoName(name_of(alloc, name)?)
         }
         ["abort", "aare", "no-common-version", name] => {
-            AbortPortion::NoCommonVersion(name_of(alloc, name)?)
+            AbortPortion::NoVersion(name_of(alloc, name)?)
         }
         _ => anyhow::bail!("no request"),
     };

@@ -9,7 +9,7 @@ use std::alloc::Global;
 fn count_same(entry: &Entry, others: &[Entry]) -> u32 {
     let mut count: u32 = 0;
     for other in others {
-        if entry.same(other) {
+        if entry == other {
             count = count.saturating_add(1);
         }
     }
@@ -38,7 +38,7 @@ fn pairs_of(entries: &[Entry], others: &[Entry]) -> Pairs {
 fn count_places(entries: &[Entry], others: &[Entry]) -> u32 {
     let mut count: u32 = 0;
     for (entry, other) in entries.iter().zip(others) {
-        if entry.same(other) {
+        if entry == other {
             count = count.saturating_add(1);
         }
     }

@@ -81,7 +81,7 @@ fn if_record(
     let Some(record) = table.find(&called) else {
         return Ok(String::new(alloc));
     };
-    if !SharedRecord::new(record)?.same(shared) {
+    if SharedRecord::new(record)? != *shared {
         return Ok(String::new(alloc));
     }
     let digits = digits_text(alloc, called.digits.as_slice())?;

@@ -23,7 +23,7 @@
 use crate::steps::NOON;
 use fp_apdu::Name;
 use fp_records::{Destination, Destinations};
-use fp_service::{AbortPortion, Component, Core, Instruction, Request, State};
+use fp_service::{AbortPortion, Component, Core, Instruction, Request, Stage, State};
 use std::alloc::Global;
 
 /// The digits of a destination.
@@ -52,8 +52,8 @@ fn waiting_text(alloc: Global, left: &Option<Destinations>) -> anyhow::Result<St
 /// A state.
 fn state_text(alloc: Global, state: &State) -> anyhow::Result<String> {
     match state {
-        State::Fresh => Ok(format!(in alloc; "fresh")?),
-        State::Waiting { left } => waiting_text(alloc, left),
+        State::Live(Stage::Fresh) => Ok(format!(in alloc; "fresh")?),
+        State::Live(Stage::Waiting { left }) => waiting_text(alloc, left),
         State::Over => Ok(format!(in alloc; "over")?),
     }
 }
@@ -154,11 +154,11 @@ fn abort_text(alloc: Global, portion: &AbortPortion) -> anyhow::Result<String> {
     Ok(match portion {
         AbortPortion::Absent => format!(in alloc; "abort")?,
         AbortPortion::Abrt => format!(in alloc; "abort abrt")?,
-        AbortPortion::NameNotSupported(name) => {
+        AbortPortion::NoName(name) => {
             let name = name_text(alloc, name)?;
             format!(in alloc; "abort aare name-not-supported {name}")?
         }
-        AbortPortion::NoCommonVersion(name) => {
+        AbortPortion::NoVersion(name) => {
             let name = name_text(alloc, name)?;
             format!(in alloc; "abort aare no-common-version {name}")?
         }

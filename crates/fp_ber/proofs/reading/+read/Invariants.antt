@@ -20,7 +20,7 @@ abbrev pub decreases-elements_of-children : goal.decreases-elements_of-children
 decreases-elements_of-children l = length l.rest
 
 abbrev pub invariant-elements_to_end-children : goal.invariant-elements_to_end-children
-invariant-elements_to_end-children l = BeginAll l.depth l.bytes (forest_of l.children.items) l.rest
+invariant-elements_to_end-children l = BeginAll l.depth l.octets (forest_of l.children.items) l.rest
 
 abbrev pub decreases-elements_to_end-children : goal.decreases-elements_to_end-children
 decreases-elements_to_end-children l = length l.rest

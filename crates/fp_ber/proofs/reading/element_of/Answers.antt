@@ -11,4 +11,4 @@ returns-in_err-element-clause-fault c =
 
 pub returns-clause-found : goal.returns-clause-found
 returns-clause-found c =
-    is_whole c.args.bytes.now c.in_ok-element.rest.now _ c.in_ok-element.ensures.ok (search (rules, tests))
+    is_whole c.args.octets.now c.in_ok-element.rest.now _ c.in_ok-element.ensures.ok (search (rules, tests))

@@ -1,12 +1,12 @@
 -- What an End, a Continue and an Abort bring is the same for all names that are accepted.
 use Rattle.fp_entry.proofs.message.incoming_of.Goals as goal
 
-pub returns-in_ok-incoming-in-End-clause-ok : goal.returns-in_ok-incoming-in-End-clause-ok
-returns-in_ok-incoming-in-End-clause-ok c = rw c.in-End.is (c.in_ok-incoming-in-End.ensures c.args.contexts.now)
+pub returns-in_ok-of_end-in-End-clause-ok : goal.returns-in_ok-of_end-in-End-clause-ok
+returns-in_ok-of_end-in-End-clause-ok c = rw c.in-End.is (c.in_ok-of_end-in-End.ensures c.args.contexts.now)
 
-pub returns-in_ok-incoming-in-Continue-clause-ok : goal.returns-in_ok-incoming-in-Continue-clause-ok
-returns-in_ok-incoming-in-Continue-clause-ok c = rw c.in-Continue.is (c.in_ok-incoming-in-Continue.ensures c.args.contexts.now)
+pub returns-in_ok-of_continue-in-Continue-clause-ok : goal.returns-in_ok-of_continue-in-Continue-clause-ok
+returns-in_ok-of_continue-in-Continue-clause-ok c = rw c.in-Continue.is (c.in_ok-of_continue-in-Continue.ensures c.args.contexts.now)
 
-pub returns-in_ok-incoming-in-Abort-clause-ok : goal.returns-in_ok-incoming-in-Abort-clause-ok
-returns-in_ok-incoming-in-Abort-clause-ok c =
-    rw c.in-Abort.is (c.in_ok-incoming-in-Abort.ensures c.args.table.now c.args.contexts.now)
+pub returns-in_ok-of_abort-in-Abort-clause-ok : goal.returns-in_ok-of_abort-in-Abort-clause-ok
+returns-in_ok-of_abort-in-Abort-clause-ok c =
+    rw c.in-Abort.is (c.in_ok-of_abort-in-Abort.ensures c.args.table.now c.args.contexts.now)

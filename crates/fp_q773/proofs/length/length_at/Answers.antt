@@ -1,19 +1,9 @@
--- The text of each form of a length.
-use Rattle.std.proofs.Common.{arith}
-use Rattle.fp_q773.proofs.Lengths.{short_length, long_length_one, long_length_two, long_length_three, long_length_four}
+-- The reader's length, and its faults.
+use Rattle.fp_q773.proofs.Lengths.{no_length, read_length}
 use Rattle.fp_q773.proofs.length.length_at.Goals as goal
 
-pub returns-in-0-to-127-clause-some : goal.returns-in-0-to-127-clause-some
-returns-in-0-to-127-clause-some c = short_length c.args.octets.now _ (omega arith) (omega arith) (omega arith)
+pub returns-in-Ok-clause-some : goal.returns-in-Ok-clause-some
+returns-in-Ok-clause-some c = read_length c.in-Ok.value c.args.octets.now c.in-Ok.rest.now c.in-Ok.ensures.ok
 
-pub returns-in-len1-up-rest-clause-some : goal.returns-in-len1-up-rest-clause-some
-returns-in-len1-up-rest-clause-some c = long_length_one c.args.octets.now _ (omega arith) (omega arith) (omega arith) (omega arith)
-
-pub returns-in-len2-up-clause-some : goal.returns-in-len2-up-clause-some
-returns-in-len2-up-clause-some c = long_length_two c.args.octets.now _ (omega arith) (omega arith) (omega arith) (omega arith)
-
-pub returns-in-len3-up-clause-some : goal.returns-in-len3-up-clause-some
-returns-in-len3-up-clause-some c = long_length_three c.args.octets.now _ (omega arith) (omega arith) (omega arith) (omega arith)
-
-pub returns-in-len4-up-clause-some : goal.returns-in-len4-up-clause-some
-returns-in-len4-up-clause-some c = long_length_four c.args.octets.now _ (omega arith) (omega arith) (omega arith) (omega arith)
+pub returns-in-Err-clause-none : goal.returns-in-Err-clause-none
+returns-in-Err-clause-none c = no_length c.args.octets.now c.in-Err.field-0 c.in-Err.ensures.err

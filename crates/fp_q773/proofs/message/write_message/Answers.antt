@@ -1,16 +1,12 @@
--- What is written can be spelled.
-use Rattle.fp_q773.proofs.Exact.{written_bare}
-use Rattle.fp_q773.proofs.Written.{written_tags, written_size, written_lengths}
+-- A Unidirectional holds nothing.
+use Rattle.std.proofs.Common.{refl, sym}
+use Rattle.fp_ber.specs.Tree.{none}
+use Rattle.fp_q773.proofs.Puts.{on_ok}
+use Rattle.fp_q773.proofs.Sound.{unidirectional_sound}
 use Rattle.fp_q773.proofs.message.write_message.Goals as goal
 
-pub returns-clause-tags : goal.returns-clause-tags
-returns-clause-tags c = written_tags _ _ c.requires c.element_of.ensures.found (written_bare _ _ c.element_of.ensures.exact)
+pub returns-in-Unidirectional-clause-exact : goal.returns-in-Unidirectional-clause-exact
+returns-in-Unidirectional-clause-exact c = rw c.in-Unidirectional.is (c.put_constructed.ensures none c.args.out.now refl (sym c.len-behind.ensures.value))
 
-pub returns-clause-size : goal.returns-clause-size
-returns-clause-size c = written_size _ _ c.requires c.element_of.ensures.found (written_bare _ _ c.element_of.ensures.exact)
-
-pub returns-clause-lengths : goal.returns-clause-lengths
-returns-clause-lengths c = written_lengths _ _ c.requires c.element_of.ensures.found (written_bare _ _ c.element_of.ensures.exact)
-
-pub returns-clause-bare : goal.returns-clause-bare
-returns-clause-bare c = written_bare _ _ c.element_of.ensures.exact
+pub returns-in-Unidirectional-clause-found : goal.returns-in-Unidirectional-clause-found
+returns-in-Unidirectional-clause-found c = rw c.in-Unidirectional.is (on_ok c.put_constructed.result _ unidirectional_sound)

@@ -1,28 +1,44 @@
--- One more component.
-use Rattle.std.proofs.Common.{map, take}
-use Rattle.std.proofs.lemmas.List.{take_more}
-use Rattle.fp_ber.specs.View.{tree_of}
+-- The component at a place, and those behind it.
+use Rattle.std.proofs.Common.{◌≡◌, ◌-◌, map, drop, refl, arith}
+use Rattle.std.proofs.lemmas.List.Elements.{All-cons, All-nil}
 use Rattle.fp_q773.specs.View.{component_of}
-use Rattle.fp_q773.proofs.Forests.{forest_of-push}
-use Rattle.fp_q773.proofs.Parts.{one_more_component, values-behind, writable_at, row_is_component}
-use Rattle.fp_q773.proofs.Exact.{one_more_exact}
+use Rattle.fp_q773.specs.Written.{component_tree, component_trees, IsReadBack}
+use Rattle.fp_q773.proofs.Parts.{writable_at, tags_at, room_at, drop_before, drop_all}
+use Rattle.fp_q773.proofs.Puts.{more_put}
 use Rattle.fp_q773.proofs.portions.write_components.Goals as goal
 
-pub write-requires : goal.write-requires
-write-requires c =
-    let item = c.component-item in
-    rw item.is (writable_at c.args.components.now c.components.component-index item.result c.components-test.true c.requires)
+pub write-requires-clause-writable : goal.write-requires-clause-writable
+write-requires-clause-writable c =
+    let item = c.index-components-index in rw item.is (writable_at c.args.components.now (c.components.index - 1) item.result (omega arith) c.requires.writable)
+
+pub write-requires-clause-tags : goal.write-requires-clause-tags
+write-requires-clause-tags c =
+    let item = c.index-components-index in rw item.is (tags_at c.args.components.now (c.components.index - 1) item.result (omega arith) c.requires.tags)
+
+pub write-requires-clause-room : goal.write-requires-clause-room
+write-requires-clause-room c =
+    let item = c.index-components-index in
+    let room = room_at c.args.components.now (c.components.index - 1) item.result (omega arith) in rw item.is (omega arith)
+
+pub components-init : goal.components-init
+components-init c = rw (drop_all c.args.components.now) (record { exact = refl; found = All-nil IsReadBack })
 
 pub components-preserved : goal.components-preserved
 components-preserved c =
-    let i = c.components.component-index in
-    let item = c.component-item in
-    let values = map component_of (take i c.args.components.now) in
-    let t = tree_of c.in_ok-member.member in
-    let value = component_of item.result in
+    let i = c.components.index in
+    let item = c.index-components-index in
     let so_far = c.components.invariant in
-    rw (c.in_ok-push.ensures.items, forest_of-push, take_more c.args.components.now i item.result c.components-test.true, ← item.is, values-behind)
+    let behind = map component_of (drop i c.args.components.now) in
+    rw (drop_before c.args.components.now i item.result (omega arith) (omega arith) item.is)
     (record {
-      found = one_more_component _ values t value so_far.found (row_is_component t value c.in_ok-member.ensures.found);
-      exact = one_more_exact _ values t value so_far.exact c.in_ok-member.ensures.exact;
+      exact = more_put _ _ c.args.out.now (component_tree (component_of item.result)) (component_trees behind) c.in_ok-write.ensures.exact so_far.exact;
+      found = All-cons IsReadBack (component_of item.result) behind c.in_ok-write.ensures.found so_far.found;
     })
+
+pub returns-clause-exact : goal.returns-clause-exact
+returns-clause-exact c =
+    let none_left : c.components.index ≡ 0 = omega arith in rw none_left at c.components.invariant.exact
+
+pub returns-clause-found : goal.returns-clause-found
+returns-clause-found c =
+    let none_left : c.components.index ≡ 0 = omega arith in rw none_left at c.components.invariant.found

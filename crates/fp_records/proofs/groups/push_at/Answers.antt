@@ -1,44 +1,43 @@
-use Rattle.std.proofs.Common.{◌≡◌, [], refl}
+use Rattle.std.proofs.Common.{◌≡◌, [], refl, sym}
 use Rattle.std.specs.Prelude.{bytes_eq}
+use Rattle.std.specs.BTreeMap.{is_at}
+use Rattle.std.specs.Cmp.Lexicographic.{slice_cmp}
 use Rattle.std.specs.Map.{lookup}
 use Rattle.std.specs.Option.{unwrap_or}
+use Rattle.std.specs.Ordering.{nat_cmp}
 use Rattle.std.proofs.lemmas.Result.{err_from_is_err_and}
 use Rattle.fp_records.specs.Listed.{listed}
-use Rattle.fp_records.proofs.Entries.{seen-insert_entry, seen-remove_entry}
+use Rattle.fp_records.proofs.Entries.{seen-insert_entry, seen-rewritten, seen-written}
 use Rattle.fp_records.proofs.Lookups.{lookup-seen}
-use Rattle.fp_records.proofs.Orders.{once-seen}
+use Rattle.fp_records.proofs.Orders.{keys-seen}
 use Rattle.fp_records.proofs.groups.push_at.Goals as goal
-use Rattle.fp_records.proofs.groups.push_at.Goals.{in-Some, in-None+in_ok-list-in-None}
 
-pub returns-clause-once : goal.returns-clause-once
-returns-clause-once g c = once-seen (λ key. key.items) (λ list. list.items) c.insert.new.self.entries c.in_ok-insert.ensures.ordered
+pub returns-in_err-push-in-Some-clause-refused : goal.returns-in_err-push-in-Some-clause-refused
+returns-in_err-push-in-Some-clause-refused g c =
+    let found = sym (rw c.in-Some.is at c.get_mut.ensures.value) in
+    let written = (c.get_mut.follows.holds c.push.new.self).0 in
+    let failed = err_from_is_err_and c.from_residual.result c.from_residual.ensures.1 in
+    rw (failed.1, written) (seen-rewritten (λ list. list.items) (is_at (slice_cmp nat_cmp c.args.number.now)) c.args.lists.now.entries c.in-Some.list.now c.push.new.self found c.in_err-push-in-Some.ensures.items)
 
-pub returns-clause-entries : goal.returns-clause-entries
-returns-clause-entries g c =
-    let found = lookup-seen (λ key. key.items) (λ list. list.items) c.args.number.now c.args.lists.now.entries in
-    let taken : c.match-remove.list.items ≡ unwrap_or (lookup (bytes_eq c.args.number.now) (listed c.args.lists.now.entries)) [] =
-    elim c.match-remove.branch [
-      | in-Some w ↦ rw (found, ← c.remove.ensures.value, w.in-Some.is, w.list-is) refl
-      | in-None+in_ok-list-in-None w ↦ rw (found, ← c.remove.ensures.value, w.in-None.is, w.list-is) w.in_ok-list-in-None.ensures.items
-    ] in
-    rw (c.in_ok-insert.ensures.entries, seen-insert_entry (λ key. key.items) (λ list. list.items) c.remove.new.self.entries c.in_ok-from_slice.field-0 c.push.new.self, c.remove.ensures.entries, seen-remove_entry (λ key. key.items) (λ list. list.items) c.args.number.now c.args.lists.now.entries, c.in_ok-from_slice.ensures.items, c.in_ok-push.ensures.items, taken) refl
+pub returns-in_ok-push-in-Some-clause-entries : goal.returns-in_ok-push-in-Some-clause-entries
+returns-in_ok-push-in-Some-clause-entries g c =
+    let found = sym (rw c.in-Some.is at c.get_mut.ensures.value) in
+    let written = (c.get_mut.follows.holds c.push.new.self).0 in
+    let had : unwrap_or (lookup (bytes_eq c.args.number.now) (listed c.args.lists.now.entries)) [] ≡ c.in-Some.list.now.items =
+    rw (lookup-seen (λ list. list.items) c.args.number.now c.args.lists.now.entries, found) refl in
+    rw (written, seen-written (λ list. list.items) c.args.lists.now.entries c.args.number.now c.in-Some.list.now c.push.new.self c.get_mut.ensures.ordered found, c.in_ok-push-in-Some.ensures.items, had) refl
 
-pub returns-in_err-push-clause-refused : goal.returns-in_err-push-clause-refused
-returns-in_err-push-clause-refused g c =
-    let p = err_from_is_err_and c.from_residual-in_err-push.result c.from_residual-in_err-push.ensures.1 in
-    rw (p.1, c.remove.ensures.entries) (seen-remove_entry (λ key. key.items) (λ list. list.items) c.args.number.now c.args.lists.now.entries)
+pub returns-in_ok-push-in-Some-clause-once : goal.returns-in_ok-push-in-Some-clause-once
+returns-in_ok-push-in-Some-clause-once g c =
+    rw (keys-seen (λ list. list.items) (c.get_mut.follows.lender c.push.new.self).entries) (c.get_mut.follows.holds c.push.new.self).4
 
-pub returns-in_err-from_slice-clause-refused : goal.returns-in_err-from_slice-clause-refused
-returns-in_err-from_slice-clause-refused g c =
-    let p = err_from_is_err_and c.from_residual-in_err-from_slice.result c.from_residual-in_err-from_slice.ensures.1 in
-    rw (p.1, c.remove.ensures.entries) (seen-remove_entry (λ key. key.items) (λ list. list.items) c.args.number.now c.args.lists.now.entries)
+pub returns-in_ok-insert-in-None-clause-entries : goal.returns-in_ok-insert-in-None-clause-entries
+returns-in_ok-insert-in-None-clause-entries g c =
+    let missing = sym (rw c.in-None.is at c.get_mut.ensures.value) in
+    let had : unwrap_or (lookup (bytes_eq c.args.number.now) (listed c.args.lists.now.entries)) [] ≡ [] =
+    rw (lookup-seen (λ list. list.items) c.args.number.now c.args.lists.now.entries, missing) refl in
+    rw (c.in_ok-insert-in-None.ensures.entries, c.get_mut.follows.holds-at-none, seen-insert_entry (λ list. list.items) c.args.lists.now.entries c.args.number.now c.push-in-None.new.self, c.in_ok-push-in-None.ensures.items, c.in_ok-list-in-None.ensures.items, had) refl
 
-pub returns-in_err-insert-clause-refused : goal.returns-in_err-insert-clause-refused
-returns-in_err-insert-clause-refused g c =
-    let p = err_from_is_err_and c.from_residual-in_err-insert.result c.from_residual-in_err-insert.ensures.1 in
-    rw (p.1, c.in_err-insert.ensures.err, c.remove.ensures.entries) (seen-remove_entry (λ key. key.items) (λ list. list.items) c.args.number.now c.args.lists.now.entries)
-
-pub returns-in_err-list-in-None-clause-refused : goal.returns-in_err-list-in-None-clause-refused
-returns-in_err-list-in-None-clause-refused g c =
-    let p = err_from_is_err_and c.from_residual.result c.from_residual.ensures.1 in
-    rw (p.1, c.remove.ensures.entries) (seen-remove_entry (λ key. key.items) (λ list. list.items) c.args.number.now c.args.lists.now.entries)
+pub returns-in_ok-insert-in-None-clause-once : goal.returns-in_ok-insert-in-None-clause-once
+returns-in_ok-insert-in-None-clause-once g c =
+    rw (keys-seen (λ list. list.items) c.insert.new.self.entries) c.in_ok-insert-in-None.ensures.ordered

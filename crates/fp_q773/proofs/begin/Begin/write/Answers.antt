@@ -1,11 +1,24 @@
--- The elements of the message, in their order.
-use Rattle.std.proofs.Common.{◌∙◌, ap}
-use Rattle.fp_ber.specs.Tree.{Tree, none, more}
-use Rattle.fp_q773.proofs.Parts.{begin_made}
+-- An identifier before the portions.
+use Rattle.std.proofs.Common.{map, sym}
+use Rattle.fp_ber.specs.Tree.{more}
+use Rattle.fp_q773.specs.Tid.{octets_of}
+use Rattle.fp_q773.specs.View.{component_of, tree_in}
+use Rattle.fp_q773.specs.Written.{originating_tree, portions_trees}
+use Rattle.fp_q773.proofs.Puts.{on_ok, more_put}
+use Rattle.fp_q773.proofs.Sound.{begin_sound}
 use Rattle.fp_q773.proofs.begin.Begin.write.Goals as goal
+
+pub returns-clause-exact : goal.returns-clause-exact
+returns-clause-exact c =
+    let b = c.args.self.now in
+    let rest = c.args.out.now in
+    let first = originating_tree (octets_of b.originating) in
+    let others = portions_trees (tree_in b.dialogue) (map component_of b.components.items) in
+    let inside = rw c.as_slice.ensures.value at c.in_ok-write_portions.ensures.exact in
+    c.put_constructed.ensures (more first others) rest (more_put _ _ rest first others c.in_ok-write_transaction.ensures.exact inside) (sym c.len-behind.ensures.value)
 
 pub returns-clause-found : goal.returns-clause-found
 returns-clause-found c =
-    let first = c.in_ok-members.ensures ∙ ap (λ (t : Tree). more t none) c.in_ok-originating.ensures.value in
-    let portions = rw c.as_slice-components.ensures.value at c.in_ok-members-2.ensures.found in
-    (_, c.constructed.ensures, begin_made _ _ _ _ _ first c.write_transaction.ensures.size portions)
+    let b = c.args.self.now in
+    let all = rw c.as_slice.ensures.value at c.in_ok-write_portions.ensures.found in
+    on_ok c.put_constructed.result _ (begin_sound _ c.write_transaction.ensures.size (tree_in b.dialogue) (map component_of b.components.items) c.requires.writable.0 all)

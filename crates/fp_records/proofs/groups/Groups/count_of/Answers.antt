@@ -4,10 +4,10 @@ use Rattle.fp_records.proofs.groups.Groups.count_of.Goals as goal
 
 pub returns-in-Some : goal.returns-in-Some
 returns-in-Some c =
-    let found = rw c.in-Some.is at (seen-found (λ key. key.items) (λ rules. rules.items) c.args.number.now c.self.inside.groups.entries c.get.result (rw c.as_slice.ensures.value at c.get.ensures.value)) in
-    rw (← c.self.view_is, ← found) (ap length c.as_slice-in-Some.ensures.value)
+    let found = rw c.in-Some.is at (seen-found (λ rules. rules.items) c.args.number.now c.self.inside.groups.entries c.get.result c.get.ensures.value) in
+    rw (← c.self.view_is, ← found) (ap length c.as_slice.ensures.value)
 
 pub returns-in-None : goal.returns-in-None
 returns-in-None c =
-    let found = rw c.in-None.is at (seen-found (λ key. key.items) (λ rules. rules.items) c.args.number.now c.self.inside.groups.entries c.get.result (rw c.as_slice.ensures.value at c.get.ensures.value)) in
+    let found = rw c.in-None.is at (seen-found (λ rules. rules.items) c.args.number.now c.self.inside.groups.entries c.get.result c.get.ensures.value) in
     rw (← c.self.view_is, ← found) refl

@@ -5,6 +5,7 @@ use Rattle.std.specs.List.{list_all}
 use Rattle.std.specs.List.Sorted.{IsStrictlySortedBy}
 use Rattle.std.specs.Map.{keys_of}
 use Rattle.std.specs.Ordering.{nat_cmp}
+use Rattle.fp_records.specs.Digits.{is_decimal}
 use Rattle.fp_records.specs.Groups.{few, record_of_group}
 use Rattle.fp_records.specs.Listed.{listed}
 use Rattle.fp_records.proofs.Lookups.{seen}
@@ -14,8 +15,10 @@ abbrev pub invariant-loop-number : goal.invariant-loop-number
 invariant-loop-number l = record {
   west : neg_ℤ (pos 720) ≤ℤ l.offset;
   east : l.offset ≤ℤ pos 840;
-  so_far : seen (λ key. key.items) (λ shared. arc_value shared) l.records.entries ++ map (record_of_group l.offset) (listed l.number-iterator) ≡ map (record_of_group l.offset) l.fn.self.groups;
-  once : IsStrictlySortedBy (slice_cmp nat_cmp) (keys_of (seen (λ key. key.items) (λ shared. arc_value shared) l.records.entries) ++ keys_of (listed l.number-iterator));
+  so_far : seen (λ shared. arc_value shared) l.records.entries ++ map (record_of_group l.offset) (listed l.number-iterator) ≡ map (record_of_group l.offset) l.fn.self.groups;
+  once : IsStrictlySortedBy (slice_cmp nat_cmp) (keys_of (seen (λ shared. arc_value shared) l.records.entries) ++ keys_of (listed l.number-iterator));
   short : list_all (λ group. few group.1) (listed l.number-iterator) ≡ true;
+  decimal : list_all (λ group. is_decimal group.0) (listed l.number-iterator) ≡ true;
+  kept : list_all (λ entry. is_decimal entry.0) (seen (λ shared. arc_value shared) l.records.entries) ≡ true;
   count : length l.records.entries + length l.number-iterator ≤ 100000;
 }

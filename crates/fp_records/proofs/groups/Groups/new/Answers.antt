@@ -1,10 +1,10 @@
 use Rattle.std.proofs.Common.{refl}
-use Rattle.fp_records.proofs.Orders.{once-seen}
+use Rattle.fp_records.proofs.Orders.{keys-seen}
 use Rattle.fp_records.proofs.groups.Groups.new.Goals as goal
 
 pub returns : goal.returns
 returns c = record {
   count = refl;
   each = λ digits. rw c.new.ensures.empty refl;
-  once = once-seen (λ key. key.items) (λ rules. rules.items) c.new.result.entries c.new.ensures.ordered;
+  once = rw (keys-seen (λ rules. rules.items) c.new.result.entries) c.new.ensures.ordered;
 }

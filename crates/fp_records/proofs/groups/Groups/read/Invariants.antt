@@ -1,10 +1,10 @@
-use Rattle.std.proofs.Common.{◌≡◌, List, [], drop, map}
-use Rattle.csv.specs.Records.{fields_of}
-use Rattle.fp_records.specs.File.{rules_from}
-use Rattle.fp_records.specs.Groups.{Groups}
+use Rattle.std.proofs.Common.{ℕ, List, length}
 use Rattle.fp_records.specs.declared.fields.NumberedRule.{NumberedRule}
+use Rattle.fp_records.proofs.Grouping.{SoFar}
 use Rattle.fp_records.proofs.groups.Groups.read.Given as goal
 
-abbrev pub invariant-loop-row : goal.invariant-loop-row
-invariant-loop-row l =
-    (before : List NumberedRule) × Groups before l.groups × (rules_from before (map fields_of (drop l.row-index l.rows)) ≡ rules_from [] (map fields_of l.rows))
+abbrev pub invariant-loop-groups : goal.invariant-loop-groups
+invariant-loop-groups l = (front : List (List (List ℕ))) × (before : List NumberedRule) × SoFar l.fn.records l.records l.groups front before
+
+abbrev pub decreases-loop-groups : goal.decreases-loop-groups
+decreases-loop-groups l = length l.records.rows
