@@ -1,0 +1,8 @@
+-- What holds of all local identifiers.
+use Rattle.std.specs.Prelude.{◌≡◌, ℕ, ◌^◌, ◌<◌}
+use Rattle.fp_tids.specs.Identifiers.{identifier}
+
+-- an identifier tells its link and its serial
+abbrev pub IdentifiersAreDistinct : Type 0
+IdentifiersAreDistinct =
+    (k l m n : ℕ) → k < 8 → l < 8 → m < 2 ^ 29 → n < 2 ^ 29 → identifier k m ≡ identifier l n → (k ≡ l) × (m ≡ n)

@@ -1,0 +1,5 @@
+mod Dues
+mod Lookups
+mod Maps
+mod Order
+mod Searches

@@ -1,0 +1,3 @@
+pub mod Deadlines
+pub mod Laws
+pub mod Timers
