@@ -1,4 +1,4 @@
--- That `==` tells exactly where two entries are the same, their records by their rules.
+-- That `==` tells exactly where two entries are the same, their records by what they say.
 use Rattle.std.specs.Prelude.{Bool, refl}
 use Rattle.fp_digits.specs.Exact.{IsExact, of_bool, of_both, of_enum, of_integer, of_last, of_list, of_natural, of_none, of_option, of_struct}
 use Rattle.fp_apdu.specs.contracts.opening.Opening as opening

@@ -9,7 +9,7 @@ use fp_inap::Event;
 use fp_q773::{GeneralProblem, InvokeProblem};
 use std::alloc::AllocError;
 
-/// What a dialogue is handed at a time. Two are equal exactly where they are the same, their records by their rules
+/// What a dialogue is handed at a time. Two are equal exactly where they are the same, their records by what they say
 /// ([`equal_entries_are_the_same`](crate::equal_entries_are_the_same)). Comparing takes no memory: the moments come
 /// first, then the fields of fixed size, and the records last.
 #[derive(Debug, PartialEq, Eq, Drop)]
