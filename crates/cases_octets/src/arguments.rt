@@ -10,7 +10,6 @@
 //! | `continue IDENTIFIER` | the octets of the Invoke of Continue |
 //! | `operation CODE` | the operation of this code, with its code and class; or `-` |
 //! | `event CODE` | the event of this code, and the code that it has |
-//! | `mode NAME` | the code of this monitor mode, as `interrupted` |
 //! | `error NAME` | the code of this error, as `missingParameter` |
 //!
 //! A number is its nature of address and behind a colon its digits, as `3:800123456`; a leg is its side and its
@@ -19,8 +18,8 @@
 use crate::elements::{element_of, new_writer, written_text};
 use fp_digits::{Cause, Number};
 use fp_inap::{
-    Event, Leg, MonitorMode, Operation, OperationError, read_event_report, read_initial_dp,
-    write_connect, write_continue, write_release, write_request_report,
+    Event, Leg, Operation, OperationError, read_event_report, read_initial_dp, write_connect,
+    write_continue, write_release, write_request_report,
 };
 use std::alloc::Global;
 use std::fmt;
@@ -153,17 +152,6 @@ fn event(alloc: Global, code: u8) -> anyhow::Result<String> {
     Ok(format!(in alloc; "{event:?}, code {}", event.code())?)
 }
 
-/// The code of the monitor mode of this name.
-fn mode(alloc: Global, name: &str) -> anyhow::Result<String> {
-    let mode = match name {
-        "interrupted" => MonitorMode::Interrupted,
-        "notifyAndContinue" => MonitorMode::NotifyAndContinue,
-        "transparent" => MonitorMode::Transparent,
-        _ => anyhow::bail!("no monitor mode"),
-    };
-    Ok(format!(in alloc; "code {}", mode.code())?)
-}
-
 /// The code of the error of this name.
 fn error(alloc: Global, name: &str) -> anyhow::Result<String> {
     let error = match name {
@@ -187,7 +175,6 @@ pub(crate) fn case(alloc: Global, words: &[&str]) -> anyhow::Result<Option<Strin
         ["continue", identifier] => continuing(alloc, identifier.parse()?)?,
         ["operation", code] => operation(alloc, code.parse()?)?,
         ["event", code] => event(alloc, code.parse()?)?,
-        ["mode", name] => mode(alloc, name)?,
         ["error", name] => error(alloc, name)?,
         _ => return Ok(None),
     };

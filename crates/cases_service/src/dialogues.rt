@@ -9,16 +9,17 @@
 //! | `reply LOCAL PEER REQUEST` | the frame of a request, told as in `request`, where the dialogue has these two identifiers |
 //! | `provider-abort PEER CAUSE` | the frame of an Abort of the provider for this cause, where the peer has this identifier |
 //!
-//! Noon is 2024-05-06T12:00:00Z. The application context 2A0304 is accepted. A Begin begins the dialogue anew, the first
-//! of its link, whose identifier is 00000001 on this side and the Begin's on the other. What is asked for is told by the
-//! frames that are sent, each with its head, or `none`; behind that stands `over`, or the moment in milliseconds after
-//! noon at which the clock does something next, as in `none, due 10000`. Each entry is handed to the service step, also
-//! where the dialogue is over.
+//! Noon is 2024-05-06T12:00:00Z. The application context 2A0304 is accepted. A Begin begins the dialogue anew, the
+//! first of its link, whose identifier is 00000001 on this side and the Begin's on the other. What is asked for is told
+//! by the frames that are sent, each with its head, or `none`; behind that stands `over`, or the moment in milliseconds
+//! after noon at which the clock does something next, as in `none, due 10000`. Each entry is handed to the service
+//! step, also where the dialogue is over.
 
 mod request;
 
 use crate::steps::numbers::NumbersFile;
 use crate::steps::{NOON, after_noon};
+use crate::words::local_of;
 use bytes::Bytes;
 use fp_apdu::Name;
 use fp_digits::Moment;
@@ -170,7 +171,7 @@ fn at(alloc: Global, scene: &mut Scene, milliseconds: &str, event: &str) -> anyh
 
 /// The frame of a request.
 fn reply(alloc: Global, local: &str, peer: &str, words: &[&str]) -> anyhow::Result<String> {
-    let local = request::local_of(alloc, local)?;
+    let local = local_of(alloc, local)?;
     let peer = request::peer_of(alloc, peer)?;
     let request = request::request_of(alloc, words)?;
     frame_text(alloc, &request, local, &peer)

@@ -31,6 +31,7 @@ mod comparing;
 mod reading;
 mod texts;
 
+use crate::words::joined;
 use fp_apdu::Name;
 use fp_digits::Moment;
 use fp_entry::Prepared;
@@ -103,20 +104,10 @@ fn lost(alloc: Global, moment: &str, octets: &str) -> anyhow::Result<String> {
     texts::prepared(alloc, &table, &lost)
 }
 
-/// Words as one text.
-fn text_of(alloc: Global, words: &[&str]) -> anyhow::Result<String> {
-    let mut text = String::new(alloc);
-    for word in words {
-        text.push_str(word)?;
-        text.push_str(" ")?;
-    }
-    Ok(text)
-}
-
 /// A list of entries.
 fn list(alloc: Global, moments: &str, kinds: &[&str]) -> anyhow::Result<String> {
     let table = table(alloc)?;
-    let kinds = text_of(alloc, kinds)?;
+    let kinds = joined(alloc, kinds)?;
     let entries = entries_of(alloc, &table, moments, kinds.as_str())?;
     comparing::list(alloc, &table, entries)
 }
@@ -124,7 +115,7 @@ fn list(alloc: Global, moments: &str, kinds: &[&str]) -> anyhow::Result<String> 
 /// A list and its copy, one behind the other.
 fn append(alloc: Global, moments: &str, kinds: &[&str]) -> anyhow::Result<String> {
     let table = table(alloc)?;
-    let kinds = text_of(alloc, kinds)?;
+    let kinds = joined(alloc, kinds)?;
     let entries = entries_of(alloc, &table, moments, kinds.as_str())?;
     comparing::append(alloc, &table, entries)
 }
@@ -132,7 +123,7 @@ fn append(alloc: Global, moments: &str, kinds: &[&str]) -> anyhow::Result<String
 /// Entries that are compared with one another.
 fn distinct(alloc: Global, moments: &str, kinds: &[&str]) -> anyhow::Result<String> {
     let table = table(alloc)?;
-    let kinds = text_of(alloc, kinds)?;
+    let kinds = joined(alloc, kinds)?;
     let entries = entries_of(alloc, &table, moments, kinds.as_str())?;
     comparing::distinct(alloc, &entries)
 }

@@ -12,15 +12,19 @@
 //! | `entries` | what a message brings to its dialogue |
 //! | `steps` | the service step, entry by entry |
 //! | `dialogues` | whole dialogues, from frame to frame |
+//! | `deadlines` | deadlines by local identifier, and the identifiers that a link gives |
 //! | `program` | whole runs of the program, from the command line to the exit status |
 #![tactic(auto)]
 
+mod deadlines;
 mod dialogues;
 mod entries;
 mod invocations;
+mod numbers;
 mod program;
 mod records;
 mod steps;
+mod words;
 
 use std::alloc::Global;
 use std::rt::Files;
@@ -66,6 +70,9 @@ fn given<H: Files + AllocGlobal>(
         return Ok(Some(text));
     }
     if let Some(text) = dialogues::case(alloc, &mut scene.dialogue, words)? {
+        return Ok(Some(text));
+    }
+    if let Some(text) = deadlines::case(alloc, words)? {
         return Ok(Some(text));
     }
     program::case(rt, words)

@@ -23,11 +23,12 @@ mod files;
 mod moments;
 mod texts;
 
-use crate::records::files::{file_of, hexadecimal};
+use crate::numbers::{national_number_of, number_of};
+use crate::records::files::file_of;
 use crate::records::moments::moment_of;
 use crate::records::texts::{destinations_text, digits_text, record_text, rule_text};
 use anyhow::bail;
-use fp_digits::{Digits, Moment, NatureOfAddress, Number};
+use fp_digits::{Moment, NatureOfAddress, Number};
 use fp_records::{Action, Destinations, RecordsFault, Rule, Table};
 use std::alloc::Global;
 
@@ -76,34 +77,12 @@ fn table_in(place: &Option<Table>) -> anyhow::Result<&Table> {
     Ok(table)
 }
 
-/// The digits that a text writes.
-fn digits_of(text: &str) -> anyhow::Result<Digits> {
-    let mut digits = Digits::new();
-    if text == "empty" {
-        return Ok(digits);
-    }
-    for octet in text.as_bytes() {
-        let digit = hexadecimal(*octet)?;
-        if digit > 15 || digits.len() >= Digits::MOST {
-            bail!("{text} are no digits");
-        }
-        digits.push(digit);
-    }
-    Ok(digits)
-}
-
-/// The number of this nature and these digits.
-fn number_of(nature: NatureOfAddress, text: &str) -> anyhow::Result<Number> {
-    let digits = digits_of(text)?;
-    Ok(Number { nature, digits })
-}
-
 /// The calling number, or `None` where there is none.
 fn calling_of(text: &str) -> anyhow::Result<Option<Number>> {
     if text == "none" {
         return Ok(None);
     }
-    let number = number_of(NatureOfAddress::NATIONAL, text)?;
+    let number = national_number_of(text)?;
     Ok(Some(number))
 }
 
@@ -235,7 +214,7 @@ fn tried_in_turn(alloc: Global, rule: &Rule) -> anyhow::Result<String> {
 /// The destinations that a text writes, one after the other.
 fn tried(alloc: Global, text: &str) -> anyhow::Result<String> {
     let table = routed_to(alloc, text)?;
-    let called = number_of(NatureOfAddress::NATIONAL, "5")?;
+    let called = national_number_of("5")?;
     tried_in_turn(alloc, only_rule(&table, &called)?)
 }
 
@@ -254,7 +233,7 @@ fn same_routes(alloc: Global, rule: &Rule, other: &Rule) -> anyhow::Result<Strin
 fn same_destinations(alloc: Global, text: &str, other: &str) -> anyhow::Result<String> {
     let table = routed_to(alloc, text)?;
     let other_table = routed_to(alloc, other)?;
-    let called = number_of(NatureOfAddress::NATIONAL, "5")?;
+    let called = national_number_of("5")?;
     let rule = only_rule(&table, &called)?;
     same_routes(alloc, rule, only_rule(&other_table, &called)?)
 }
@@ -263,7 +242,7 @@ fn same_destinations(alloc: Global, text: &str, other: &str) -> anyhow::Result<S
 fn of_table(alloc: Global, table: &Table, words: &[&str]) -> anyhow::Result<Option<String>> {
     let text = match words {
         ["find", "national", digits] => {
-            let called = number_of(NatureOfAddress::NATIONAL, digits)?;
+            let called = national_number_of(digits)?;
             find(alloc, table, &called)?
         }
         ["find", "international", digits] => {
@@ -271,7 +250,7 @@ fn of_table(alloc: Global, table: &Table, words: &[&str]) -> anyhow::Result<Opti
             find(alloc, table, &called)?
         }
         ["choose", called, calling, moment, birth] => {
-            let called = number_of(NatureOfAddress::NATIONAL, called)?;
+            let called = national_number_of(called)?;
             let calling = calling_of(calling)?;
             let moment = moment_of(alloc, moment)?;
             choose(
@@ -284,7 +263,7 @@ fn of_table(alloc: Global, table: &Table, words: &[&str]) -> anyhow::Result<Opti
             )?
         }
         ["holds", called, minute] => {
-            let called = number_of(NatureOfAddress::NATIONAL, called)?;
+            let called = national_number_of(called)?;
             holds(alloc, only_rule(table, &called)?, minute_of(minute)?)?
         }
         _ => return Ok(None),
@@ -305,7 +284,7 @@ pub(crate) fn case(
             return of_table(alloc, table_in(&scene.file)?, words);
         }
         ["same-record", called] => {
-            let called = number_of(NatureOfAddress::NATIONAL, called)?;
+            let called = national_number_of(called)?;
             let table = table_in(&scene.file)?;
             let other = table_in(&scene.other_file)?;
             same_record(alloc, table, other, &called)?

@@ -1,5 +1,5 @@
 -- Octets that grow at their front by one element after another: what `canon` of elements comes to.
-use Rattle.std.proofs.Common.{◌≡◌, ℕ, ◌≤◌, List, ◌++◌, length, refl, sym, ◌∙◌, ap, arith, append_assoc, length-append}
+use Rattle.std.proofs.Common.{◌≡◌, ℕ, zero, suc, ◌-◌, ◌<◌, ◌≤◌, List, ◌∷◌, ◌++◌, length, get_or, drop, drop-cons, refl, sym, ◌∙◌, ap, arith, append_assoc, length-append}
 use Rattle.fp_ber.specs.Canon.{canon, canon_of_all}
 use Rattle.fp_ber.specs.Tree.{Tree, Trees, none, more}
 
@@ -16,3 +16,12 @@ alone t rest new put = before_others t none rest rest new put refl
 -- as many octets as were there still are
 pub still_behind : (t : Tree) (behind : ℕ) (old new : List ℕ) → new ≡ canon t ++ old → behind ≤ length old → behind ≤ length new
 still_behind t behind old new put fits = omega (arith, ap length put, length-append (canon t) old)
+
+-- what stands from a place on, and what stands before it: a list that is gone through from its end
+pub drop_before : {A : Type 0} (items : List A) (n : ℕ) (item : A) → 0 < n → n ≤ length items → item ≡ get_or items (n - 1) item
+    → drop (n - 1) items ≡ item ∷ drop n items
+drop_before items zero item h l is = absurd (omega arith)
+drop_before items (suc n) item h l is =
+    let e : suc n - 1 ≡ n = omega arith in
+    let is' : item ≡ get_or items n item = rw e at is in
+    rw e (drop-cons items n item (omega arith) ∙ ap (λ x. x ∷ drop (suc n) items) (sym is'))

@@ -9,7 +9,8 @@ first_octet class false low = 64 * class_code class + low
 first_octet class true low = 64 * class_code class + 32 + low
 
 -- The octets of a tag. A number below 31 stands in the first; a greater one in one or two octets of seven
--- bits, all but the last marked by 128, with no octet more than it takes. Number 0 of the universal class is no element's.
+-- bits, all but the last marked by 128, with no octet more than it takes. Number 0 of the universal class is no
+-- element's.
 abbrev pub IsTag : List ℕ → Class → Bool → ℕ → Type 0
 IsTag [] class form number = ⊥
 IsTag (a ∷ []) class form number = (a ≡ first_octet class form number) × (number < 31) × (0 < class_code class + number)

@@ -5,8 +5,8 @@
 //!
 //! * [`read`] takes all three forms of a length (X.690, 8.1.3), minimal or not, and tags in one to three
 //!   octets (8.1.2). What it can't read it refuses by the first fault from left to right, a [`BerFault`].
-//! * [`write`] appends the canonical spelling: definite lengths in as few octets as they take (10.1). A [`Writer`] makes
-//!   it from its end to its front, without an element.
+//! * [`write`] appends the canonical spelling: definite lengths in as few octets as they take (10.1). A [`Writer`]
+//!   makes it from its end to its front, without an element.
 //! * [`Element`] and [`Body`] are the value: a class, a number, and octets or elements.
 //! * [`length_at`] reads a length alone, where the octets needn't be an element.
 //!

@@ -4,7 +4,7 @@
 //! made from its end to its front: the contents first, and then their tag and length before them. No element is built
 //! on the way.
 
-ghost use Rattle.std.specs.Prelude.{◌≡◌, ◌<◌, ◌≤◌, ◌^◌, ◌++◌, ℕ, List, [], IfOk, OnOk, drop, length, reverse, take, vec_len};
+ghost use Rattle.std.specs.Prelude.{◌≡◌, ◌<◌, ◌≤◌, ◌^◌, ◌++◌, ℕ, List, [], IfOk, OnOk, OnErr, drop, length, reverse, take, vec_len};
 ghost use Rattle.std.specs.Prelude as lists;
 ghost use Rattle.fp_ber.specs.Canon.{HasLengths, canon, canon_of_all, length_octets, tag_octets};
 ghost use Rattle.fp_ber.specs.Tree as tree;
@@ -18,7 +18,8 @@ use std::alloc::{AllocError, Global};
 use std::marker::Model;
 
 /// Octets that grow at their front, less than 2^32 of them. Contracts see them as their list, the first one first.
-/// After want of memory nothing is promised of the octets. More than 2^32 - 1 octets count as want of memory.
+/// Where memory is wanting for what is put, the octets are as they were. More than 2^32 - 1 octets count as want of
+/// memory.
 #[derive(Debug, Drop)]
 pub struct Writer {
     /// The octets, the last one first.
@@ -69,7 +70,8 @@ impl Writer {
 
     /// Puts octets before those that are there. More than 2^32 - 1 in all are want of memory.
     pub fn put(&mut self, octets: &[u8]) -> Result<(), AllocError>
-        ensures { OnOk result (self.new ≡ octets.now ++ self.old) }
+        ensures ok { OnOk result (self.new ≡ octets.now ++ self.old) }
+        ensures err { OnErr result (self.new ≡ self.old) }
     {
         let length = self.reversed.len();
         if octets.len() > MOST - length {
@@ -84,15 +86,24 @@ impl Writer {
     fn put_header(&mut self, tag: Tag, length: usize) -> Result<(), AllocError>
         requires tag { IsTagNumber tag.class tag.number }
         requires length { length < 2 ^ 32 }
-        ensures { OnOk result (self.new ≡ tag_octets tag.class tag.constructed tag.number ++ (length_octets length ++ self.old)) }
+        ensures ok { OnOk result (self.new ≡ tag_octets tag.class tag.constructed tag.number ++ (length_octets length ++ self.old)) }
+        ensures err { OnErr result (self.new ≡ self.old) }
     {
         let mut header = [0; HEADER];
         let start = put_header(tag, length, &mut header, HEADER);
         self.put(&header[start..])
     }
 
-    /// Puts the canonical spelling of a primitive element before the octets that are there. More than 2^32 - 1 octets in
-    /// all are want of memory.
+    /// Takes away all octets but the last ones, this many.
+    fn keep_behind(&mut self, behind: usize)
+        requires { behind ≤ length self.old }
+        ensures { (front rest : List ℕ) → self.old ≡ front ++ rest → length rest ≡ behind → self.new ≡ rest }
+    {
+        self.reversed.truncate(behind);
+    }
+
+    /// Puts the canonical spelling of a primitive element before the octets that are there. More than 2^32 - 1 octets
+    /// in all are want of memory.
     pub fn put_primitive(
         &mut self,
         class: Class,
@@ -100,7 +111,8 @@ impl Writer {
         octets: &[u8],
     ) -> Result<(), AllocError>
         requires tag { IsTagNumber class number }
-        ensures { OnOk result (self.new ≡ canon (tree.primitive class number octets.now) ++ self.old) }
+        ensures ok { OnOk result (self.new ≡ canon (tree.primitive class number octets.now) ++ self.old) }
+        ensures err { OnErr result (self.new ≡ self.old) }
     {
         let behind = self.len();
         self.put(octets)?;
@@ -110,7 +122,11 @@ impl Writer {
             constructed: false,
             number,
         };
-        self.put_header(tag, length)
+        if self.put_header(tag, length).is_err() {
+            self.keep_behind(behind);
+            return Err(AllocError);
+        }
+        Ok(())
     }
 
     /// Puts a tag and a length before the spellings of elements, so that with the elements behind them they are a
@@ -123,8 +139,9 @@ impl Writer {
     ) -> Result<(), AllocError>
         requires tag { IsTagNumber class number }
         requires behind { behind ≤ length self.old }
-        ensures { (children : tree.Trees) (rest : List ℕ) → self.old ≡ canon_of_all children ++ rest → length rest ≡ behind
+        ensures ok { (children : tree.Trees) (rest : List ℕ) → self.old ≡ canon_of_all children ++ rest → length rest ≡ behind
             → OnOk result (self.new ≡ canon (tree.constructed class number children) ++ rest) }
+        ensures err { OnErr result (self.new ≡ self.old) }
     {
         let length = self.reversed.len() - behind;
         let tag = Tag {
@@ -140,7 +157,8 @@ impl Writer {
     pub fn put_element(&mut self, element: &Element) -> Result<(), AllocError>
         requires tags { HasTags (tree_of element.now) }
         requires lengths { HasLengths (tree_of element.now) }
-        ensures { OnOk result (self.new ≡ canon (tree_of element.now) ++ self.old) }
+        ensures ok { OnOk result (self.new ≡ canon (tree_of element.now) ++ self.old) }
+        ensures err { OnErr result (self.new ≡ self.old) }
     {
         let length = self.reversed.len();
         if size_of(element) > MOST - length {

@@ -25,10 +25,10 @@
 //!
 //! The layer above may rely on this: what is answered is what `specs/Prepared.antt` says of the octets, and want of
 //! memory aside nothing else could be ([`prepared_is_one`]); the entries are those that `specs/Entries.antt` has for
-//! the message, and `specs/Component.antt` for each component. Contracts see [`Entries`] as their list. Copies are equal
-//! to what they are copied from, and two entries are equal by `==` exactly where they are the same, their records by
-//! their rules ([`equal_entries_are_the_same`]). All that takes memory is [`Prepared::read`], copies, [`Entries::push`]
-//! and [`Entries::append`].
+//! the message, and `specs/Component.antt` for each component. Contracts see [`Entries`] as their list. Copies are
+//! equal to what they are copied from, and two entries are equal by `==` exactly where they are the same, their records
+//! by their rules ([`equal_entries_are_the_same`]). All that takes memory is [`Prepared::read`], copies,
+//! [`Entries::push`] and [`Entries::append`].
 #![tactic(auto)]
 
 mod arrival;

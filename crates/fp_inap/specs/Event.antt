@@ -24,6 +24,6 @@ code_of ODisconnect = 9
 code_of OAbandon = 10
 code_of (Other code) = code
 
--- the event is the one that its code gives: where the code has a name, it is not `Other`
+-- an event that has a name is told by it: `Other` is an event whose code has none
 abbrev pub IsByName : Event → Type 0
 IsByName event = event_of (code_of event) ≡ event

@@ -5,15 +5,18 @@ use Rattle.fp_ber.specs.declared.element.Class.TheVariants.{Universal, Context}
 use Rattle.fp_ber.specs.Tree.{Tree, Trees, primitive, constructed, none, more}
 use Rattle.fp_inap.specs.declared.event.Event.{Event}
 use Rattle.fp_inap.specs.declared.event.Event.TheVariants.{RouteSelectFailure, OCalledPartyBusy, ONoAnswer, OAnswer, OAbandon}
-use Rattle.fp_inap.specs.declared.monitor_mode.MonitorMode.{MonitorMode}
-use Rattle.fp_inap.specs.declared.monitor_mode.MonitorMode.TheVariants.{Interrupted, NotifyAndContinue, Transparent}
 use Rattle.fp_inap.specs.Event.{code_of}
+
+-- what a switch does at an event, monitorMode: it reports the event as a request and waits, or as a notification and
+-- goes on. That it reports nothing, transparent, is never asked for.
+pub data MonitorMode : Type 0 where
+  interrupted : MonitorMode
+  notify_and_continue : MonitorMode
 
 -- the codes of the monitor modes
 abbrev pub mode_code : MonitorMode → ℕ
-mode_code Interrupted = 0
-mode_code NotifyAndContinue = 1
-mode_code Transparent = 2
+mode_code interrupted = 0
+mode_code notify_and_continue = 1
 
 -- an event that a switch is to watch for, with its monitor mode and its leg, of the sending side
 pub record BcsmEvent : Type 0 where
@@ -37,11 +40,11 @@ bcsm_events (event ∷ events) = more (bcsm_event event) (bcsm_events events)
 -- the ends of an attempt that failed on leg 2, the answer on leg 2, and the caller's abandoning on leg 1
 abbrev pub call_events : List BcsmEvent
 call_events =
-    (record { event = RouteSelectFailure; mode = Interrupted; leg = 2 })
-    ∷ (record { event = OCalledPartyBusy; mode = Interrupted; leg = 2 })
-    ∷ (record { event = ONoAnswer; mode = Interrupted; leg = 2 })
-    ∷ (record { event = OAnswer; mode = NotifyAndContinue; leg = 2 })
-    ∷ (record { event = OAbandon; mode = NotifyAndContinue; leg = 1 })
+    (record { event = RouteSelectFailure; mode = interrupted; leg = 2 })
+    ∷ (record { event = OCalledPartyBusy; mode = interrupted; leg = 2 })
+    ∷ (record { event = ONoAnswer; mode = interrupted; leg = 2 })
+    ∷ (record { event = OAnswer; mode = notify_and_continue; leg = 2 })
+    ∷ (record { event = OAbandon; mode = notify_and_continue; leg = 1 })
     ∷ []
 
 abbrev pub request_report : Tree

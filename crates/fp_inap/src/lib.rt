@@ -6,7 +6,7 @@
 //! system for nothing but the memory of what it writes; reading takes none.
 //!
 //! * [`Operation`] and [`OperationError`] name the operations and their errors, and are the one place of
-//!   their codes and classes; [`Event`], [`MonitorMode`] and [`Leg`] name what the arguments speak of.
+//!   their codes and classes; [`Event`] and [`Leg`] name what the arguments speak of.
 //! * [`InitialDp`] and [`EventReport`] are what the arguments of InitialDP and EventReportBCSM say;
 //!   [`read_initial_dp`] and [`read_event_report`] read them.
 //! * [`write_connect`], [`write_release`] and [`write_request_report`] put arguments, and
@@ -30,7 +30,6 @@ mod laws;
 mod leg;
 mod members;
 mod mistyped;
-mod monitor_mode;
 mod operation;
 mod operation_error;
 mod release_call;
@@ -44,7 +43,6 @@ pub use initial_dp::{InitialDp, read_initial_dp};
 pub use laws::{event_reports_are_one, initial_dps_are_one};
 pub use leg::Leg;
 pub use mistyped::Mistyped;
-pub use monitor_mode::MonitorMode;
 pub use operation::Operation;
 pub use operation_error::OperationError;
 pub use release_call::write_release;

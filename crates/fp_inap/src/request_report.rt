@@ -8,8 +8,8 @@ ghost use Rattle.fp_inap.specs.RequestReport.{request_report};
 use fp_ber::Writer;
 use std::alloc::AllocError;
 
-/// The argument of RequestReportBCSMEvent by which a call is followed, which is always the same. Each event is a sequence
-/// of eventTypeBCSM, tag 80, monitorMode, 81, and legID, A2, of the sending side, 80.
+/// The argument of RequestReportBCSMEvent by which a call is followed, which is always the same. Each event is a
+/// sequence of eventTypeBCSM, tag 80, monitorMode, 81, and legID, A2, of the sending side, 80.
 const REQUEST_REPORT: [u8; 69] = [
     // A sequence, and in it bcsmEvents.
     0x30, 67, 0xA0, 65,

@@ -1,4 +1,5 @@
--- What a push and a removal at the end of the list do to an array with zeros behind the list, and a list laid over zeros.
+-- What a push and a removal at the end of the list do to an array with zeros behind the list, and a list laid over
+-- zeros.
 use Rattle.std.proofs.Common.{◌≡◌, ℕ, suc, ◌+◌, ◌-◌, ◌<◌, List, ◌∷◌, ◌++◌, ◌≤◌, length, drop, set, refl, sym, ◌∙◌, ap, arith, length-append, length-drop}
 use Rattle.std.specs.Prelude.{replicate}
 use Rattle.std.proofs.lemmas.List.{drop-drop, drop-replicate, drop-set, drop-set-lt, length-replicate, length-set}

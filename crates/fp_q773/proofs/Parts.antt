@@ -1,5 +1,5 @@
 -- The parts of a message from those of its elements.
-use Rattle.std.proofs.Common.{◌≡◌, ℕ, zero, suc, List, [], ◌∷◌, ◌++◌, length, ◌<◌, ◌≤◌, ◌-◌, get_or, drop, drop-cons, map, Option, Some, None, IfSome, IfNone, Bor, inl, inr, refl, sym, ◌∙◌, ap, subst, arith}
+use Rattle.std.proofs.Common.{◌≡◌, ℕ, zero, suc, List, [], ◌∷◌, ◌++◌, length, ◌<◌, ◌≤◌, get_or, map, Option, Some, None, IfSome, IfNone, Bor, inl, inr, refl, sym, ap, subst, arith}
 use Rattle.fp_ber.specs.declared.element.Element.{Element}
 use Rattle.fp_ber.specs.Tree.{Tree, Trees, none, more, trees_with}
 use Rattle.fp_ber.specs.View.{tree_of, forest_of}
@@ -49,20 +49,6 @@ room_at [] i c h = absurd (omega arith)
 room_at (first ∷ components) zero c h = omega arith
 room_at (first ∷ components) (suc i) c h =
     let less = room_at components i c (omega arith) in omega arith
-
--- those from a place on, and the one before them
-pub drop_before : (components : List Component) (n : ℕ) (c : Component) → 0 < n → n ≤ length components → c ≡ get_or components (n - 1) c
-    → drop (n - 1) components ≡ c ∷ drop n components
-drop_before components zero c h l is = absurd (omega arith)
-drop_before components (suc n) c h l is =
-    let e : suc n - 1 ≡ n = omega arith in
-    let is' : c ≡ get_or components n c = rw e at is in
-    rw e (drop-cons components n c (omega arith) ∙ ap (λ (x : Component). x ∷ drop (suc n) components) (sym is'))
-
--- none stand behind all
-pub drop_all : (components : List Component) → drop (length components) components ≡ []
-drop_all [] = refl
-drop_all (first ∷ components) = drop_all components
 
 -- two elements are no component portion
 pub two_are_no_portion : (ts : Trees) (a : Tree) (es : List Element) → ts ≡ more a (forest_of es) → 0 < length es → (values : List ComponentValue)

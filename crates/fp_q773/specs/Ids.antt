@@ -36,7 +36,8 @@ abbrev pub IsMarked : ℕ → List ℕ → Type 0
 IsMarked tag octets = (rest : List ℕ) × (octets ≡ tag ∷ rest)
 
 -- The identifiers in the contents of a message of this kind: the originating one, tag 48, and the destination one,
--- tag 49. The first that doesn't count ends the reading. Where the kind is unknown a 48 that isn't there is passed over.
+-- tag 49. The first that doesn't count ends the reading. Where the kind is unknown a 48 that isn't there is passed
+-- over.
 abbrev pub AreIdsIn : Kind → List ℕ → Option (List ℕ) → Option (List ℕ) → Type 0
 AreIdsIn Unidirectional octets originating destination = (originating ≡ None) × (destination ≡ None)
 AreIdsIn Begin octets originating destination = Counts 0x48 octets originating × (destination ≡ None)

@@ -143,13 +143,18 @@ impl<'a> Abort<'a> {
     {
         let behind = out.len();
         self.write_reason(out)?;
-        write_user_abort(self.destination, behind, out)
+        write_abort_message(self.destination, behind, out)
     }
 }
 
-/// Writes what stands before the reason of an Abort. The octets before the last `behind` ones are the spelling of
-/// its reason, and there are none where it has none. After want of memory nothing is promised of the octets.
-pub fn write_user_abort(destination: Tid, behind: usize, out: &mut Writer) -> Result<(), AllocError>
+/// Writes what stands before the reason of an Abort, of the user or of the provider. The octets before the last
+/// `behind` ones are the spelling of its reason, and there are none where it has none. After want of memory nothing is
+/// promised of the octets.
+pub fn write_abort_message(
+    destination: Tid,
+    behind: usize,
+    out: &mut Writer,
+) -> Result<(), AllocError>
     requires behind { behind ≤ length out.old }
 
     // The Abort stands before the last octets.

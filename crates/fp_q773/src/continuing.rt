@@ -74,13 +74,13 @@ impl<'a> Continue<'a> {
     {
         let behind = out.len();
         write_portions(self.dialogue, self.components.as_slice(), out)?;
-        write_continue(self.originating, self.destination, behind, out)
+        write_continue_message(self.originating, self.destination, behind, out)
     }
 }
 
 /// Writes what stands before the portions of a Continue. The octets before the last `behind` ones are the spelling of
 /// its portions, and there are none where it has none. After want of memory nothing is promised of the octets.
-pub fn write_continue(
+pub fn write_continue_message(
     originating: Tid,
     destination: Tid,
     behind: usize,

@@ -67,13 +67,17 @@ impl<'a> End<'a> {
     {
         let behind = out.len();
         write_portions(self.dialogue, self.components.as_slice(), out)?;
-        write_end(self.destination, behind, out)
+        write_end_message(self.destination, behind, out)
     }
 }
 
 /// Writes what stands before the portions of an End. The octets before the last `behind` ones are the spelling of
 /// its portions, and there are none where it has none. After want of memory nothing is promised of the octets.
-pub fn write_end(destination: Tid, behind: usize, out: &mut Writer) -> Result<(), AllocError>
+pub fn write_end_message(
+    destination: Tid,
+    behind: usize,
+    out: &mut Writer,
+) -> Result<(), AllocError>
     requires behind { behind ≤ length out.old }
 
     // The End stands before the last octets.

@@ -37,9 +37,9 @@ pub fn numbers_are_four_octets()
     ensures each { FourOctetsAreANumber }
 {}
 
-/// What is written for a message that can be written, and is read back as itself, is an element that can be spelled: its tags are those that elements may have, if those
-/// of its parameters and its dialogue portion are; its canonical spelling is no longer than the room of the message; and
-/// four octets say its lengths, if that isn't too long.
+/// What is written for a message that can be written, and is read back as itself, is an element that can be spelled:
+/// its tags are those that elements may have, if those of its parameters and its dialogue portion are; its canonical
+/// spelling is no longer than the room of the message; and four octets say its lengths, if that isn't too long.
 pub fn written_messages_are_elements()
     ensures tags { WrittenHasTags }
     ensures room { WrittenHasRoom }

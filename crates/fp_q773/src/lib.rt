@@ -11,9 +11,9 @@
 //! * [`OperationClass`] is what the far end reports of an operation.
 //! * [`message_of`] reads a message and borrows all parameters from the element; [`write_message`] puts the
 //!   octets of a message into a [`Writer`](fp_ber::Writer).
-//! * [`write_invoke`], [`write_return_error`], [`write_component_portion`], [`write_continue`], [`write_end`]
-//!   and [`write_user_abort`] put what stands before the octets of their contents, which are there already:
-//!   so a message is written from its end to its front, without an element.
+//! * [`write_invoke`], [`write_return_error`], [`write_component_portion`], [`write_continue_message`],
+//!   [`write_end_message`] and [`write_abort_message`] put what stands before the octets of their contents, which are
+//!   there already: so a message is written from its end to its front, without an element.
 //! * [`ids_of`] tells the kind and the transaction identifiers of octets that needn't be a message, and
 //!   [`write_abort`] spells an Abort of the provider. Neither takes memory.
 //!
@@ -51,12 +51,12 @@ mod return_result;
 mod tid;
 mod transaction;
 
-pub use abort::{Abort, AbortReason, write_user_abort};
+pub use abort::{Abort, AbortReason, write_abort_message};
 pub use begin::Begin;
 pub use coded::{Code, Coded};
 pub use component::Component;
-pub use continuing::{Continue, write_continue};
-pub use end::{End, write_end};
+pub use continuing::{Continue, write_continue_message};
+pub use end::{End, write_end_message};
 pub use fault::MessageFault;
 pub use ids::{Ids, ids_of};
 pub use invoke::{Invoke, write_invoke};

@@ -70,8 +70,8 @@ impl<'a> ReturnError<'a> {
     }
 }
 
-/// Writes what stands before the parameter of a ReturnError. The octets before the last `behind` ones are the spelling of
-/// its parameter, and there are none where it has none. After want of memory nothing is promised of the octets.
+/// Writes what stands before the parameter of a ReturnError. The octets before the last `behind` ones are the spelling
+/// of its parameter, and there are none where it has none. After want of memory nothing is promised of the octets.
 pub fn write_return_error(
     identifier: i8,
     code: Code<'_>,

@@ -1,5 +1,5 @@
--- The rule that the fields of a record are, or what is first wrong with them. A record has these fields, and behind them
--- its destinations:
+-- The rule that the fields of a record are, or what is first wrong with them. A record has these fields, and behind
+-- them its destinations:
 --
 --     0 number   1 prefix   2 days   3 from   4 to   5 weight   6 action   7.. destinations
 use Rattle.std.specs.Prelude.{ℕ, List, [], ◌∷◌, Bool, true, false, ◌&&◌, not, Option, Some, None, Result, Ok, Err, codes, drop, find, is_some, length, map, option_and_then, option_map, bytes_eq, nat_le, nat_lt, unwrap_or, ◌==◌, if◌then◌else◌}

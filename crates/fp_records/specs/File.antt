@@ -59,7 +59,8 @@ abbrev pub FaultUnder : Option Head → List (List (List ℕ)) → ℕ → Reaso
 FaultUnder None rows at reason = (at ≡ 1) × (reason ≡ BadHead)
 FaultUnder (Some head) rows at reason = FirstRefused 1 rows at reason
 
--- the first faulty record of a text has this place, counted from 1, and this fault; a text without records lacks the head
+-- the first faulty record of a text has this place, counted from 1, and this fault; a text without records lacks the
+-- head
 abbrev pub FirstFault : List (List (List ℕ)) → ℕ → Reason → Type 0
 FirstFault [] at reason = (at ≡ 1) × (reason ≡ BadHead)
 FirstFault (first ∷ rows) at reason = FaultUnder (head_of first) rows at reason

@@ -7,9 +7,9 @@ ghost use Rattle.fp_records.specs.Digits.{decimal_of, digits_of, some_digits_of}
 use fp_octets::Octets;
 use std::marker::Model;
 
-/// At most 15 decimal digits, each a value from 0 to 9, the first one first. Contracts see them as a list. Two are equal
-/// exactly where they have the same digits; in their order the first digits that differ decide, and else the one with
-/// fewer digits is the less.
+/// At most 15 decimal digits, each a value from 0 to 9, the first one first. Contracts see them as a list. Two are
+/// equal exactly where they have the same digits; in their order the first digits that differ decide, and else the one
+/// with fewer digits is the less.
 #[derive(Clone, Copy, Debug, PartialEq, Eq, PartialOrd, Ord)]
 pub struct DecimalDigits {
     digits: Octets<15>,

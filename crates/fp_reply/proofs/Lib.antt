@@ -1,4 +1,3 @@
-pub mod Components
 pub mod Frames
 pub mod Nesting
 pub mod Sending

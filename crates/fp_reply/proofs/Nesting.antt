@@ -1,13 +1,10 @@
 -- How many elements of what is sent lie inside each other.
-use Rattle.std.proofs.Common.{◌≡◌, ℕ, ◌≤◌, List, [], ◌∷◌, map, Option, Some, None, Result, Ok, Err, IfOk, arith}
+use Rattle.std.proofs.Common.{ℕ, ◌≤◌, List, [], ◌∷◌, map, Option, Some, None, arith}
 use Rattle.std.proofs.Math.Nat.{max-le}
 use Rattle.std.specs.Prelude.{⊤}
 use Rattle.fp_ber.specs.Tree.{HasTags, InRange, Tree, nesting, nesting_of_all}
-use Rattle.fp_ber.specs.View.{tree_of}
-use Rattle.fp_ber.specs.declared.element.Element.{Element}
-use Rattle.fp_q773.specs.Copied.{CopiesHaveTags}
 use Rattle.fp_q773.specs.Problem.{problem_of}
-use Rattle.fp_q773.specs.Value.{ComponentValue, MessageValue, ProblemValue, tagged}
+use Rattle.fp_q773.specs.Value.{ComponentValue, ProblemValue, tagged}
 use Rattle.fp_q773.specs.Written.{component_tree, component_trees, portions_trees, problem_tree, written}
 use Rattle.fp_reply.specs.Reply.{acceptance_portion, component_value, reply}
 use Rattle.fp_service.specs.declared.component.Component.{Component}

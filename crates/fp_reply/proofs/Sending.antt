@@ -1,7 +1,7 @@
 -- What can be sent, of parts that can.
-use Rattle.std.proofs.Common.{◌≡◌, ℕ, ℤ, ◌+◌, ◌*◌, ◌<◌, ◌≤◌, ◌^◌, List, [], ◌∷◌, ◌++◌, length, map, Option, Some, None, option_map, All, append-nil, ◌∙◌, arith}
+use Rattle.std.proofs.Common.{◌≡◌, ℕ, ℤ, ◌*◌, ◌≤◌, List, [], ◌∷◌, ◌++◌, length, Option, Some, None, option_map, All, append-nil, ◌∙◌, arith}
 use Rattle.std.proofs.lemmas.List.Elements.{All-cons, All-nil}
-use Rattle.fp_ber.specs.Canon.{canon, canon_of_all}
+use Rattle.fp_ber.specs.Canon.{canon_of_all}
 use Rattle.fp_ber.specs.Putting.{before_others}
 use Rattle.fp_ber.specs.Tree.{HasTags, InRange, Tree}
 use Rattle.fp_q773.specs.Copied.{ComponentsHaveTags}

@@ -1,6 +1,6 @@
 -- What is sent for a request of the service logic: a message (Q.773, 4.2) in its canonical spelling (X.690, 10.1), and
 -- before it the head of a frame.
-use Rattle.std.specs.Prelude.{◌≡◌, ℕ, List, ◌++◌, length, map, Option, Some, None, option_map}
+use Rattle.std.specs.Prelude.{◌≡◌, ℕ, List, length, map, Option, Some, None, option_map}
 use Rattle.fp_ber.specs.Tree.{InRange, Tree}
 use Rattle.fp_ber.specs.Canon.{canon}
 use Rattle.fp_ber.specs.Spelling.{Spells}

@@ -14,7 +14,10 @@ use crate::dialogue_portion::{write_abort_portion, write_acceptance};
 use crate::frame::MOST_OCTETS;
 use fp_apdu::Name;
 use fp_ber::Writer;
-use fp_q773::{Tid, write_continue, write_end, write_user_abort, written_messages_are_elements};
+use fp_q773::{
+    Tid, write_abort_message, write_continue_message, write_end_message,
+    written_messages_are_elements,
+};
 use fp_service::{AbortPortion, Components, Request};
 use std::alloc::{AllocError, Global};
 
@@ -49,7 +52,7 @@ fn write_continuing(
 {
     let behind = out.len();
     write_portions(acceptance, components, out)?;
-    write_continue(Tid::of_number(local), peer, behind, out)
+    write_continue_message(Tid::of_number(local), peer, behind, out)
 }
 
 /// Puts an End.
@@ -66,7 +69,7 @@ fn write_ending(
 {
     let behind = out.len();
     write_portions(acceptance, components, out)?;
-    write_end(peer, behind, out)
+    write_end_message(peer, behind, out)
 }
 
 /// Puts an Abort of the user.
@@ -77,7 +80,7 @@ fn write_aborting(portion: &AbortPortion, peer: Tid, out: &mut Writer) -> Result
 {
     let behind = out.len();
     write_abort_portion(portion, out)?;
-    write_user_abort(peer, behind, out)
+    write_abort_message(peer, behind, out)
 }
 
 /// Puts the message of a request.

@@ -1,1 +1,2 @@
+pub mod Births
 pub mod Folding

@@ -36,7 +36,8 @@ pub record PeerEndsDialogue : Type 0 where
   pub next_is_over : (core : Core) (entry : Entry) → IsPeersOwn entry.kind → is_over (next core entry) ≡ true
   pub no_request : (core : Core) (entry : Entry) → IsPeersOwn entry.kind → request_of core entry ≡ None
 
--- what is cut off is the end of a list: the entries behind the first after which the core is over, which ask for nothing
+-- what is cut off is the end of a list: the entries behind the first after which the core is over, which ask for
+-- nothing
 pub record CutIsFront : Type 0 where
   pub front : (core : Core) (entries : List Entry) → (rest : List Entry) × (cut core entries ++ rest ≡ entries)
   pub whole : (core : Core) (entries : List Entry) → is_over (core_after core entries) ≡ false → cut core entries ≡ entries
@@ -48,3 +49,8 @@ pub record CutIsFront : Type 0 where
 -- an entry asks for one message at most
 abbrev pub AsksOnceAtMost : Type 0
 AsksOnceAtMost = (core : Core) (entries : List Entry) → length (requests core entries) ≤ length entries
+
+-- a step keeps the birth of the core
+pub record BirthsStay : Type 0 where
+  pub next_has_birth : (core : Core) (entry : Entry) → (next core entry).birth ≡ core.birth
+  pub core_after_has_birth : (core : Core) (entries : List Entry) → (core_after core entries).birth ≡ core.birth

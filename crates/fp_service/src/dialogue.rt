@@ -51,6 +51,13 @@ impl Core {
         self.state
     }
 
+    /// The number of the dialogue among those that its link accepted, from 1.
+    pub fn birth(&self) -> u64
+        ensures { result ≡ self.now.birth }
+    {
+        self.birth
+    }
+
     /// The invocations of the dialogue.
     pub fn invocations(&self) -> Invocations
         ensures { result ≡ self.now.invocations }

@@ -1,7 +1,7 @@
 //! What holds of the service step along all lists of entries, and of `==` on cores.
 
 ghost use Rattle.fp_digits.specs.Exact.{IsExact};
-ghost use Rattle.fp_service.specs.Laws.{AsksOnceAtMost, CutIsFront, FoldsGrow, FoldsGrowByOne, PeerEndsDialogue, StaysOver};
+ghost use Rattle.fp_service.specs.Laws.{AsksOnceAtMost, BirthsStay, CutIsFront, FoldsGrow, FoldsGrowByOne, PeerEndsDialogue, StaysOver};
 ghost use Rattle.fp_service.specs.Same.{same_core};
 
 /// Along entries that are followed by others the core, the requests and the entries served are those of the first
@@ -29,6 +29,11 @@ pub fn cut_is_a_front()
 /// An entry asks for one message at most.
 pub fn entries_ask_once_at_most()
     ensures { AsksOnceAtMost }
+{}
+
+/// A step keeps the birth of a core, and so do all of them.
+pub fn births_stay()
+    ensures { BirthsStay }
 {}
 
 /// Two cores are equal by `==` exactly where they are the same in all that they know.

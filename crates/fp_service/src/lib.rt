@@ -4,8 +4,8 @@
 //! sent to the switch. It never asks the system for anything: moments and records come with the entries, and its values
 //! have a fixed size.
 //!
-//! * [`Core`] is what the logic knows of a dialogue between two entries, in a value of fixed size that may be copied. Its
-//!   [`State`] tells whether the dialogue is over, and if it isn't, the [`Stage`] of the call.
+//! * [`Core`] is what the logic knows of a dialogue between two entries, in a value of fixed size that may be copied.
+//!   Its [`State`] tells whether the dialogue is over, and if it isn't, the [`Stage`] of the call.
 //! * [`step`] makes the core after an [`Entry`](fp_entry::Entry), and the [`Request`] if something is asked for: a
 //!   message of the dialogue (ITU-T Q.774, 3.2) with [`Components`], whose Invokes carry an [`Instruction`] for the
 //!   switch (after Q.1218).
@@ -51,11 +51,12 @@
 //!   carries an ABRT.
 //!
 //! The layer above may rely on this: a step is `serve` of `specs/Serve.antt`, and `next` and `request_of` are its two
-//! parts. `serve` and the definitions below it stay folded unless a proof asks; no layer above should unfold them. Along
-//! the entries of a dialogue the core, the requests and the entries up to its end are the folds of `specs/Fold.antt`,
-//! whose laws ([`folds_along_a_grown_list`], [`over_stays_over`], [`peer_ends_dialogue`], [`cut_is_a_front`],
-//! [`entries_ask_once_at_most`]) are all that is to be known of them. Two cores are equal by `==` exactly where they are
-//! the same ([`equal_cores_are_the_same`]). [`Core::next_due`] is the earliest moment at which a Clock does something.
+//! parts. `serve` and the definitions below it stay folded unless a proof asks; no layer above should unfold them.
+//! Along the entries of a dialogue the core, the requests and the entries up to its end are the folds of
+//! `specs/Fold.antt`, whose laws ([`folds_along_a_grown_list`], [`over_stays_over`], [`peer_ends_dialogue`],
+//! [`cut_is_a_front`], [`entries_ask_once_at_most`], [`births_stay`]) are all that is to be known of them. Two
+//! cores are equal by `==` exactly where they are the same ([`equal_cores_are_the_same`]). [`Core::next_due`] is the
+//! earliest moment at which a Clock does something.
 #![tactic(auto)]
 
 mod answer;
@@ -78,8 +79,8 @@ pub use components::Components;
 pub use dialogue::Core;
 pub use instruction::Instruction;
 pub use laws::{
-    cut_is_a_front, entries_ask_once_at_most, equal_cores_are_the_same, folds_along_a_grown_list,
-    over_stays_over, peer_ends_dialogue,
+    births_stay, cut_is_a_front, entries_ask_once_at_most, equal_cores_are_the_same,
+    folds_along_a_grown_list, over_stays_over, peer_ends_dialogue,
 };
 pub use request::{AbortPortion, Request};
 pub use serve::step;

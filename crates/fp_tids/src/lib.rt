@@ -10,4 +10,4 @@ mod laws;
 mod local_ids;
 
 pub use laws::identifiers_are_distinct;
-pub use local_ids::LocalIds;
+pub use local_ids::{LocalIds, link_of};

@@ -1,7 +1,7 @@
 //! The local identifiers of one link.
 
 ghost use Rattle.std.specs.Prelude.{◌≡◌, ◌<◌};
-ghost use Rattle.fp_tids.specs.Identifiers.{Gives};
+ghost use Rattle.fp_tids.specs.Identifiers.{Gives, link_of, next_of};
 
 use std::marker::Model;
 
@@ -42,9 +42,20 @@ impl LocalIds {
         LocalIds { link, given: 0 }
     }
 
+    /// What [`LocalIds::give`] gives next: the identifier of the next serial, `None` where the last one was given.
+    pub fn next(&self) -> Option<u32>
+        ensures { result ≡ next_of self.now }
+    {
+        if self.given == Self::LAST_SERIAL {
+            return None;
+        }
+        Some(u32::from(self.link) * (Self::LAST_SERIAL + 1) + (self.given + 1))
+    }
+
     /// The identifier of the next serial, `None` where the last one was given.
     pub fn give(&mut self) -> Option<u32>
-        ensures { Gives self.old result self.new }
+        ensures gives { Gives self.old result self.new }
+        ensures next { result ≡ next_of self.old }
     {
         if self.given == Self::LAST_SERIAL {
             return None;
@@ -59,4 +70,11 @@ impl LocalIds {
     {
         let _ = local;
     }
+}
+
+/// The link of an identifier, 0 to 7.
+pub fn link_of(local: u32) -> u8
+    ensures { result ≡ link_of local }
+{
+    (local / (LocalIds::LAST_SERIAL + 1)) as u8
 }

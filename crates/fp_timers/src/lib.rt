@@ -2,12 +2,12 @@
 //! transaction identifier (ITU-T Q.773, 4.2.1.3).
 //!
 //! The layer is handed identifiers, deadlines and the moment, and asks no clock. A deadline is a number of milliseconds
-//! since 1970-01-01T00:00:00Z, as a moment is, and may lie beyond the last moment. Memory for 4,096 deadlines is taken by
-//! [`Deadlines::new`], and none after it.
+//! since 1970-01-01T00:00:00Z, as a moment is, and may lie beyond the last moment. Memory for 4,096 deadlines is taken
+//! by [`Deadlines::new`], and none after it.
 //!
 //! The layer above may rely on this: contracts see [`Deadlines`] as a finite map from identifier to deadline, which
-//! [`Deadlines::set`] and [`Deadlines::clear`] change at one identifier alone. [`Deadlines::due`] gives the identifier of
-//! the earliest deadline, the smallest where several have it, exactly where that deadline is at or before the moment
+//! [`Deadlines::set`] and [`Deadlines::clear`] change at one identifier alone. [`Deadlines::due`] gives the identifier
+//! of the earliest deadline, the smallest where several have it, exactly where that deadline is at or before the moment
 //! (`specs/Deadlines.antt`).
 #![tactic(auto)]
 

@@ -45,7 +45,8 @@ pub record IsLaidOut (argument : Tree) : Type 0 where
       (more (primitive Context 28 event)
       none)))))
 
--- a Begin of this caller without dialogue portion, whose one component is an Invoke of InitialDP with this service key and this called number
+-- a Begin of this caller without dialogue portion, whose one component is an Invoke of InitialDP with this service key
+-- and this called number
 pub record Opens (element : Tree) (caller : List ℕ) (key : ℕ) (called : Number) : Type 0 where
   pub component : ComponentValue
   pub argument : Tree

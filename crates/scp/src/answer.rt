@@ -21,7 +21,7 @@ use fp_digits::Number;
 use fp_inap::{Operation, read_initial_dp, write_connect};
 use fp_q773::{
     Begin, Code, Component, Invoke, Message, MessageFault, Tid, message_of,
-    write_component_portion, write_end, write_invoke, written_messages_are_elements,
+    write_component_portion, write_end_message, write_invoke, written_messages_are_elements,
 };
 use fp_records::{Destination, Table};
 use std::alloc::{AllocError, Global};
@@ -188,7 +188,7 @@ fn connect_to(alloc: Global, caller: Tid, destination: Destination) -> Result<Ve
     write_connect(destination.as_slice(), &mut end)?;
     write_invoke(1, None, Code::Local(Operation::Connect.code()), 0, &mut end)?;
     write_component_portion(0, &mut end)?;
-    write_end(caller, 0, &mut end)?;
+    write_end_message(caller, 0, &mut end)?;
     Ok(end.into_octets())
 }
 

@@ -1,9 +1,9 @@
 //! Messages as they are read.
 
+use crate::elements::element_of;
 use crate::messages::components::{component_text, components_text};
 use crate::messages::elements::{element_text, optional_text};
 use crate::messages::identifiers::tid_text;
-use fp_ber::Element;
 use fp_q773::{
     Abort, AbortReason, Begin, Component, Continue, End, Message, MessageFault, message_of,
 };
@@ -74,12 +74,6 @@ fn read_text(alloc: Global, read: &Result<Message<'_>, MessageFault>) -> anyhow:
         Ok(message) => message_text(alloc, message),
         Err(fault) => Ok(format!(in alloc; "fault {fault:?}")?),
     }
-}
-
-/// The element that a text spells.
-fn element_of(alloc: Global, text: &str) -> anyhow::Result<Element> {
-    let octets = hex::decode(alloc, text)?;
-    Ok(fp_ber::read(alloc, octets.as_slice())?)
 }
 
 /// The message of these octets.

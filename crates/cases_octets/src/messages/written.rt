@@ -30,8 +30,9 @@ ghost use Rattle.fp_q773.specs.Room.{code_room, component_room, components_room,
 ghost use Rattle.fp_q773.specs.View.{code_of, component_of, message_value, reason_of, result_of, tree_in};
 ghost use Rattle.fp_q773.specs.Writable.{AllWritable, IsWritable, IsWritableDialogue, IsWritableMessage, IsWritableReason};
 
+use crate::elements::{new_writer, written_text};
 use crate::messages::identifiers::tid_of;
-use fp_ber::{Class, Element, Writer};
+use fp_ber::{Class, Element};
 use fp_q773::{
     Abort, AbortReason, Begin, Code, Coded, Component, Continue, End, Invoke, Message, Problem,
     Reject, ReturnError, ReturnResult, Tid, write_message,
@@ -56,16 +57,15 @@ struct Held {
     parameter: Option<Element>,
 }
 
-/// The octets of a message.
-fn octets_text(alloc: Global, message: &Message<'_>) -> anyhow::Result<String>
+/// The octets of a message that is written.
+fn message_text(alloc: Global, message: &Message<'_>) -> anyhow::Result<String>
     requires writable { IsWritableMessage (message_value message.now) }
     requires tags { CopiesHaveTags (message_value message.now) }
     requires room { message_room (message_value message.now) < 2 ^ 32 }
 {
-    let mut out = Writer::with_capacity(alloc, 64)?;
+    let mut out = new_writer(alloc)?;
     write_message(message, &mut out)?;
-    let octets = out.into_octets();
-    Ok(hex::encode_upper(alloc, octets.as_slice())?)
+    written_text(alloc, out)
 }
 
 /// The element of a text, or `None` for `none`.
@@ -301,7 +301,7 @@ fn portions_text(
             components,
         }),
     };
-    octets_text(alloc, &message)
+    message_text(alloc, &message)
 }
 
 /// The octets of a message with one component.
@@ -398,7 +398,7 @@ fn abort_text(
         destination: tid_of(alloc, identifier)?,
         reason,
     });
-    octets_text(alloc, &message)
+    message_text(alloc, &message)
 }
 
 /// The octets of an Abort of the user, with this dialogue portion.
@@ -413,7 +413,7 @@ fn user_abort_text(alloc: Global, identifier: &str, dialogue: &str) -> anyhow::R
 /// The octets of a message.
 pub(crate) fn write(alloc: Global, words: &[&str]) -> anyhow::Result<String> {
     match words {
-        ["unidirectional"] => octets_text(alloc, &Message::Unidirectional),
+        ["unidirectional"] => message_text(alloc, &Message::Unidirectional),
         ["begin", originating, dialogue, components @ ..] => {
             let frame = Frame::Begin(tid_of(alloc, originating)?);
             frame_text(alloc, frame, dialogue, components)

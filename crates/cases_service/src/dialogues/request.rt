@@ -16,8 +16,9 @@
 //! | `error ID ERROR` | a ReturnError |
 //! | `reject ID PROBLEM`, `reject ? PROBLEM` | a Reject |
 
+use crate::numbers::national_number_of;
 use crate::steps::arrival::name_of;
-use crate::steps::numbers::number_of;
+use crate::words::joined;
 use fp_digits::Cause;
 use fp_inap::OperationError;
 use fp_q773::{
@@ -27,15 +28,6 @@ use fp_q773::{
 use fp_records::{Action, Destination, Record, Table};
 use fp_service::{AbortPortion, Component, Components, Instruction, Request};
 use std::alloc::Global;
-
-/// The transaction identifier of these eight hexadecimal digits.
-pub(super) fn local_of(alloc: Global, text: &str) -> anyhow::Result<u32> {
-    let octets = hex::decode(alloc, text)?;
-    match octets.as_slice() {
-        [a, b, c, d] => Ok(u32::from_be_bytes([*a, *b, *c, *d])),
-        _ => anyhow::bail!("no local identifier: {text}"),
-    }
-}
 
 /// The transaction identifier of these one to four octets.
 pub(super) fn peer_of(alloc: Global, text: &str) -> anyhow::Result<Tid> {
@@ -75,7 +67,7 @@ fn destination_in(record: &Record) -> anyhow::Result<Destination> {
 fn destination_of(alloc: Global, digits: &str) -> anyhow::Result<Destination> {
     let text = format!(in alloc; "key,0,0\n5,,1234567,00:00,24:00,1,route,{digits}\n")?;
     let table = Table::read(alloc, text.as_bytes())?;
-    let called = number_of("5")?;
+    let called = national_number_of("5")?;
     let Some(record) = table.find(&called) else {
         anyhow::bail!("no record");
     };
@@ -239,18 +231,6 @@ fn headed(alloc: Global, head: &[&str], components: &[&str]) -> anyhow::Result<R
         }),
         _ => abort_of(alloc, head),
     }
-}
-
-/// Words with a blank between them.
-fn joined(alloc: Global, words: &[&str]) -> anyhow::Result<String> {
-    let mut text = String::new(alloc);
-    for word in words {
-        if !text.is_empty() {
-            text.push_str(" ")?;
-        }
-        text.push_str(word)?;
-    }
-    Ok(text)
 }
 
 /// The request whose parts are these texts, its head first.

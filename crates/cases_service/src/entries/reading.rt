@@ -1,9 +1,10 @@
 //! Entries, frames and moments that text spells.
 
+use crate::numbers::{national_number_of, number_of};
 use anyhow::bail;
 use bytes::Bytes;
 use fp_apdu::{Name, Opening};
-use fp_digits::{Digits, Moment, NatureOfAddress, Number};
+use fp_digits::{Moment, NatureOfAddress, Number};
 use fp_entry::{Entries, Entry, EntryKind, Found, SharedRecord};
 use fp_frames::Frame;
 use fp_inap::Event;
@@ -50,18 +51,6 @@ pub(crate) fn context_of(alloc: Global, text: &str) -> anyhow::Result<Option<Nam
     Ok(Some(name_of(alloc, text)?))
 }
 
-/// Decimal digits.
-fn digits_of(text: &str) -> anyhow::Result<Digits> {
-    let mut digits = Digits::new();
-    for octet in text.as_bytes() {
-        if digits.len() >= Digits::MOST || !octet.is_ascii_digit() {
-            bail!("no digits");
-        }
-        digits.push(*octet - b'0');
-    }
-    Ok(digits)
-}
-
 /// The nature of address of this code.
 fn nature_of(text: &str) -> anyhow::Result<NatureOfAddress> {
     let code: u8 = text.parse()?;
@@ -72,24 +61,20 @@ fn nature_of(text: &str) -> anyhow::Result<NatureOfAddress> {
 }
 
 /// A nature of address, a colon and digits, or `none`.
-fn number_of(text: &str) -> anyhow::Result<Option<Number>> {
+fn calling_of(text: &str) -> anyhow::Result<Option<Number>> {
     if text == "none" {
         return Ok(None);
     }
     let Some((nature, digits)) = text.split_once(':') else {
         bail!("no number");
     };
-    let nature = nature_of(nature)?;
-    let digits = digits_of(digits)?;
-    Ok(Some(Number { nature, digits }))
+    let number = number_of(nature_of(nature)?, digits)?;
+    Ok(Some(number))
 }
 
 /// The record of a called number.
 fn record_of(table: &Table, text: &str) -> anyhow::Result<Found> {
-    let called = Number {
-        nature: NatureOfAddress::NATIONAL,
-        digits: digits_of(text)?,
-    };
+    let called = national_number_of(text)?;
     let Some(record) = table.find(&called) else {
         bail!("no record");
     };
@@ -145,7 +130,7 @@ fn initial_dp_of(table: &Table, words: &[&str]) -> anyhow::Result<EntryKind> {
     Ok(EntryKind::InitialDp {
         identifier: identifier.parse()?,
         linked: identifier_of(linked)?,
-        calling: number_of(calling)?,
+        calling: calling_of(calling)?,
         found: found_of(table, found)?,
     })
 }

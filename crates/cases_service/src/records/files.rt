@@ -1,16 +1,8 @@
 //! Files of records, put together from the parts of a case.
 
+use crate::numbers::hexadecimal;
 use anyhow::bail;
 use std::alloc::Global;
-
-/// The value of a hexadecimal digit.
-pub(crate) fn hexadecimal(octet: u8) -> anyhow::Result<u8> {
-    match octet {
-        b'0'..=b'9' => Ok(octet - b'0'),
-        b'A'..=b'F' => Ok(octet - b'A' + 10),
-        _ => bail!("no hexadecimal digit"),
-    }
-}
 
 /// The octet of two hexadecimal digits.
 fn octet_of(high: u8, low: u8) -> anyhow::Result<u8> {

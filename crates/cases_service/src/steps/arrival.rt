@@ -18,7 +18,7 @@
 //!
 //! `?` is the identifier of a Reject or a faulty component that has none.
 
-use crate::steps::numbers::number_of;
+use crate::numbers::national_number_of;
 use fp_apdu::{Name, Opening};
 use fp_digits::Number;
 use fp_entry::{EntryKind, Found, SharedRecord};
@@ -54,7 +54,7 @@ fn found_of(table: &Table, text: &str) -> anyhow::Result<Found> {
         "wrong-key" => Ok(Found::WrongKey),
         "no-record" => Ok(Found::NoRecord),
         _ => {
-            let called = number_of(text)?;
+            let called = national_number_of(text)?;
             let Some(record) = table.find(&called) else {
                 anyhow::bail!("no record of {text}");
             };
@@ -173,7 +173,7 @@ fn invoke_kind(table: &Table, words: &[&str]) -> anyhow::Result<Option<EntryKind
     Ok(Some(match words {
         ["initial-dp", identifier, found] => initial_dp(table, identifier, found, None, None)?,
         ["initial-dp", identifier, found, "from", calling] => {
-            let calling = number_of(calling)?;
+            let calling = national_number_of(calling)?;
             initial_dp(table, identifier, found, Some(calling), None)?
         }
         ["initial-dp", identifier, found, "linked", linked] => {

@@ -1,6 +1,5 @@
-//! A file of records that grows line by line, and numbers of decimal digits.
+//! A file of records that grows line by line.
 
-use fp_digits::{Digits, NatureOfAddress, Number};
 use fp_records::Table;
 use std::alloc::Global;
 
@@ -37,19 +36,4 @@ impl NumbersFile {
         let (numbers, rules) = self.table.counts();
         Ok(format!(in alloc; "{numbers} numbers, {rules} rules")?)
     }
-}
-
-/// The national number of these decimal digits.
-pub(crate) fn number_of(text: &str) -> anyhow::Result<Number> {
-    let mut digits = Digits::new();
-    for octet in text.as_bytes() {
-        if !octet.is_ascii_digit() || digits.len() >= Digits::MOST {
-            anyhow::bail!("no number: {text}");
-        }
-        digits.push(*octet - b'0');
-    }
-    Ok(Number {
-        nature: NatureOfAddress::NATIONAL,
-        digits,
-    })
 }

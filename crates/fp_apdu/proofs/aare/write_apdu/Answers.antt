@@ -20,4 +20,4 @@ returns c =
     let two = before_others judged (more told none) rest _ _ c.in_ok-write_result.ensures one in
     let three = before_others named (more judged (more told none)) rest _ _ c.in_ok-write.ensures two in
     let four = before_others (protocol_version version_1) (more named (more judged (more told none))) rest _ _ c.in_ok-write-2.ensures three in
-    c.put_constructed.ensures (more (protocol_version version_1) (more named (more judged (more told none)))) rest four (sym c.len-behind.ensures.value)
+    c.put_constructed.ensures.ok (more (protocol_version version_1) (more named (more judged (more told none)))) rest four (sym c.len-behind.ensures.value)

@@ -9,4 +9,4 @@ use Rattle.fp_apdu.proofs.aare.write_diagnostic.Goals as goal
 pub returns : goal.returns
 returns c =
     let sourced = constructed Context (source c.args.verdict) (more (integer (diagnostic c.args.verdict)) none) in
-    c.put_constructed.ensures (more sourced none) c.args.out.now (alone sourced _ _ c.in_ok-write_source.ensures) (sym c.len-behind.ensures.value)
+    c.put_constructed.ensures.ok (more sourced none) c.args.out.now (alone sourced _ _ c.in_ok-write_source.ensures) (sym c.len-behind.ensures.value)

@@ -8,5 +8,5 @@ use Rattle.fp_apdu.proofs.aare.write_result.Goals as goal
 pub returns : goal.returns
 returns c =
     let value = integer (associate_result c.args.verdict) in
-    c.put_constructed.ensures (more value none) c.args.out.now
+    c.put_constructed.ensures.ok (more value none) c.args.out.now
     (alone value _ _ (rw c.result.ensures at c.in_ok-write_integer.ensures)) (sym c.len-behind.ensures.value)

@@ -8,5 +8,5 @@ use Rattle.fp_apdu.proofs.aare.write_source.Goals as goal
 pub returns : goal.returns
 returns c =
     let value = integer (diagnostic c.args.verdict) in
-    rw (← c.source.ensures) (c.put_constructed.ensures (more value none) c.args.out.now
+    rw (← c.source.ensures) (c.put_constructed.ensures.ok (more value none) c.args.out.now
     (alone value _ _ (rw c.diagnostic.ensures at c.in_ok-write_integer.ensures)) (sym c.len-behind.ensures.value))

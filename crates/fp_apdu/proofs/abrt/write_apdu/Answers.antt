@@ -8,4 +8,4 @@ use Rattle.fp_apdu.proofs.abrt.write_apdu.Goals as goal
 pub returns : goal.returns
 returns c =
     let told = primitive Context 0 (service_user ∷ []) in
-    c.put_constructed.ensures (more told none) c.args.out.now (alone told _ _ c.in_ok-put_primitive.ensures) (sym c.len-behind.ensures.value)
+    c.put_constructed.ensures.ok (more told none) c.args.out.now (alone told _ _ c.in_ok-put_primitive.ensures.ok) (sym c.len-behind.ensures.value)

@@ -7,4 +7,4 @@ use Rattle.fp_apdu.proofs.context_name.write.Goals as goal
 pub returns : goal.returns
 returns c =
     let identifier = object_identifier c.args.name.now in
-    c.put_constructed.ensures (more identifier none) c.args.out.now (alone identifier _ _ c.in_ok-write.ensures) (sym c.len-behind.ensures.value)
+    c.put_constructed.ensures.ok (more identifier none) c.args.out.now (alone identifier _ _ c.in_ok-write.ensures) (sym c.len-behind.ensures.value)

@@ -11,7 +11,7 @@ put_constructed-requires-2-clause-behind c =
     let apdu = c.requires.0 in
     let rest = c.requires.1 in
     let encoding = constructed Context 0 (more apdu none) in
-    let encoded = c.in_ok-put_constructed.ensures (more apdu none) rest (alone apdu rest _ c.requires.2) c.requires.3 in
+    let encoded = c.in_ok-put_constructed.ensures.ok (more apdu none) rest (alone apdu rest _ c.requires.2) c.requires.3 in
     still_behind (object_identifier dialogue_as) _ _ _ c.in_ok-write.ensures
     (still_behind encoding _ rest _ encoded (omega (arith, c.requires.3)))
 
@@ -21,16 +21,16 @@ put_constructed-requires-3-clause-behind c =
     let rest = c.requires.1 in
     let reference = object_identifier dialogue_as in
     let encoding = constructed Context 0 (more apdu none) in
-    let encoded = c.in_ok-put_constructed.ensures (more apdu none) rest (alone apdu rest _ c.requires.2) c.requires.3 in
+    let encoded = c.in_ok-put_constructed.ensures.ok (more apdu none) rest (alone apdu rest _ c.requires.2) c.requires.3 in
     let referred = before_others reference (more encoding none) rest _ _ c.in_ok-write.ensures (alone encoding rest _ encoded) in
-    let whole = c.in_ok-put_constructed-2.ensures (more reference (more encoding none)) rest referred c.requires.3 in
+    let whole = c.in_ok-put_constructed-2.ensures.ok (more reference (more encoding none)) rest referred c.requires.3 in
     still_behind (external apdu) _ rest _ whole (omega (arith, c.requires.3))
 
 pub returns : goal.returns
 returns c = λ apdu rest were long.
     let reference = object_identifier dialogue_as in
     let encoding = constructed Context 0 (more apdu none) in
-    let encoded = c.in_ok-put_constructed.ensures (more apdu none) rest (alone apdu rest _ were) long in
+    let encoded = c.in_ok-put_constructed.ensures.ok (more apdu none) rest (alone apdu rest _ were) long in
     let referred = before_others reference (more encoding none) rest _ _ c.in_ok-write.ensures (alone encoding rest _ encoded) in
-    let whole = c.in_ok-put_constructed-2.ensures (more reference (more encoding none)) rest referred long in
-    c.put_constructed-3.ensures (more (external apdu) none) rest (alone (external apdu) rest _ whole) long
+    let whole = c.in_ok-put_constructed-2.ensures.ok (more reference (more encoding none)) rest referred long in
+    c.put_constructed-3.ensures.ok (more (external apdu) none) rest (alone (external apdu) rest _ whole) long

@@ -20,7 +20,7 @@ least_three c =
 
 pub returns-in-Some-octet_in-2-clause-exact : goal.returns-in-Some-octet_in-2-clause-exact
 returns-in-Some-octet_in-2-clause-exact c =
-    let put = c.put_primitive-in-Some-octet_in-2 in by_least put.result put.new.self c.args.out.now _ c.args.number (least_three c) put.ensures
+    let put = c.put_primitive-in-Some-octet_in-2 in by_least put.result put.new.self c.args.out.now _ c.args.number (least_three c) put.ensures.ok
 
 pub returns-in-Some-octet_in-2-clause-found : goal.returns-in-Some-octet_in-2-clause-found
 returns-in-Some-octet_in-2-clause-found c =
@@ -48,7 +48,7 @@ least_four c =
     (omega (arith, ints)) (omega (arith, ints)) (omega (arith, ints)) (omega (arith, ints)) over over' over''
 
 pub returns-clause-exact : goal.returns-clause-exact
-returns-clause-exact c = by_least c.put_primitive-2.result c.put_primitive-2.new.self c.args.out.now _ c.args.number (least_four c) c.put_primitive-2.ensures
+returns-clause-exact c = by_least c.put_primitive-2.result c.put_primitive-2.new.self c.args.out.now _ c.args.number (least_four c) c.put_primitive-2.ensures.ok
 
 pub returns-clause-found : goal.returns-clause-found
 returns-clause-found c =

@@ -1,10 +1,11 @@
 -- The component at a place, and those behind it.
 use Rattle.std.proofs.Common.{◌≡◌, ◌-◌, map, drop, refl, arith}
+use Rattle.std.proofs.Math.Seq.{drop-length}
 use Rattle.std.proofs.lemmas.List.Elements.{All-cons, All-nil}
 use Rattle.fp_q773.specs.View.{component_of}
 use Rattle.fp_q773.specs.Written.{component_tree, component_trees, IsReadBack}
-use Rattle.fp_q773.proofs.Parts.{writable_at, tags_at, room_at, drop_before, drop_all}
-use Rattle.fp_q773.proofs.Puts.{more_put}
+use Rattle.fp_q773.proofs.Parts.{writable_at, tags_at, room_at}
+use Rattle.fp_ber.specs.Putting.{before_others, drop_before}
 use Rattle.fp_q773.proofs.portions.write_components.Goals as goal
 
 pub write-requires-clause-writable : goal.write-requires-clause-writable
@@ -21,7 +22,7 @@ write-requires-clause-room c =
     let room = room_at c.args.components.now (c.components.index - 1) item.result (omega arith) in rw item.is (omega arith)
 
 pub components-init : goal.components-init
-components-init c = rw (drop_all c.args.components.now) (record { exact = refl; found = All-nil IsReadBack })
+components-init c = rw (drop-length c.args.components.now) (record { exact = refl; found = All-nil IsReadBack })
 
 pub components-preserved : goal.components-preserved
 components-preserved c =
@@ -31,7 +32,7 @@ components-preserved c =
     let behind = map component_of (drop i c.args.components.now) in
     rw (drop_before c.args.components.now i item.result (omega arith) (omega arith) item.is)
     (record {
-      exact = more_put _ _ c.args.out.now (component_tree (component_of item.result)) (component_trees behind) c.in_ok-write.ensures.exact so_far.exact;
+      exact = before_others (component_tree (component_of item.result)) (component_trees behind) c.args.out.now _ _ c.in_ok-write.ensures.exact so_far.exact;
       found = All-cons IsReadBack (component_of item.result) behind c.in_ok-write.ensures.found so_far.found;
     })
 

@@ -1,13 +1,13 @@
 -- The component at a place, and those behind it.
-use Rattle.std.proofs.Common.{◌≡◌, ◌-◌, map, drop, refl, arith}
-use Rattle.fp_ber.specs.Putting.{before_others}
+use Rattle.std.proofs.Common.{◌≡◌, map, drop, refl, arith}
+use Rattle.std.proofs.Math.Seq.{drop-length}
+use Rattle.fp_ber.specs.Putting.{before_others, drop_before}
 use Rattle.fp_q773.specs.Written.{component_tree, component_trees}
 use Rattle.fp_reply.specs.Reply.{component_value}
-use Rattle.fp_reply.proofs.Components.{drop_all, drop_before}
 use Rattle.fp_reply.proofs.component.write_all.Goals as goal
 
 pub components-init : goal.components-init
-components-init c = rw (drop_all c.args.components.now) (record { exact = refl; sound = tt })
+components-init c = rw (drop-length c.args.components.now) (record { exact = refl; sound = tt })
 
 pub components-preserved : goal.components-preserved
 components-preserved c =

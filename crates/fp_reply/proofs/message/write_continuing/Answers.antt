@@ -8,7 +8,7 @@ use Rattle.fp_reply.proofs.message.write_continuing.Goals as goal
 
 pub returns-clause-exact : goal.returns-clause-exact
 returns-clause-exact c =
-    rw c.of_number.ensures at (c.write_continue.ensures.exact (acceptance_portion c.args.acceptance) (map component_value c.args.components.now) c.args.out.now
+    rw c.of_number.ensures at (c.write_continue_message.ensures.exact (acceptance_portion c.args.acceptance) (map component_value c.args.components.now) c.args.out.now
     c.in_ok-write_portions.ensures.exact (sym c.len-behind.ensures.value))
 
 pub returns-clause-message : goal.returns-clause-message
@@ -18,7 +18,7 @@ returns-clause-message c =
     let portions = c.in_ok-write_portions.ensures in
     let count = length-map c.args.components.now component_value in
     let two : length cs ≤ 2 = omega (arith, count, portions.most) in
-    let found = rw c.of_number.ensures at c.write_continue.ensures.found in
-    on_ok_weaker c.write_continue.result
+    let found = rw c.of_number.ensures at c.write_continue_message.ensures.found in
+    on_ok_weaker c.write_continue_message.result
     (λ is. continuing_sent _ _ dialogue cs portions.dialogue portions.components two (is dialogue cs portions.dialogue.writable (all_read_back cs portions.components)))
     found

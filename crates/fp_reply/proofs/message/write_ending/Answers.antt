@@ -13,6 +13,6 @@ returns-clause-message c =
     let portions = c.in_ok-write_portions.ensures in
     let count = length-map c.args.components.now component_value in
     let two : length cs ≤ 2 = omega (arith, count, portions.most) in
-    on_ok_weaker c.write_end.result
+    on_ok_weaker c.write_end_message.result
     (λ is. end_sent _ dialogue cs portions.dialogue portions.components two (is dialogue cs portions.dialogue.writable (all_read_back cs portions.components)))
-    c.write_end.ensures.found
+    c.write_end_message.ensures.found

@@ -17,7 +17,7 @@ returns c =
     let of_invoke = rw c.code.ensures at c.in_ok-write_invoke.ensures in
     let invoked = of_invoke.exact (Some (connect d)) [] (alone (connect d) [] _ of_argument.ok) refl in
     let portion = c.in_ok-write_component_portion.ensures (component ∷ []) [] (λ same. cc) (alone (component_tree component) [] _ invoked) refl in
-    let ended = c.in_ok-write_end.ensures.exact None (component ∷ []) [] portion refl in
-    let found = c.in_ok-write_end.ensures.found None (component ∷ []) tt (All-cons IsReadBack component [] (of_invoke.found (Some (connect d))) (All-nil IsReadBack)) in
+    let ended = c.in_ok-write_end_message.ensures.exact None (component ∷ []) [] portion refl in
+    let found = c.in_ok-write_end_message.ensures.found None (component ∷ []) tt (All-cons IsReadBack component [] (of_invoke.found (Some (connect d))) (All-nil IsReadBack)) in
     end_connects c.canonical_spelling_spells.ensures law.tags law.lengths (octets_of c.args.caller) d c.into_octets.result.items
     (c.into_octets.ensures ∙ ended ∙ append-nil _) found of_argument.tags of_argument.size

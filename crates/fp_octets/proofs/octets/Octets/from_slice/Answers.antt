@@ -1,4 +1,3 @@
-use Rattle.std.proofs.Common.{arith}
 use Rattle.fp_octets.proofs.Padding.{IsPadded-over}
 use Rattle.fp_octets.proofs.octets.Octets.from_slice.Goals as goal
 

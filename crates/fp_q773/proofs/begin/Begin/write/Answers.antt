@@ -4,7 +4,8 @@ use Rattle.fp_ber.specs.Tree.{more}
 use Rattle.fp_q773.specs.Tid.{octets_of}
 use Rattle.fp_q773.specs.View.{component_of, tree_in}
 use Rattle.fp_q773.specs.Written.{originating_tree, portions_trees}
-use Rattle.fp_q773.proofs.Puts.{on_ok, more_put}
+use Rattle.fp_ber.specs.Putting.{before_others}
+use Rattle.fp_q773.proofs.Puts.{on_ok}
 use Rattle.fp_q773.proofs.Sound.{begin_sound}
 use Rattle.fp_q773.proofs.begin.Begin.write.Goals as goal
 
@@ -15,7 +16,7 @@ returns-clause-exact c =
     let first = originating_tree (octets_of b.originating) in
     let others = portions_trees (tree_in b.dialogue) (map component_of b.components.items) in
     let inside = rw c.as_slice.ensures.value at c.in_ok-write_portions.ensures.exact in
-    c.put_constructed.ensures (more first others) rest (more_put _ _ rest first others c.in_ok-write_transaction.ensures.exact inside) (sym c.len-behind.ensures.value)
+    c.put_constructed.ensures.ok (more first others) rest (before_others first others rest _ _ c.in_ok-write_transaction.ensures.exact inside) (sym c.len-behind.ensures.value)
 
 pub returns-clause-found : goal.returns-clause-found
 returns-clause-found c =

@@ -10,7 +10,7 @@ pub returns-in_ok-write-in-ReturnResultLast-clause-exact : goal.returns-in_ok-wr
 returns-in_ok-write-in-ReturnResultLast-clause-exact c =
     let r = c.in-ReturnResultLast.result in
     let inside = return_result_trees r.identifier (option_map result_of r.result) in
-    rw c.in-ReturnResultLast.is (c.put_constructed.ensures inside c.args.out.now c.in_ok-write-in-ReturnResultLast.ensures.exact (sym c.len-behind.ensures.value))
+    rw c.in-ReturnResultLast.is (c.put_constructed.ensures.ok inside c.args.out.now c.in_ok-write-in-ReturnResultLast.ensures.exact (sym c.len-behind.ensures.value))
 
 pub returns-in_ok-write-in-ReturnResultLast-clause-found : goal.returns-in_ok-write-in-ReturnResultLast-clause-found
 returns-in_ok-write-in-ReturnResultLast-clause-found c =
@@ -21,7 +21,7 @@ pub returns-in_ok-write-in-ReturnResultNotLast-clause-exact : goal.returns-in_ok
 returns-in_ok-write-in-ReturnResultNotLast-clause-exact c =
     let r = c.in-ReturnResultNotLast.result in
     let inside = return_result_trees r.identifier (option_map result_of r.result) in
-    rw c.in-ReturnResultNotLast.is (c.put_constructed-in-ReturnResultNotLast.ensures inside c.args.out.now c.in_ok-write-in-ReturnResultNotLast.ensures.exact (sym c.len-behind-in-ReturnResultNotLast.ensures.value))
+    rw c.in-ReturnResultNotLast.is (c.put_constructed-in-ReturnResultNotLast.ensures.ok inside c.args.out.now c.in_ok-write-in-ReturnResultNotLast.ensures.exact (sym c.len-behind-in-ReturnResultNotLast.ensures.value))
 
 pub returns-in_ok-write-in-ReturnResultNotLast-clause-found : goal.returns-in_ok-write-in-ReturnResultNotLast-clause-found
 returns-in_ok-write-in-ReturnResultNotLast-clause-found c =

@@ -12,7 +12,7 @@ pub returns-clause-exact : goal.returns-clause-exact
 returns-clause-exact c =
     let rest = c.args.out.now in
     let inside = coded_trees (code_of c.in-Some.returned.code) (tree_in c.in-Some.returned.parameter) in
-    let whole = c.put_constructed.ensures inside rest c.in_ok-write.ensures.exact (sym c.len-behind.ensures.value) in
+    let whole = c.put_constructed.ensures.ok inside rest c.in_ok-write.ensures.exact (sym c.len-behind.ensures.value) in
     rw c.in-Some.is (one_put c.put_constructed.result c.put_constructed.new.self rest (constructed Universal 16 inside) whole)
 
 pub returns-clause-found : goal.returns-clause-found
