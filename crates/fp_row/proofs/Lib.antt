@@ -1,0 +1,9 @@
+mod Afters
+mod Lookups
+mod Maps
+mod Order
+mod Searches
+pub mod Fronts
+pub mod Keeping
+pub mod Served
+pub mod Waiting

@@ -1,0 +1,190 @@
+-- What the calls of a row do. Each record says of all that a row has what it is then; what follows for the frames
+-- stands behind it.
+use Rattle.std.specs.Prelude.{◌≡◌, ℕ, ◌+◌, Bool, true, false, List, [], ◌∷◌, ◌++◌, Option, Some, None, min, length, take, nat_lt, option_to_list, if◌then◌else◌}
+use Rattle.fp_entry.specs.declared.entry.Entry.{Entry}
+use Rattle.fp_entry.specs.declared.entry.EntryKind.TheVariants.{Clock}
+use Rattle.fp_entry.specs.Entries.{entry_at}
+use Rattle.fp_q773.specs.declared.tid.Tid.{Tid}
+use Rattle.fp_row.specs.declared.done.Done.{Done}
+use Rattle.fp_row.specs.declared.ending.Ending.{Ending}
+use Rattle.fp_row.specs.declared.ending.Ending.TheVariants.{ByPeer, Closed}
+use Rattle.fp_row.specs.declared.requested.Requested.{Requested}
+use Rattle.fp_row.specs.declared.requested.Requested.TheVariants.{Nothing, Frame, Dropped}
+use Rattle.fp_row.specs.declared.row.Row.{Row}
+use Rattle.fp_row.specs.declared.turn.Turn.{Turn}
+use Rattle.fp_row.specs.Row.{deadline_of, frames_of, is_admitted, is_closed, is_ready, kept_of, queued_of, sent_of, turn_out, waiting_of}
+use Rattle.fp_row.specs.Turn.{birth_of}
+use Rattle.fp_service.specs.Dialogue.{fresh, is_over}
+
+-- the dialogue is the same
+pub record IsSame (old new : Row) : Type 0 where
+  pub local : new.local ≡ old.local
+  pub peer : new.peer ≡ old.peer
+  pub birth : new.birth ≡ old.birth
+  pub opened : new.opened ≡ old.opened
+
+-- nothing was served, accepted for sending, dropped or sent
+pub record FramesStay (old new : Row) : Type 0 where
+  pub served : new.served ≡ old.served
+  pub core : new.core ≡ old.core
+  pub queued : new.queued ≡ old.queued
+  pub kept : new.kept ≡ old.kept
+  pub sent : new.sent ≡ old.sent
+  pub all_frames : frames_of new ≡ frames_of old
+  pub queued_frames : queued_of new ≡ queued_of old
+  pub kept_frames : kept_of new ≡ kept_of old
+  pub sent_frames : sent_of new ≡ sent_of old
+
+-- a dialogue is opened
+pub record Opens (local : ℕ) (peer : Tid) (birth moment : ℕ) (row : Row) : Type 0 where
+  pub local_is : row.local ≡ local
+  pub peer_is : row.peer ≡ peer
+  pub birth_is : row.birth ≡ birth
+  pub opened : row.opened ≡ moment
+  pub accepted : row.accepted ≡ []
+  pub served : row.served ≡ 0
+  pub core : row.core ≡ fresh birth moment
+  pub queued : row.queued ≡ 0
+  pub kept : row.kept ≡ 0
+  pub sent : row.sent ≡ 0
+  pub is_out : row.is_out ≡ false
+  pub ended : row.ended ≡ None
+
+-- these entries stand behind the others
+pub record Extends (old : Row) (entries : List Entry) (new : Row) : Type 0 where
+  pub same : IsSame old new
+  pub accepted : new.accepted ≡ old.accepted ++ entries
+  pub stay : FramesStay old new
+  pub is_out : new.is_out ≡ old.is_out
+  pub ended : new.ended ≡ old.ended
+  pub turn : turn_out new ≡ turn_out old
+  pub waiting : is_admitted old ≡ true → waiting_of new ≡ waiting_of old ++ entries
+  pub ready_stays : is_ready old ≡ true → is_ready new ≡ true
+
+-- the entries were taken, or nothing changed
+abbrev pub Accepts : Bool → Row → List Entry → Row → Type 0
+Accepts true old entries new = Extends old entries new
+Accepts false old entries new = new ≡ old
+
+-- a Clock was taken, or nothing changed
+abbrev pub Clocks : Bool → Row → ℕ → Row → Type 0
+Clocks taken old moment new = Accepts taken old (entry_at moment Clock ∷ []) new
+
+-- the turn of the next entry is out
+pub record HandsOut (old : Row) (turn : Turn) (new : Row) : Type 0 where
+  pub was_ready : is_ready old ≡ true
+  pub turn_is : turn_out new ≡ Some turn
+  pub local : turn.local ≡ old.local
+  pub birth : birth_of turn ≡ old.birth
+  pub same : IsSame old new
+  pub accepted : new.accepted ≡ old.accepted
+  pub stay : FramesStay old new
+  pub is_out : new.is_out ≡ true
+  pub ended : new.ended ≡ old.ended
+  pub waiting : waiting_of old ≡ turn.entry ∷ waiting_of new
+  pub deadline : deadline_of new ≡ deadline_of old
+
+-- a turn was handed out, or the dialogue wasn't ready
+abbrev pub Takes : Row → Option Turn → Row → Type 0
+Takes old (Some turn) new = HandsOut old turn new
+Takes old None new = (is_ready old ≡ false) × (new ≡ old)
+
+-- the request of a dialogue that was ended from outside isn't accepted
+abbrev pub requested_of : Option Ending → Option (List ℕ) → Requested
+requested_of ended None = Nothing
+requested_of None (Some frame) = Frame frame
+requested_of (Some ending) (Some frame) = Dropped
+
+-- the frames that are to be sent
+abbrev pub frames_in : Requested → List (List ℕ)
+frames_in Nothing = []
+frames_in (Frame frame) = frame ∷ []
+frames_in Dropped = []
+
+-- the entry of the turn that was out is served
+pub record Gives (old : Row) (done : Done) (requested : Requested) (new : Row) : Type 0 where
+  pub was_out : turn_out old ≡ Some done.turn
+  pub requested_is : requested ≡ requested_of old.ended done.frame
+  pub same : IsSame old new
+  pub accepted : new.accepted ≡ old.accepted
+  pub served : new.served ≡ old.served + 1
+  pub core : new.core ≡ done.after
+  pub queued : new.queued ≡ old.queued + length (frames_in requested)
+  pub kept : new.kept ≡ old.kept + length (frames_in requested)
+  pub sent : new.sent ≡ old.sent
+  pub is_out : new.is_out ≡ false
+  pub ended : new.ended ≡ old.ended
+  pub turn : turn_out new ≡ None
+  pub waiting : waiting_of new ≡ (if is_over done.after then [] else waiting_of old)
+  pub all_frames : frames_of new ≡ frames_of old ++ option_to_list done.frame
+  pub queued_frames : queued_of new ≡ queued_of old ++ frames_in requested
+  pub kept_frames : kept_of new ≡ kept_of old ++ frames_in requested
+  pub sent_frames : sent_of new ≡ sent_of old
+
+-- the turn that was out is out no longer
+pub record PutsBack (old : Row) (turn : Turn) (new : Row) : Type 0 where
+  pub was_out : turn_out old ≡ Some turn
+  pub same : IsSame old new
+  pub accepted : new.accepted ≡ old.accepted
+  pub stay : FramesStay old new
+  pub is_out : new.is_out ≡ false
+  pub ended : new.ended ≡ old.ended
+  pub no_turn : turn_out new ≡ None
+  pub waiting : waiting_of new ≡ (if is_closed old.ended then [] else turn.entry ∷ waiting_of old)
+  pub deadline : deadline_of new ≡ deadline_of old
+
+-- one more of the kept frames was sent
+pub record SendsOne (old new : Row) : Type 0 where
+  pub left : nat_lt old.sent old.kept ≡ true
+  pub same : IsSame old new
+  pub accepted : new.accepted ≡ old.accepted
+  pub served : new.served ≡ old.served
+  pub core : new.core ≡ old.core
+  pub queued : new.queued ≡ old.queued
+  pub kept : new.kept ≡ old.kept
+  pub sent : new.sent ≡ old.sent + 1
+  pub is_out : new.is_out ≡ old.is_out
+  pub ended : new.ended ≡ old.ended
+  pub turn : turn_out new ≡ turn_out old
+  pub waiting : waiting_of new ≡ waiting_of old
+  pub deadline : deadline_of new ≡ deadline_of old
+  pub all_frames : frames_of new ≡ frames_of old
+  pub kept_frames : kept_of new ≡ kept_of old
+  pub queued_frames : queued_of new ≡ queued_of old
+  pub one_more : (frame : List ℕ) (rest : List (List ℕ)) → sent_of old ++ frame ∷ rest ≡ kept_of old → sent_of new ≡ sent_of old ++ frame ∷ []
+  pub ready_stays : is_ready new ≡ is_ready old
+
+-- one was sent, or none was left
+abbrev pub Sends : Bool → Row → Row → Type 0
+Sends true old new = SendsOne old new
+Sends false old new = (nat_lt old.sent old.kept ≡ false) × (new ≡ old)
+
+-- a dialogue that was closed stays so
+abbrev pub ended_by : Ending → Option Ending → Option Ending
+ended_by ending None = Some ending
+ended_by ending (Some ByPeer) = Some ending
+ended_by ending (Some Closed) = Some Closed
+
+-- how many frames that weren't sent are kept: the one that is being sent
+abbrev pub sending : Bool → ℕ
+sending true = 1
+sending false = 0
+
+-- the dialogue was ended from outside
+pub record Ends (ending : Ending) (is_sending : Bool) (old new : Row) : Type 0 where
+  pub same : IsSame old new
+  pub accepted : new.accepted ≡ old.accepted
+  pub served : new.served ≡ old.served
+  pub core : new.core ≡ old.core
+  pub queued : new.queued ≡ old.queued
+  pub kept : new.kept ≡ min old.kept (old.sent + sending is_sending)
+  pub sent : new.sent ≡ old.sent
+  pub is_out : new.is_out ≡ old.is_out
+  pub ended : new.ended ≡ ended_by ending old.ended
+  pub turn : turn_out new ≡ turn_out old
+  pub waiting : waiting_of new ≡ (if is_closed new.ended then [] else waiting_of old)
+  pub deadline : deadline_of new ≡ None
+  pub all_frames : frames_of new ≡ frames_of old
+  pub queued_frames : queued_of new ≡ queued_of old
+  pub kept_frames : kept_of new ≡ take (old.sent + sending is_sending) (kept_of old)
+  pub sent_frames : sent_of new ≡ sent_of old

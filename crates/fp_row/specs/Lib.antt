@@ -1,0 +1,6 @@
+pub mod Calls
+pub mod Keys
+pub mod Laws
+pub mod Row
+pub mod Rows
+pub mod Turn

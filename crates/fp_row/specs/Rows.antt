@@ -1,0 +1,24 @@
+-- Rows by local transaction identifier (ITU-T Q.773, 4.2.1.3): a finite map.
+use Rattle.std.specs.Prelude.{◌≡◌, ℕ, ◌≤◌, Option, Some, None, IsTrue}
+use Rattle.std.specs.Ordering.{nat_cmp}
+use Rattle.std.specs.FinMap.{FinMap, contains_key, get, insert}
+use Rattle.fp_row.specs.declared.row.Row.{Row}
+use Rattle.fp_row.specs.Keys.{IsAbove}
+
+-- the least identifier of a row above one, and the least of all above none
+abbrev pub IsAfter : FinMap nat_cmp Row → Option ℕ → Option ℕ → Type 0
+-- none: no identifier of a row is above it
+IsAfter rows local None = (other : ℕ) → IsTrue (contains_key rows other) → IsAbove local other → ⊥
+-- an identifier: it is that of a row, it is above, and no other that is above is smaller
+IsAfter rows local (Some next) =
+    IsTrue (contains_key rows next)
+    × IsAbove local next
+    × ((other : ℕ) → IsTrue (contains_key rows other) → IsAbove local other → next ≤ other)
+
+-- the least identifier above one is one identifier, or none
+abbrev pub AfterIsOne : Type 0
+AfterIsOne = (rows : FinMap nat_cmp Row) (local a b : Option ℕ) → IsAfter rows local a → IsAfter rows local b → a ≡ b
+
+-- to put back the row that was there changes nothing
+abbrev pub PuttingBackChangesNothing : Type 0
+PuttingBackChangesNothing = (rows : FinMap nat_cmp Row) (local : ℕ) (row : Row) → get rows local ≡ Some row → insert rows local row ≡ rows

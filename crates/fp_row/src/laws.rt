@@ -1,0 +1,35 @@
+//! What the types of the layer keep.
+
+ghost use Rattle.fp_row.specs.Laws.{RowsKeepTheirOrder, TurnsAreServedByTheStep};
+ghost use Rattle.fp_row.specs.Rows.{AfterIsOne, PuttingBackChangesNothing};
+
+use fp_service::{births_stay, entries_ask_once_at_most, folds_along_a_grown_list};
+
+/// Of each row: the entries served are the first of those that its service logic serves of the accepted ones, and its
+/// core is that after them. Behind them stand the entry of the turn that is out and the entries that wait: together all
+/// that was accepted, or the front of it where the dialogue was closed or its core is over. What was sent is the front
+/// of what is kept, what is kept the front of what was accepted for sending, and that the front of all that the entries
+/// served request; all of it is kept where nothing ended the dialogue from outside. Each count is of these.
+pub fn rows_keep_their_order()
+    ensures { RowsKeepTheirOrder }
+{
+    folds_along_a_grown_list();
+    entries_ask_once_at_most();
+    births_stay();
+}
+
+/// Of each turn that was served: its core is what the service step makes of the turn, and its frame that of the step's
+/// request, under the turn's own identifiers.
+pub fn turns_are_served_by_the_step()
+    ensures { TurnsAreServedByTheStep }
+{}
+
+/// What [`Rows::after`](crate::Rows::after) answers is one identifier, or none.
+pub fn after_is_one()
+    ensures { AfterIsOne }
+{}
+
+/// To put a row under the identifier under which it stands changes nothing.
+pub fn putting_back_changes_nothing()
+    ensures { PuttingBackChangesNothing }
+{}

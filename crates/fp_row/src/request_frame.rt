@@ -1,0 +1,41 @@
+//! Frames of requests.
+
+ghost use Rattle.std.specs.Prelude.{◌≡◌, ◌≤◌, length};
+
+use fp_reply::MOST_OCTETS;
+use std::marker::Model;
+
+/// The octets of a frame that was requested, its head included: at most [`MOST_OCTETS`]. Contracts see them as their
+/// list.
+#[derive(Debug, Drop)]
+pub struct RequestFrame {
+    octets: Vec<u8>,
+}
+
+impl Model for RequestFrame {
+    ghost use Rattle.std.specs.Prelude.{ℕ, ◌≤◌, List, length};
+
+    ghost Value = { List ℕ };
+
+    ghost view = { λ frame. frame.octets.items };
+
+    ghost invariant = { λ frame. length frame.octets.items ≤ 335 };
+}
+
+impl RequestFrame {
+    /// The frame of these octets, at most [`MOST_OCTETS`] of them. Takes no memory.
+    pub(crate) fn new(octets: Vec<u8>) -> RequestFrame
+        requires { length octets.items ≤ MOST_OCTETS }
+        ensures { result ≡ octets.items }
+    {
+        RequestFrame { octets }
+    }
+
+    /// The octets, the head first, at most [`MOST_OCTETS`] of them.
+    pub fn octets(&self) -> &[u8]
+        ensures value { result.now ≡ self.now }
+        ensures most { length self.now ≤ MOST_OCTETS }
+    {
+        self.octets.as_slice()
+    }
+}

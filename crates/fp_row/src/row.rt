@@ -1,0 +1,343 @@
+//! One dialogue.
+
+ghost use Rattle.std.specs.Prelude.{◌≡◌, ◌≤◌, ◌<◌, ◌+◌, ◌^◌, ◌&&◌, ◌↔◌, nat_eq, nat_le, not, false, true, Some, is_some, length, min, slice_get, take, IsTrue, IfOk, IfErr, IsOk, OnErr, OnOk};
+ghost use Rattle.std.specs.Coded.{Coded-set};
+ghost use Rattle.fp_service.specs.Dialogue.{fresh, is_over};
+ghost use Rattle.fp_service.specs.Fold.{core_after, cut, requests};
+
+use crate::{Done, Ending, Requested, Turn};
+use fp_digits::Moment;
+use fp_entry::{Entries, Entry, EntryKind, equal_entries_are_the_same};
+use fp_q773::Tid;
+use fp_service::{
+    Core, births_stay, entries_ask_once_at_most, equal_cores_are_the_same, folds_along_a_grown_list,
+};
+use std::alloc::{AllocError, Global};
+
+/// One dialogue: what it accepted, how much of that was served, and how many of its requests were sent.
+#[derive(Debug, Drop)]
+pub struct Row {
+    pub(crate) local: u32,
+    pub(crate) peer: Tid,
+    pub(crate) birth: u64,
+    // The moment of its Begin.
+    pub(crate) opened: Moment,
+    // All entries that it accepted, in their order.
+    pub(crate) accepted: Entries,
+    // How many of them were served.
+    pub(crate) served: usize,
+    // The core after those.
+    pub(crate) core: Core,
+    // How many of its requests were accepted for sending.
+    pub(crate) queued: usize,
+    // How many of those are still to be sent, or were sent.
+    pub(crate) kept: usize,
+    // How many were sent.
+    pub(crate) sent: usize,
+    // Whether the turn of the next entry is out.
+    pub(crate) is_out: bool,
+    pub(crate) ended: Option<Ending>,
+
+    // What was served is the front of what was accepted.
+    pub ghost served_within: { served ≤ length accepted },
+
+    // The core is that after the entries that were served.
+    pub ghost core_is: { core ≡ core_after (fresh birth opened) (take served accepted) } by { Coded-set core-code _ _ },
+
+    // None of them is behind the one that ends the dialogue.
+    pub ghost cut_is: { cut (fresh birth opened) (take served accepted) ≡ take served accepted },
+
+    // Each request is one of those entries'.
+    pub ghost queued_within: { queued ≤ length (requests (fresh birth opened) (take served accepted)) },
+    pub ghost kept_within: { kept ≤ queued },
+    pub ghost sent_within: { sent ≤ kept },
+
+    // All of them are kept until the dialogue is ended from outside.
+    pub ghost all_kept: { (not (is_some ended) && not (nat_eq kept (length (requests (fresh birth opened) (take served accepted))))) ≡ false },
+
+    // A turn that is out is of the next entry.
+    pub ghost out_is_live: { (is_out && is_over core) ≡ false },
+    pub ghost out_is_next: { (is_out && nat_le (length accepted) served) ≡ false },
+}
+
+impl Row {
+    ghost use Rattle.fp_row.specs.Row.{IsFromHere, deadline_of, has_clock, is_admitted, is_due, is_held, is_ready, places_taken, turn_out, unserved, waits};
+    ghost use Rattle.fp_row.specs.Calls.{Accepts, Clocks, Ends, Gives, Opens, PutsBack, Sends, Takes, sending};
+
+    /// The dialogue that a Begin opens at this moment: this end knows it by `local`, its peer by `peer`, and it is the
+    /// `birth`-th of its link. It accepted nothing yet. Takes no memory.
+    pub fn open(alloc: Global, local: u32, peer: Tid, birth: u64, moment: Moment) -> Row
+        ensures { Opens local peer birth moment result }
+    {
+        Row {
+            local,
+            peer,
+            birth,
+            opened: moment,
+            accepted: Entries::new(alloc),
+            served: 0,
+            core: Core::new(birth, moment),
+            queued: 0,
+            kept: 0,
+            sent: 0,
+            is_out: false,
+            ended: None,
+        }
+    }
+
+    /// The local transaction identifier.
+    pub fn local(&self) -> u32
+        ensures { result ≡ self.now.local }
+    {
+        self.local
+    }
+
+    /// The transaction identifier of the peer.
+    pub fn peer(&self) -> Tid
+        ensures { result ≡ self.now.peer }
+    {
+        self.peer
+    }
+
+    /// The number of the dialogue among those that its link accepted, from 1.
+    pub fn birth(&self) -> u64
+        ensures { result ≡ self.now.birth }
+    {
+        self.birth
+    }
+
+    /// Whether it takes messages: its core isn't over, and it wasn't ended from outside.
+    pub fn is_admitted(&self) -> bool
+        ensures { result ≡ is_admitted self.now }
+    {
+        self.ended.is_none() && !self.core.is_over()
+    }
+
+    /// The entries that weren't served, that of the turn that is out first.
+    fn unserved(&self) -> &[Entry]
+        ensures { result.now ≡ unserved self.now }
+    {
+        &self.accepted.as_slice()[self.served..]
+    }
+
+    /// Whether an entry is still to be served.
+    fn waits(&self) -> bool
+        ensures { result ≡ waits self.now }
+    {
+        self.ended != Some(Ending::Closed)
+            && !self.core.is_over()
+            && self.served < self.accepted.len()
+    }
+
+    /// Whether an entry waits, and no turn is out.
+    pub fn is_ready(&self) -> bool
+        ensures { result ≡ is_ready self.now }
+    {
+        !self.is_out && self.waits()
+    }
+
+    /// Whether something of it is left: it is admitted, an entry waits, a turn is out, or a request is kept that wasn't
+    /// sent.
+    pub fn is_held(&self) -> bool
+        ensures { result ≡ is_held self.now }
+    {
+        self.is_admitted() || self.is_out || self.waits() || self.sent < self.kept
+    }
+
+    /// How many of the entries that weren't served take a place of the dialogue, while it is admitted.
+    pub fn places_taken(&self) -> usize
+        ensures { result ≡ places_taken self.now }
+    {
+        self.unserved()
+            .iter()
+            .filter(|entry| entry.kind.takes_a_place())
+            .count()
+    }
+
+    /// Whether a Clock waits or is out.
+    fn has_clock(&self) -> bool
+        ensures { result ≡ has_clock self.now }
+    {
+        let clocks = self.unserved().iter().filter(|entry| entry.kind.is_clock());
+        clocks.count() > 0
+    }
+
+    /// The earliest moment at which it is given a Clock, in milliseconds since 1970-01-01T00:00:00Z: none where it
+    /// isn't admitted, or where a Clock waits or is out.
+    pub fn deadline(&self) -> Option<u64>
+        ensures { result ≡ deadline_of self.now }
+    {
+        if self.has_clock() || !self.is_admitted() {
+            return None;
+        }
+        Some(self.core.next_due())
+    }
+
+    /// Puts the entries of a message behind the others, and says so. A dialogue that isn't admitted takes none, and
+    /// nothing changes; nor does it where memory is wanting. In both cases the entries are gone. Whoever hands in the
+    /// peer's end or abort ends the dialogue too ([`Row::end`]).
+    pub fn accept(&mut self, entries: Entries) -> Result<bool, AllocError>
+        ensures ok { IfOk result (λ taken. (taken ≡ is_admitted self.old) × Accepts taken self.old entries self.new) }
+        ensures err { OnErr result (self.new ≡ self.old) }
+        ensures only { OnErr result (is_admitted self.old ≡ true) }
+    {
+        if !self.is_admitted() {
+            return Ok(false);
+        }
+        self.accepted.append(entries)?;
+        Ok(true)
+    }
+
+    /// Puts a Clock of this moment behind the entries, and says so. A dialogue that isn't due takes none, and nothing
+    /// changes; nor does it where memory is wanting.
+    pub fn accept_clock(&mut self, moment: Moment) -> Result<bool, AllocError>
+        ensures ok { IfOk result (λ taken. (taken ≡ is_due self.old moment) × Clocks taken self.old moment self.new) }
+        ensures err { OnErr result (self.new ≡ self.old) }
+        ensures only { OnErr result (is_due self.old moment ≡ true) }
+    {
+        let is_due = match self.deadline() {
+            Some(deadline) => deadline <= moment.milliseconds(),
+            None => false,
+        };
+        if !is_due {
+            return Ok(false);
+        }
+        let kind = EntryKind::Clock;
+        self.accepted.push(Entry { moment, kind })?;
+        Ok(true)
+    }
+
+    /// Hands out the turn of the next entry: `None` exactly where the dialogue isn't ready. Then, and where memory for
+    /// a copy of the entry is wanting, nothing changes. A row hands out one turn at a time.
+    pub fn take(&mut self) -> Result<Option<Turn>, AllocError>
+        ensures ok { IfOk result (λ taken. Takes self.old taken self.new) }
+        ensures err { OnErr result (self.new ≡ self.old) }
+        ensures only { OnErr result (is_ready self.old ≡ true) }
+    {
+        if !self.is_ready() {
+            return Ok(None);
+        }
+        births_stay();
+        let entry = self.accepted.as_slice()[self.served].try_clone()?;
+        self.is_out = true;
+        Ok(Some(Turn {
+            local: self.local,
+            peer: self.peer,
+            position: self.served,
+            entry,
+            before: self.core,
+        }))
+    }
+
+    /// Whether this is the next entry.
+    fn is_next(&self, entry: &Entry) -> bool
+        ensures value { IsTrue result ↔ (slice_get self.now.accepted self.now.served ≡ Some entry.now) }
+        ensures fits { IsTrue result → self.now.served + 1 < 2 ^ 64 }
+    {
+        equal_entries_are_the_same();
+        if self.served >= self.accepted.len() {
+            return false;
+        }
+        self.accepted.as_slice()[self.served] == *entry
+    }
+
+    /// Whether a turn has this core before its entry.
+    fn is_before(&self, core: &Core) -> bool
+        ensures { IsTrue result ↔ (self.now.core ≡ core.now) }
+    {
+        equal_cores_are_the_same();
+        self.core == *core
+    }
+
+    /// Whether a turn is of this dialogue, at its next position.
+    fn is_from_here(&self, turn: &Turn) -> bool
+        ensures { IsTrue result ↔ IsFromHere self.now turn.now }
+    {
+        self.local == turn.local
+            && self.peer == turn.peer
+            && self.served == turn.position
+            && self.is_before(&turn.before)
+    }
+
+    /// Whether this turn is the one that is out.
+    fn is_turn_out(&self, turn: &Turn) -> bool
+        ensures value { IsTrue result ↔ (turn_out self.now ≡ Some turn.now) }
+        ensures fits { IsTrue result → self.now.served + 1 < 2 ^ 64 }
+    {
+        self.is_out && self.is_from_here(turn) && self.is_next(&turn.entry)
+    }
+
+    /// Takes back the turn that is out, served: its entry counts as served, and its request is to be sent unless the
+    /// dialogue was ended from outside. A strange turn, one whose identifiers, position, entry or core before aren't
+    /// those of the turn that is out, comes back, and nothing changes. Takes no memory.
+    pub fn give(&mut self, done: Done) -> Result<Requested, Done>
+        ensures ok { IfOk result (λ requested. Gives self.old done requested self.new) }
+        ensures err { IfErr result (λ back. (back ≡ done) × (self.new ≡ self.old)) }
+        ensures known { IsOk result ↔ (turn_out self.old ≡ Some done.turn) }
+    {
+        if !self.is_turn_out(&done.turn) {
+            return Err(done);
+        }
+        folds_along_a_grown_list();
+        entries_ask_once_at_most();
+        let Done { turn, after, frame } = done;
+        turn.abandon();
+        let requested = Requested::of(self.ended, frame);
+        let count = requested.frame_count();
+        self.served += 1;
+        self.core = after;
+        self.queued += count;
+        self.kept += count;
+        self.is_out = false;
+        Ok(requested)
+    }
+
+    /// Takes back the turn that is out, not served: its entry is the next one again. A strange turn comes back, and
+    /// nothing changes. Takes no memory.
+    pub fn put_back(&mut self, turn: Turn) -> Result<(), Turn>
+        ensures ok { OnOk result (PutsBack self.old turn self.new) }
+        ensures err { IfErr result (λ back. (back ≡ turn) × (self.new ≡ self.old)) }
+        ensures known { IsOk result ↔ (turn_out self.old ≡ Some turn) }
+    {
+        if !self.is_turn_out(&turn) {
+            return Err(turn);
+        }
+        turn.abandon();
+        self.is_out = false;
+        Ok(())
+    }
+
+    /// Counts one more of the kept requests as sent, and says so; where all were sent, nothing changes. Takes no
+    /// memory.
+    pub fn sent(&mut self) -> bool
+        ensures { Sends result self.old self.new }
+    {
+        if self.sent == self.kept {
+            return false;
+        }
+        self.sent += 1;
+        true
+    }
+
+    /// How many requests are kept where the dialogue is ended from outside: those that were sent, and the one that is
+    /// being sent.
+    fn kept_by_end(&self, is_sending: bool) -> usize
+        ensures { result ≡ min self.now.kept (self.now.sent + sending is_sending) }
+    {
+        if is_sending && self.sent < self.kept {
+            self.sent + 1
+        } else {
+            self.sent
+        }
+    }
+
+    /// Ends the dialogue from outside: requests that wait to be sent are dropped, but the one that is being sent now
+    /// where `is_sending`, and where it is closed the entries that wait too. A dialogue that was closed stays so. Takes
+    /// no memory.
+    pub fn end(&mut self, ending: Ending, is_sending: bool)
+        ensures { Ends ending is_sending self.old self.new }
+    {
+        self.kept = self.kept_by_end(is_sending);
+        self.ended = Some(ending.after(self.ended));
+    }
+}
