@@ -1,0 +1,29 @@
+//! What the steps of a link answer.
+
+use fp_q773::AbortCause;
+
+/// What becomes of a message that is posted.
+#[derive(Clone, Copy, Debug, PartialEq, Eq)]
+pub enum Posted {
+    /// A Begin opened a dialogue, which has this local transaction identifier.
+    Opened(u32),
+    /// The dialogue that the message names accepted so many entries.
+    Accepted(u32),
+    /// It was refused, and an Abort of the provider for this cause waits to be sent.
+    Aborted(AbortCause),
+    /// It was refused, which ended the dialogue that it names, and nothing is sent.
+    Ended,
+    /// It was refused, and nothing is sent.
+    Discarded,
+}
+
+/// What becomes of the request of a turn that is given back.
+#[derive(Clone, Copy, Debug, PartialEq, Eq)]
+pub enum Given {
+    /// Nothing is requested.
+    Silent,
+    /// The frame of the request waits to be sent.
+    Queued,
+    /// The dialogue was ended from elsewhere, so its request isn't accepted.
+    Dropped,
+}

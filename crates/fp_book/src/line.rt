@@ -1,0 +1,99 @@
+//! Lines of the log.
+
+use crate::{Given, Posted};
+use fp_digits::Moment;
+use fp_frames::Frame;
+
+/// A line of the log.
+#[derive(Debug, Drop)]
+pub enum Line {
+    /// The first one: how many links there are.
+    Head {
+        /// The number of links, 1 to 8.
+        links: u8,
+    },
+    /// A step of a link, or a gap.
+    Step {
+        /// The link, 0 to 7.
+        link: u8,
+        /// The step.
+        step: LoggedStep,
+    },
+}
+
+/// A step of a link as the log tells it.
+#[derive(Debug, Drop)]
+pub enum LoggedStep {
+    /// A message was posted.
+    Post {
+        /// When it came.
+        moment: Moment,
+        /// The message, without its head.
+        message: Frame,
+        /// What became of it.
+        answer: Posted,
+    },
+    /// A message was posted for which memory was wanting.
+    Lost {
+        /// When it came.
+        moment: Moment,
+        /// The message, without its head.
+        message: Frame,
+        /// What became of it.
+        answer: Posted,
+    },
+    /// Time went by.
+    Tick {
+        /// The moment.
+        moment: Moment,
+        /// How many dialogues were given a Clock.
+        added: u32,
+        /// How many were left, since memory was wanting.
+        wanting: u32,
+    },
+    /// A turn was taken.
+    Take {
+        /// The local transaction identifier of its dialogue.
+        local: u32,
+        /// The place of its entry among those that the dialogue accepted, from 0.
+        position: u64,
+    },
+    /// A turn was given back, served.
+    Give {
+        /// The local transaction identifier of its dialogue.
+        local: u32,
+        /// The place of its entry.
+        position: u64,
+        /// What became of its request.
+        given: Given,
+    },
+    /// A turn was put back, not served.
+    PutBack {
+        /// The local transaction identifier of its dialogue.
+        local: u32,
+        /// The place of its entry.
+        position: u64,
+    },
+    /// A parcel was picked.
+    Pick {
+        /// The local transaction identifier of its dialogue, 0 for an Abort of the provider.
+        local: u32,
+    },
+    /// A parcel was sent.
+    Sent {
+        /// The local transaction identifier of its dialogue, 0 for an Abort of the provider.
+        local: u32,
+    },
+    /// A parcel couldn't be sent.
+    Unsent {
+        /// The local transaction identifier of its dialogue, 0 for an Abort of the provider.
+        local: u32,
+    },
+    /// The link went down.
+    Down,
+    /// Here so many steps aren't told.
+    Gap {
+        /// How many, at most 2^64 - 1.
+        lost: u64,
+    },
+}

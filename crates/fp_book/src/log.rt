@@ -1,0 +1,119 @@
+//! The log of a link.
+
+ghost use Rattle.std.specs.Prelude.{◌≡◌, ◌-◌, ◌≤◌, [], IfOk, length, vec_capacity, vec_len};
+ghost use Rattle.std.specs.VecDeque.{deque_capacity};
+ghost use Rattle.fp_book.specs.Log.{Drains, gap_at_end, logged, lose, lost_in};
+
+use crate::{Line, LoggedStep};
+use std::alloc::{AllocError, Global};
+use std::collections::VecDeque;
+use std::marker::Model;
+
+/// The steps of a link that weren't drained yet, the oldest first, at most 8,192. In the last place stands nothing but
+/// a gap, which counts the steps that found no place. Contracts see them as their list.
+#[derive(Debug, Drop)]
+pub struct Log {
+    steps: VecDeque<LoggedStep>,
+}
+
+impl Model for Log {
+    ghost use Rattle.std.specs.Prelude.{List};
+    ghost use Rattle.std.specs.VecDeque.{deque_capacity};
+    ghost use Rattle.fp_book.specs.declared.line.LoggedStep.{LoggedStep};
+
+    ghost Value = { List LoggedStep };
+
+    ghost use Rattle.fp_book.specs.Log.{IsKept};
+
+    ghost view = { λ log. log.steps.items };
+
+    ghost invariant = { λ log. IsKept log.steps.items (deque_capacity log.steps) };
+}
+
+impl Log {
+    /// How many steps there may be, a gap in the last place counted.
+    pub const MOST: usize = 8192;
+
+    /// No steps, with memory for as many as there may be.
+    pub fn new(alloc: Global) -> Result<Log, AllocError>
+        ensures { IfOk result (λ log. log ≡ []) }
+    {
+        Ok(Log {
+            steps: VecDeque::with_capacity(alloc, Self::MOST)?,
+        })
+    }
+
+    /// How many steps there are, at most [`Log::MOST`].
+    pub fn len(&self) -> usize
+        ensures count { result ≡ length self.now }
+        ensures most { result ≤ Self.MOST }
+    {
+        self.steps.len()
+    }
+
+    /// Puts a step behind the others. Where only the last place is left, it is counted in the gap there instead, which
+    /// begins at 1 and stays at 2^64 - 1. Takes no memory.
+    pub fn add(&mut self, step: LoggedStep)
+        ensures { self.new ≡ logged self.old step }
+    {
+        if self.steps.len() < Self::MOST - 1 {
+            self.steps.push_back_reserved(step);
+        } else {
+            self.lose();
+        }
+    }
+
+    /// Moves the oldest steps behind `lines`, as lines of this link, 0 to 7, as many as `lines` has room for. The steps
+    /// that are left keep their order. Takes no memory.
+    pub fn drain(&mut self, link: u8, lines: &mut Vec<Line>)
+        ensures drains { Drains link self.old lines.old.items (vec_capacity lines.old - vec_len lines.old) self.new lines.new.items }
+        ensures capacity { vec_capacity lines.new ≡ vec_capacity lines.old }
+    {
+        move_steps(&mut self.steps, link, lines);
+    }
+
+    /// Counts a step as lost, in the gap that stands last, or in a new one. Takes no memory.
+    fn lose(&mut self)
+        ensures { self.new ≡ lose self.old }
+    {
+        let lost = match self.last_gap() {
+            Some(lost) => {
+                drop(self.steps.pop_back());
+                lost.saturating_add(1)
+            }
+            None => 1,
+        };
+        self.steps.push_back_reserved(LoggedStep::Gap { lost });
+    }
+
+    /// How many steps the gap counts that stands last, if one does.
+    fn last_gap(&self) -> Option<u64>
+        ensures { result ≡ gap_at_end self.now }
+    {
+        lost_in(self.steps.back()?)
+    }
+}
+
+/// How many steps a gap counts, and `None` for any other step.
+fn lost_in(step: &LoggedStep) -> Option<u64>
+    ensures { result ≡ lost_in step.now }
+{
+    match step {
+        LoggedStep::Gap { lost } => Some(*lost),
+        _ => None,
+    }
+}
+
+/// Moves the oldest steps behind `lines`, as lines of this link, as many as `lines` has room for.
+fn move_steps(steps: &mut VecDeque<LoggedStep>, link: u8, lines: &mut Vec<Line>)
+    ensures drains { Drains link steps.old.items lines.old.items (vec_capacity lines.old - vec_len lines.old) steps.new.items lines.new.items }
+    ensures places { deque_capacity steps.new ≡ deque_capacity steps.old }
+    ensures capacity { vec_capacity lines.new ≡ vec_capacity lines.old }
+{
+    let room = lines.capacity() - lines.len();
+    for _moved in 0..room.min(steps.len()) {
+        if let Some(step) = steps.pop_front() {
+            lines.push_reserved(Line::Step { link, step });
+        }
+    }
+}

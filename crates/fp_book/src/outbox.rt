@@ -1,0 +1,148 @@
+//! What waits to be sent on a link.
+
+ghost use Rattle.std.specs.Prelude.{◌≡◌, ◌+◌, ◌<◌, ◌≤◌, ◌↔◌, Some, IfErr, IfOk, IsOk, length, nat_lt};
+ghost use Rattle.fp_book.specs.Sending.{is_frame_of};
+ghost use Rattle.fp_book.specs.Outbox.{Picks, TakesNext, abort_added, frames_held, nothing, with_frame, with_nothing_out, without_frames_of, without_waiting};
+
+use crate::parcel::{Content, Waiting};
+use crate::sending::Sending;
+use crate::{Parcel, Picked};
+use fp_reply::AbortFrame;
+use fp_row::RequestFrame;
+use std::alloc::{AllocError, Global};
+use std::collections::VecDeque;
+use std::marker::Model;
+
+/// What waits to be sent on a link, the oldest first: at most 64 Aborts of the provider, which go first, and 8,192
+/// frames of dialogues; and what is being sent. Contracts see the two lists, and what the parcel holds that is out.
+#[derive(Debug, Drop)]
+pub struct Outbox {
+    aborts: VecDeque<AbortFrame>,
+    frames: VecDeque<Waiting>,
+    sending: Sending,
+}
+
+impl Model for Outbox {
+    ghost use Rattle.std.specs.VecDeque.{deque_capacity};
+    ghost use Rattle.fp_book.specs.Outbox.{IsKept};
+    ghost use Rattle.fp_book.specs.Outbox as outboxes;
+
+    ghost Value = { outboxes.Outbox };
+
+    ghost view = { λ own. record { aborts = own.aborts.items; frames = own.frames.items; out = own.sending } };
+
+    ghost invariant = { λ own. IsKept own.aborts.items (deque_capacity own.aborts) own.frames.items (deque_capacity own.frames) };
+}
+
+impl Outbox {
+    /// How many Aborts of the provider may wait.
+    pub const MOST_ABORTS: usize = 64;
+
+    /// How many frames of dialogues may wait.
+    pub const MOST_FRAMES: usize = 8192;
+
+    /// Nothing waits and nothing is being sent, with memory for as much as may wait, and for what is being sent.
+    pub fn new(alloc: Global) -> Result<Outbox, AllocError>
+        ensures { IfOk result (λ outbox. outbox ≡ nothing) }
+    {
+        Ok(Outbox {
+            aborts: VecDeque::with_capacity(alloc, Self::MOST_ABORTS)?,
+            frames: VecDeque::with_capacity(alloc, Self::MOST_FRAMES)?,
+            sending: Sending::new(alloc)?,
+        })
+    }
+
+    /// How many places for frames are held: one by each frame that waits, and one by a dialogue's frame that is being
+    /// sent. An Abort holds none.
+    pub fn frames_held(&self) -> usize
+        ensures held { result ≡ frames_held self.now }
+        ensures most { result ≤ Self.MOST_FRAMES + 1 }
+    {
+        self.frames.len() + usize::from(self.sending.is_frame())
+    }
+
+    /// Puts an Abort of the provider behind the others that wait, and says so; where [`Outbox::MOST_ABORTS`] wait,
+    /// nothing changes. Takes no memory.
+    pub fn add_abort(&mut self, frame: AbortFrame) -> bool
+        ensures added { result ≡ nat_lt (length self.old.aborts) Self.MOST_ABORTS }
+        ensures value { self.new ≡ abort_added self.old frame }
+    {
+        if self.aborts.len() == Self::MOST_ABORTS {
+            return false;
+        }
+        self.aborts.push_back_reserved(frame);
+        true
+    }
+
+    /// Puts the frame of a dialogue behind the others that wait. Fewer than [`Outbox::MOST_FRAMES`] do. Takes no
+    /// memory.
+    pub fn add_frame(&mut self, local: u32, frame: RequestFrame)
+        requires room { length self.old.frames < Self.MOST_FRAMES }
+        ensures { self.new ≡ with_frame self.old (record { local = local; frame = frame }) }
+    {
+        self.frames.push_back_reserved(Waiting { local, frame });
+    }
+
+    /// Drops the frames of a dialogue that wait. What is being sent stays. Takes no memory.
+    pub fn drop_frames(&mut self, local: u32)
+        ensures { self.new ≡ without_frames_of local self.old }
+    {
+        self.frames.retain(|waiting| waiting.local != local);
+    }
+
+    /// Drops all that waits. What is being sent stays. Takes no memory.
+    pub fn clear(&mut self)
+        ensures { self.new ≡ without_waiting self.old }
+    {
+        self.aborts.clear();
+        self.frames.clear();
+    }
+
+    /// Whether a frame of this dialogue is being sent.
+    pub fn is_sending(&self, local: u32) -> bool
+        ensures { result ≡ is_frame_of local self.now.out }
+    {
+        self.sending.is_frame_of(local)
+    }
+
+    /// Hands out what is sent next: the oldest Abort of the provider, or, where none waits, the oldest frame. While a
+    /// parcel is out there is no other. Takes no memory.
+    pub fn pick(&mut self) -> Picked
+        ensures { Picks self.old result self.new }
+    {
+        if self.sending.is_busy() {
+            return Picked::Busy;
+        }
+        let Some(content) = self.take_next() else {
+            return Picked::Nothing;
+        };
+        self.sending.start(&content);
+        Picked::Parcel(Parcel { content })
+    }
+
+    /// Takes back the parcel that is out: nothing is being sent from now on, and what waits stays. A strange parcel,
+    /// whose content isn't what is being sent, comes back, and nothing changes. Takes no memory.
+    pub fn take_back(&mut self, parcel: Parcel) -> Result<(), Parcel>
+        ensures ok { IfOk result (λ _. self.new ≡ with_nothing_out self.old) }
+        ensures err { IfErr result (λ back. (back ≡ parcel) × (self.new ≡ self.old)) }
+        ensures known { IsOk result ↔ (self.old.out ≡ Some parcel.content) }
+    {
+        if !self.sending.is(&parcel.content) {
+            return Err(parcel);
+        }
+        parcel.abandon();
+        self.sending.end();
+        Ok(())
+    }
+
+    /// Takes off what is sent next, if anything waits.
+    fn take_next(&mut self) -> Option<Content>
+        ensures { TakesNext self.old result self.new }
+    {
+        if let Some(frame) = self.aborts.pop_front() {
+            return Some(Content::Abort(frame));
+        }
+        let waiting = self.frames.pop_front()?;
+        Some(Content::Frame(waiting))
+    }
+}

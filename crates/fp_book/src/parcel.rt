@@ -1,0 +1,72 @@
+//! Parcels.
+
+ghost use Rattle.std.specs.Prelude.{◌≡◌};
+ghost use Rattle.fp_book.specs.Parcel.{local_of, octets_of};
+
+use fp_reply::AbortFrame;
+use fp_row::RequestFrame;
+
+/// What is being sent on a link: the frame of a dialogue's request, or of an Abort of the provider. It is reported sent
+/// or unsent, or abandoned.
+#[must_use]
+#[derive(Debug)]
+pub struct Parcel {
+    pub(crate) content: Content,
+}
+
+/// What a parcel holds.
+#[derive(Debug, Drop)]
+pub(crate) enum Content {
+    /// An Abort of the provider.
+    Abort(AbortFrame),
+    /// The frame of a dialogue.
+    Frame(Waiting),
+}
+
+/// A frame of a dialogue that waits to be sent.
+#[derive(Debug, Drop)]
+pub(crate) struct Waiting {
+    /// The local transaction identifier of the dialogue.
+    pub(crate) local: u32,
+    /// The frame of its request.
+    pub(crate) frame: RequestFrame,
+}
+
+/// What is handed out to be sent.
+#[must_use]
+#[derive(Debug)]
+pub enum Picked {
+    /// This is to be sent next.
+    Parcel(Parcel),
+    /// A parcel is out already.
+    Busy,
+    /// Nothing waits.
+    Nothing,
+}
+
+impl Parcel {
+    /// The local transaction identifier of the dialogue, 0 for an Abort of the provider.
+    pub fn local(&self) -> u32
+        ensures { result ≡ local_of self.now.content }
+    {
+        match &self.content {
+            Content::Abort(_) => 0,
+            Content::Frame(waiting) => waiting.local,
+        }
+    }
+
+    /// The octets that are to be sent: the frame, its head included.
+    pub fn octets(&self) -> &[u8]
+        ensures { result.now ≡ octets_of self.now.content }
+    {
+        match &self.content {
+            Content::Abort(frame) => frame.as_slice(),
+            Content::Frame(waiting) => waiting.frame.octets(),
+        }
+    }
+
+    /// Spends a parcel that nobody reports. Its link stays busy with it. Takes no memory.
+    pub fn abandon(self) {
+        let Parcel { content: _ } = self;
+    }
+}

@@ -1,0 +1,87 @@
+//! The order in which dialogues are served.
+
+ghost use Rattle.std.specs.Prelude.{◌≡◌, ◌<◌, ◌≤◌, ◌∷◌, ◌++◌, [], IfOk, filter, length};
+ghost use Rattle.std.specs.List.{slice_get};
+ghost use Rattle.std.specs.Option.{option_to_list};
+ghost use Rattle.fp_book.specs.ReadyQueue.{IsEmptyIfNone, is_other};
+
+use std::alloc::{AllocError, Global};
+use std::collections::VecDeque;
+use std::marker::Model;
+
+/// The local transaction identifiers of dialogues in the order in which they are served, at most 4,096. Contracts see
+/// them as their list.
+#[derive(Debug, Drop)]
+pub struct ReadyQueue {
+    locals: VecDeque<u32>,
+}
+
+impl Model for ReadyQueue {
+    ghost use Rattle.std.specs.Prelude.{ℕ, ◌≤◌, List, length};
+    ghost use Rattle.std.specs.VecDeque.{deque_capacity};
+
+    ghost Value = { List ℕ };
+
+    ghost view = { λ queue. queue.locals.items };
+
+    ghost invariant = { λ queue. (length queue.locals.items ≤ 4096) × (4096 ≤ deque_capacity queue.locals) };
+}
+
+impl ReadyQueue {
+    /// How many there may be.
+    pub const MOST: usize = 4096;
+
+    /// None, with memory for as many as there may be.
+    pub fn new(alloc: Global) -> Result<ReadyQueue, AllocError>
+        ensures { IfOk result (λ queue. queue ≡ []) }
+    {
+        Ok(ReadyQueue {
+            locals: VecDeque::with_capacity(alloc, Self::MOST)?,
+        })
+    }
+
+    /// How many there are, at most [`ReadyQueue::MOST`].
+    pub fn len(&self) -> usize
+        ensures count { result ≡ length self.now }
+        ensures most { result ≤ Self.MOST }
+    {
+        self.locals.len()
+    }
+
+    /// Puts an identifier behind the others. There are fewer than [`ReadyQueue::MOST`]. Takes no memory.
+    pub fn join(&mut self, local: u32)
+        requires room { length self.old < Self.MOST }
+        ensures { self.new ≡ self.old ++ local ∷ [] }
+    {
+        self.locals.push_back_reserved(local);
+    }
+
+    /// The identifier that is served next, if there is one.
+    pub fn first(&self) -> Option<u32>
+        ensures { result ≡ slice_get self.now 0 }
+    {
+        self.locals.front().copied()
+    }
+
+    /// Takes the identifier off that is served next, if there is one. Takes no memory.
+    pub fn next(&mut self) -> Option<u32>
+        ensures taken { self.old ≡ option_to_list result ++ self.new }
+        ensures none { IsEmptyIfNone result self.old }
+    {
+        self.locals.pop_front()
+    }
+
+    /// Takes an identifier out, wherever it stands, and keeps the order of the others. Takes no memory.
+    pub fn leave(&mut self, local: u32)
+        ensures { self.new ≡ filter (is_other local) self.old }
+    {
+        self.locals.retain(|other| *other != local);
+    }
+
+    /// Takes all out. Takes no memory.
+    pub fn clear(&mut self)
+        ensures { self.new ≡ [] }
+    {
+        self.locals.clear();
+    }
+}

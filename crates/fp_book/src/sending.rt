@@ -1,0 +1,127 @@
+//! What is being sent.
+
+ghost use Rattle.std.specs.Prelude.{◌≡◌, ◌↔◌, Some, None, IfOk, IsTrue, is_some};
+ghost use Rattle.fp_book.specs.declared.parcel.Content.TheVariants as contents;
+ghost use Rattle.fp_book.specs.Sending.{is_frame, is_frame_of};
+
+use crate::parcel::Content;
+use fp_reply::{AbortFrame, MOST_OCTETS};
+use std::alloc::{AllocError, Global};
+use std::marker::Model;
+
+/// What is being sent on a link, if anything is: a copy of what its parcel holds, with memory for every frame.
+/// Contracts see that content.
+#[derive(Debug, Drop)]
+pub(crate) struct Sending {
+    kind: Option<Kind>,
+    // The frame, where it is one of a dialogue.
+    octets: Vec<u8>,
+}
+
+/// Which kind is being sent.
+#[derive(Debug, Drop)]
+enum Kind {
+    /// This Abort of the provider.
+    Abort(AbortFrame),
+    /// The frame of the dialogue with this local transaction identifier.
+    Frame(u32),
+}
+
+impl Model for Sending {
+    ghost use Rattle.std.specs.Prelude.{◌≤◌, Option, vec_capacity};
+    ghost use Rattle.fp_book.specs.declared.parcel.Content.{Content};
+
+    ghost Value = { Option Content };
+
+    ghost use Rattle.fp_book.specs.Sending.{content_of};
+
+    ghost view = { λ sending. content_of sending.kind sending.octets.items };
+
+    ghost invariant = { λ sending. 335 ≤ vec_capacity sending.octets };
+}
+
+impl Sending {
+    /// Nothing, with memory for every frame.
+    pub(crate) fn new(alloc: Global) -> Result<Sending, AllocError>
+        ensures { IfOk result (λ sending. sending ≡ None) }
+    {
+        Ok(Sending {
+            kind: None,
+            octets: Vec::with_capacity(alloc, MOST_OCTETS)?,
+        })
+    }
+
+    /// This is being sent from now on. Takes no memory.
+    pub(crate) fn start(&mut self, content: &Content)
+        ensures { self.new ≡ Some content.now }
+    {
+        match content {
+            Content::Abort(frame) => self.kind = Some(Kind::Abort(*frame)),
+            Content::Frame(waiting) => {
+                self.octets.clear();
+                // There is room, so this takes no memory and succeeds.
+                drop(self.octets.extend_from_slice(waiting.frame.octets()));
+                self.kind = Some(Kind::Frame(waiting.local));
+            }
+        }
+    }
+
+    /// Nothing is being sent from now on. Takes no memory.
+    pub(crate) fn end(&mut self)
+        ensures { self.new ≡ None }
+    {
+        self.kind = None;
+    }
+
+    /// Whether anything is being sent.
+    pub(crate) fn is_busy(&self) -> bool
+        ensures { result ≡ is_some self.now }
+    {
+        self.kind.is_some()
+    }
+
+    /// Whether a frame of a dialogue is being sent.
+    pub(crate) fn is_frame(&self) -> bool
+        ensures { result ≡ is_frame self.now }
+    {
+        match &self.kind {
+            Some(Kind::Frame(_)) => true,
+            Some(Kind::Abort(_)) => false,
+            None => false,
+        }
+    }
+
+    /// Whether a frame of the dialogue with this local transaction identifier is being sent.
+    pub(crate) fn is_frame_of(&self, local: u32) -> bool
+        ensures { result ≡ is_frame_of local self.now }
+    {
+        match &self.kind {
+            Some(Kind::Frame(own)) => *own == local,
+            Some(Kind::Abort(_)) => false,
+            None => false,
+        }
+    }
+
+    /// Whether this very content is being sent: the same Abort, or the same frame of the same dialogue.
+    pub(crate) fn is(&self, content: &Content) -> bool
+        ensures { IsTrue result ↔ (self.now ≡ Some content.now) }
+    {
+        match content {
+            Content::Abort(frame) => self.is_abort(frame),
+            Content::Frame(waiting) => {
+                self.is_frame_of(waiting.local) && self.octets.as_slice() == waiting.frame.octets()
+            }
+        }
+    }
+
+    /// Whether this Abort of the provider is being sent.
+    fn is_abort(&self, frame: &AbortFrame) -> bool
+        ensures { IsTrue result ↔ (self.now ≡ Some (contents.Abort frame.now)) }
+    {
+        match &self.kind {
+            Some(Kind::Abort(own)) => own == frame,
+            Some(Kind::Frame(_)) => false,
+            None => false,
+        }
+    }
+}
