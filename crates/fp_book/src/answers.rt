@@ -9,11 +9,12 @@ pub enum Posted {
     Opened(u32),
     /// The dialogue that the message names accepted so many entries.
     Accepted(u32),
-    /// It was refused, and an Abort of the provider for this cause waits to be sent.
+    /// It was refused, which closed the admitted dialogue that it names, if there is one, and an Abort of the provider
+    /// for this cause waits to be sent.
     Aborted(AbortCause),
-    /// It was refused, which ended the dialogue that it names, and nothing is sent.
+    /// It was refused, which closed the dialogue that it names, and nothing is sent.
     Ended,
-    /// It was refused, and nothing is sent.
+    /// No dialogue accepted it, none was closed, and nothing is sent.
     Discarded,
 }
 
@@ -24,6 +25,6 @@ pub enum Given {
     Silent,
     /// The frame of the request waits to be sent.
     Queued,
-    /// The dialogue was ended from elsewhere, so its request isn't accepted.
+    /// The dialogue was ended from outside, so its request isn't accepted.
     Dropped,
 }

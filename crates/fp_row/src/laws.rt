@@ -7,9 +7,9 @@ use fp_service::{births_stay, entries_ask_once_at_most, folds_along_a_grown_list
 
 /// Of each row: the entries served are the first of those that its service logic serves of the accepted ones, and its
 /// core is that after them. Behind them stand the entry of the turn that is out and the entries that wait: together all
-/// that was accepted, or the front of it where the dialogue was closed or its core is over. What was sent is the front
-/// of what is kept, what is kept the front of what was accepted for sending, and that the front of all that the entries
-/// served request; all of it is kept where nothing ended the dialogue from outside. Each count is of these.
+/// that was accepted, or the front of it where the dialogue was closed or its core is over. No more frames were sent
+/// than are kept, kept than were accepted for sending, and accepted than the entries served request; all of these are
+/// kept where nothing ended the dialogue from outside. Each count is of these.
 pub fn rows_keep_their_order()
     ensures { RowsKeepTheirOrder }
 {
