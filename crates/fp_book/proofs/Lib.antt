@@ -1,2 +1,14 @@
 mod Accounts
+mod Changes
+mod Clocks
+mod Downs
 mod Drains
+mod Ends
+mod Extends
+mod Fits
+mod Posts
+mod Queue
+mod Sends
+mod Sums
+mod Turns
+mod Unsent

@@ -1,7 +1,18 @@
--- What holds of all logs.
+-- What holds of all logs, and what the calls of a book keep.
 use Rattle.std.specs.Prelude.{◌≡◌, ℕ, ◌+◌, ◌<◌, List, [], ◌∷◌, ◌++◌, length, filter, nat_lt, Bool, not, is_some, unwrap_or, None, if◌then◌else◌}
 use Rattle.fp_book.specs.declared.line.LoggedStep.{LoggedStep}
 use Rattle.fp_book.specs.Log.{logged, lost_in}
+use Rattle.fp_book.specs.declared.answers.Given.{Given}
+use Rattle.fp_book.specs.declared.answers.Posted.{Posted}
+use Rattle.fp_book.specs.declared.line.LoggedStep.TheVariants as line
+use Rattle.fp_book.specs.declared.parcel.Content.{Content}
+use Rattle.fp_book.specs.declared.parcel.Parcel.{Parcel}
+use Rattle.fp_book.specs.declared.taken.Taken.{Taken}
+use Rattle.fp_book.specs.Calls.{GivesDone, GoesDown, PicksParcel, Posts, PutsTurnBack, Sends, Takes, Ticks, Unsends}
+use Rattle.fp_book.specs.Shelf.{Shelf, Sound}
+use Rattle.fp_entry.specs.declared.prepared.Prepared.{Prepared}
+use Rattle.fp_row.specs.declared.done.Done.{Done}
+use Rattle.fp_row.specs.declared.turn.Turn.{Turn}
 
 -- how many steps a log accounts for: each that it tells, and as many as its gaps count
 abbrev pub accounted : List LoggedStep → ℕ
@@ -25,3 +36,39 @@ EachStepIsAccountedFor =
 abbrev pub ToldStepsStay : Type 0
 ToldStepsStay =
     (list : List LoggedStep) (step : LoggedStep) → lost_in step ≡ None → told (logged list step) ≡ told list ++ (if nat_lt (length list) 8191 then step ∷ [] else [])
+
+-- to hand out a turn keeps what the type of a book keeps
+abbrev pub TakingKeepsSound : Type 0
+TakingKeepsSound = (old new : Shelf) (taken : Taken) → Sound old → Takes old taken new → Sound new
+
+-- to take a turn back that was served does
+abbrev pub GivingKeepsSound : Type 0
+GivingKeepsSound = (old new : Shelf) (done : Done) (given : Given) → Sound old → GivesDone old done given new → Sound new
+
+-- to take one back that wasn't served does
+abbrev pub PuttingBackKeepsSound : Type 0
+PuttingBackKeepsSound = (old new : Shelf) (turn : Turn) → Sound old → PutsTurnBack old turn new → Sound new
+
+-- to hand out what is sent next does
+abbrev pub PickingKeepsSound : Type 0
+PickingKeepsSound = (old new : Shelf) (picked : Content) → Sound old → PicksParcel old picked new → Sound new
+
+-- to take back what was sent does
+abbrev pub SendingKeepsSound : Type 0
+SendingKeepsSound = (old new : Shelf) (sent : Content) → Sound old → Sends old sent new → Sound new
+
+-- to post a message does, whatever is done with it
+abbrev pub PostingKeepsSound : Type 0
+PostingKeepsSound = (old new : Shelf) (came : Prepared) (answer : Posted) → Sound old → Posts old came answer new → Sound new
+
+-- to go down does: all dialogues are closed, and what waits is dropped
+abbrev pub GoingDownKeepsSound : Type 0
+GoingDownKeepsSound = (old new : Shelf) → Sound old → GoesDown old.outbox.out old line.Down new → Sound new
+
+-- so does to take back what couldn't be sent
+abbrev pub UnsendingKeepsSound : Type 0
+UnsendingKeepsSound = (old new : Shelf) (parcel : Parcel) → Sound old → Unsends old parcel new → Sound new
+
+-- so does to give a Clock to each dialogue that is due
+abbrev pub TickingKeepsSound : Type 0
+TickingKeepsSound = (old new : Shelf) (moment added wanting : ℕ) → Sound old → Ticks old moment added wanting new → Sound new

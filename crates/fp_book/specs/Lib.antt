@@ -1,6 +1,10 @@
+pub mod Calls
 pub mod Laws
 pub mod Log
 pub mod Outbox
 pub mod Parcel
 pub mod ReadyQueue
 pub mod Sending
+pub mod Shelf
+pub mod Totals
+pub mod Verdict

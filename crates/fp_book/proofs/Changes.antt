@@ -1,0 +1,216 @@
+-- One dialogue of a link changes, comes or goes: what its book keeps then.
+use Rattle.std.proofs.Common.{◌≡◌, ◌≢◌, ℕ, ◌<◌, ◌≤◌, ◌+◌, ◌^◌, Bool, true, false, cond, eqb, not, ◌&&◌, ◌||◌, nat_lt, Option, Some, None, List, [], ◌∷◌, ◌++◌, length, take, count_by, is_some, refl, sym, ◌∙◌, ap, subst, arith, length-append, ◌⊎◌, ⊎_elim}
+use Rattle.std.proofs.lemmas.Bool.{cases_Bool, cond_both, eqb-true, eq-eqb, or_parts, and_left, and_right, ltb-false}
+use Rattle.std.specs.FinMap as map
+use Rattle.fp_book.proofs.Sums.{OneChanges, amount, kept, left_of, len-sum}
+use Rattle.fp_book.specs.declared.totals.Totals.{Totals}
+use Rattle.fp_book.specs.Outbox.{frames_held}
+use Rattle.fp_book.specs.Shelf.{IsOwn, Shelf, Sound, frames_for, gone_with, keep, of_row, one_if, places_held, ready_count, turns_of, unsent_for}
+use Rattle.fp_book.specs.Totals.{accepted_by, sent_by, served_by, sum_of, with_row}
+use Rattle.fp_row.specs.declared.ending.Ending.TheVariants.{Closed}
+use Rattle.fp_row.specs.declared.row.Row.{Row}
+use Rattle.fp_row.specs.Row.{frames_of, is_admitted, is_held, is_ready, kept_of, sent_of, waits}
+use Rattle.fp_tids.specs.Identifiers.{identifier}
+
+-- how often a dialogue stands in a queue
+abbrev pub count : ℕ → List ℕ → ℕ
+count local queue = count_by (λ other. eqb other local) queue
+
+-- what the sums add up
+abbrev pub admitted : Row → ℕ
+admitted row = one_if (is_admitted row)
+
+abbrev pub ready : Row → ℕ
+ready row = one_if (is_ready row)
+
+abbrev pub entries_of : Row → ℕ
+entries_of row = length row.accepted
+
+abbrev pub one : Row → ℕ
+one row = 1
+
+-- one dialogue changes; `before` is what there was, and `after` what it is then, whether or not something of it is left
+pub record Change (old new : Shelf) (local : ℕ) (before : Option Row) (after : Row) : Type 0 where
+  pub was : map.get old.rows local ≡ before
+  pub rows : new.rows ≡ keep old.rows local after
+  pub gone : new.gone ≡ gone_with old.gone after
+  pub link : new.link ≡ old.link
+  pub given : old.given ≤ new.given
+  pub serials : new.given < 2 ^ 29
+  pub births : new.births ≡ new.given
+  pub down : new.is_down ≡ old.is_down
+  pub entries : new.entries + sum_of admitted old.rows + admitted after ≤ 2 ^ 63 + 8192 + amount admitted before
+  pub room : map.len old.rows < 4096 + amount one before
+  pub own : is_held after ≡ true → IsOwn new local after
+  pub other_dropped : (d : ℕ) → eqb d local ≡ false → frames_for d old.outbox.frames ≡ [] → frames_for d new.outbox.frames ≡ []
+  pub own_frames : sent_of after ++ unsent_for local new.outbox ≡ kept_of after
+  pub other_frames : (d : ℕ) → eqb d local ≡ false → unsent_for d new.outbox ≡ unsent_for d old.outbox
+  pub own_ready : count local new.ready ≡ ready after
+  pub other_ready : (d : ℕ) → eqb d local ≡ false → count d new.ready ≡ count d old.ready
+  pub ready_length : length new.ready + amount ready before ≡ length old.ready + ready after
+  pub places : frames_held new.outbox + turns_of after + places_held old ≤ frames_held old.outbox + amount turns_of before + 8192
+  pub aborts : length new.outbox.aborts ≤ 64
+  pub quiet : new.is_down ≡ true → (new.outbox.aborts ≡ []) × (new.outbox.frames ≡ [])
+  pub accepted : new.totals.accepted + amount accepted_by before ≡ old.totals.accepted + accepted_by after
+  pub served : new.totals.served + amount served_by before ≡ old.totals.served + served_by after
+  pub sent : new.totals.sent + amount sent_by before ≡ old.totals.sent + sent_by after
+  pub all_entries : entries_of after + old.entries ≤ new.entries + amount entries_of before
+  pub few_accepted : new.totals.accepted ≤ new.entries
+  pub few_sent : after.sent ≤ after.served
+
+-- an identifier is this one, or another
+pub by_local : (d local : ℕ) (P : ℕ → Type 0) → P local → (eqb d local ≡ false → P d) → P d
+by_local d local P own other = ⊎_elim (λ e. subst P (sym (eqb-true d local e)) own) other (cases_Bool (eqb d local))
+
+-- something is left of a dialogue, or nothing is
+pub by_held : (row : Row) (P : Option Row → Type 0) → (is_held row ≡ true → P (Some row)) → (is_held row ≡ false → P None) → P (left_of row)
+by_held row P = cond_both (is_held row) (Some row) None P
+
+-- what is not held
+pub record NotHeld (row : Row) : Type 0 where
+  pub admitted : is_admitted row ≡ false
+  pub is_out : row.is_out ≡ false
+  pub waits : waits row ≡ false
+  pub sent : row.kept ≤ row.sent
+
+pub not_held : (row : Row) → is_held row ≡ false → NotHeld row
+not_held row h =
+    let a : (is_admitted row ≡ false) × ((row.is_out || (waits row || nat_lt row.sent row.kept)) ≡ false) = or_parts (is_admitted row) (row.is_out || (waits row || nat_lt row.sent row.kept)) h in
+    let b : (row.is_out ≡ false) × ((waits row || nat_lt row.sent row.kept) ≡ false) = or_parts row.is_out (waits row || nat_lt row.sent row.kept) a.1 in
+    let c : (waits row ≡ false) × (nat_lt row.sent row.kept ≡ false) = or_parts (waits row) (nat_lt row.sent row.kept) b.1 in
+    record { admitted = a.0; is_out = b.0; waits = c.0; sent = ltb-false row.sent row.kept c.1 }
+
+not_ready : (row : Row) → NotHeld row → is_ready row ≡ false
+not_ready row h = and_right (not row.is_out) (waits row) h.waits
+
+-- it adds nothing to what only those that are held have
+pub amount_left : (f : Row → ℕ) (row : Row) → (NotHeld row → f row ≡ 0) → amount f (left_of row) ≡ f row
+amount_left f row none = by_held row (λ o. amount f o ≡ f row) (λ h. refl) (λ h. sym (none (not_held row h)))
+
+pub admitted_left : (row : Row) → amount admitted (left_of row) ≡ admitted row
+admitted_left row = amount_left admitted row (λ h. ap one_if h.admitted)
+
+pub ready_left : (row : Row) → amount ready (left_of row) ≡ ready row
+ready_left row = amount_left ready row (λ h. ap one_if (not_ready row h))
+
+pub turns_left : (row : Row) → amount turns_of (left_of row) ≡ turns_of row
+turns_left row = amount_left turns_of row (λ h. ap (λ b. cond {A = ℕ} b 1 0) h.is_out)
+
+pub one_left : (row : Row) → amount one (left_of row) ≤ 1
+one_left row = by_held row (λ o. amount one o ≤ 1) (λ h. omega arith) (λ h. omega arith)
+
+-- nothing stands behind a list that it leaves as it is
+none_behind : (xs ys : List (List ℕ)) → xs ++ ys ≡ xs → ys ≡ []
+none_behind xs [] e = refl
+none_behind xs (y ∷ ys) e = absurd (let n : length (xs ++ y ∷ ys) ≡ length xs = ap length e in omega (arith, length-append xs (y ∷ ys)))
+
+-- where nothing is left, all that is kept was sent
+all_sent : (row : Row) (unsent : List (List ℕ)) → NotHeld row → sent_of row ++ unsent ≡ kept_of row → unsent ≡ []
+all_sent row unsent h e =
+    let same : row.kept ≡ row.sent = omega (arith, h.sent, row.sent_within) in
+    none_behind (sent_of row) unsent (e ∙ ap (λ n. take n (frames_of row)) same)
+
+pub frames_left : (row : Row) (unsent : List (List ℕ)) → sent_of row ++ unsent ≡ kept_of row → of_row sent_of (left_of row) ++ unsent ≡ of_row kept_of (left_of row)
+frames_left row unsent e = by_held row (λ o. of_row sent_of o ++ unsent ≡ of_row kept_of o) (λ h. e) (λ h. all_sent row unsent (not_held row h) e)
+
+pub one_by : (b : Bool) → cond {A = ℕ} b 1 0 ≡ one_if b
+one_by true = refl
+one_by false = refl
+
+-- a dialogue stands in the queue once, if it is ready
+pub count_is : (o : Option Row) → ready_count o ≡ amount ready o
+count_is None = refl
+count_is (Some row) = one_by (is_ready row)
+
+-- what was counted of a dialogue is still counted
+pub record GoneWith (gone gone_then : Totals) (row : Row) : Type 0 where
+  pub accepted : gone_then.accepted + amount accepted_by (left_of row) ≡ gone.accepted + accepted_by row
+  pub served : gone_then.served + amount served_by (left_of row) ≡ gone.served + served_by row
+  pub sent : gone_then.sent + amount sent_by (left_of row) ≡ gone.sent + sent_by row
+  pub all_entries : gone_then.served + amount entries_of (left_of row) ≤ gone.served + entries_of row
+  pub few_sent : gone.sent ≤ gone.served → gone_then.sent ≤ gone_then.served
+
+gone_by : (gone : Totals) (row : Row) → row.sent ≤ row.served → (b : Bool) → is_held row ≡ b → GoneWith gone (cond b gone (with_row gone row)) row
+gone_by gone row few true held =
+    let here : left_of row ≡ Some row = ap (λ b. cond b (Some row) None) held in
+    let amounts : (f : Row → ℕ) → amount f (left_of row) ≡ f row = λ f. ap (amount f) here in
+    record {
+      accepted = omega (arith, amounts accepted_by);
+      served = omega (arith, amounts served_by);
+      sent = omega (arith, amounts sent_by);
+      all_entries = omega (arith, amounts entries_of);
+      few_sent = λ le. le;
+    }
+gone_by gone row few false held =
+    let none : left_of row ≡ None = ap (λ b. cond b (Some row) None) held in
+    let amounts : (f : Row → ℕ) → amount f (left_of row) ≡ 0 = λ f. ap (amount f) none in
+    let within : row.served ≤ length row.accepted = row.served_within in
+    record {
+      accepted = omega (arith, amounts accepted_by);
+      served = omega (arith, amounts served_by);
+      sent = omega (arith, amounts sent_by);
+      all_entries = omega (arith, amounts entries_of);
+      few_sent = λ le. omega (arith, le, few);
+    }
+
+gone_is : (gone : Totals) (row : Row) → row.sent ≤ row.served → GoneWith gone (gone_with gone row) row
+gone_is gone row few = gone_by gone row few (is_held row) refl
+
+-- what holds of a dialogue still holds of it
+pub stays_own : (old new : Shelf) (d : ℕ) (row : Row) → new.link ≡ old.link → old.given ≤ new.given → old.births ≤ new.births → new.is_down ≡ old.is_down
+    → (frames_for d old.outbox.frames ≡ [] → frames_for d new.outbox.frames ≡ []) → IsOwn old d row → IsOwn new d row
+stays_own old new d row link given births down dropped own = record {
+  local_is = own.local_is;
+  is_left = own.is_left;
+  born = (own.born.0, let most : row.birth ≤ old.births = own.born.1 in omega arith);
+  serial = (own.serial.0, own.serial.1, (let most : own.serial.0 ≤ old.given = own.serial.2 in omega arith), own.serial.3 ∙ ap (λ l. identifier l own.serial.0) (sym link));
+  dropped = λ e. dropped (own.dropped e);
+  closed = λ e. own.closed (sym down ∙ e);
+}
+
+pub left_by : (b : Bool) (after row : Row) → cond b (Some after) None ≡ Some row → (b ≡ true) × (after ≡ row)
+left_by true after row e = (refl, cc)
+left_by false after row e = absurd (cc)
+
+own_left : (s : Shelf) (local : ℕ) (after row : Row) → (is_held after ≡ true → IsOwn s local after) → left_of after ≡ Some row → IsOwn s local row
+own_left s local after row own e =
+    let is : (is_held after ≡ true) × (after ≡ row) = left_by (is_held after) after row e in
+    subst (IsOwn s local) is.1 (own is.0)
+
+pub Sound-change : (old new : Shelf) (local : ℕ) (before : Option Row) (after : Row) → Sound old → Change old new local before after → Sound new
+Sound-change old new local before after s g =
+    let rows : OneChanges old.rows new.rows local before (left_of after) = subst (λ r. OneChanges old.rows r local before (left_of after)) (sym g.rows) (kept old.rows local before after g.was) in
+    let gone : GoneWith old.gone new.gone after = subst (λ t. GoneWith old.gone t after) (sym g.gone) (gone_is old.gone after g.few_sent) in
+    record {
+      links = omega (arith, g.link, s.links);
+      serials = g.serials;
+      births = g.births;
+      entries = omega (arith, g.entries, rows.sums admitted, admitted_left after);
+      own = λ d row.
+        by_local d local (λ d. map.get new.rows d ≡ Some row → IsOwn new d row)
+        (λ e. own_left new local after row g.own (sym rows.there ∙ e))
+        (λ ne e.
+            stays_own old new d row g.link g.given (omega (arith, g.births, g.given, s.births)) g.down (g.other_dropped d ne)
+            (s.own d row (sym (rows.others d ne) ∙ e)));
+      held = omega (arith, rows.sums one, one_left after, g.room, len-sum new.rows, len-sum old.rows);
+      frames = λ d.
+        by_local d local (λ d. of_row sent_of (map.get new.rows d) ++ unsent_for d new.outbox ≡ of_row kept_of (map.get new.rows d))
+        (subst (λ o. of_row sent_of o ++ unsent_for local new.outbox ≡ of_row kept_of o) (sym rows.there) (frames_left after (unsent_for local new.outbox) g.own_frames))
+        (λ ne.
+            subst (λ o. of_row sent_of o ++ unsent_for d new.outbox ≡ of_row kept_of o) (sym (rows.others d ne))
+            (ap (λ r. of_row sent_of (map.get old.rows d) ++ r) (g.other_frames d ne) ∙ s.frames d));
+      ready = λ d.
+        by_local d local (λ d. count d new.ready ≡ ready_count (map.get new.rows d))
+        (g.own_ready ∙ sym (ready_left after) ∙ sym (count_is (left_of after)) ∙ ap ready_count (sym rows.there))
+        (λ ne. g.other_ready d ne ∙ s.ready d ∙ ap ready_count (sym (rows.others d ne)));
+      ready_length = omega (arith, g.ready_length, s.ready_length, rows.sums ready, ready_left after);
+      places = omega (arith, g.places, s.places, rows.sums turns_of, turns_left after);
+      aborts = g.aborts;
+      quiet = g.quiet;
+      accepted = omega (arith, g.accepted, s.accepted, rows.sums accepted_by, gone.accepted);
+      served = omega (arith, g.served, s.served, rows.sums served_by, gone.served);
+      sent = omega (arith, g.sent, s.sent, rows.sums sent_by, gone.sent);
+      all_entries = omega (arith, g.all_entries, s.all_entries, rows.sums entries_of, gone.all_entries);
+      few_accepted = g.few_accepted;
+      gone_sent = gone.few_sent s.gone_sent;
+    }

@@ -1,0 +1,67 @@
+-- How often a dialogue stands in the queue of those that are ready.
+use Rattle.std.proofs.Common.{◌≡◌, ℕ, ◌+◌, Bool, true, false, cond, eqb, not, List, [], ◌∷◌, ◌++◌, length, refl, sym, ◌∙◌, ap, zero-add, arith}
+use Rattle.std.proofs.lemmas.Bool.{both_ways, eq-eqb, eqb-true, false_from_ne_true}
+use Rattle.std.proofs.lemmas.List.Sums.{sum_by-append, sum_by-cons}
+use Rattle.fp_book.proofs.Changes.{count, one_by}
+use Rattle.fp_book.specs.Calls.{joins, without}
+use Rattle.fp_book.specs.Shelf.{one_if}
+
+-- two identifiers are different, the other way round
+pub eqb_swap : (d l : ℕ) → eqb d l ≡ false → eqb l d ≡ false
+eqb_swap d l ne = false_from_ne_true (eqb l d) (λ e. both_ways (eqb d l) ne (eq-eqb d l (sym (eqb-true l d e))))
+
+pub count-append : (d : ℕ) (xs ys : List ℕ) → count d (xs ++ ys) ≡ count d xs + count d ys
+count-append d xs ys = sum_by-append (λ x. cond {A = ℕ} (eqb x d) 1 0) xs ys
+
+pub count-cons : (d x : ℕ) (xs : List ℕ) → count d (x ∷ xs) ≡ one_if (eqb x d) + count d xs
+count-cons d x xs = sum_by-cons (λ x. cond {A = ℕ} (eqb x d) 1 0) x xs ∙ ap (λ n. n + count d xs) (one_by (eqb x d))
+
+-- the first of a queue is this one, or another
+pub count_first : (d : ℕ) (xs : List ℕ) → count d (d ∷ xs) ≡ 1 + count d xs
+count_first d xs = count-cons d d xs ∙ ap (λ b. one_if b + count d xs) (eq-eqb d d refl)
+
+pub count_other : (d x : ℕ) (xs : List ℕ) → eqb d x ≡ false → count d (x ∷ xs) ≡ count d xs
+count_other d x xs ne = count-cons d x xs ∙ ap (λ b. one_if b + count d xs) (eqb_swap d x ne) ∙ zero-add (count d xs)
+
+pub count_joins_own : (d : ℕ) (b : Bool) → count d (joins d b) ≡ one_if b
+count_joins_own d true = count_first d []
+count_joins_own d false = refl
+
+pub count_joins_other : (d l : ℕ) (b : Bool) → eqb d l ≡ false → count d (joins l b) ≡ 0
+count_joins_other d l true ne = count_other d l [] ne
+count_joins_other d l false ne = refl
+
+pub length_joins : (l : ℕ) (b : Bool) → length (joins l b) ≡ one_if b
+length_joins l true = refl
+length_joins l false = refl
+
+-- what is left of a queue once a dialogue has left it
+without_by : (l x : ℕ) (xs : List ℕ) (b : Bool) → eqb x l ≡ b → without l (x ∷ xs) ≡ cond b (without l xs) (x ∷ without l xs)
+without_by l x xs true is = ap (λ b. cond (not b) (x ∷ without l xs) (without l xs)) is
+without_by l x xs false is = ap (λ b. cond (not b) (x ∷ without l xs) (without l xs)) is
+
+own_by : (l x : ℕ) (xs : List ℕ) (b : Bool) → eqb x l ≡ b → count l (without l xs) ≡ 0 → count l (cond b (without l xs) (x ∷ without l xs)) ≡ 0
+own_by l x xs true is none = none
+own_by l x xs false is none = count-cons l x (without l xs) ∙ ap (λ b. one_if b + count l (without l xs)) is ∙ zero-add (count l (without l xs)) ∙ none
+
+pub count_without_own : (l : ℕ) (xs : List ℕ) → count l (without l xs) ≡ 0
+count_without_own l [] = refl
+count_without_own l (x ∷ xs) = ap (count l) (without_by l x xs (eqb x l) refl) ∙ own_by l x xs (eqb x l) refl (count_without_own l xs)
+
+other_by : (d l x : ℕ) (xs : List ℕ) (b : Bool) → eqb d l ≡ false → eqb x l ≡ b → count d (without l xs) ≡ count d xs
+    → count d (cond b (without l xs) (x ∷ without l xs)) ≡ count d (x ∷ xs)
+other_by d l x xs true ne is same = same ∙ sym (ap (λ y. count d (y ∷ xs)) (eqb-true x l is) ∙ count_other d l xs ne)
+other_by d l x xs false ne is same = count-cons d x (without l xs) ∙ ap (λ n. one_if (eqb x d) + n) same ∙ sym (count-cons d x xs)
+
+pub count_without_other : (d l : ℕ) (xs : List ℕ) → eqb d l ≡ false → count d (without l xs) ≡ count d xs
+count_without_other d l [] ne = refl
+count_without_other d l (x ∷ xs) ne = ap (count d) (without_by l x xs (eqb x l) refl) ∙ other_by d l x xs (eqb x l) ne refl (count_without_other d l xs ne)
+
+length_by : (l x : ℕ) (xs : List ℕ) (b : Bool) → eqb x l ≡ b → length (without l xs) + count l xs ≡ length xs
+    → length (cond b (without l xs) (x ∷ without l xs)) + count l (x ∷ xs) ≡ length (x ∷ xs)
+length_by l x xs true is same = let here : count l (x ∷ xs) ≡ 1 + count l xs = count-cons l x xs ∙ ap (λ b. one_if b + count l xs) is in omega arith
+length_by l x xs false is same = let here : count l (x ∷ xs) ≡ 0 + count l xs = count-cons l x xs ∙ ap (λ b. one_if b + count l xs) is in omega arith
+
+pub length_without : (l : ℕ) (xs : List ℕ) → length (without l xs) + count l xs ≡ length xs
+length_without l [] = refl
+length_without l (x ∷ xs) = ap (λ ys. length ys + count l (x ∷ xs)) (without_by l x xs (eqb x l) refl) ∙ length_by l x xs (eqb x l) refl (length_without l xs)

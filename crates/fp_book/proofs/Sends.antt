@@ -1,0 +1,160 @@
+-- To hand out what is sent next, and to take it back, keeps what a book keeps.
+use Rattle.std.proofs.Common.{◌≡◌, ℕ, ◌<◌, ◌≤◌, ◌+◌, Bool, true, false, cond, eqb, not, ◌&&◌, Option, Some, None, List, [], ◌∷◌, ◌++◌, length, is_some, refl, sym, ◌∙◌, ap, subst, arith, append_assoc, append-nil, le_refl}
+use Rattle.std.specs.FinMap as map
+use Rattle.fp_book.proofs.Changes.{Change, Sound-change, admitted, ready, stays_own}
+use Rattle.fp_book.proofs.Sums.{amount}
+use Rattle.fp_book.proofs.Turns.{admitted_as, few_sent, frames_at, own_after, ready_at}
+use Rattle.fp_book.proofs.Unsent.{first_other, first_own, frames_for-append}
+use Rattle.fp_book.specs.declared.line.LoggedStep.{LoggedStep}
+use Rattle.fp_book.specs.declared.line.LoggedStep.TheVariants as line
+use Rattle.fp_book.specs.declared.parcel.Content.{Content}
+use Rattle.fp_book.specs.declared.parcel.Content.TheVariants as content
+use Rattle.fp_book.specs.declared.parcel.Waiting.{Waiting}
+use Rattle.fp_book.specs.Calls.{PicksParcel, Sends, SendsAbort, SendsFrame, one_sent}
+use Rattle.fp_book.specs.Log.{logged}
+use Rattle.fp_book.specs.Outbox.{IsNext, Outbox, frames_held, places_out, with_nothing_out}
+use Rattle.fp_book.specs.Parcel.{local_of}
+use Rattle.fp_book.specs.Shelf.{Shelf, Sound, frame_out, frames_for, gone_with, keep, of_row, one_if, turns_of, unsent_for}
+use Rattle.fp_entry.specs.Entries.{component_count}
+use Rattle.fp_reply.specs.declared.provider_abort.AbortFrame.{AbortFrame}
+use Rattle.fp_row.specs.declared.row.Row.{Row}
+use Rattle.fp_row.specs.Row.{is_ready, kept_of, sent_of}
+use Rattle.fp_service.specs.Laws.{AsksOnceAtMost}
+
+-- the frames that are to be sent are the same, wherever they wait
+pub record WaitsAlike (s : Shelf) (outbox : Outbox) : Type 0 where
+  pub dropped : (d : ℕ) → frames_for d s.outbox.frames ≡ [] → frames_for d outbox.frames ≡ []
+  pub unsent : (d : ℕ) → unsent_for d outbox ≡ unsent_for d s.outbox
+  pub places : frames_held outbox ≤ frames_held s.outbox
+  pub aborts : length outbox.aborts ≤ 64
+  pub quiet : s.is_down ≡ true → (outbox.aborts ≡ []) × (outbox.frames ≡ [])
+
+-- no dialogue changes
+pub Sound-outbox : (s : Shelf) (outbox : Outbox) (log : List LoggedStep) → Sound s → WaitsAlike s outbox → Sound (record s { outbox = outbox; log = log })
+Sound-outbox s outbox log k g =
+    let then : Shelf = record s { outbox = outbox; log = log } in
+    record {
+      links = k.links;
+      serials = k.serials;
+      births = k.births;
+      entries = k.entries;
+      own = λ d row e. stays_own s then d row refl (le_refl s.given) (le_refl s.births) refl (g.dropped d) (k.own d row e);
+      held = k.held;
+      frames = λ d. ap (λ r. of_row sent_of (map.get s.rows d) ++ r) (g.unsent d) ∙ k.frames d;
+      ready = k.ready;
+      ready_length = k.ready_length;
+      places = omega (arith, k.places, g.places);
+      aborts = g.aborts;
+      quiet = g.quiet;
+      accepted = k.accepted;
+      served = k.served;
+      sent = k.sent;
+      all_entries = k.all_entries;
+      few_accepted = k.few_accepted;
+      gone_sent = k.gone_sent;
+    }
+
+none_in_rest : {A : Type 0} (xs ys : List A) → xs ++ ys ≡ [] → ys ≡ []
+none_in_rest [] ys e = e
+none_in_rest (x ∷ xs) ys e = absurd (cc)
+
+-- what is sent next is no longer among those that wait, and is out
+next_alike : (s : Shelf) (picked : Content) (rest : Outbox) → Sound s → s.outbox.out ≡ None → IsNext s.outbox picked rest
+    → WaitsAlike s (record { aborts = rest.aborts; frames = rest.frames; out = Some picked })
+next_alike s (content.Abort frame) rest k none next =
+    let fewer : length s.outbox.aborts ≡ length (frame ∷ rest.aborts) = ap length next.0 in
+    record {
+      dropped = λ d e. ap (frames_for d) next.1 ∙ e;
+      unsent = λ d. ap (frames_for d) next.1 ∙ ap (λ o. frame_out d o ++ frames_for d s.outbox.frames) (sym none);
+      places = omega (arith, ap length next.1, ap places_out none);
+      aborts = omega (arith, fewer, k.aborts);
+      quiet = λ e. absurd (let clash : frame ∷ rest.aborts ≡ [] = sym next.0 ∙ (k.quiet e).0 in cc);
+    }
+next_alike s (content.Frame w) rest k none next =
+    let fewer : length s.outbox.frames ≡ length (w ∷ rest.frames) = ap length next.2 in
+    record {
+      dropped = λ d e. none_in_rest (frames_for d (w ∷ [])) (frames_for d rest.frames) (sym (frames_for-append d (w ∷ []) rest.frames) ∙ ap (frames_for d) (sym next.2) ∙ e);
+      unsent = λ d.
+          sym (frames_for-append d (w ∷ []) rest.frames) ∙ ap (frames_for d) (sym next.2)
+          ∙ ap (λ o. frame_out d o ++ frames_for d s.outbox.frames) (sym none);
+      places = omega (arith, fewer, ap places_out none);
+      aborts = omega (arith, ap length next.1);
+      quiet = λ e. absurd (let clash : w ∷ rest.frames ≡ [] = sym next.2 ∙ (k.quiet e).1 in cc);
+    }
+
+pub Sound-picks : (old new : Shelf) (picked : Content) → Sound old → PicksParcel old picked new → Sound new
+Sound-picks old new picked s g =
+    let outbox : Outbox = record { aborts = g.rest.aborts; frames = g.rest.frames; out = Some picked } in
+    subst Sound (sym g.new_is) (Sound-outbox old outbox (logged old.log (line.Pick (local_of picked))) s (next_alike old picked g.rest s g.none_out g.next))
+
+pub Sound-sends_abort : (old new : Shelf) (frame : AbortFrame) → Sound old → SendsAbort old frame new → Sound new
+Sound-sends_abort old new frame s g =
+    let alike : WaitsAlike old (with_nothing_out old.outbox) =
+        record {
+          dropped = λ d e. e;
+          unsent = λ d. ap (λ o. frame_out d o ++ frames_for d old.outbox.frames) (sym g.was_out);
+          places = omega (arith, ap places_out g.was_out);
+          aborts = s.aborts;
+          quiet = s.quiet;
+        }
+    in
+    subst Sound (sym g.new_is) (Sound-outbox old (with_nothing_out old.outbox) (logged old.log (line.Sent 0)) s alike)
+
+pub Sound-sends_frame : AsksOnceAtMost → (old new : Shelf) (w : Waiting) → Sound old → SendsFrame old w new → Sound new
+Sound-sends_frame law old new w s g =
+    let l = w.local in
+    let own = s.own l g.before g.was in
+    let then : Shelf = record old {
+      rows = keep old.rows l g.after;
+      outbox = with_nothing_out old.outbox;
+      totals = one_sent old.totals;
+      gone = gone_with old.gone g.after;
+      log = logged old.log (line.Sent l);
+    } in
+    let alike : admitted g.after ≡ admitted g.before = ap one_if (admitted_as g.before g.after g.sends.ended g.sends.core) in
+    let ready_alike : ready g.after ≡ ready g.before = ap one_if g.sends.ready_stays in
+    let turns_alike : turns_of g.after ≡ turns_of g.before = ap (λ b. cond {A = ℕ} b 1 0) g.sends.is_out in
+    let waits_for = frames_for l old.outbox.frames in
+    let was : sent_of g.before ++ w.frame ∷ waits_for ≡ kept_of g.before =
+        ap (λ r. sent_of g.before ++ (r ++ waits_for)) (sym (first_own l w [] refl))
+        ∙ ap (λ o. sent_of g.before ++ (frame_out l o ++ waits_for)) (sym g.was_out) ∙ frames_at old l (Some g.before) s g.was in
+    let change : Change old then l (Some g.before) g.after =
+        record {
+          was = g.was;
+          rows = refl;
+          gone = refl;
+          link = refl;
+          given = le_refl old.given;
+          serials = s.serials;
+          births = s.births;
+          down = refl;
+          entries = omega (arith, s.entries, alike);
+          room = omega (arith, s.held);
+          own = own_after old then l g.before g.after own g.sends.same refl (le_refl old.given) (le_refl old.births)
+              (λ e. own.dropped (ap is_some (sym g.sends.ended) ∙ e)) (λ e. g.sends.ended ∙ own.closed e);
+          other_dropped = λ d ne e. e;
+          own_frames =
+              ap (λ r. r ++ waits_for) (g.sends.one_more w.frame waits_for was) ∙ append_assoc (sent_of g.before) (w.frame ∷ []) waits_for
+              ∙ was ∙ sym g.sends.kept_frames;
+          other_frames = λ d ne.
+              ap (λ r. r ++ frames_for d old.outbox.frames) (sym (first_other d w [] ne))
+              ∙ ap (λ o. frame_out d o ++ frames_for d old.outbox.frames) (sym g.was_out);
+          own_ready = ready_at old l (Some g.before) s g.was ∙ sym ready_alike;
+          other_ready = λ d ne. refl;
+          ready_length = omega (arith, ready_alike);
+          places = omega (arith, s.places, turns_alike);
+          aborts = s.aborts;
+          quiet = s.quiet;
+          accepted = omega (arith, ap component_count g.sends.accepted);
+          served = omega (arith, g.sends.served);
+          sent = omega (arith, g.sends.sent);
+          all_entries = omega (arith, ap length g.sends.accepted);
+          few_accepted = s.few_accepted;
+          few_sent = few_sent law g.after;
+        }
+    in
+    subst Sound (sym g.new_is) (Sound-change old then l (Some g.before) g.after s change)
+
+pub Sound-sends : AsksOnceAtMost → (old new : Shelf) (sent : Content) → Sound old → Sends old sent new → Sound new
+Sound-sends law old new (content.Frame w) s g = Sound-sends_frame law old new w s g
+Sound-sends law old new (content.Abort frame) s g = Sound-sends_abort old new frame s g

@@ -1,0 +1,71 @@
+-- The frames of one dialogue among those that wait to be sent.
+use Rattle.std.proofs.Common.{◌≡◌, ℕ, ◌+◌, ◌≤◌, Bool, true, false, cond, eqb, not, List, [], ◌∷◌, ◌++◌, length, filter, refl, sym, ◌∙◌, ap, arith}
+use Rattle.std.proofs.lemmas.Bool.{eq-eqb, eqb-true}
+use Rattle.std.proofs.lemmas.List.Concat.{flat_map-append}
+use Rattle.fp_book.proofs.Queue.{eqb_swap}
+use Rattle.fp_book.specs.declared.parcel.Waiting.{Waiting}
+use Rattle.fp_book.specs.Calls.{waiting_in}
+use Rattle.fp_book.specs.Outbox.{is_of_other}
+use Rattle.fp_book.specs.Shelf.{frames_for}
+use Rattle.fp_row.specs.declared.requested.Requested.{Requested}
+use Rattle.fp_row.specs.declared.requested.Requested.TheVariants as requested
+use Rattle.fp_row.specs.Calls.{frames_in}
+
+pub frames_for-append : (d : ℕ) (xs ys : List Waiting) → frames_for d (xs ++ ys) ≡ frames_for d xs ++ frames_for d ys
+frames_for-append d xs ys = flat_map-append (λ (w : Waiting). cond (eqb w.local d) (w.frame ∷ []) []) xs ys
+
+-- the first is of this dialogue, or of another
+pub first_own : (d : ℕ) (w : Waiting) (ws : List Waiting) → w.local ≡ d → frames_for d (w ∷ ws) ≡ w.frame ∷ frames_for d ws
+first_own d w ws is = ap (λ b. cond b (w.frame ∷ []) [] ++ frames_for d ws) (eq-eqb w.local d is)
+
+pub first_other : (d : ℕ) (w : Waiting) (ws : List Waiting) → eqb d w.local ≡ false → frames_for d (w ∷ ws) ≡ frames_for d ws
+first_other d w ws ne = ap (λ b. cond b (w.frame ∷ []) [] ++ frames_for d ws) (eqb_swap d w.local ne)
+
+-- what a turn requests
+pub requested_own : (d : ℕ) (asked : Requested) → frames_for d (waiting_in d asked) ≡ frames_in asked
+requested_own d requested.Nothing = refl
+requested_own d (requested.Frame frame) = ap (λ b. cond b (frame ∷ []) [] ++ []) (eq-eqb d d refl)
+requested_own d requested.Dropped = refl
+
+pub requested_other : (d l : ℕ) (asked : Requested) → eqb d l ≡ false → frames_for d (waiting_in l asked) ≡ []
+requested_other d l requested.Nothing ne = refl
+requested_other d l (requested.Frame frame) ne = ap (λ b. cond b (frame ∷ []) [] ++ []) (eqb_swap d l ne)
+requested_other d l requested.Dropped ne = refl
+
+pub requested_count : (l : ℕ) (asked : Requested) → length (waiting_in l asked) ≤ 1
+requested_count l requested.Nothing = omega arith
+requested_count l (requested.Frame frame) = omega arith
+requested_count l requested.Dropped = omega arith
+
+-- what is left once the frames of a dialogue are dropped
+abbrev pub others : ℕ → List Waiting → List Waiting
+others l frames = filter (is_of_other l) frames
+
+others_by : (l : ℕ) (w : Waiting) (ws : List Waiting) (b : Bool) → eqb w.local l ≡ b → others l (w ∷ ws) ≡ cond b (others l ws) (w ∷ others l ws)
+others_by l w ws true is = ap (λ b. cond (not b) (w ∷ others l ws) (others l ws)) is
+others_by l w ws false is = ap (λ b. cond (not b) (w ∷ others l ws) (others l ws)) is
+
+own_by : (l : ℕ) (w : Waiting) (ws : List Waiting) (b : Bool) → eqb w.local l ≡ b → frames_for l (others l ws) ≡ [] → frames_for l (cond b (others l ws) (w ∷ others l ws)) ≡ []
+own_by l w ws true is none = none
+own_by l w ws false is none = ap (λ b. cond b (w.frame ∷ []) [] ++ frames_for l (others l ws)) is ∙ none
+
+pub dropped_own : (l : ℕ) (ws : List Waiting) → frames_for l (others l ws) ≡ []
+dropped_own l [] = refl
+dropped_own l (w ∷ ws) = ap (frames_for l) (others_by l w ws (eqb w.local l) refl) ∙ own_by l w ws (eqb w.local l) refl (dropped_own l ws)
+
+other_by : (d l : ℕ) (w : Waiting) (ws : List Waiting) (b : Bool) → eqb d l ≡ false → eqb w.local l ≡ b → frames_for d (others l ws) ≡ frames_for d ws
+    → frames_for d (cond b (others l ws) (w ∷ others l ws)) ≡ frames_for d (w ∷ ws)
+other_by d l w ws true ne is same = same ∙ sym (first_other d w ws (ap (eqb d) (eqb-true w.local l is) ∙ ne))
+other_by d l w ws false ne is same = ap (λ r. cond (eqb w.local d) (w.frame ∷ []) [] ++ r) same
+
+pub dropped_other : (d l : ℕ) (ws : List Waiting) → eqb d l ≡ false → frames_for d (others l ws) ≡ frames_for d ws
+dropped_other d l [] ne = refl
+dropped_other d l (w ∷ ws) ne = ap (frames_for d) (others_by l w ws (eqb w.local l) refl) ∙ other_by d l w ws (eqb w.local l) ne refl (dropped_other d l ws ne)
+
+fewer_by : (l : ℕ) (w : Waiting) (ws : List Waiting) (b : Bool) → length (others l ws) ≤ length ws → length (cond b (others l ws) (w ∷ others l ws)) ≤ length (w ∷ ws)
+fewer_by l w ws true le = omega arith
+fewer_by l w ws false le = omega arith
+
+pub fewer : (l : ℕ) (ws : List Waiting) → length (others l ws) ≤ length ws
+fewer l [] = omega arith
+fewer l (w ∷ ws) = omega (arith, ap length (others_by l w ws (eqb w.local l) refl), fewer_by l w ws (eqb w.local l) (fewer l ws))

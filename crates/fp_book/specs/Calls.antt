@@ -1,0 +1,395 @@
+-- What the calls of a book do. Each says what the whole book is then.
+use Rattle.std.specs.Prelude.{◌≡◌, ◌≢◌, ◌<◌, ◌≤◌, ◌+◌, ◌==◌, ◌&&◌, ℕ, Bool, true, false, not, List, [], ◌∷◌, ◌++◌, Option, Some, None, length, filter, map, nat_lt, nat_eq, ◌⊎◌, if◌then◌else◌, All, AllPairs}
+use Rattle.std.specs.List.{list_any}
+use Rattle.std.specs.Ordering.{nat_cmp}
+use Rattle.std.specs.FinMap.{FinMap, get, insert}
+use Rattle.fp_book.specs.declared.answers.Given.{Given}
+use Rattle.fp_book.specs.declared.answers.Given.TheVariants.{Silent, Queued, Dropped}
+use Rattle.fp_book.specs.declared.answers.Posted.{Posted}
+use Rattle.fp_book.specs.declared.answers.Posted.TheVariants.{Opened, Accepted, Aborted, Ended, Discarded}
+use Rattle.fp_book.specs.declared.line.LoggedStep.{LoggedStep}
+use Rattle.fp_book.specs.declared.line.LoggedStep.TheVariants as line
+use Rattle.fp_book.specs.declared.parcel.Content.{Content}
+use Rattle.fp_book.specs.declared.parcel.Content.TheVariants as content
+use Rattle.fp_book.specs.declared.parcel.Parcel.{Parcel}
+use Rattle.fp_book.specs.declared.parcel.Waiting.{Waiting}
+use Rattle.fp_book.specs.declared.taken.Taken.{Taken}
+use Rattle.fp_book.specs.declared.taken.Taken.TheVariants.{Turn as ATurn, Nothing, NoRoom, Memory}
+use Rattle.fp_book.specs.declared.totals.Totals.{Totals}
+use Rattle.fp_book.specs.declared.verdict.Verdict.{Verdict}
+use Rattle.fp_book.specs.declared.verdict.Verdict.TheVariants.{Discard, Refuse, Open, Extend}
+use Rattle.fp_book.specs.Log.{logged}
+use Rattle.fp_book.specs.Outbox.{Outbox, IsNext, with_nothing_out, without_frames_of}
+use Rattle.fp_book.specs.Parcel.{local_of}
+use Rattle.fp_book.specs.Shelf.{Shelf, gone_with, keep, places_held}
+use Rattle.fp_book.specs.Sending.{is_frame_of}
+use Rattle.fp_book.specs.Totals.{accepted_by, sent_by, served_by, sum_of}
+use Rattle.fp_book.specs.Verdict.{is_full, verdict}
+use Rattle.fp_entry.specs.declared.arrival.Arrival.{Arrival}
+use Rattle.fp_entry.specs.declared.entry.Entry.{Entry}
+use Rattle.fp_entry.specs.declared.prepared.Prepared.{Prepared}
+use Rattle.fp_entry.specs.declared.prepared.Prepared.TheVariants as prepared
+use Rattle.fp_entry.specs.declared.entry.EntryKind.TheVariants.{Clock}
+use Rattle.fp_entry.specs.Entries.{component_count, entry_at}
+use Rattle.fp_entry.specs.Prepared.{arrival_of}
+use Rattle.fp_q773.specs.declared.provider_abort.AbortCause.{AbortCause}
+use Rattle.fp_q773.specs.declared.tid.Tid.{Tid}
+use Rattle.fp_q773.specs.ProviderAbort.{cause_code, provider_abort}
+use Rattle.fp_q773.specs.Tid.{octets_of}
+use Rattle.fp_ber.specs.Canon.{canon}
+use Rattle.fp_frames.specs.Frame.{framed}
+use Rattle.fp_reply.specs.declared.provider_abort.AbortFrame.{AbortFrame}
+use Rattle.fp_reply.specs.ProviderAbort.{frame_octets}
+use Rattle.fp_row.specs.declared.done.Done.{Done}
+use Rattle.fp_row.specs.declared.ending.Ending.{Ending}
+use Rattle.fp_row.specs.declared.ending.Ending.TheVariants.{ByPeer, Closed}
+use Rattle.fp_row.specs.declared.requested.Requested.{Requested}
+use Rattle.fp_row.specs.declared.requested.Requested.TheVariants as requested
+use Rattle.fp_row.specs.declared.row.Row.{Row}
+use Rattle.fp_row.specs.declared.turn.Turn.{Turn}
+use Rattle.fp_row.specs.Calls.{Ends, Extends, Gives, HandsOut, Opens, PutsBack, SendsOne}
+use Rattle.fp_row.specs.Row.{deadline_of, is_due, is_held, is_ready, turn_out}
+use Rattle.fp_tids.specs.Identifiers.{identifier}
+
+-- a dialogue that has become ready stands behind the others
+abbrev pub joins : ℕ → Bool → List ℕ
+joins local true = local ∷ []
+joins local false = []
+
+-- all but one
+abbrev pub without : ℕ → List ℕ → List ℕ
+without local ready = filter (λ other. not (other == local)) ready
+
+-- what is counted then
+abbrev pub one_served : Totals → Totals
+one_served totals = record totals { served = totals.served + 1 }
+
+abbrev pub one_sent : Totals → Totals
+one_sent totals = record totals { sent = totals.sent + 1 }
+
+abbrev pub more_accepted : Totals → List Entry → Totals
+more_accepted totals entries = record totals { accepted = totals.accepted + component_count entries }
+
+-- TAKE: the dialogue that has been ready longest gets a turn
+
+pub record TakesTurn (old : Shelf) (turn : Turn) (new : Shelf) : Type 0 where
+  pub before : Row
+  pub after : Row
+  pub rest : List ℕ
+  pub was : get old.rows turn.local ≡ Some before
+  pub takes : HandsOut before turn after
+  pub first : old.ready ≡ turn.local ∷ rest
+  pub room : places_held old < 8192
+  pub new_is : new ≡ record old {
+    rows = insert old.rows turn.local after;
+    ready = rest;
+    log = logged old.log (line.Take turn.local turn.position);
+  }
+
+abbrev pub Takes : Shelf → Taken → Shelf → Type 0
+Takes old (ATurn turn) new = TakesTurn old turn new
+Takes old Nothing new = (old.ready ≡ []) × (new ≡ old)
+Takes old NoRoom new = (old.ready ≢ []) × (8192 ≤ places_held old) × (new ≡ old)
+Takes old Memory new = (old.ready ≢ []) × (places_held old < 8192) × (new ≡ old)
+
+-- GIVE: the turn that was out was served
+
+abbrev pub given_of : Requested → Given
+given_of requested.Nothing = Silent
+given_of (requested.Frame frame) = Queued
+given_of requested.Dropped = Dropped
+
+abbrev pub waiting_in : ℕ → Requested → List Waiting
+waiting_in local requested.Nothing = []
+waiting_in local (requested.Frame frame) = record { local = local; frame = frame } ∷ []
+waiting_in local requested.Dropped = []
+
+pub record GivesDone (old : Shelf) (done : Done) (given : Given) (new : Shelf) : Type 0 where
+  pub before : Row
+  pub after : Row
+  pub asked : Requested
+  pub was : get old.rows done.turn.local ≡ Some before
+  pub gives : Gives before done asked after
+  pub given_is : given ≡ given_of asked
+  pub new_is : new ≡ record old {
+    rows = keep old.rows done.turn.local after;
+    ready = old.ready ++ joins done.turn.local (is_ready after);
+    outbox = record old.outbox { frames = old.outbox.frames ++ waiting_in done.turn.local asked };
+    totals = one_served old.totals;
+    gone = gone_with old.gone after;
+    log = logged old.log (line.Give done.turn.local done.turn.position given);
+  }
+
+-- the turn of a dialogue that is out
+abbrev pub turn_of : Option Row → Option Turn
+turn_of None = None
+turn_of (Some row) = turn_out row
+
+-- PUT BACK: the turn that was out wasn't served
+
+pub record PutsTurnBack (old : Shelf) (turn : Turn) (new : Shelf) : Type 0 where
+  pub before : Row
+  pub after : Row
+  pub was : get old.rows turn.local ≡ Some before
+  pub puts : PutsBack before turn after
+  pub new_is : new ≡ record old {
+    rows = keep old.rows turn.local after;
+    ready = old.ready ++ joins turn.local (is_ready after);
+    gone = gone_with old.gone after;
+    log = logged old.log (line.PutBack turn.local turn.position);
+  }
+
+-- PICK: what is sent next is handed out
+
+pub record PicksParcel (old : Shelf) (picked : Content) (new : Shelf) : Type 0 where
+  pub rest : Outbox
+  pub none_out : old.outbox.out ≡ None
+  pub next : IsNext old.outbox picked rest
+  pub new_is : new ≡ record old {
+    outbox = record { aborts = rest.aborts; frames = rest.frames; out = Some picked };
+    log = logged old.log (line.Pick (local_of picked));
+  }
+
+-- SENT: what was being sent was sent
+
+pub record SendsFrame (old : Shelf) (w : Waiting) (new : Shelf) : Type 0 where
+  pub before : Row
+  pub after : Row
+  pub was_out : old.outbox.out ≡ Some (content.Frame w)
+  pub was : get old.rows w.local ≡ Some before
+  pub sends : SendsOne before after
+  pub new_is : new ≡ record old {
+    rows = keep old.rows w.local after;
+    outbox = with_nothing_out old.outbox;
+    totals = one_sent old.totals;
+    gone = gone_with old.gone after;
+    log = logged old.log (line.Sent w.local);
+  }
+
+pub record SendsAbort (old : Shelf) (frame : AbortFrame) (new : Shelf) : Type 0 where
+  pub was_out : old.outbox.out ≡ Some (content.Abort frame)
+  pub new_is : new ≡ record old { outbox = with_nothing_out old.outbox; log = logged old.log (line.Sent 0) }
+
+abbrev pub Sends : Shelf → Content → Shelf → Type 0
+Sends old (content.Frame w) new = SendsFrame old w new
+Sends old (content.Abort frame) new = SendsAbort old frame new
+
+-- DOWN: all dialogues are ended from outside, and what waits is dropped
+
+-- a dialogue that was held is ended, and stays where something of it is left
+pub record Closes (sending : Bool) (row : Row) (left : Option Row) : Type 0 where
+  pub after : Row
+  pub ends : Ends Closed sending row after
+  pub left_is : left ≡ (if is_held after then Some after else None)
+
+abbrev pub ClosesAt : Bool → Option Row → Option Row → Type 0
+ClosesAt sending None left = left ≡ None
+ClosesAt sending (Some row) left = Closes sending row left
+
+-- all of them; `out` is what is still being sent
+pub record GoesDown (out : Option Content) (old : Shelf) (step : LoggedStep) (new : Shelf) : Type 0 where
+  pub rows : (local : ℕ) → ClosesAt (is_frame_of local out) (get old.rows local) (get new.rows local)
+  -- what was counted of the dialogues that are no longer held is kept
+  pub accepted : new.gone.accepted + sum_of accepted_by new.rows ≡ old.gone.accepted + sum_of accepted_by old.rows
+  pub served : new.gone.served + sum_of served_by new.rows ≡ old.gone.served + sum_of served_by old.rows
+  pub sent : new.gone.sent + sum_of sent_by new.rows ≡ old.gone.sent + sum_of sent_by old.rows
+  pub new_is : new ≡ record old {
+    rows = new.rows;
+    ready = [];
+    outbox = record { aborts = []; frames = []; out = out };
+    gone = new.gone;
+    log = logged old.log step;
+    is_down = true;
+  }
+
+pub record Unsends (old : Shelf) (parcel : Parcel) (new : Shelf) : Type 0 where
+  pub was_out : old.outbox.out ≡ Some parcel.content
+  pub down : GoesDown None old (line.Unsent (local_of parcel.content)) new
+
+-- TICK: each dialogue that is due is given a Clock
+
+-- a deadline, and the identifier of the dialogue that has it
+abbrev pub Due : Type 0
+Due = ℕ × ℕ
+
+-- the earlier deadline comes first, and the smaller identifier among equals
+abbrev pub ComesFirst : Due → Due → Type 0
+ComesFirst a b = (a.0 < b.0) ⊎ ((a.0 ≡ b.0) × (a.1 < b.1))
+
+-- whether a dialogue is given a Clock at a moment; none is, once the link has accepted 2^63 entries
+abbrev pub due_at : Shelf → ℕ → Row → Bool
+due_at s moment row = not (is_full s) && is_due row moment
+
+-- the dialogue is due, and this is its deadline
+pub record IsDue (s : Shelf) (moment : ℕ) (due : Due) : Type 0 where
+  pub row : Row
+  pub was : get s.rows due.1 ≡ Some row
+  pub deadline : deadline_of row ≡ Some due.0
+  pub now : due_at s moment row ≡ true
+
+-- a dialogue got a Clock, or is as it was
+abbrev pub ClocksAt : Bool → ℕ → Option Row → Option Row → Type 0
+ClocksAt false moment before left = left ≡ before
+ClocksAt true moment before None = ⊥
+ClocksAt true moment None (Some after) = ⊥
+ClocksAt true moment (Some before) (Some after) = Extends before (entry_at moment Clock ∷ []) after
+
+-- whether a dialogue wasn't ready and no turn of it is out
+abbrev pub is_idle : Option Row → Bool
+is_idle None = false
+is_idle (Some row) = not row.is_out && not (is_ready row)
+
+pub record Ticks (old : Shelf) (moment added wanting : ℕ) (new : Shelf) : Type 0 where
+  -- those that are given a Clock, in their order
+  pub due : List Due
+  pub in_order : AllPairs ComesFirst due
+  pub are_due : All (IsDue old moment) due
+  pub added_is : added ≡ length due
+  pub wanting_is : added + wanting ≡ sum_of (λ row. if due_at old moment row then 1 else 0) old.rows
+  pub rows : (local : ℕ) → ClocksAt (list_any (λ (d : Due). d.1 == local) due) moment (get old.rows local) (get new.rows local)
+  pub new_is : new ≡ record old {
+    entries = old.entries + added;
+    rows = new.rows;
+    ready = old.ready ++ filter (λ local. is_idle (get old.rows local)) (map (λ (d : Due). d.1) due);
+    log = if nat_eq (added + wanting) 0 then old.log else logged old.log (line.Tick moment added wanting);
+  }
+
+-- POST
+
+-- a step of a message is logged with its answer
+abbrev pub posted_line : Prepared → Posted → LoggedStep
+posted_line (prepared.Message arrival incoming) answer = line.Post arrival.moment arrival.frame answer
+posted_line (prepared.Refused arrival fault) answer = line.Post arrival.moment arrival.frame answer
+posted_line (prepared.Lost arrival) answer = line.Lost arrival.moment arrival.frame answer
+
+-- the entries of a message
+abbrev pub entries_in : Prepared → List Entry
+entries_in (prepared.Message arrival incoming) = incoming.entries
+entries_in (prepared.Refused arrival fault) = []
+entries_in (prepared.Lost arrival) = []
+
+-- a dialogue is opened
+pub record OpensDialogue (old : Shelf) (peer : Tid) (came : Prepared) (answer : Posted) (new : Shelf) : Type 0 where
+  pub opened : Row
+  pub after : Row
+  pub opens : Opens (identifier old.link (old.given + 1)) peer (old.births + 1) (arrival_of came).moment opened
+  pub extends : Extends opened (entries_in came) after
+  pub answer_is : answer ≡ Opened (identifier old.link (old.given + 1))
+  pub new_is : new ≡ record old {
+    given = old.given + 1;
+    births = old.births + 1;
+    entries = old.entries + length (entries_in came);
+    rows = insert old.rows (identifier old.link (old.given + 1)) after;
+    ready = old.ready ++ joins (identifier old.link (old.given + 1)) (is_ready after);
+    totals = more_accepted old.totals (entries_in came);
+    log = logged old.log (posted_line came answer);
+  }
+
+-- a dialogue accepts a message
+pub record ExtendsDialogue (old : Shelf) (local : ℕ) (came : Prepared) (answer : Posted) (new : Shelf) : Type 0 where
+  pub before : Row
+  pub after : Row
+  pub was : get old.rows local ≡ Some before
+  pub extends : Extends before (entries_in came) after
+  pub answer_is : answer ≡ Accepted (length (entries_in came))
+  pub new_is : new ≡ record old {
+    entries = old.entries + length (entries_in came);
+    rows = insert old.rows local after;
+    ready = old.ready ++ joins local (not (is_ready before) && is_ready after);
+    totals = more_accepted old.totals (entries_in came);
+    log = logged old.log (posted_line came answer);
+  }
+
+-- a dialogue accepts the peer's end or abort: its frames that wait are dropped
+pub record EndsDialogue (old : Shelf) (local : ℕ) (ending : Ending) (came : Prepared) (answer : Posted) (new : Shelf) : Type 0 where
+  pub before : Row
+  pub extended : Row
+  pub after : Row
+  pub was : get old.rows local ≡ Some before
+  pub extends : Extends before (entries_in came) extended
+  pub ends : Ends ending (is_frame_of local old.outbox.out) extended after
+  pub answer_is : answer ≡ Accepted (length (entries_in came))
+  pub new_is : new ≡ record old {
+    entries = old.entries + length (entries_in came);
+    rows = keep old.rows local after;
+    ready = old.ready ++ joins local (not (is_ready before) && is_ready after);
+    outbox = without_frames_of local old.outbox;
+    totals = more_accepted old.totals (entries_in came);
+    gone = gone_with old.gone after;
+    log = logged old.log (posted_line came answer);
+  }
+
+-- the dialogue that is closed, if one is
+pub record ClosesDialogue (old : Shelf) (local : ℕ) (new : Shelf) : Type 0 where
+  pub before : Row
+  pub after : Row
+  pub was : get old.rows local ≡ Some before
+  pub ends : Ends Closed (is_frame_of local old.outbox.out) before after
+  pub new_is : new ≡ record old {
+    rows = keep old.rows local after;
+    ready = without local old.ready;
+    outbox = without_frames_of local old.outbox;
+    gone = gone_with old.gone after;
+  }
+
+abbrev pub ClosesOne : Shelf → Option ℕ → Shelf → Type 0
+ClosesOne old None new = new ≡ old
+ClosesOne old (Some local) new = ClosesDialogue old local new
+
+-- what is answered where no Abort of the provider is sent
+abbrev pub closed_answer : Option ℕ → Posted
+closed_answer None = Discarded
+closed_answer (Some local) = Ended
+
+-- the Abort of the provider that is sent: a cause is named, the message told its sender's identifier, and fewer than 64
+-- wait already
+abbrev pub abort_for : ℕ → Option AbortCause → Option Tid → Option (Tid × AbortCause)
+abort_for waiting None peer = None
+abort_for waiting (Some cause) None = None
+abort_for waiting (Some cause) (Some peer) = if nat_lt waiting 64 then Some (peer, cause) else None
+
+-- an Abort of the provider waits behind the others
+pub record Queues (old : Shelf) (peer : Tid) (cause : AbortCause) (new : Shelf) : Type 0 where
+  pub frame : AbortFrame
+  pub frame_is : frame_octets frame ≡ framed (canon (provider_abort (octets_of peer) (cause_code cause)))
+  pub new_is : new ≡ record old { outbox = record old.outbox { aborts = old.outbox.aborts ++ frame ∷ [] } }
+
+abbrev pub Answers : Shelf → Option ℕ → Option (Tid × AbortCause) → Posted → Shelf → Type 0
+Answers old closed None answer new = (answer ≡ closed_answer closed) × (new ≡ old)
+Answers old closed (Some (peer, cause)) answer new = (answer ≡ Aborted cause) × Queues old peer cause new
+
+-- a message is refused
+pub record Refuses (old : Shelf) (cause : Option AbortCause) (closes : Option ℕ) (came : Prepared) (answer : Posted) (new : Shelf) : Type 0 where
+  pub closed : Shelf
+  pub answered : Shelf
+  pub closing : ClosesOne old closes closed
+  pub answering : Answers closed closes (abort_for (length old.outbox.aborts) cause (arrival_of came).ids.orig) answer answered
+  pub new_is : new ≡ record answered { log = logged answered.log (posted_line came answer) }
+
+-- nothing is done with a message
+pub record Discards (old : Shelf) (came : Prepared) (answer : Posted) (new : Shelf) : Type 0 where
+  pub answer_is : answer ≡ Discarded
+  pub new_is : new ≡ record old { log = logged old.log (posted_line came answer) }
+
+-- what is done with a message
+abbrev pub Follows : Verdict → Shelf → Prepared → Posted → Shelf → Type 0
+Follows Discard old came answer new = Discards old came answer new
+Follows (Refuse cause closes) old came answer new = Refuses old cause closes came answer new
+Follows (Open peer) old came answer new = OpensDialogue old peer came answer new
+Follows (Extend local None) old came answer new = ExtendsDialogue old local came answer new
+Follows (Extend local (Some ending)) old came answer new = EndsDialogue old local ending came answer new
+
+-- whether memory is taken for a message
+abbrev pub grows : Verdict → Bool
+grows Discard = false
+grows (Refuse cause closes) = false
+grows (Open peer) = true
+grows (Extend local ending) = true
+
+-- The first line that fits decides; or, where a message would be accepted, memory was wanting, and it is as one that
+-- was lost.
+abbrev pub Posts : Shelf → Prepared → Posted → Shelf → Type 0
+Posts old came answer new =
+    Follows (verdict old came) old came answer new
+    ⊎ ((grows (verdict old came) ≡ true)
+    × Follows (verdict old (prepared.Lost (arrival_of came))) old (prepared.Lost (arrival_of came)) answer new)

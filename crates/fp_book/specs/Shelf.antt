@@ -1,0 +1,126 @@
+-- A book: the dialogues of a link, the order in which they are served, what waits to be sent, and the log.
+use Rattle.std.specs.Prelude.{◌≡◌, ◌<◌, ◌≤◌, ◌+◌, ◌^◌, ◌==◌, ◌&&◌, ℕ, Bool, true, false, not, List, [], ◌∷◌, ◌++◌, Option, Some, None, length, count_by, is_some, if◌then◌else◌, ◌⊎◌}
+use Rattle.std.specs.List.{flat_map}
+use Rattle.std.specs.Option.{option_map_or}
+use Rattle.std.specs.Ordering.{nat_cmp}
+use Rattle.std.specs.FinMap.{FinMap, get, insert, remove, len}
+use Rattle.fp_book.specs.declared.line.LoggedStep.{LoggedStep}
+use Rattle.fp_book.specs.declared.parcel.Content.{Content}
+use Rattle.fp_book.specs.declared.parcel.Content.TheVariants as content
+use Rattle.fp_book.specs.declared.parcel.Waiting.{Waiting}
+use Rattle.fp_book.specs.declared.totals.Totals.{Totals}
+use Rattle.fp_book.specs.Outbox.{Outbox, frames_held}
+use Rattle.fp_book.specs.Totals.{accepted_by, sent_by, served_by, sum_of, with_row}
+use Rattle.fp_row.specs.declared.ending.Ending.TheVariants.{Closed}
+use Rattle.fp_row.specs.declared.row.Row.{Row}
+use Rattle.fp_row.specs.Row.{is_admitted, is_held, is_ready, kept_of, sent_of}
+use Rattle.fp_tids.specs.Identifiers.{identifier}
+
+-- what contracts see of a book
+pub record Shelf : Type 0 where
+  -- the link, 0 to 7
+  pub link : ℕ
+  -- how many serials were given to dialogues
+  pub given : ℕ
+  -- how many Begins were accepted
+  pub births : ℕ
+  -- how many entries were ever accepted
+  pub entries : ℕ
+  -- the dialogues that are held, by local identifier
+  pub rows : FinMap nat_cmp Row
+  -- those that are ready, the one that has been so longest first
+  pub ready : List ℕ
+  -- what waits to be sent, and what is being sent
+  pub outbox : Outbox
+  -- what was counted
+  pub totals : Totals
+  -- what of that is of dialogues that are no longer held
+  pub gone : Totals
+  -- the log, as far as it wasn't drained
+  pub log : List LoggedStep
+  -- whether the link is down
+  pub is_down : Bool
+
+-- the frames of one dialogue among those that wait
+abbrev pub frames_for : ℕ → List Waiting → List (List ℕ)
+frames_for local frames = flat_map (λ (w : Waiting). if w.local == local then w.frame ∷ [] else []) frames
+
+-- the frame of one dialogue that is being sent
+abbrev pub frame_out : ℕ → Option Content → List (List ℕ)
+frame_out local None = []
+frame_out local (Some (content.Abort frame)) = []
+frame_out local (Some (content.Frame w)) = frames_for local (w ∷ [])
+
+-- the frames of one dialogue that are to be sent, that which is being sent first
+abbrev pub unsent_for : ℕ → Outbox → List (List ℕ)
+unsent_for local outbox = frame_out local outbox.out ++ frames_for local outbox.frames
+
+-- what a dialogue has, and nothing where there is none
+abbrev pub of_row : {X : Type 0} → (Row → List X) → Option Row → List X
+of_row f None = []
+of_row f (Some row) = f row
+
+-- how often a dialogue stands in the queue
+abbrev pub ready_count : Option Row → ℕ
+ready_count None = 0
+ready_count (Some row) = if is_ready row then 1 else 0
+
+-- how many turns of a dialogue are out
+abbrev pub turns_of : Row → ℕ
+turns_of row = if row.is_out then 1 else 0
+
+-- how many places for frames are held: by frames that wait, by the one that is being sent, and by turns that are out
+abbrev pub places_held : Shelf → ℕ
+places_held s = frames_held s.outbox + sum_of turns_of s.rows
+
+-- a dialogue stays as long as something of it is left
+abbrev pub keep : FinMap nat_cmp Row → ℕ → Row → FinMap nat_cmp Row
+keep rows local row = if is_held row then insert rows local row else remove rows local
+
+-- what a dialogue counted is kept when it goes
+abbrev pub gone_with : Totals → Row → Totals
+gone_with gone row = if is_held row then gone else with_row gone row
+
+-- one for each dialogue of a kind
+abbrev pub one_if : Bool → ℕ
+one_if true = 1
+one_if false = 0
+
+-- what holds of each dialogue that is held
+pub record IsOwn (s : Shelf) (local : ℕ) (row : Row) : Type 0 where
+  pub local_is : row.local ≡ local
+  pub is_left : is_held row ≡ true
+  pub born : (0 < row.birth) × (row.birth ≤ s.births)
+  pub serial : (serial : ℕ) × (0 < serial) × (serial ≤ s.given) × (local ≡ identifier s.link serial)
+  -- of a dialogue that was ended from outside no frame waits
+  pub dropped : is_some row.ended ≡ true → frames_for local s.outbox.frames ≡ []
+  -- where the link is down it is closed
+  pub closed : s.is_down ≡ true → row.ended ≡ Some Closed
+
+-- what the type of a book keeps
+pub record Sound (s : Shelf) : Type 0 where
+  pub links : s.link < 8
+  pub serials : s.given < 2 ^ 29
+  pub births : s.births ≡ s.given
+  -- an Abort of the peer is taken however many entries there were, and ends its dialogue
+  pub entries : s.entries + sum_of (λ row. one_if (is_admitted row)) s.rows ≤ 2 ^ 63 + 8192
+  pub own : (local : ℕ) (row : Row) → get s.rows local ≡ Some row → IsOwn s local row
+  pub held : len s.rows ≤ 4096
+  -- of each dialogue: what was sent, and then what is to be sent, is what is kept of the frames that its entries
+  -- request
+  pub frames : (local : ℕ) → of_row sent_of (get s.rows local) ++ unsent_for local s.outbox ≡ of_row kept_of (get s.rows local)
+  -- each dialogue that is ready stands once in the queue, and no other
+  pub ready : (local : ℕ) → count_by (λ other. other == local) s.ready ≡ ready_count (get s.rows local)
+  pub ready_length : length s.ready ≡ sum_of (λ row. one_if (is_ready row)) s.rows
+  pub places : places_held s ≤ 8192
+  pub aborts : length s.outbox.aborts ≤ 64
+  -- where the link is down nothing waits
+  pub quiet : s.is_down ≡ true → (s.outbox.aborts ≡ []) × (s.outbox.frames ≡ [])
+  -- each total is the sum over the dialogues that are held, and what was counted of those that aren't
+  pub accepted : s.totals.accepted ≡ s.gone.accepted + sum_of accepted_by s.rows
+  pub served : s.totals.served ≡ s.gone.served + sum_of served_by s.rows
+  pub sent : s.totals.sent ≡ s.gone.sent + sum_of sent_by s.rows
+  -- so none of them is more than the entries that were accepted
+  pub all_entries : s.gone.served + sum_of (λ row. length row.accepted) s.rows ≤ s.entries
+  pub few_accepted : s.totals.accepted ≤ s.entries
+  pub gone_sent : s.gone.sent ≤ s.gone.served
