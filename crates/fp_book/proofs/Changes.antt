@@ -187,22 +187,22 @@ Sound-change old new local before after s g =
       births = g.births;
       entries = omega (arith, g.entries, rows.sums admitted, admitted_left after);
       own = λ d row.
-        by_local d local (λ d. map.get new.rows d ≡ Some row → IsOwn new d row)
-        (λ e. own_left new local after row g.own (sym rows.there ∙ e))
-        (λ ne e.
-            stays_own old new d row g.link g.given (omega (arith, g.births, g.given, s.births)) g.down (g.other_dropped d ne)
-            (s.own d row (sym (rows.others d ne) ∙ e)));
+          by_local d local (λ d. map.get new.rows d ≡ Some row → IsOwn new d row)
+          (λ e. own_left new local after row g.own (sym rows.there ∙ e))
+          (λ ne e.
+          stays_own old new d row g.link g.given (omega (arith, g.births, g.given, s.births)) g.down (g.other_dropped d ne)
+          (s.own d row (sym (rows.others d ne) ∙ e)));
       held = omega (arith, rows.sums one, one_left after, g.room, len-sum new.rows, len-sum old.rows);
       frames = λ d.
-        by_local d local (λ d. of_row sent_of (map.get new.rows d) ++ unsent_for d new.outbox ≡ of_row kept_of (map.get new.rows d))
-        (subst (λ o. of_row sent_of o ++ unsent_for local new.outbox ≡ of_row kept_of o) (sym rows.there) (frames_left after (unsent_for local new.outbox) g.own_frames))
-        (λ ne.
-            subst (λ o. of_row sent_of o ++ unsent_for d new.outbox ≡ of_row kept_of o) (sym (rows.others d ne))
-            (ap (λ r. of_row sent_of (map.get old.rows d) ++ r) (g.other_frames d ne) ∙ s.frames d));
+          by_local d local (λ d. of_row sent_of (map.get new.rows d) ++ unsent_for d new.outbox ≡ of_row kept_of (map.get new.rows d))
+          (subst (λ o. of_row sent_of o ++ unsent_for local new.outbox ≡ of_row kept_of o) (sym rows.there) (frames_left after (unsent_for local new.outbox) g.own_frames))
+          (λ ne.
+          subst (λ o. of_row sent_of o ++ unsent_for d new.outbox ≡ of_row kept_of o) (sym (rows.others d ne))
+          (ap (λ r. of_row sent_of (map.get old.rows d) ++ r) (g.other_frames d ne) ∙ s.frames d));
       ready = λ d.
-        by_local d local (λ d. count d new.ready ≡ ready_count (map.get new.rows d))
-        (g.own_ready ∙ sym (ready_left after) ∙ sym (count_is (left_of after)) ∙ ap ready_count (sym rows.there))
-        (λ ne. g.other_ready d ne ∙ s.ready d ∙ ap ready_count (sym (rows.others d ne)));
+          by_local d local (λ d. count d new.ready ≡ ready_count (map.get new.rows d))
+          (g.own_ready ∙ sym (ready_left after) ∙ sym (count_is (left_of after)) ∙ ap ready_count (sym rows.there))
+          (λ ne. g.other_ready d ne ∙ s.ready d ∙ ap ready_count (sym (rows.others d ne)));
       ready_length = omega (arith, g.ready_length, s.ready_length, rows.sums ready, ready_left after);
       places = omega (arith, g.places, s.places, rows.sums turns_of, turns_left after);
       aborts = g.aborts;

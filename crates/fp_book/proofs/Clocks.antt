@@ -51,24 +51,25 @@ some_by false n m e = absurd (cc)
 can_clock : (s : Shelf) (moment : ℕ) (d : Due) → IsDue s moment d → CanClock s d
 can_clock s moment d g =
     let both : (is_admitted g.row ≡ true) × (not (has_clock g.row) ≡ true) =
-        and_parts (is_admitted g.row) (not (has_clock g.row)) (some_by (is_admitted g.row && not (has_clock g.row)) (next_due g.row.core) d.0 g.deadline) in
+    and_parts (is_admitted g.row) (not (has_clock g.row)) (some_by (is_admitted g.row && not (has_clock g.row)) (next_due g.row.core) d.0 g.deadline) in
     record { row = g.row; was = g.was; takes_more = both.0 }
 
 -- of two that are due one comes first, so they are two
 two_apart : (s : Shelf) (moment : ℕ) (d e : Due) → ComesFirst d e → IsDue s moment d → IsDue s moment e → eqb d.1 e.1 ≡ false
 two_apart s moment d e first a b =
     false_from_ne_true (eqb d.1 e.1) (λ is.
-        let same : d.1 ≡ e.1 = eqb-true d.1 e.1 is in
-        let row : a.row ≡ b.row = let found : Some a.row ≡ Some b.row = sym a.was ∙ ap (get s.rows) same ∙ b.was in cc in
-        let deadline : d.0 ≡ e.0 = let found : Some d.0 ≡ Some e.0 = sym a.deadline ∙ ap deadline_of row ∙ b.deadline in cc in
-        ⊎_elim {C = ⊥} (λ (less : d.0 < e.0). absurd (omega (arith, less, deadline))) (λ h. let less : d.1 < e.1 = h.1 in absurd (omega (arith, same))) first)
+    let same : d.1 ≡ e.1 = eqb-true d.1 e.1 is in
+    let row : a.row ≡ b.row = let found : Some a.row ≡ Some b.row = sym a.was ∙ ap (get s.rows) same ∙ b.was in cc in
+    let deadline : d.0 ≡ e.0 = let found : Some d.0 ≡ Some e.0 = sym a.deadline ∙ ap deadline_of row ∙ b.deadline in cc in
+    ⊎_elim {C = ⊥} (λ (less : d.0 < e.0). absurd (omega (arith, less, deadline))) (λ h. let less : d.1 < e.1 = h.1 in absurd (omega (arith, same))) first)
 
 apart : (s : Shelf) (moment : ℕ) (due : List Due) → AllPairs ComesFirst due → All (IsDue s moment) due → Apart due
 apart s moment [] order are = tt
-apart s moment (d ∷ due) order are =
-    (recursion_from_All (λ (e : Due). eqb d.1 e.1 ≡ false) due (λ k x within.
-        two_apart s moment d (slice_index_or due k x) (order 0 (suc k) x (omega arith) (omega (arith, within))) (are 0 x (omega arith)) (are (suc k) x (omega (arith, within)))),
-        apart s moment due (λ i j x less within. order (suc i) (suc j) x (omega (arith, less)) (omega (arith, within))) (λ k x within. are (suc k) x (omega (arith, within))))
+apart s moment (d ∷ due) order are = (
+  recursion_from_All (λ (e : Due). eqb d.1 e.1 ≡ false) due (λ k x within.
+      two_apart s moment d (slice_index_or due k x) (order 0 (suc k) x (omega arith) (omega (arith, within))) (are 0 x (omega arith)) (are (suc k) x (omega (arith, within)))),
+  apart s moment due (λ i j x less within. order (suc i) (suc j) x (omega (arith, less)) (omega (arith, within))) (λ k x within. are (suc k) x (omega (arith, within))),
+)
 
 can_all : (s : Shelf) (moment : ℕ) (due : List Due) → All (IsDue s moment) due → AllByRecursion (CanClock s) due
 can_all s moment due are = recursion_from_All (CanClock s) due (λ k x within. can_clock s moment (slice_index_or due k x) (are k x within))
@@ -86,7 +87,7 @@ waits_then moment before after g e =
     and_from (not (is_closed after.ended)) (not (is_over after.core) && nat_lt after.served (length after.accepted))
     (not_some after.ended (ap (λ x. not (is_some x)) g.ended ∙ both.0))
     (and_from (not (is_over after.core)) (nat_lt after.served (length after.accepted))
-        (ap (λ c. not (is_over c)) g.stay.core ∙ both.1) (lt-ltb after.served (length after.accepted) (omega (arith, g.stay.served))))
+    (ap (λ c. not (is_over c)) g.stay.core ∙ both.1) (lt-ltb after.served (length after.accepted) (omega (arith, g.stay.served))))
 
 joins_by : (out wait : Bool) → one_if (not out && wait) + one_if (not out && not (not out && wait)) ≡ one_if (not out && true)
 joins_by true wait = refl
@@ -173,14 +174,14 @@ Sound-ticked : AsksOnceAtMost → (due : List Due) (s : Shelf) (rows : Rows) (mo
     → ((q : ℕ) → ClocksAt (among q due) moment (get s.rows q) (get rows q)) → s.entries + length due + sum_of admitted s.rows ≤ 2 ^ 63 + 8192 → Sound (ticked s rows due log)
 Sound-ticked law [] s rows moment log k two can clocks limit =
     let path : shelf_of s s.entries s.rows s.ready s.totals log ≡ ticked s rows [] log =
-        same_shelf s s.entries (s.entries + 0) s.rows rows s.ready (s.ready ++ []) s.totals s.totals log (sym (add-zero s.entries)) (sym (same_rows rows s.rows clocks)) (sym (append-nil s.ready)) refl in
+    same_shelf s s.entries (s.entries + 0) s.rows rows s.ready (s.ready ++ []) s.totals s.totals log (sym (add-zero s.entries)) (sym (same_rows rows s.rows clocks)) (sym (append-nil s.ready)) refl in
     subst Sound path (Sound-logs s log k)
 Sound-ticked law (d ∷ due) s rows moment log k two can clocks limit =
     let l = d.1 in
     let first : CanClock s d = can.0 in
     let before = first.row in
     let got : Clocked moment before (get rows l) =
-        clocked (among l (d ∷ due)) moment (get s.rows l) (get rows l) before (clocks l) (ap (λ b. b || among l due) (eq-eqb l l refl)) first.was in
+    clocked (among l (d ∷ due)) moment (get s.rows l) (get rows l) before (clocks l) (ap (λ b. b || among l due) (eq-eqb l l refl)) first.was in
     let after = got.after in
     let joins_it = is_idle (Some before) in
     let then : Shelf = record s {
@@ -196,17 +197,17 @@ Sound-ticked law (d ∷ due) s rows moment log k two can clocks limit =
     let same : (q : ℕ) → eqb q l ≡ false → get then.rows q ≡ get s.rows q = λ q ne. get-inserted s.rows l after q ∙ ap (λ b. cond b (Some after) (get s.rows q)) ne in
     let was : amount admitted (get s.rows l) ≡ admitted before = ap (amount admitted) first.was in
     let rest : Sound (ticked then rows due log) =
-        Sound-ticked law due then rows moment log sound two.1 (others_can s then l due same two.0 can.1)
-        (λ q. clocks_others s then rows moment d due after there got.there same (not_among l due two.0) q (eqb l q) refl (clocks q))
-        (omega (arith, limit, alike, was, sum-insert admitted s.rows l after)) in
+    Sound-ticked law due then rows moment log sound two.1 (others_can s then l due same two.0 can.1)
+    (λ q. clocks_others s then rows moment d due after there got.there same (not_among l due two.0) q (eqb l q) refl (clocks q))
+    (omega (arith, limit, alike, was, sum-insert admitted s.rows l after)) in
     let path : ticked then rows due log ≡ ticked s rows (d ∷ due) log =
-        same_shelf s (s.entries + 1 + length due) (s.entries + length (d ∷ due)) rows rows ((s.ready ++ joins l joins_it) ++ idle_of then.rows due) (s.ready ++ idle_of s.rows (d ∷ due))
-        (more_accepted s.totals (clock moment)) s.totals log (omega arith) refl
-        (ap (λ xs. (s.ready ++ joins l joins_it) ++ xs) (idle_others s.rows then.rows l due same two.0)
-        ∙ append_assoc s.ready (joins l joins_it) (idle_of s.rows due)
-        ∙ ap (λ xs. s.ready ++ xs)
-        (in_front l joins_it (idle_of s.rows due) ∙ ap (λ o. cond (is_idle o) (l ∷ idle_of s.rows due) (idle_of s.rows due)) (sym first.was)))
-        (no_component moment s.totals) in
+    same_shelf s (s.entries + 1 + length due) (s.entries + length (d ∷ due)) rows rows ((s.ready ++ joins l joins_it) ++ idle_of then.rows due) (s.ready ++ idle_of s.rows (d ∷ due))
+    (more_accepted s.totals (clock moment)) s.totals log (omega arith) refl
+    (ap (λ xs. (s.ready ++ joins l joins_it) ++ xs) (idle_others s.rows then.rows l due same two.0)
+    ∙ append_assoc s.ready (joins l joins_it) (idle_of s.rows due)
+    ∙ ap (λ xs. s.ready ++ xs)
+    (in_front l joins_it (idle_of s.rows due) ∙ ap (λ o. cond (is_idle o) (l ∷ idle_of s.rows due) (idle_of s.rows due)) (sym first.was)))
+    (no_component moment s.totals) in
     subst Sound path rest
 
 -- as long as a dialogue is due, fewer than 2^63 entries were accepted
@@ -231,5 +232,5 @@ Sound-ticks law old new moment added wanting s g =
     let log = cond (nat_eq (added + wanting) 0) old.log (logged old.log (line.Tick moment added wanting)) in
     let sound = Sound-ticked law g.due old new.rows moment log s (apart old moment g.due g.in_order g.are_due) (can_all old moment g.due g.are_due) g.rows (limit_by old moment g.due s g.are_due few) in
     let path : ticked old new.rows g.due log ≡ shelf_of old (old.entries + added) new.rows (old.ready ++ idle_of old.rows g.due) old.totals log =
-        ap (λ n. shelf_of old (old.entries + n) new.rows (old.ready ++ idle_of old.rows g.due) old.totals log) (sym g.added_is) in
+    ap (λ n. shelf_of old (old.entries + n) new.rows (old.ready ++ idle_of old.rows g.due) old.totals log) (sym g.added_is) in
     subst Sound (sym g.new_is) (subst Sound path sound)

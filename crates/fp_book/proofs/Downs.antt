@@ -73,8 +73,8 @@ frames_by s out d None left still k was closes =
 frames_by s out d (Some row) left still k was closes =
     subst (λ o. of_row sent_of o ++ (frame_out d out ++ []) ≡ of_row kept_of o) (sym closes.left_is)
     (frames_left closes.after (frame_out d out ++ [])
-        (ap (λ r. r ++ (frame_out d out ++ [])) closes.ends.sent_frames ∙ ap (λ r. sent_of row ++ r) (append-nil (frame_out d out))
-        ∙ kept_then s out d row still (frames_at s d (Some row) k was) ∙ sym closes.ends.kept_frames))
+    (ap (λ r. r ++ (frame_out d out ++ [])) closes.ends.sent_frames ∙ ap (λ r. sent_of row ++ r) (append-nil (frame_out d out))
+    ∙ kept_then s out d row still (frames_at s d (Some row) k was) ∙ sym closes.ends.kept_frames))
 
 -- what is left isn't ready
 left_not_ready : (sends : Bool) (row : Row) (left : Option Row) → Closes sends row left → amount ready left ≡ 0
@@ -98,14 +98,14 @@ left_entries : (sends : Bool) (row : Row) (left : Option Row) → Closes sends r
 left_entries sends row left g =
     subst (λ o. served_by row + amount entries_of o ≤ entries_of row + amount served_by o) (sym g.left_is)
     (by_held g.after (λ o. served_by row + amount entries_of o ≤ entries_of row + amount served_by o)
-        (λ _. omega (arith, g.ends.served, ap length g.ends.accepted)) (λ _. omega (arith, row.served_within)))
+    (λ _. omega (arith, g.ends.served, ap length g.ends.accepted)) (λ _. omega (arith, row.served_within)))
 
 -- what of it was sent
 left_sent : AsksOnceAtMost → (sends : Bool) (row : Row) (left : Option Row) → Closes sends row left → sent_by row + amount served_by left ≤ served_by row + amount sent_by left
 left_sent law sends row left g =
     subst (λ o. sent_by row + amount served_by o ≤ served_by row + amount sent_by o) (sym g.left_is)
     (by_held g.after (λ o. sent_by row + amount served_by o ≤ served_by row + amount sent_by o)
-        (λ _. omega (arith, g.ends.served, g.ends.sent)) (λ _. omega (arith, few_sent law row)))
+    (λ _. omega (arith, g.ends.served, g.ends.sent)) (λ _. omega (arith, few_sent law row)))
 
 pub Sound-down : AsksOnceAtMost → (out : Option Content) (old : Shelf) (step : LoggedStep) (new : Shelf) → Sound old → StillOut old out → GoesDown out old step new → Sound new
 Sound-down law out old step new s still g =
@@ -120,7 +120,7 @@ Sound-down law out old step new s still g =
     } in
     let none : (q : ℕ) → map.get old.rows q ≡ None → map.get new.rows q ≡ None = λ q e. none_comes (is_frame_of q out) (map.get old.rows q) (map.get new.rows q) (g.rows q) e in
     let closes : (q : ℕ) (row : Row) → map.get old.rows q ≡ Some row → Closes (is_frame_of q out) row (map.get new.rows q) =
-        λ q row e. closed_at (is_frame_of q out) (map.get old.rows q) (map.get new.rows q) row (g.rows q) e in
+    λ q row e. closed_at (is_frame_of q out) (map.get old.rows q) (map.get new.rows q) row (g.rows q) e in
     let admits = sums-le zero_of admitted admitted zero_of old.rows new.rows none (λ q row e. omega (arith, left_admitted (is_frame_of q out) row (map.get new.rows q) (closes q row e))) in
     let turns = sums-le zero_of turns_of turns_of zero_of old.rows new.rows none (λ q row e. omega (arith, left_turns (is_frame_of q out) row (map.get new.rows q) (closes q row e))) in
     let readies = sums-le zero_of ready zero_of zero_of old.rows new.rows none (λ q row e. omega (arith, left_not_ready (is_frame_of q out) row (map.get new.rows q) (closes q row e))) in
@@ -130,31 +130,31 @@ Sound-down law out old step new s still g =
     let no_old = sum-zero old.rows in
     let no_new = sum-zero new.rows in
     let sound : Sound then =
-        record {
-          links = s.links;
-          serials = s.serials;
-          births = s.births;
-          entries = omega (arith, s.entries, admits, no_old, no_new);
-          own = λ d row e.
-            let was : WasClosed old out d (map.get new.rows d) = closed_by old out d (map.get old.rows d) (map.get new.rows d) row refl (g.rows d) e in
-            let held : (is_held was.closes.after ≡ true) × (was.closes.after ≡ row) = left_by (is_held was.closes.after) was.closes.after row (sym was.closes.left_is ∙ e) in
-            subst (IsOwn then d) held.1
-            (own_after old then d was.before was.closes.after (s.own d was.before was.was) was.closes.ends.same refl (le_refl old.given) (le_refl old.births)
-                (λ _. refl) (λ _. was.closes.ends.ended ∙ closed_then was.before.ended) held.0);
-          held = omega (arith, s.held, ones, no_old, no_new, len-sum old.rows, len-sum new.rows);
-          frames = λ d. frames_by old out d (map.get old.rows d) (map.get new.rows d) still s refl (g.rows d);
-          ready = λ d. sym (count_is (map.get new.rows d) ∙ not_ready_by (is_frame_of d out) (map.get old.rows d) (map.get new.rows d) (g.rows d));
-          ready_length = omega (arith, readies, no_old, no_new);
-          places = omega (arith, s.places, turns, no_old, no_new, no_more_out old out still);
-          aborts = omega arith;
-          quiet = λ _. (refl, refl);
-          accepted = omega (arith, s.accepted, g.accepted);
-          served = omega (arith, s.served, g.served);
-          sent = omega (arith, s.sent, g.sent);
-          all_entries = omega (arith, s.all_entries, g.served, entries);
-          few_accepted = s.few_accepted;
-          gone_sent = omega (arith, s.gone_sent, g.sent, g.served, sents);
-        }
+    record {
+      links = s.links;
+      serials = s.serials;
+      births = s.births;
+      entries = omega (arith, s.entries, admits, no_old, no_new);
+      own = λ d row e.
+          let was : WasClosed old out d (map.get new.rows d) = closed_by old out d (map.get old.rows d) (map.get new.rows d) row refl (g.rows d) e in
+          let held : (is_held was.closes.after ≡ true) × (was.closes.after ≡ row) = left_by (is_held was.closes.after) was.closes.after row (sym was.closes.left_is ∙ e) in
+          subst (IsOwn then d) held.1
+          (own_after old then d was.before was.closes.after (s.own d was.before was.was) was.closes.ends.same refl (le_refl old.given) (le_refl old.births)
+          (λ _. refl) (λ _. was.closes.ends.ended ∙ closed_then was.before.ended) held.0);
+      held = omega (arith, s.held, ones, no_old, no_new, len-sum old.rows, len-sum new.rows);
+      frames = λ d. frames_by old out d (map.get old.rows d) (map.get new.rows d) still s refl (g.rows d);
+      ready = λ d. sym (count_is (map.get new.rows d) ∙ not_ready_by (is_frame_of d out) (map.get old.rows d) (map.get new.rows d) (g.rows d));
+      ready_length = omega (arith, readies, no_old, no_new);
+      places = omega (arith, s.places, turns, no_old, no_new, no_more_out old out still);
+      aborts = omega arith;
+      quiet = λ _. (refl, refl);
+      accepted = omega (arith, s.accepted, g.accepted);
+      served = omega (arith, s.served, g.served);
+      sent = omega (arith, s.sent, g.sent);
+      all_entries = omega (arith, s.all_entries, g.served, entries);
+      few_accepted = s.few_accepted;
+      gone_sent = omega (arith, s.gone_sent, g.sent, g.served, sents);
+    }
     in
     subst Sound (sym g.new_is) sound
 

@@ -106,7 +106,7 @@ pub not_served : (sends : Bool) (before after : Row) → Ends Closed sends befor
 not_served sends before after g =
     and_right (not after.is_out) (waits after)
     (and_left (not (is_closed after.ended)) (not (is_over after.core) && nat_lt after.served (length after.accepted))
-        (ap (λ e. not (is_closed e)) g.ended ∙ ap not (is_closed_then before.ended)))
+    (ap (λ e. not (is_closed e)) g.ended ∙ ap not (is_closed_then before.ended)))
 
 same_both : (a b c : Row) → IsSame a b → IsSame b c → IsSame a c
 same_both a b c f g = record { local = g.local ∙ f.local; peer = g.peer ∙ f.peer; birth = g.birth ∙ f.birth; opened = g.opened ∙ f.opened }
@@ -137,44 +137,44 @@ Sound-ends law old new local came answer s g takes_more limit =
     let ready_is : is_ready after ≡ is_ready middle = served_on (is_frame_of l old.outbox.out) middle after g.ends in
     let join : ready before + one_if joins_it ≡ ready after = joined (is_ready before) (is_ready after) (λ e. ready_is ∙ g.extends.ready_stays e) in
     let all : sent_of middle ++ unsent_for l old.outbox ≡ kept_of middle =
-        ap (λ r. r ++ unsent_for l old.outbox) g.extends.stay.sent_frames ∙ frames_at old l (Some before) s g.was ∙ sym g.extends.stay.kept_frames in
+    ap (λ r. r ++ unsent_for l old.outbox) g.extends.stay.sent_frames ∙ frames_at old l (Some before) s g.was ∙ sym g.extends.stay.kept_frames in
     let change : Change old then l (Some before) after =
-        record {
-          was = g.was;
-          rows = refl;
-          gone = refl;
-          link = refl;
-          given = le_refl old.given;
-          serials = s.serials;
-          births = s.births;
-          down = refl;
-          entries = ⊎_elim
-              (λ h. let room : old.entries < 2 ^ 63 = h.0 in let few : length more ≤ 17 = h.1 in omega (arith, few_admitted old, s.held, not_admitted))
-              (λ h. omega (arith, h, s.entries, not_admitted, was_admitted)) limit;
-          room = omega (arith, s.held);
-          own = own_after old then l before after own (same_both before middle after g.extends.same g.ends.same) refl (le_refl old.given) (le_refl old.births)
-              (λ e. dropped_own l old.outbox.frames)
-              (λ e. g.ends.ended ∙ stays_closed ByPeer middle.ended (g.extends.ended ∙ own.closed e));
-          other_dropped = λ d ne e. dropped_other d l old.outbox.frames ne ∙ e;
-          own_frames =
-              ap (λ r. r ++ unsent_for l then.outbox) g.ends.sent_frames
-              ∙ ap (λ r. sent_of middle ++ (frame_out l old.outbox.out ++ r)) (dropped_own l old.outbox.frames)
-              ∙ ap (λ r. sent_of middle ++ r) (append-nil (frame_out l old.outbox.out))
-              ∙ ended_frames old l middle all ∙ sym g.ends.kept_frames;
-          other_frames = λ d ne. ap (λ r. frame_out d old.outbox.out ++ r) (dropped_other d l old.outbox.frames ne);
-          own_ready = own_more old l joins_it (ready before) (ready after) (ready_at old l (Some before) s g.was) join;
-          other_ready = λ d ne. other_joined old d l joins_it ne;
-          ready_length = omega (arith, length_joined old l joins_it, join);
-          places = omega (arith, s.places, turns_alike, fewer l old.outbox.frames);
-          aborts = s.aborts;
-          quiet = λ e. ((s.quiet e).0, ap (others l) (s.quiet e).1);
-          accepted = omega (arith, components_more before after more accepted_is);
-          served = omega (arith, g.ends.served, g.extends.stay.served);
-          sent = omega (arith, g.ends.sent, g.extends.stay.sent);
-          all_entries = omega (arith, entries_more before after more accepted_is);
-          few_accepted = omega (arith, s.few_accepted, components_few more);
-          few_sent = few_sent law after;
-        }
+    record {
+      was = g.was;
+      rows = refl;
+      gone = refl;
+      link = refl;
+      given = le_refl old.given;
+      serials = s.serials;
+      births = s.births;
+      down = refl;
+      entries = ⊎_elim
+          (λ h. let room : old.entries < 2 ^ 63 = h.0 in let few : length more ≤ 17 = h.1 in omega (arith, few_admitted old, s.held, not_admitted))
+          (λ h. omega (arith, h, s.entries, not_admitted, was_admitted)) limit;
+      room = omega (arith, s.held);
+      own = own_after old then l before after own (same_both before middle after g.extends.same g.ends.same) refl (le_refl old.given) (le_refl old.births)
+          (λ e. dropped_own l old.outbox.frames)
+          (λ e. g.ends.ended ∙ stays_closed ByPeer middle.ended (g.extends.ended ∙ own.closed e));
+      other_dropped = λ d ne e. dropped_other d l old.outbox.frames ne ∙ e;
+      own_frames =
+          ap (λ r. r ++ unsent_for l then.outbox) g.ends.sent_frames
+          ∙ ap (λ r. sent_of middle ++ (frame_out l old.outbox.out ++ r)) (dropped_own l old.outbox.frames)
+          ∙ ap (λ r. sent_of middle ++ r) (append-nil (frame_out l old.outbox.out))
+          ∙ ended_frames old l middle all ∙ sym g.ends.kept_frames;
+      other_frames = λ d ne. ap (λ r. frame_out d old.outbox.out ++ r) (dropped_other d l old.outbox.frames ne);
+      own_ready = own_more old l joins_it (ready before) (ready after) (ready_at old l (Some before) s g.was) join;
+      other_ready = λ d ne. other_joined old d l joins_it ne;
+      ready_length = omega (arith, length_joined old l joins_it, join);
+      places = omega (arith, s.places, turns_alike, fewer l old.outbox.frames);
+      aborts = s.aborts;
+      quiet = λ e. ((s.quiet e).0, ap (others l) (s.quiet e).1);
+      accepted = omega (arith, components_more before after more accepted_is);
+      served = omega (arith, g.ends.served, g.extends.stay.served);
+      sent = omega (arith, g.ends.sent, g.extends.stay.sent);
+      all_entries = omega (arith, entries_more before after more accepted_is);
+      few_accepted = omega (arith, s.few_accepted, components_few more);
+      few_sent = few_sent law after;
+    }
     in
     subst Sound (sym g.new_is) (Sound-change old then l (Some before) after s change)
 
@@ -196,38 +196,38 @@ Sound-closes law old new local s g =
     let turns_alike : turns_of after ≡ turns_of before = ap (λ b. cond {A = ℕ} b 1 0) g.ends.is_out in
     let stood : count l old.ready ≡ ready before = ready_at old l (Some before) s g.was in
     let change : Change old then l (Some before) after =
-        record {
-          was = g.was;
-          rows = refl;
-          gone = refl;
-          link = refl;
-          given = le_refl old.given;
-          serials = s.serials;
-          births = s.births;
-          down = refl;
-          entries = omega (arith, s.entries, not_admitted);
-          room = omega (arith, s.held);
-          own = own_after old then l before after own g.ends.same refl (le_refl old.given) (le_refl old.births)
-              (λ e. dropped_own l old.outbox.frames) (λ e. g.ends.ended ∙ closed_then before.ended);
-          other_dropped = λ d ne e. dropped_other d l old.outbox.frames ne ∙ e;
-          own_frames =
-              ap (λ r. r ++ unsent_for l then.outbox) g.ends.sent_frames
-              ∙ ap (λ r. sent_of before ++ (frame_out l old.outbox.out ++ r)) (dropped_own l old.outbox.frames)
-              ∙ ap (λ r. sent_of before ++ r) (append-nil (frame_out l old.outbox.out))
-              ∙ ended_frames old l before (frames_at old l (Some before) s g.was) ∙ sym g.ends.kept_frames;
-          other_frames = λ d ne. ap (λ r. frame_out d old.outbox.out ++ r) (dropped_other d l old.outbox.frames ne);
-          own_ready = count_without_own l old.ready ∙ sym not_ready;
-          other_ready = λ d ne. count_without_other d l old.ready ne;
-          ready_length = omega (arith, length_without l old.ready, stood, not_ready);
-          places = omega (arith, s.places, turns_alike, fewer l old.outbox.frames);
-          aborts = s.aborts;
-          quiet = λ e. ((s.quiet e).0, ap (others l) (s.quiet e).1);
-          accepted = omega (arith, ap component_count g.ends.accepted);
-          served = omega (arith, g.ends.served);
-          sent = omega (arith, g.ends.sent);
-          all_entries = omega (arith, ap length g.ends.accepted);
-          few_accepted = s.few_accepted;
-          few_sent = few_sent law after;
-        }
+    record {
+      was = g.was;
+      rows = refl;
+      gone = refl;
+      link = refl;
+      given = le_refl old.given;
+      serials = s.serials;
+      births = s.births;
+      down = refl;
+      entries = omega (arith, s.entries, not_admitted);
+      room = omega (arith, s.held);
+      own = own_after old then l before after own g.ends.same refl (le_refl old.given) (le_refl old.births)
+          (λ e. dropped_own l old.outbox.frames) (λ e. g.ends.ended ∙ closed_then before.ended);
+      other_dropped = λ d ne e. dropped_other d l old.outbox.frames ne ∙ e;
+      own_frames =
+          ap (λ r. r ++ unsent_for l then.outbox) g.ends.sent_frames
+          ∙ ap (λ r. sent_of before ++ (frame_out l old.outbox.out ++ r)) (dropped_own l old.outbox.frames)
+          ∙ ap (λ r. sent_of before ++ r) (append-nil (frame_out l old.outbox.out))
+          ∙ ended_frames old l before (frames_at old l (Some before) s g.was) ∙ sym g.ends.kept_frames;
+      other_frames = λ d ne. ap (λ r. frame_out d old.outbox.out ++ r) (dropped_other d l old.outbox.frames ne);
+      own_ready = count_without_own l old.ready ∙ sym not_ready;
+      other_ready = λ d ne. count_without_other d l old.ready ne;
+      ready_length = omega (arith, length_without l old.ready, stood, not_ready);
+      places = omega (arith, s.places, turns_alike, fewer l old.outbox.frames);
+      aborts = s.aborts;
+      quiet = λ e. ((s.quiet e).0, ap (others l) (s.quiet e).1);
+      accepted = omega (arith, ap component_count g.ends.accepted);
+      served = omega (arith, g.ends.served);
+      sent = omega (arith, g.ends.sent);
+      all_entries = omega (arith, ap length g.ends.accepted);
+      few_accepted = s.few_accepted;
+      few_sent = few_sent law after;
+    }
     in
     subst Sound (sym g.new_is) (Sound-change old then l (Some before) after s change)

@@ -28,16 +28,16 @@ use Rattle.fp_tids.specs.Identifiers.{identifier}
 waits_more : (before after : Row) (more : List Entry) → Extends before more after → waits before ≡ true → waits after ≡ true
 waits_more before after more g h =
     let a : (not (is_closed before.ended) ≡ true) × ((not (is_over before.core) && nat_lt before.served (length before.accepted)) ≡ true) =
-        and_parts (not (is_closed before.ended)) (not (is_over before.core) && nat_lt before.served (length before.accepted)) h in
+    and_parts (not (is_closed before.ended)) (not (is_over before.core) && nat_lt before.served (length before.accepted)) h in
     let b : (not (is_over before.core) ≡ true) × (nat_lt before.served (length before.accepted) ≡ true) =
-        and_parts (not (is_over before.core)) (nat_lt before.served (length before.accepted)) a.1 in
+    and_parts (not (is_over before.core)) (nat_lt before.served (length before.accepted)) a.1 in
     let less : before.served < length before.accepted = ltb-true before.served (length before.accepted) b.1 in
     let longer : length after.accepted ≡ length before.accepted + length more = ap length g.accepted ∙ length-append before.accepted more in
     let then : after.served < length after.accepted = omega (arith, less, longer, g.stay.served) in
     and_from (not (is_closed after.ended)) (not (is_over after.core) && nat_lt after.served (length after.accepted))
     (ap (λ e. not (is_closed e)) g.ended ∙ a.0)
     (and_from (not (is_over after.core)) (nat_lt after.served (length after.accepted))
-        (ap (λ c. not (is_over c)) g.stay.core ∙ b.0) (lt-ltb after.served (length after.accepted) then))
+    (ap (λ c. not (is_over c)) g.stay.core ∙ b.0) (lt-ltb after.served (length after.accepted) then))
 
 more_true : (a b c d : Bool) → (a ≡ true → c ≡ true) → (b ≡ true → d ≡ true) → (a || b) ≡ true → (c || d) ≡ true
 more_true a b c d f g h = ⊎_elim (λ e. or_left c d (f e)) (λ e. or_right c d (g e)) (or_cases a b h)
@@ -48,10 +48,10 @@ held_more before after more g h =
     more_true (is_admitted before) (before.is_out || (waits before || nat_lt before.sent before.kept)) (is_admitted after) (after.is_out || (waits after || nat_lt after.sent after.kept))
     (λ e. admitted_as before after g.ended g.stay.core ∙ e)
     (more_true before.is_out (waits before || nat_lt before.sent before.kept) after.is_out (waits after || nat_lt after.sent after.kept)
-        (λ e. g.is_out ∙ e)
-        (more_true (waits before) (nat_lt before.sent before.kept) (waits after) (nat_lt after.sent after.kept)
-            (waits_more before after more g)
-            (λ e. ap (λ n. nat_lt n after.kept) g.stay.sent ∙ ap (nat_lt before.sent) g.stay.kept ∙ e)))
+    (λ e. g.is_out ∙ e)
+    (more_true (waits before) (nat_lt before.sent before.kept) (waits after) (nat_lt after.sent after.kept)
+    (waits_more before after more g)
+    (λ e. ap (λ n. nat_lt n after.kept) g.stay.sent ∙ ap (nat_lt before.sent) g.stay.kept ∙ e)))
     h
 
 -- the components among the entries
@@ -87,12 +87,12 @@ few_admitted s = omega (arith, len-sum s.rows, sum-le admitted one s.rows (λ ro
 pub Sound-extended : AsksOnceAtMost → (old : Shelf) (local : ℕ) (before after : Row) (more : List Entry) (joins_it : Bool) (log : List LoggedStep) → Sound old → map.get old.rows local ≡ Some before
     → Extends before more after → one_if (is_ready before) + one_if joins_it ≡ one_if (is_ready after) → old.entries + length more + sum_of admitted old.rows ≤ 2 ^ 63 + 8192
     → Sound (record old {
-        entries = old.entries + length more;
-        rows = map.insert old.rows local after;
-        ready = old.ready ++ joins local joins_it;
-        totals = more_accepted old.totals more;
-        log = log;
-      })
+      entries = old.entries + length more;
+      rows = map.insert old.rows local after;
+      ready = old.ready ++ joins local joins_it;
+      totals = more_accepted old.totals more;
+      log = log;
+    })
 Sound-extended law old l before after more joins_it log s was extends join limit =
     let own = s.own l before was in
     let then : Shelf = record old {
@@ -106,35 +106,35 @@ Sound-extended law old l before after more joins_it log s was extends join limit
     let alike : admitted after ≡ admitted before = ap one_if (admitted_as before after extends.ended extends.stay.core) in
     let turns_alike : turns_of after ≡ turns_of before = ap (λ b. cond {A = ℕ} b 1 0) extends.is_out in
     let change : Change old then l (Some before) after =
-        record {
-          was = was;
-          rows = put_held old l after held;
-          gone = none_gone old after held;
-          link = refl;
-          given = le_refl old.given;
-          serials = s.serials;
-          births = s.births;
-          down = refl;
-          entries = omega (arith, limit, alike);
-          room = omega (arith, s.held);
-          own = own_after old then l before after own extends.same refl (le_refl old.given) (le_refl old.births)
-              (λ e. own.dropped (ap is_some (sym extends.ended) ∙ e)) (λ e. extends.ended ∙ own.closed e);
-          other_dropped = λ d ne e. e;
-          own_frames = ap (λ r. r ++ unsent_for l old.outbox) extends.stay.sent_frames ∙ frames_at old l (Some before) s was ∙ sym extends.stay.kept_frames;
-          other_frames = λ d ne. refl;
-          own_ready = own_more old l joins_it (ready before) (ready after) (ready_at old l (Some before) s was) join;
-          other_ready = λ d ne. other_joined old d l joins_it ne;
-          ready_length = omega (arith, length_joined old l joins_it, join);
-          places = omega (arith, s.places, turns_alike);
-          aborts = s.aborts;
-          quiet = s.quiet;
-          accepted = omega (arith, components_more before after more extends.accepted);
-          served = omega (arith, extends.stay.served);
-          sent = omega (arith, extends.stay.sent);
-          all_entries = omega (arith, entries_more before after more extends.accepted);
-          few_accepted = omega (arith, s.few_accepted, components_few more);
-          few_sent = few_sent law after;
-        }
+    record {
+      was = was;
+      rows = put_held old l after held;
+      gone = none_gone old after held;
+      link = refl;
+      given = le_refl old.given;
+      serials = s.serials;
+      births = s.births;
+      down = refl;
+      entries = omega (arith, limit, alike);
+      room = omega (arith, s.held);
+      own = own_after old then l before after own extends.same refl (le_refl old.given) (le_refl old.births)
+          (λ e. own.dropped (ap is_some (sym extends.ended) ∙ e)) (λ e. extends.ended ∙ own.closed e);
+      other_dropped = λ d ne e. e;
+      own_frames = ap (λ r. r ++ unsent_for l old.outbox) extends.stay.sent_frames ∙ frames_at old l (Some before) s was ∙ sym extends.stay.kept_frames;
+      other_frames = λ d ne. refl;
+      own_ready = own_more old l joins_it (ready before) (ready after) (ready_at old l (Some before) s was) join;
+      other_ready = λ d ne. other_joined old d l joins_it ne;
+      ready_length = omega (arith, length_joined old l joins_it, join);
+      places = omega (arith, s.places, turns_alike);
+      aborts = s.aborts;
+      quiet = s.quiet;
+      accepted = omega (arith, components_more before after more extends.accepted);
+      served = omega (arith, extends.stay.served);
+      sent = omega (arith, extends.stay.sent);
+      all_entries = omega (arith, entries_more before after more extends.accepted);
+      few_accepted = omega (arith, s.few_accepted, components_few more);
+      few_sent = few_sent law after;
+    }
     in
     Sound-change old then l (Some before) after s change
 
@@ -143,7 +143,7 @@ pub Sound-extends : AsksOnceAtMost → (old new : Shelf) (local : ℕ) (came : P
 Sound-extends law old new local came answer s g room few =
     subst Sound (sym g.new_is)
     (Sound-extended law old local g.before g.after (entries_in came) (not (is_ready g.before) && is_ready g.after) (logged old.log (posted_line came answer)) s g.was g.extends
-        (joined (is_ready g.before) (is_ready g.after) g.extends.ready_stays) (omega (arith, room, few, few_admitted old, s.held)))
+    (joined (is_ready g.before) (is_ready g.after) g.extends.ready_stays) (omega (arith, room, few, few_admitted old, s.held)))
 
 -- an identifier that wasn't given is no dialogue's
 fresh_by : (s : Shelf) (o : Option Row) → Sound s → map.get s.rows (identifier s.link (s.given + 1)) ≡ o → o ≡ None
@@ -173,7 +173,7 @@ Sound-opens law old new peer came answer s g up room few places serial =
     } in
     let not_ended : after.ended ≡ None = g.extends.ended ∙ g.opens.ended in
     let is_admitted_then : is_admitted after ≡ true =
-        ap (λ e. not (is_some e) && not (is_over after.core)) not_ended ∙ ap (λ c. not (is_over c)) (g.extends.stay.core ∙ g.opens.core) in
+    ap (λ e. not (is_some e) && not (is_over after.core)) not_ended ∙ ap (λ c. not (is_over c)) (g.extends.stay.core ∙ g.opens.core) in
     let held : is_held after ≡ true = or_left (is_admitted after) _ is_admitted_then in
     let admits : admitted after ≡ 1 = ap one_if is_admitted_then in
     let no_turn : turns_of after ≡ 0 = ap (λ b. cond {A = ℕ} b 1 0) (g.extends.is_out ∙ g.opens.is_out) in
@@ -182,40 +182,40 @@ Sound-opens law old new peer came answer s g up room few places serial =
     let accepted_is : after.accepted ≡ more = g.extends.accepted ∙ ap (λ es. es ++ more) g.opens.accepted in
     let birth_is : after.birth ≡ old.births + 1 = g.extends.same.birth ∙ g.opens.birth_is in
     let change : Change old then l None after =
-        record {
-          was = was;
-          rows = put_held old l after held;
-          gone = none_gone old after held;
-          link = refl;
-          given = omega arith;
-          serials = serial;
-          births = omega (arith, s.births);
-          down = refl;
-          entries = omega (arith, room, few, few_admitted old, places, admits);
-          room = omega (arith, places);
-          own = λ _. record {
-            local_is = g.extends.same.local ∙ g.opens.local_is;
-            is_left = held;
-            born = (omega arith, omega arith);
-            serial = (old.given + 1, omega arith, omega arith, refl);
-            dropped = λ e. absurd (false≢true (sym (ap is_some not_ended) ∙ e));
-            closed = λ e. absurd (false≢true (sym up ∙ e));
-          };
-          other_dropped = λ d ne e. e;
-          own_frames = ap (λ r. r ++ unsent_for l old.outbox) none_sent ∙ frames_at old l None s was ∙ sym none_kept;
-          other_frames = λ d ne. refl;
-          own_ready = own_joined old l (is_ready after) (ready_at old l None s was);
-          other_ready = λ d ne. other_joined old d l (is_ready after) ne;
-          ready_length = omega (arith, length_joined old l (is_ready after));
-          places = omega (arith, s.places, no_turn);
-          aborts = s.aborts;
-          quiet = s.quiet;
-          accepted = omega (arith, ap component_count accepted_is);
-          served = omega (arith, g.extends.stay.served, g.opens.served);
-          sent = omega (arith, g.extends.stay.sent, g.opens.sent);
-          all_entries = omega (arith, ap length accepted_is);
-          few_accepted = omega (arith, s.few_accepted, components_few more);
-          few_sent = few_sent law after;
-        }
+    record {
+      was = was;
+      rows = put_held old l after held;
+      gone = none_gone old after held;
+      link = refl;
+      given = omega arith;
+      serials = serial;
+      births = omega (arith, s.births);
+      down = refl;
+      entries = omega (arith, room, few, few_admitted old, places, admits);
+      room = omega (arith, places);
+      own = λ _. record {
+        local_is = g.extends.same.local ∙ g.opens.local_is;
+        is_left = held;
+        born = (omega arith, omega arith);
+        serial = (old.given + 1, omega arith, omega arith, refl);
+        dropped = λ e. absurd (false≢true (sym (ap is_some not_ended) ∙ e));
+        closed = λ e. absurd (false≢true (sym up ∙ e));
+      };
+      other_dropped = λ d ne e. e;
+      own_frames = ap (λ r. r ++ unsent_for l old.outbox) none_sent ∙ frames_at old l None s was ∙ sym none_kept;
+      other_frames = λ d ne. refl;
+      own_ready = own_joined old l (is_ready after) (ready_at old l None s was);
+      other_ready = λ d ne. other_joined old d l (is_ready after) ne;
+      ready_length = omega (arith, length_joined old l (is_ready after));
+      places = omega (arith, s.places, no_turn);
+      aborts = s.aborts;
+      quiet = s.quiet;
+      accepted = omega (arith, ap component_count accepted_is);
+      served = omega (arith, g.extends.stay.served, g.opens.served);
+      sent = omega (arith, g.extends.stay.sent, g.opens.sent);
+      all_entries = omega (arith, ap length accepted_is);
+      few_accepted = omega (arith, s.few_accepted, components_few more);
+      few_sent = few_sent law after;
+    }
     in
     subst Sound (sym g.new_is) (Sound-change old then l None after s change)

@@ -77,16 +77,16 @@ begin_fits s arrival incoming up None = tt
 begin_fits s arrival incoming up (Some peer) =
     let none = no_place_left None (place_count incoming.entries) in
     cond_both (too_many incoming || (no_dialogue_left s || none)) (Refuse (Some cause.ResourceLimitation) None) (Open peer) (Fits s (Message arrival incoming)) (λ _. up) (λ e.
-        let a : (too_many incoming ≡ false) × ((no_dialogue_left s || none) ≡ false) = or_parts (too_many incoming) (no_dialogue_left s || none) e in
-        let b : (no_dialogue_left s ≡ false) × (none ≡ false) = or_parts (no_dialogue_left s) none a.1 in
-        let c : (nat_le 4096 (map.len s.rows) ≡ false) × ((nat_eq (s.given + 1) (2 ^ 29) || is_full s) ≡ false) = or_parts (nat_le 4096 (map.len s.rows)) (nat_eq (s.given + 1) (2 ^ 29) || is_full s) b.0 in
-        let d : (nat_eq (s.given + 1) (2 ^ 29) ≡ false) × (is_full s ≡ false) = or_parts (nat_eq (s.given + 1) (2 ^ 29)) (is_full s) c.1 in
-        record {
-          up = up;
-          grow = record { few = few_entries arrival incoming a.0; room = not_full s d.1 };
-          rows = leb-false 4096 (map.len s.rows) c.0;
-          serials = eqb-false (s.given + 1) (2 ^ 29) d.0;
-        })
+    let a : (too_many incoming ≡ false) × ((no_dialogue_left s || none) ≡ false) = or_parts (too_many incoming) (no_dialogue_left s || none) e in
+    let b : (no_dialogue_left s ≡ false) × (none ≡ false) = or_parts (no_dialogue_left s) none a.1 in
+    let c : (nat_le 4096 (map.len s.rows) ≡ false) × ((nat_eq (s.given + 1) (2 ^ 29) || is_full s) ≡ false) = or_parts (nat_le 4096 (map.len s.rows)) (nat_eq (s.given + 1) (2 ^ 29) || is_full s) b.0 in
+    let d : (nat_eq (s.given + 1) (2 ^ 29) ≡ false) × (is_full s ≡ false) = or_parts (nat_eq (s.given + 1) (2 ^ 29)) (is_full s) c.1 in
+    record {
+      up = up;
+      grow = record { few = few_entries arrival incoming a.0; room = not_full s d.1 };
+      rows = leb-false 4096 (map.len s.rows) c.0;
+      serials = eqb-false (s.given + 1) (2 ^ 29) d.0;
+    })
 
 -- a Continue or an End that is taken
 more_fits : (s : Shelf) (local : ℕ) (arrival : Arrival) (incoming : Incoming) → s.is_down ≡ false → (ending : Option Ending) → (CanGrow s (Message arrival incoming) → Fits s (Message arrival incoming) (Extend local ending))
@@ -94,9 +94,9 @@ more_fits : (s : Shelf) (local : ℕ) (arrival : Arrival) (incoming : Incoming) 
 more_fits s local arrival incoming up ending fits =
     let none = no_place_left (map.get s.rows local) (place_count incoming.entries) in
     cond_both (too_many incoming || (none || is_full s)) (Refuse (Some cause.ResourceLimitation) (Some local)) (Extend local ending) (Fits s (Message arrival incoming)) (λ _. up) (λ e.
-        let a : (too_many incoming ≡ false) × ((none || is_full s) ≡ false) = or_parts (too_many incoming) (none || is_full s) e in
-        let b : (none ≡ false) × (is_full s ≡ false) = or_parts none (is_full s) a.1 in
-        fits (record { few = few_entries arrival incoming a.0; room = not_full s b.1 }))
+    let a : (too_many incoming ≡ false) × ((none || is_full s) ≡ false) = or_parts (too_many incoming) (none || is_full s) e in
+    let b : (none ≡ false) × (is_full s ≡ false) = or_parts none (is_full s) a.1 in
+    fits (record { few = few_entries arrival incoming a.0; room = not_full s b.1 }))
 
 end_fits : (s : Shelf) (local : ℕ) (came : Prepared) → option_map_or is_admitted (map.get s.rows local) false ≡ true → CanGrow s came → CanEnd s local ByPeer came
 end_fits s local came takes_more grow = record { by_peer = refl; admitted = takes_more; limit = inl (grow.room, grow.few) }

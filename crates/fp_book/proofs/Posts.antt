@@ -57,13 +57,13 @@ Sound-queues : (old new : Shelf) (peer : Tid) (cause : AbortCause) → Sound old
 Sound-queues old new peer cause s up room g =
     let outbox : Outbox = record old.outbox { aborts = old.outbox.aborts ++ g.frame ∷ [] } in
     let alike : WaitsAlike old outbox =
-        record {
-          dropped = λ d e. e;
-          unsent = λ d. refl;
-          places = le_refl (frames_held old.outbox);
-          aborts = omega (arith, length-append old.outbox.aborts (g.frame ∷ []));
-          quiet = λ e. absurd (false≢true (sym up ∙ e));
-        }
+    record {
+      dropped = λ d e. e;
+      unsent = λ d. refl;
+      places = le_refl (frames_held old.outbox);
+      aborts = omega (arith, length-append old.outbox.aborts (g.frame ∷ []));
+      quiet = λ e. absurd (false≢true (sym up ∙ e));
+    }
     in
     subst Sound (sym g.new_is) (Sound-outbox old outbox old.log s alike)
 
@@ -78,9 +78,9 @@ Sound-refuses law old new cause closes came answer s up g =
     let closed = closing law old g.closed closes s g.closing in
     let abort = abort_for (length old.outbox.aborts) cause (arrival_of came).ids.orig in
     let answered : Sound g.answered =
-        Sound-answers g.closed g.answered closes abort answer closed.sound (closed.down ∙ up)
-        (λ p e. let few : length old.outbox.aborts < 64 = room_for (length old.outbox.aborts) cause (arrival_of came).ids.orig p e in omega (arith, ap length closed.aborts))
-        g.answering
+    Sound-answers g.closed g.answered closes abort answer closed.sound (closed.down ∙ up)
+    (λ p e. let few : length old.outbox.aborts < 64 = room_for (length old.outbox.aborts) cause (arrival_of came).ids.orig p e in omega (arith, ap length closed.aborts))
+    g.answering
     in
     subst Sound (sym g.new_is) (Sound-logs g.answered (logged g.answered.log (posted_line came answer)) answered)
 
@@ -105,6 +105,6 @@ Sound-posts law old new came answer s g =
     ⊎_elim
     (λ h. Sound-follows law old new came answer (verdict old came) s (verdict_fits old came) h)
     (λ h.
-        let lost = prepared.Lost (arrival_of came) in
-        Sound-follows law old new lost answer (verdict old lost) s (verdict_fits old lost) h.1)
+    let lost = prepared.Lost (arrival_of came) in
+    Sound-follows law old new lost answer (verdict old lost) s (verdict_fits old lost) h.1)
     g

@@ -90,13 +90,13 @@ Sound-picks old new picked s g =
 pub Sound-sends_abort : (old new : Shelf) (frame : AbortFrame) → Sound old → SendsAbort old frame new → Sound new
 Sound-sends_abort old new frame s g =
     let alike : WaitsAlike old (with_nothing_out old.outbox) =
-        record {
-          dropped = λ d e. e;
-          unsent = λ d. ap (λ o. frame_out d o ++ frames_for d old.outbox.frames) (sym g.was_out);
-          places = omega (arith, ap places_out g.was_out);
-          aborts = s.aborts;
-          quiet = s.quiet;
-        }
+    record {
+      dropped = λ d e. e;
+      unsent = λ d. ap (λ o. frame_out d o ++ frames_for d old.outbox.frames) (sym g.was_out);
+      places = omega (arith, ap places_out g.was_out);
+      aborts = s.aborts;
+      quiet = s.quiet;
+    }
     in
     subst Sound (sym g.new_is) (Sound-outbox old (with_nothing_out old.outbox) (logged old.log (line.Sent 0)) s alike)
 
@@ -116,42 +116,42 @@ Sound-sends_frame law old new w s g =
     let turns_alike : turns_of g.after ≡ turns_of g.before = ap (λ b. cond {A = ℕ} b 1 0) g.sends.is_out in
     let waits_for = frames_for l old.outbox.frames in
     let was : sent_of g.before ++ w.frame ∷ waits_for ≡ kept_of g.before =
-        ap (λ r. sent_of g.before ++ (r ++ waits_for)) (sym (first_own l w [] refl))
-        ∙ ap (λ o. sent_of g.before ++ (frame_out l o ++ waits_for)) (sym g.was_out) ∙ frames_at old l (Some g.before) s g.was in
+    ap (λ r. sent_of g.before ++ (r ++ waits_for)) (sym (first_own l w [] refl))
+    ∙ ap (λ o. sent_of g.before ++ (frame_out l o ++ waits_for)) (sym g.was_out) ∙ frames_at old l (Some g.before) s g.was in
     let change : Change old then l (Some g.before) g.after =
-        record {
-          was = g.was;
-          rows = refl;
-          gone = refl;
-          link = refl;
-          given = le_refl old.given;
-          serials = s.serials;
-          births = s.births;
-          down = refl;
-          entries = omega (arith, s.entries, alike);
-          room = omega (arith, s.held);
-          own = own_after old then l g.before g.after own g.sends.same refl (le_refl old.given) (le_refl old.births)
-              (λ e. own.dropped (ap is_some (sym g.sends.ended) ∙ e)) (λ e. g.sends.ended ∙ own.closed e);
-          other_dropped = λ d ne e. e;
-          own_frames =
-              ap (λ r. r ++ waits_for) (g.sends.one_more w.frame waits_for was) ∙ append_assoc (sent_of g.before) (w.frame ∷ []) waits_for
-              ∙ was ∙ sym g.sends.kept_frames;
-          other_frames = λ d ne.
-              ap (λ r. r ++ frames_for d old.outbox.frames) (sym (first_other d w [] ne))
-              ∙ ap (λ o. frame_out d o ++ frames_for d old.outbox.frames) (sym g.was_out);
-          own_ready = ready_at old l (Some g.before) s g.was ∙ sym ready_alike;
-          other_ready = λ d ne. refl;
-          ready_length = omega (arith, ready_alike);
-          places = omega (arith, s.places, turns_alike);
-          aborts = s.aborts;
-          quiet = s.quiet;
-          accepted = omega (arith, ap component_count g.sends.accepted);
-          served = omega (arith, g.sends.served);
-          sent = omega (arith, g.sends.sent);
-          all_entries = omega (arith, ap length g.sends.accepted);
-          few_accepted = s.few_accepted;
-          few_sent = few_sent law g.after;
-        }
+    record {
+      was = g.was;
+      rows = refl;
+      gone = refl;
+      link = refl;
+      given = le_refl old.given;
+      serials = s.serials;
+      births = s.births;
+      down = refl;
+      entries = omega (arith, s.entries, alike);
+      room = omega (arith, s.held);
+      own = own_after old then l g.before g.after own g.sends.same refl (le_refl old.given) (le_refl old.births)
+          (λ e. own.dropped (ap is_some (sym g.sends.ended) ∙ e)) (λ e. g.sends.ended ∙ own.closed e);
+      other_dropped = λ d ne e. e;
+      own_frames =
+          ap (λ r. r ++ waits_for) (g.sends.one_more w.frame waits_for was) ∙ append_assoc (sent_of g.before) (w.frame ∷ []) waits_for
+          ∙ was ∙ sym g.sends.kept_frames;
+      other_frames = λ d ne.
+          ap (λ r. r ++ frames_for d old.outbox.frames) (sym (first_other d w [] ne))
+          ∙ ap (λ o. frame_out d o ++ frames_for d old.outbox.frames) (sym g.was_out);
+      own_ready = ready_at old l (Some g.before) s g.was ∙ sym ready_alike;
+      other_ready = λ d ne. refl;
+      ready_length = omega (arith, ready_alike);
+      places = omega (arith, s.places, turns_alike);
+      aborts = s.aborts;
+      quiet = s.quiet;
+      accepted = omega (arith, ap component_count g.sends.accepted);
+      served = omega (arith, g.sends.served);
+      sent = omega (arith, g.sends.sent);
+      all_entries = omega (arith, ap length g.sends.accepted);
+      few_accepted = s.few_accepted;
+      few_sent = few_sent law g.after;
+    }
     in
     subst Sound (sym g.new_is) (Sound-change old then l (Some g.before) g.after s change)
 

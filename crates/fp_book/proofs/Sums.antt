@@ -224,9 +224,9 @@ totals-le a b c d (e ∷ es) h m none adds =
     let m' = map.remove m e.0 in
     let here : a e.1 + amount b (map.get m e.0) ≤ c e.1 + amount d (map.get m e.0) = adds e.0 e.1 (first_found e es) in
     let rest : total a es + sum_of b m' ≤ total c es + sum_of d m' =
-        totals-le a b c d es sorted m'
-        (λ q found. get-removed m e.0 q ∙ rest_none e es m none q (eqb q e.0) refl found)
-        (λ q row found. subst (Adds a b c d row) (sym (get-removed m e.0 q)) (rest_adds a b c d e es m (none_below e.0 es under) adds q row (eqb q e.0) refl found))
+    totals-le a b c d es sorted m'
+    (λ q found. get-removed m e.0 q ∙ rest_none e es m none q (eqb q e.0) refl found)
+    (λ q row found. subst (Adds a b c d row) (sym (get-removed m e.0 q)) (rest_adds a b c d e es m (none_below e.0 es under) adds q row (eqb q e.0) refl found))
     in
     omega (arith, here, rest, sum-remove b m e.0, sum-remove d m e.0, sum_by-cons (of_entry a) e es, sum_by-cons (of_entry c) e es)
 

@@ -83,35 +83,35 @@ Sound-takes law old new turn s g =
     let stood : count l (l ∷ g.rest) ≡ ready g.before = ap (count l) (sym g.first) ∙ ready_at old l (Some g.before) s g.was in
     let alike : admitted g.after ≡ admitted g.before = ap one_if (admitted_as g.before g.after g.takes.ended g.takes.stay.core) in
     let change : Change old then l (Some g.before) g.after =
-        record {
-          was = g.was;
-          rows = put_held old l g.after held;
-          gone = none_gone old g.after held;
-          link = refl;
-          given = le_refl old.given;
-          serials = s.serials;
-          births = s.births;
-          down = refl;
-          entries = omega (arith, s.entries, alike);
-          room = omega (arith, s.held);
-          own = own_after old then l g.before g.after own g.takes.same refl (le_refl old.given) (le_refl old.births)
-              (λ e. own.dropped (ap is_some (sym g.takes.ended) ∙ e)) (λ e. g.takes.ended ∙ own.closed e);
-          other_dropped = λ d ne e. e;
-          own_frames = ap (λ r. r ++ unsent_for l old.outbox) g.takes.stay.sent_frames ∙ frames_at old l (Some g.before) s g.was ∙ sym g.takes.stay.kept_frames;
-          other_frames = λ d ne. refl;
-          own_ready = let none : count l g.rest ≡ 0 = omega (arith, count_first l g.rest) in none ∙ sym not_ready;
-          other_ready = λ d ne. sym (ap (count d) g.first ∙ count_other d l g.rest ne);
-          ready_length = omega (arith, ap length g.first);
-          places = omega (arith, g.room, turns_most g.after);
-          aborts = s.aborts;
-          quiet = s.quiet;
-          accepted = omega (arith, ap component_count g.takes.accepted);
-          served = omega (arith, g.takes.stay.served);
-          sent = omega (arith, g.takes.stay.sent);
-          all_entries = omega (arith, ap length g.takes.accepted);
-          few_accepted = s.few_accepted;
-          few_sent = few_sent law g.after;
-        }
+    record {
+      was = g.was;
+      rows = put_held old l g.after held;
+      gone = none_gone old g.after held;
+      link = refl;
+      given = le_refl old.given;
+      serials = s.serials;
+      births = s.births;
+      down = refl;
+      entries = omega (arith, s.entries, alike);
+      room = omega (arith, s.held);
+      own = own_after old then l g.before g.after own g.takes.same refl (le_refl old.given) (le_refl old.births)
+          (λ e. own.dropped (ap is_some (sym g.takes.ended) ∙ e)) (λ e. g.takes.ended ∙ own.closed e);
+      other_dropped = λ d ne e. e;
+      own_frames = ap (λ r. r ++ unsent_for l old.outbox) g.takes.stay.sent_frames ∙ frames_at old l (Some g.before) s g.was ∙ sym g.takes.stay.kept_frames;
+      other_frames = λ d ne. refl;
+      own_ready = let none : count l g.rest ≡ 0 = omega (arith, count_first l g.rest) in none ∙ sym not_ready;
+      other_ready = λ d ne. sym (ap (count d) g.first ∙ count_other d l g.rest ne);
+      ready_length = omega (arith, ap length g.first);
+      places = omega (arith, g.room, turns_most g.after);
+      aborts = s.aborts;
+      quiet = s.quiet;
+      accepted = omega (arith, ap component_count g.takes.accepted);
+      served = omega (arith, g.takes.stay.served);
+      sent = omega (arith, g.takes.stay.sent);
+      all_entries = omega (arith, ap length g.takes.accepted);
+      few_accepted = s.few_accepted;
+      few_sent = few_sent law g.after;
+    }
     in
     subst Sound (sym g.new_is) (Sound-change old then l (Some g.before) g.after s change)
 
@@ -173,35 +173,35 @@ Sound-puts_back law old new turn s g =
     let not_ready : ready g.before ≡ 0 = ap one_if (not_ready_out g.before out.is_out) in
     let alike : admitted g.after ≡ admitted g.before = ap one_if (admitted_as g.before g.after g.puts.ended g.puts.stay.core) in
     let change : Change old then l (Some g.before) g.after =
-        record {
-          was = g.was;
-          rows = refl;
-          gone = refl;
-          link = refl;
-          given = le_refl old.given;
-          serials = s.serials;
-          births = s.births;
-          down = refl;
-          entries = omega (arith, s.entries, alike);
-          room = omega (arith, s.held);
-          own = own_after old then l g.before g.after own g.puts.same refl (le_refl old.given) (le_refl old.births)
-              (λ e. own.dropped (ap is_some (sym g.puts.ended) ∙ e)) (λ e. g.puts.ended ∙ own.closed e);
-          other_dropped = λ d ne e. e;
-          own_frames = ap (λ r. r ++ unsent_for l old.outbox) g.puts.stay.sent_frames ∙ frames_at old l (Some g.before) s g.was ∙ sym g.puts.stay.kept_frames;
-          other_frames = λ d ne. refl;
-          own_ready = own_joined old l joined (not_queued old l g.before s g.was out.is_out);
-          other_ready = λ d ne. other_joined old d l joined ne;
-          ready_length = omega (arith, length_joined old l joined);
-          places = omega (arith, s.places, turns_are g.after false g.puts.is_out);
-          aborts = s.aborts;
-          quiet = s.quiet;
-          accepted = omega (arith, ap component_count g.puts.accepted);
-          served = omega (arith, g.puts.stay.served);
-          sent = omega (arith, g.puts.stay.sent);
-          all_entries = omega (arith, ap length g.puts.accepted);
-          few_accepted = s.few_accepted;
-          few_sent = few_sent law g.after;
-        }
+    record {
+      was = g.was;
+      rows = refl;
+      gone = refl;
+      link = refl;
+      given = le_refl old.given;
+      serials = s.serials;
+      births = s.births;
+      down = refl;
+      entries = omega (arith, s.entries, alike);
+      room = omega (arith, s.held);
+      own = own_after old then l g.before g.after own g.puts.same refl (le_refl old.given) (le_refl old.births)
+          (λ e. own.dropped (ap is_some (sym g.puts.ended) ∙ e)) (λ e. g.puts.ended ∙ own.closed e);
+      other_dropped = λ d ne e. e;
+      own_frames = ap (λ r. r ++ unsent_for l old.outbox) g.puts.stay.sent_frames ∙ frames_at old l (Some g.before) s g.was ∙ sym g.puts.stay.kept_frames;
+      other_frames = λ d ne. refl;
+      own_ready = own_joined old l joined (not_queued old l g.before s g.was out.is_out);
+      other_ready = λ d ne. other_joined old d l joined ne;
+      ready_length = omega (arith, length_joined old l joined);
+      places = omega (arith, s.places, turns_are g.after false g.puts.is_out);
+      aborts = s.aborts;
+      quiet = s.quiet;
+      accepted = omega (arith, ap component_count g.puts.accepted);
+      served = omega (arith, g.puts.stay.served);
+      sent = omega (arith, g.puts.stay.sent);
+      all_entries = omega (arith, ap length g.puts.accepted);
+      few_accepted = s.few_accepted;
+      few_sent = few_sent law g.after;
+    }
     in
     subst Sound (sym g.new_is) (Sound-change old then l (Some g.before) g.after s change)
 
@@ -247,50 +247,51 @@ Sound-gives law old new done given s g =
     } in
     let not_ready : ready g.before ≡ 0 = ap one_if (not_ready_out g.before out.is_out) in
     let frames_then : frames_for l (old.outbox.frames ++ more) ≡ frames_for l old.outbox.frames ++ frames_in g.asked =
-        frames_for-append l old.outbox.frames more ∙ ap (λ r. frames_for l old.outbox.frames ++ r) (requested_own l g.asked) in
+    frames_for-append l old.outbox.frames more ∙ ap (λ r. frames_for l old.outbox.frames ++ r) (requested_own l g.asked) in
     let others_then : (d : ℕ) → eqb d l ≡ false → frames_for d (old.outbox.frames ++ more) ≡ frames_for d old.outbox.frames =
-        λ d ne. frames_for-append d old.outbox.frames more ∙ ap (λ r. frames_for d old.outbox.frames ++ r) (requested_other d l g.asked ne) ∙ append-nil _ in
+    λ d ne. frames_for-append d old.outbox.frames more ∙ ap (λ r. frames_for d old.outbox.frames ++ r) (requested_other d l g.asked ne) ∙ append-nil _ in
     let first_out = frame_out l old.outbox.out in
     let change : Change old then l (Some g.before) g.after =
-        record {
-          was = g.was;
-          rows = refl;
-          gone = refl;
-          link = refl;
-          given = le_refl old.given;
-          serials = s.serials;
-          births = s.births;
-          down = refl;
-          entries = omega (arith, s.entries, fewer_admitted g.before g.after g.gives.ended out.live);
-          room = omega (arith, s.held);
-          own = own_after old then l g.before g.after own g.gives.same refl (le_refl old.given) (le_refl old.births)
-              (λ e.
-                  let was : is_some g.before.ended ≡ true = ap is_some (sym g.gives.ended) ∙ e in
-                  frames_then ∙ ap (λ r. r ++ frames_in g.asked) (own.dropped was) ∙ ap frames_in g.gives.requested_is ∙ none_asked g.before.ended done.frame was)
-              (λ e. g.gives.ended ∙ own.closed e);
-          other_dropped = λ d ne e. others_then d ne ∙ e;
-          own_frames =
-              ap (λ r. r ++ (first_out ++ frames_for l (old.outbox.frames ++ more))) g.gives.sent_frames
-              ∙ ap (λ r. sent_of g.before ++ (first_out ++ r)) frames_then
-              ∙ ap (λ r. sent_of g.before ++ r) (sym (append_assoc first_out (frames_for l old.outbox.frames) (frames_in g.asked)))
-              ∙ sym (append_assoc (sent_of g.before) (unsent_for l old.outbox) (frames_in g.asked))
-              ∙ ap (λ r. r ++ frames_in g.asked) (frames_at old l (Some g.before) s g.was) ∙ sym g.gives.kept_frames;
-          other_frames = λ d ne. ap (λ r. frame_out d old.outbox.out ++ r) (others_then d ne);
-          own_ready = own_joined old l joined (not_queued old l g.before s g.was out.is_out);
-          other_ready = λ d ne. other_joined old d l joined ne;
-          ready_length = omega (arith, length_joined old l joined);
-          places = omega (arith, s.places, turns_are g.after false g.gives.is_out, turns_are g.before true out.is_out, length-append old.outbox.frames more, requested_count l g.asked);
-          aborts = s.aborts;
-          quiet = λ e.
-              let closed : g.before.ended ≡ Some Closed = own.closed e in
-              ((s.quiet e).0,
-                  ap (λ r. r ++ more) (s.quiet e).1 ∙ ap (waiting_in l) g.gives.requested_is ∙ none_waiting l g.before.ended done.frame (ap is_some closed));
-          accepted = omega (arith, ap component_count g.gives.accepted);
-          served = omega (arith, g.gives.served);
-          sent = omega (arith, g.gives.sent);
-          all_entries = omega (arith, ap length g.gives.accepted);
-          few_accepted = s.few_accepted;
-          few_sent = few_sent law g.after;
-        }
+    record {
+      was = g.was;
+      rows = refl;
+      gone = refl;
+      link = refl;
+      given = le_refl old.given;
+      serials = s.serials;
+      births = s.births;
+      down = refl;
+      entries = omega (arith, s.entries, fewer_admitted g.before g.after g.gives.ended out.live);
+      room = omega (arith, s.held);
+      own = own_after old then l g.before g.after own g.gives.same refl (le_refl old.given) (le_refl old.births)
+          (λ e.
+          let was : is_some g.before.ended ≡ true = ap is_some (sym g.gives.ended) ∙ e in
+          frames_then ∙ ap (λ r. r ++ frames_in g.asked) (own.dropped was) ∙ ap frames_in g.gives.requested_is ∙ none_asked g.before.ended done.frame was)
+          (λ e. g.gives.ended ∙ own.closed e);
+      other_dropped = λ d ne e. others_then d ne ∙ e;
+      own_frames =
+          ap (λ r. r ++ (first_out ++ frames_for l (old.outbox.frames ++ more))) g.gives.sent_frames
+          ∙ ap (λ r. sent_of g.before ++ (first_out ++ r)) frames_then
+          ∙ ap (λ r. sent_of g.before ++ r) (sym (append_assoc first_out (frames_for l old.outbox.frames) (frames_in g.asked)))
+          ∙ sym (append_assoc (sent_of g.before) (unsent_for l old.outbox) (frames_in g.asked))
+          ∙ ap (λ r. r ++ frames_in g.asked) (frames_at old l (Some g.before) s g.was) ∙ sym g.gives.kept_frames;
+      other_frames = λ d ne. ap (λ r. frame_out d old.outbox.out ++ r) (others_then d ne);
+      own_ready = own_joined old l joined (not_queued old l g.before s g.was out.is_out);
+      other_ready = λ d ne. other_joined old d l joined ne;
+      ready_length = omega (arith, length_joined old l joined);
+      places = omega (arith, s.places, turns_are g.after false g.gives.is_out, turns_are g.before true out.is_out, length-append old.outbox.frames more, requested_count l g.asked);
+      aborts = s.aborts;
+      quiet = λ e.
+          let closed : g.before.ended ≡ Some Closed = own.closed e in (
+            (s.quiet e).0,
+            ap (λ r. r ++ more) (s.quiet e).1 ∙ ap (waiting_in l) g.gives.requested_is ∙ none_waiting l g.before.ended done.frame (ap is_some closed),
+          );
+      accepted = omega (arith, ap component_count g.gives.accepted);
+      served = omega (arith, g.gives.served);
+      sent = omega (arith, g.gives.sent);
+      all_entries = omega (arith, ap length g.gives.accepted);
+      few_accepted = s.few_accepted;
+      few_sent = few_sent law g.after;
+    }
     in
     subst Sound (sym g.new_is) (Sound-change old then l (Some g.before) g.after s change)
