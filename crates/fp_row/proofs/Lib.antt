@@ -1,4 +1,5 @@
 mod Afters
+mod Entries
 mod Lookups
 mod Maps
 mod Order

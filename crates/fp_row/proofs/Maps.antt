@@ -38,7 +38,7 @@ module _ {X : Type 0} where
       ∙ ap (cond (eqb q k) None) (get-map_of old q)))
 
   -- the keys behind the first are in order
-  in_order_tail : (e : ℕ × X) (l : List (ℕ × X)) → IsInOrder (keys_of (e ∷ l)) → IsInOrder (keys_of l)
+  pub in_order_tail : (e : ℕ × X) (l : List (ℕ × X)) → IsInOrder (keys_of (e ∷ l)) → IsInOrder (keys_of l)
   in_order_tail e l sorted i j lt in_range = sorted (suc i) (suc j) (omega arith) (omega arith)
 
   -- in order, each entry is one of the map's

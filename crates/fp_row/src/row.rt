@@ -1,6 +1,6 @@
 //! One dialogue.
 
-ghost use Rattle.std.specs.Prelude.{◌≡◌, ◌≤◌, ◌<◌, ◌+◌, ◌^◌, ◌&&◌, ◌↔◌, nat_eq, nat_le, not, false, true, Some, is_some, length, min, slice_get, take, IsTrue, IfOk, IfErr, IsOk, OnErr, OnOk};
+ghost use Rattle.std.specs.Prelude.{◌≡◌, ◌≢◌, [], ◌≤◌, ◌<◌, ◌+◌, ◌^◌, ◌&&◌, ◌↔◌, nat_eq, nat_le, nat_lt, not, false, true, Some, is_some, length, min, slice_get, take, IsTrue, IfOk, IfErr, IsOk, OnErr, OnOk};
 ghost use Rattle.std.specs.Coded.{Coded-set};
 ghost use Rattle.fp_service.specs.Dialogue.{fresh, is_over};
 ghost use Rattle.fp_service.specs.Fold.{core_after, cut, requests};
@@ -173,16 +173,29 @@ impl Row {
         Some(self.core.next_due())
     }
 
+    /// Whether it is given a Clock at a moment.
+    pub fn is_due(&self, moment: Moment) -> bool
+        ensures { result ≡ is_due self.now moment }
+    {
+        match self.deadline() {
+            Some(deadline) => deadline <= moment.milliseconds(),
+            None => false,
+        }
+    }
+
     /// Puts the entries of a message behind the others, and says so. A dialogue that isn't admitted takes none, and
-    /// nothing changes; nor does it where memory is wanting. In both cases the entries are gone. Whoever hands in the
-    /// peer's end or abort ends the dialogue too ([`Row::end`]).
+    /// nothing changes; nor does it where memory is wanting, which it never is for no entries. In both cases the entries
+    /// are gone. Whoever hands in the peer's end or abort ends the dialogue too ([`Row::end`]).
     pub fn accept(&mut self, entries: Entries) -> Result<bool, AllocError>
         ensures ok { IfOk result (λ taken. (taken ≡ is_admitted self.old) × Accepts taken self.old entries self.new) }
         ensures err { OnErr result (self.new ≡ self.old) }
-        ensures only { OnErr result (is_admitted self.old ≡ true) }
+        ensures only { OnErr result ((is_admitted self.old ≡ true) × (entries ≢ [])) }
     {
         if !self.is_admitted() {
             return Ok(false);
+        }
+        if entries.is_empty() {
+            return Ok(true);
         }
         self.accepted.append(entries)?;
         Ok(true)
@@ -195,11 +208,7 @@ impl Row {
         ensures err { OnErr result (self.new ≡ self.old) }
         ensures only { OnErr result (is_due self.old moment ≡ true) }
     {
-        let is_due = match self.deadline() {
-            Some(deadline) => deadline <= moment.milliseconds(),
-            None => false,
-        };
-        if !is_due {
+        if !self.is_due(moment) {
             return Ok(false);
         }
         let kind = EntryKind::Clock;
@@ -332,12 +341,16 @@ impl Row {
     }
 
     /// Ends the dialogue from outside: requests that wait to be sent are dropped, but the one that is being sent now
-    /// where `is_sending`, and where it is closed the entries that wait too. A dialogue that was closed stays so. Takes
-    /// no memory.
-    pub fn end(&mut self, ending: Ending, is_sending: bool)
-        ensures { Ends ending is_sending self.old self.new }
+    /// where `is_sending`, and where it is closed the entries that wait too. A dialogue that was closed stays so. Says
+    /// whether a request was dropped. Takes no memory.
+    pub fn end(&mut self, ending: Ending, is_sending: bool) -> bool
+        ensures ends { Ends ending is_sending self.old self.new }
+        ensures drops { result ≡ nat_lt self.new.kept self.old.kept }
     {
-        self.kept = self.kept_by_end(is_sending);
+        let kept = self.kept_by_end(is_sending);
+        let drops = kept < self.kept;
+        self.kept = kept;
         self.ended = Some(ending.after(self.ended));
+        drops
     }
 }

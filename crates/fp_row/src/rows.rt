@@ -8,10 +8,11 @@ ghost use Rattle.std.specs.FinMap as map;
 ghost use Rattle.fp_row.specs.contracts.rows.Rows.{the_row};
 ghost use Rattle.fp_row.specs.contracts.row.Row as row_type;
 ghost use Rattle.fp_row.specs.declared.row.Row.{Row};
-ghost use Rattle.fp_row.specs.Rows.{IsAfter};
+ghost use Rattle.fp_row.specs.Rows.{IsAfter, count_due};
 ghost use Rattle.fp_row.specs.Keys.{keys_of, IsInOrder, IsAt, IsGapFor, IsFirstAbove};
 
 use crate::Row;
+use fp_digits::Moment;
 use std::alloc::Global;
 use std::marker::Model;
 
@@ -140,5 +141,13 @@ impl Rows {
         let place = place_after(&self.rows, local);
         let entry = self.rows.get(place)?;
         Some(entry.0)
+    }
+
+    /// How many of the dialogues are due at a moment.
+    pub fn count_due(&self, moment: Moment) -> usize
+        ensures { result ≡ count_due self.now moment }
+    {
+        let due = self.rows.iter().filter(|entry| entry.1.is_due(moment));
+        due.count()
     }
 }
