@@ -1,7 +1,7 @@
 //! Worked cases of dialogues and their turns, one a line: `SCRIPT => WANTED`. A case that begins with `rows ` is about
 //! dialogues by their identifiers, one with `log ` about a log, one with `ready ` about the order in which dialogues
-//! are served, and one with `outbox ` about what waits to be sent; their steps are those of `rows.rt`, `log.rt`,
-//! `ready.rt` and `outbox.rt`.
+//! are served, one with `outbox ` about what waits to be sent, and one with `book ` about all dialogues of a link.
+//! Their steps are those of `rows.rt`, `log.rt`, `ready.rt`, `outbox.rt` and `book.rt`.
 //!
 //! Standard input is text for a telecom engineer to read. An empty line or one that begins with `#` is a comment, and
 //! each other line is a case: what is done, step by step, and behind ` => ` what each step must answer, worked out by
@@ -31,7 +31,9 @@
 //! | `state` | which it is of `admitted`, `ready`, `held`, else `gone`; the places its entries take; its deadline |
 #![tactic(auto)]
 
+mod book;
 mod log;
+mod messages;
 mod outbox;
 mod parcels;
 mod ready;
@@ -58,6 +60,7 @@ fn answers(alloc: Global, table: &Table, script: &str) -> anyhow::Result<String>
         Some(("log", steps)) => log::answers(alloc, steps),
         Some(("ready", steps)) => ready::answers(alloc, steps),
         Some(("outbox", steps)) => outbox::answers(alloc, steps),
+        Some(("book", steps)) => book::answers(alloc, table, steps),
         _ => scene::answers(alloc, table, script),
     }
 }

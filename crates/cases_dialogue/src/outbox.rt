@@ -1,12 +1,14 @@
 //! What waits to be sent on a link, and what is being sent.
 //!
-//! A case has two outboxes, and begins at the first one. The parcels that it picks have names, one letter each,
-//! whichever outbox they are of. The frame of a dialogue is the Abort of the user by which it ends where it accepted no
-//! message for 300,000 ms: it has the identifier of the peer, and not the local one.
+//! A case has two outboxes, begins at the first one, and picks parcels of the link 0 until it says another link. The
+//! parcels that it picks have names, one letter each, whichever outbox and link they are of. The frame of a dialogue is
+//! the Abort of the user by which it ends where it accepted no message for 300,000 ms: it has the identifier of the
+//! peer, and not the local one.
 //!
 //! | Step | What it answers |
 //! |---|---|
 //! | `to N` | the steps behind it are about the N-th outbox, 1 or 2: the same number |
+//! | `link N` | the steps behind it pick parcels of the link N, 0 to 7, and take such parcels back: the same number |
 //! | `abort PEER CAUSE` | an Abort of the provider for this cause is added: `waits`, or `full` |
 //! | `aborts COUNT` | so many of the same cause are added, for the peers 00000001, 00000002 ..: `waits`, or `full` |
 //! | `frame LOCAL PEER` | the frame of a dialogue of these identifiers is added: `waits`, or `full` |
@@ -16,13 +18,16 @@
 //! | `drop LOCAL` | the frames of this dialogue that wait are dropped: how many places are held then |
 //! | `clear` | all that waits is dropped: how many places are held then |
 //! | `pick NAME` | what is sent next: its local identifier and its octets, `busy`, or `nothing` |
+//! | `dialogue NAME` | the local identifier of the dialogue whose frame the parcel is, or `none` |
 //! | `take-back NAME` | the parcel is taken back: `taken`, or `strange`, and then it keeps its name |
 //! | `abandon NAME` | nobody reports the parcel: `abandoned` |
 
-use crate::parcels::{Named, find, keep};
-use crate::texts::{add_answer, after_noon, count_text, local_of, name_of, noon, peer_of, word};
+use crate::parcels::{Named, abandon, abandon_all, find, keep, show};
+use crate::texts::{
+    add_answer, after_noon, count_text, local_of, local_text, name_of, noon, peer_of, word,
+};
 use anyhow::bail;
-use fp_book::{Outbox, Parcel, Picked};
+use fp_book::{Outbox, Picked};
 use fp_q773::{AbortCause, Tid};
 use fp_reply::abort_frame;
 use fp_row::{Done, RequestFrame, Requested, Row};
@@ -34,6 +39,8 @@ struct Desk {
     outboxes: Vec<Outbox>,
     // The place of the outbox that a step is about.
     place: usize,
+    // The link that its parcels are of.
+    link: u8,
     parcels: Vec<Named>,
 }
 
@@ -119,23 +126,14 @@ fn added_text(alloc: Global, fits: bool) -> anyhow::Result<String> {
     word(alloc, if fits { "waits" } else { "full" })
 }
 
-/// What a parcel holds.
-fn parcel_text(alloc: Global, parcel: &Parcel) -> anyhow::Result<String> {
-    let octets = hex::encode_upper(alloc, parcel.octets())?;
-    Ok(format!(in alloc; "{:08X} {octets}", parcel.local())?)
-}
-
-/// What the parcel of a name holds.
-fn show(alloc: Global, parcels: &[Named], name: u8) -> anyhow::Result<String> {
-    let Some(named) = parcels.iter().find(|named| named.name == name) else {
-        bail!("no parcel of this name");
-    };
-    parcel_text(alloc, &named.parcel)
-}
-
 /// Picks what is sent next, and keeps it. Why there is none, or `None` where it was kept.
-fn picked(outbox: &mut Outbox, parcels: &mut Vec<Named>, name: u8) -> Option<&'static str> {
-    match outbox.pick() {
+fn picked(
+    outbox: &mut Outbox,
+    link: u8,
+    parcels: &mut Vec<Named>,
+    name: u8,
+) -> Option<&'static str> {
+    match outbox.pick(link) {
         Picked::Busy => Some("busy"),
         Picked::Nothing => Some("nothing"),
         Picked::Parcel(parcel) => {
@@ -149,22 +147,28 @@ fn picked(outbox: &mut Outbox, parcels: &mut Vec<Named>, name: u8) -> Option<&'s
 fn pick(
     alloc: Global,
     outbox: &mut Outbox,
+    link: u8,
     parcels: &mut Vec<Named>,
     name: &str,
 ) -> anyhow::Result<String> {
     let name = name_of(name)?;
-    match picked(outbox, parcels, name) {
+    match picked(outbox, link, parcels, name) {
         Some(reason) => word(alloc, reason),
         None => show(alloc, parcels.as_slice(), name),
     }
 }
 
 /// Takes the parcel of a name back, and tells whether it was this outbox's own.
-fn take_back(outbox: &mut Outbox, parcels: &mut Vec<Named>, name: u8) -> anyhow::Result<bool> {
+fn take_back(
+    outbox: &mut Outbox,
+    link: u8,
+    parcels: &mut Vec<Named>,
+    name: u8,
+) -> anyhow::Result<bool> {
     let Some(parcel) = find(parcels, name) else {
         bail!("no parcel of this name");
     };
-    match outbox.take_back(parcel) {
+    match outbox.take_back(link, parcel) {
         Ok(()) => Ok(true),
         Err(parcel) => {
             keep(parcels, name, parcel);
@@ -177,22 +181,23 @@ fn take_back(outbox: &mut Outbox, parcels: &mut Vec<Named>, name: u8) -> anyhow:
 fn take_back_text(
     alloc: Global,
     outbox: &mut Outbox,
+    link: u8,
     parcels: &mut Vec<Named>,
     name: &str,
 ) -> anyhow::Result<String> {
-    if take_back(outbox, parcels, name_of(name)?)? {
+    if take_back(outbox, link, parcels, name_of(name)?)? {
         return word(alloc, "taken");
     }
     word(alloc, "strange")
 }
 
-/// Abandons the parcel of a name.
-fn abandon(alloc: Global, parcels: &mut Vec<Named>, name: &str) -> anyhow::Result<String> {
-    let Some(parcel) = find(parcels, name_of(name)?) else {
+/// The dialogue whose frame the parcel of a name is.
+fn dialogue_text(alloc: Global, parcels: &[Named], name: &str) -> anyhow::Result<String> {
+    let name = name_of(name)?;
+    let Some(named) = parcels.iter().find(|named| named.name == name) else {
         bail!("no parcel of this name");
     };
-    parcel.abandon();
-    word(alloc, "abandoned")
+    local_text(alloc, named.parcel.dialogue())
 }
 
 /// A step that adds something, or `None` where it is none: whether it found a place.
@@ -250,6 +255,7 @@ impl Desk {
         Desk {
             outboxes: Vec::new(alloc),
             place: 0,
+            link: 0,
             parcels: Vec::new(alloc),
         }
     }
@@ -268,20 +274,37 @@ impl Desk {
         word(alloc, number)
     }
 
-    /// What a step answers.
-    fn answer(&mut self, alloc: Global, words: &[&str]) -> anyhow::Result<String> {
-        if let ["to", number] = words {
-            return self.go(alloc, number);
-        }
+    /// Picks parcels of a link from now on.
+    fn turn_to(&mut self, alloc: Global, link: &str) -> anyhow::Result<String> {
+        self.link = link.parse()?;
+        word(alloc, link)
+    }
+
+    /// What a step about an outbox answers.
+    fn step(&mut self, alloc: Global, words: &[&str]) -> anyhow::Result<String> {
+        let link = self.link;
         let Some(outbox) = self.outboxes.get_mut(self.place) else {
             bail!("no outbox");
         };
         let parcels = &mut self.parcels;
         match words {
-            ["pick", name] => pick(alloc, outbox, parcels, name),
-            ["take-back", name] => take_back_text(alloc, outbox, parcels, name),
-            ["abandon", name] => abandon(alloc, parcels, name),
+            ["pick", name] => pick(alloc, outbox, link, parcels, name),
+            ["take-back", name] => take_back_text(alloc, outbox, link, parcels, name),
+            ["dialogue", name] => dialogue_text(alloc, parcels.as_slice(), name),
+            ["abandon", name] => {
+                abandon(parcels, name_of(name)?)?;
+                word(alloc, "abandoned")
+            }
             _ => own_step(alloc, outbox, words),
+        }
+    }
+
+    /// What a step answers.
+    fn answer(&mut self, alloc: Global, words: &[&str]) -> anyhow::Result<String> {
+        match words {
+            ["to", number] => self.go(alloc, number),
+            ["link", link] => self.turn_to(alloc, link),
+            _ => self.step(alloc, words),
         }
     }
 
@@ -308,12 +331,10 @@ impl Desk {
         let Desk {
             outboxes: _,
             place: _,
-            mut parcels,
+            link: _,
+            parcels,
         } = self;
-        while let Some(parcel) = parcels.pop() {
-            parcel.abandon();
-        }
-        parcels.destroy_empty();
+        abandon_all(parcels);
     }
 }
 

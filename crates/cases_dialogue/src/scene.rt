@@ -1,14 +1,13 @@
 //! The dialogues of a case, and its turns that are out.
 
+use crate::messages::prepared;
 use crate::texts::{
     add_answer, after_noon, ending_of, local_of, name_of, peer_of, requested_text, row_text,
-    state_text, turn_text, word,
+    state_text, word,
 };
-use crate::token::{Named, Token, find, keep};
-use bytes::Bytes;
+use crate::token::{Named, Token, abandon, abandon_all, find, keep, serve, show};
 use fp_digits::Moment;
 use fp_entry::{Entries, Prepared};
-use fp_frames::Frame;
 use fp_records::Table;
 use fp_row::{Requested, Row};
 use std::alloc::Global;
@@ -29,16 +28,6 @@ struct Tally {
     turns: u32,
     frames: u32,
     last: String,
-}
-
-/// What the octets of a message are prepared to.
-fn prepared(alloc: Global, table: &Table, moment: Moment, text: &str) -> anyhow::Result<Prepared> {
-    let octets = hex::decode(alloc, text)?;
-    let message = Bytes::copy_from_slice(alloc, octets.as_slice())?;
-    let Some(frame) = Frame::new(message) else {
-        anyhow::bail!("no frame");
-    };
-    Ok(Prepared::read(alloc, table, &[], frame, moment))
 }
 
 /// The entries of a message.
@@ -129,35 +118,6 @@ fn put_back(row: &mut Row, tokens: &mut Vec<Named>, name: u8) -> anyhow::Result<
             Ok(false)
         }
     }
-}
-
-/// Serves the turn of a name, which is kept.
-fn serve(alloc: Global, tokens: &mut Vec<Named>, name: u8) -> anyhow::Result<()> {
-    let Some(token) = find(tokens, name) else {
-        anyhow::bail!("no turn of this name");
-    };
-    match token.serve(alloc) {
-        Ok(done) => keep(tokens, name, Token::Done(done)),
-        Err(turn) => keep(tokens, name, Token::Turn(turn)),
-    }
-    Ok(())
-}
-
-/// Abandons the turn of a name.
-fn abandon(tokens: &mut Vec<Named>, name: u8) -> anyhow::Result<()> {
-    let Some(token) = find(tokens, name) else {
-        anyhow::bail!("no turn of this name");
-    };
-    token.abandon();
-    Ok(())
-}
-
-/// What the turn of a name says of itself.
-fn show(alloc: Global, tokens: &[Named], name: u8) -> anyhow::Result<String> {
-    let Some(named) = tokens.iter().find(|named| named.name == name) else {
-        anyhow::bail!("no turn of this name");
-    };
-    turn_text(alloc, named.token.turn())
 }
 
 impl Tally {
@@ -345,12 +305,9 @@ impl Scene {
             rows: _,
             place: _,
             moment: _,
-            mut tokens,
+            tokens,
         } = self;
-        while let Some(token) = tokens.pop() {
-            token.abandon();
-        }
-        tokens.destroy_empty();
+        abandon_all(tokens);
     }
 }
 

@@ -15,7 +15,11 @@ pub(crate) fn noon() -> anyhow::Result<Moment> {
 
 /// The moment so many milliseconds after noon.
 pub(crate) fn after_noon(milliseconds: &str) -> anyhow::Result<Moment> {
-    let milliseconds: u32 = milliseconds.parse()?;
+    moment_after(milliseconds.parse()?)
+}
+
+/// The moment so many milliseconds after noon.
+pub(crate) fn moment_after(milliseconds: u32) -> anyhow::Result<Moment> {
     let Some(moment) = Moment::new(NOON + u64::from(milliseconds)) else {
         anyhow::bail!("no moment");
     };

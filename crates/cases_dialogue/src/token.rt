@@ -1,5 +1,6 @@
 //! Turns that a case has taken, served or not.
 
+use crate::texts::turn_text;
 use fp_row::{Done, Requested, Row, Turn};
 use std::alloc::Global;
 
@@ -88,4 +89,41 @@ pub(crate) fn find(tokens: &mut Vec<Named>, name: u8) -> Option<Token> {
     let index = tokens.iter().position(|named| named.name == name)?;
     let Named { name: _, token } = tokens.remove(index);
     Some(token)
+}
+
+/// Serves the turn of a name, if it wasn't, and keeps it.
+pub(crate) fn serve(alloc: Global, tokens: &mut Vec<Named>, name: u8) -> anyhow::Result<()> {
+    let Some(token) = find(tokens, name) else {
+        anyhow::bail!("no turn of this name");
+    };
+    match token.serve(alloc) {
+        Ok(done) => keep(tokens, name, Token::Done(done)),
+        Err(turn) => keep(tokens, name, Token::Turn(turn)),
+    }
+    Ok(())
+}
+
+/// Abandons the turn of a name.
+pub(crate) fn abandon(tokens: &mut Vec<Named>, name: u8) -> anyhow::Result<()> {
+    let Some(token) = find(tokens, name) else {
+        anyhow::bail!("no turn of this name");
+    };
+    token.abandon();
+    Ok(())
+}
+
+/// What the turn of a name says of itself.
+pub(crate) fn show(alloc: Global, tokens: &[Named], name: u8) -> anyhow::Result<String> {
+    let Some(named) = tokens.iter().find(|named| named.name == name) else {
+        anyhow::bail!("no turn of this name");
+    };
+    turn_text(alloc, named.token.turn())
+}
+
+/// Spends all turns.
+pub(crate) fn abandon_all(mut tokens: Vec<Named>) {
+    while let Some(token) = tokens.pop() {
+        token.abandon();
+    }
+    tokens.destroy_empty();
 }

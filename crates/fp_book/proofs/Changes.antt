@@ -1,13 +1,12 @@
 -- One dialogue of a link changes, comes or goes: what its book keeps then.
-use Rattle.std.proofs.Common.{◌≡◌, ◌≢◌, ℕ, ◌<◌, ◌≤◌, ◌+◌, ◌^◌, Bool, true, false, cond, eqb, not, ◌&&◌, ◌||◌, nat_lt, Option, Some, None, List, [], ◌∷◌, ◌++◌, length, take, count_by, is_some, refl, sym, ◌∙◌, ap, subst, arith, length-append, ◌⊎◌, ⊎_elim}
-use Rattle.std.proofs.lemmas.Bool.{cases_Bool, cond_both, eqb-true, eq-eqb, or_parts, and_left, and_right, ltb-false}
+use Rattle.std.proofs.Common.{◌≡◌, ℕ, ◌<◌, ◌≤◌, ◌+◌, ◌^◌, Bool, true, false, cond, eqb, not, ◌||◌, nat_lt, Option, Some, None, List, [], ◌∷◌, ◌++◌, length, take, count_by, refl, sym, ◌∙◌, ap, subst, arith, length-append, ⊎_elim}
+use Rattle.std.proofs.lemmas.Bool.{cases_Bool, cond_both, eqb-true, or_parts, and_right, ltb-false}
 use Rattle.std.specs.FinMap as map
 use Rattle.fp_book.proofs.Sums.{OneChanges, amount, kept, left_of, len-sum}
 use Rattle.fp_book.specs.declared.totals.Totals.{Totals}
 use Rattle.fp_book.specs.Outbox.{frames_held}
 use Rattle.fp_book.specs.Shelf.{IsOwn, Shelf, Sound, frames_for, gone_with, keep, of_row, one_if, places_held, ready_count, turns_of, unsent_for}
 use Rattle.fp_book.specs.Totals.{accepted_by, sent_by, served_by, sum_of, with_row}
-use Rattle.fp_row.specs.declared.ending.Ending.TheVariants.{Closed}
 use Rattle.fp_row.specs.declared.row.Row.{Row}
 use Rattle.fp_row.specs.Row.{frames_of, is_admitted, is_held, is_ready, kept_of, sent_of, waits}
 use Rattle.fp_tids.specs.Identifiers.{identifier}

@@ -1,9 +1,9 @@
 -- To give dialogues a Clock keeps what a book keeps.
-use Rattle.std.proofs.Common.{◌≡◌, ℕ, suc, ◌<◌, ◌≤◌, ◌+◌, ◌^◌, Bool, true, false, cond, eqb, not, ◌&&◌, ◌||◌, ◌⊎◌, ⊎_elim, nat_eq, nat_le, nat_lt, Option, Some, None, List, [], ◌∷◌, ◌++◌, length, map, filter, All, AllPairs, is_some, slice_index_or, refl, sym, ◌∙◌, ap, subst, arith, length-append, append_assoc, append-nil, add-zero}
+use Rattle.std.proofs.Common.{◌≡◌, ℕ, suc, ◌<◌, ◌≤◌, ◌+◌, ◌^◌, Bool, true, false, cond, eqb, not, ◌&&◌, ◌||◌, ⊎_elim, nat_eq, nat_lt, Option, Some, None, List, [], ◌∷◌, ◌++◌, length, map, filter, All, AllPairs, is_some, slice_index_or, refl, sym, ◌∙◌, ap, subst, arith, length-append, append_assoc, append-nil, add-zero}
 use Rattle.std.specs.Prelude.{⊤}
 use Rattle.std.specs.List.{AllByRecursion, list_any}
 use Rattle.std.specs.FinMap.{get, insert, len}
-use Rattle.std.proofs.lemmas.Bool.{and_from, and_parts, cond_both, eq-eqb, eqb-true, false_from_ne_true, false≢true, leb-false, lt-ltb, not-true}
+use Rattle.std.proofs.lemmas.Bool.{and_from, and_parts, eq-eqb, eqb-true, false_from_ne_true, false≢true, leb-false, lt-ltb, not-true}
 use Rattle.std.proofs.lemmas.List.Elements.{recursion_from_All}
 use Rattle.fp_book.proofs.Changes.{admitted, one}
 use Rattle.fp_book.proofs.Extends.{Sound-extended, few_admitted}

@@ -1,9 +1,9 @@
 -- To close all dialogues keeps what a book keeps.
-use Rattle.std.proofs.Common.{◌≡◌, ℕ, ◌<◌, ◌≤◌, ◌+◌, ◌^◌, Bool, true, false, cond, eqb, ◌⊎◌, ⊎_elim, inl, inr, Option, Some, None, List, [], ◌∷◌, ◌++◌, length, take, is_some, refl, sym, ◌∙◌, ap, subst, arith, append-nil, le_refl}
+use Rattle.std.proofs.Common.{◌≡◌, ℕ, ◌≤◌, ◌+◌, Bool, true, cond, ◌⊎◌, inl, inr, Option, Some, None, List, [], ◌∷◌, ◌++◌, length, take, refl, sym, ◌∙◌, ap, subst, arith, append-nil, le_refl}
 use Rattle.std.specs.FinMap as map
-use Rattle.fp_book.proofs.Changes.{NotHeld, admitted, admitted_left, by_held, count, count_is, entries_of, frames_left, left_by, not_held, one, one_left, ready, ready_left, turns_left}
+use Rattle.fp_book.proofs.Changes.{admitted, admitted_left, by_held, count_is, entries_of, frames_left, left_by, one, one_left, ready, ready_left, turns_left}
 use Rattle.fp_book.proofs.Ends.{closed_then, ended_frames, front, none_admitted, not_served, sent_count}
-use Rattle.fp_book.proofs.Sums.{amount, left_of, len-sum, sum-zero, sums-le, zero_of}
+use Rattle.fp_book.proofs.Sums.{amount, len-sum, sum-zero, sums-le, zero_of}
 use Rattle.fp_book.proofs.Turns.{few_sent, frames_at, own_after}
 use Rattle.fp_book.specs.declared.line.LoggedStep.{LoggedStep}
 use Rattle.fp_book.specs.declared.line.LoggedStep.TheVariants as line
@@ -13,8 +13,8 @@ use Rattle.fp_book.specs.Calls.{Closes, ClosesAt, GoesDown, Unsends}
 use Rattle.fp_book.specs.Log.{logged}
 use Rattle.fp_book.specs.Outbox.{Outbox, places_out}
 use Rattle.fp_book.specs.Sending.{is_frame_of}
-use Rattle.fp_book.specs.Shelf.{IsOwn, Shelf, Sound, frame_out, frames_for, of_row, one_if, ready_count, turns_of, unsent_for}
-use Rattle.fp_book.specs.Totals.{accepted_by, sent_by, served_by, sum_of}
+use Rattle.fp_book.specs.Shelf.{IsOwn, Shelf, Sound, frame_out, frames_for, of_row, one_if, turns_of, unsent_for}
+use Rattle.fp_book.specs.Totals.{sent_by, served_by}
 use Rattle.fp_row.specs.declared.ending.Ending.TheVariants.{Closed}
 use Rattle.fp_row.specs.declared.row.Row.{Row}
 use Rattle.fp_row.specs.Calls.{sending}

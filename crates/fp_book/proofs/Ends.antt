@@ -1,5 +1,5 @@
 -- To end a dialogue from outside keeps what a book keeps.
-use Rattle.std.proofs.Common.{◌≡◌, ℕ, ◌<◌, ◌≤◌, ◌+◌, ◌^◌, Bool, true, false, cond, eqb, not, ◌&&◌, ◌⊎◌, ⊎_elim, nat_lt, min, Option, Some, None, List, [], ◌∷◌, ◌++◌, length, take, is_some, refl, sym, ◌∙◌, ap, subst, arith, length-append, length-take-le, take_all, append-nil, append_assoc, le_refl}
+use Rattle.std.proofs.Common.{◌≡◌, ℕ, ◌<◌, ◌≤◌, ◌+◌, ◌^◌, Bool, true, false, cond, eqb, not, ◌&&◌, ◌⊎◌, ⊎_elim, nat_lt, Option, Some, None, List, [], ◌∷◌, ◌++◌, length, take, is_some, refl, sym, ◌∙◌, ap, subst, arith, length-append, length-take-le, take_all, append-nil, append_assoc, le_refl}
 use Rattle.std.proofs.lemmas.Bool.{and_left, and_right}
 use Rattle.std.proofs.lemmas.List.{length-map, take-append-le}
 use Rattle.std.specs.FinMap as map
@@ -7,9 +7,8 @@ use Rattle.std.specs.Option.{option_map_or}
 use Rattle.fp_book.proofs.Changes.{Change, Sound-change, admitted, count, ready}
 use Rattle.fp_book.proofs.Extends.{components_few, components_more, entries_more, few_admitted, joined, own_more}
 use Rattle.fp_book.proofs.Queue.{count_without_other, count_without_own, length_without}
-use Rattle.fp_book.proofs.Sums.{amount}
 use Rattle.fp_book.proofs.Turns.{few_sent, frames_at, length_joined, other_joined, own_after, ready_at}
-use Rattle.fp_book.proofs.Unsent.{dropped_other, dropped_own, fewer, first_other, others}
+use Rattle.fp_book.proofs.Unsent.{dropped_other, dropped_own, fewer, others}
 use Rattle.fp_book.specs.declared.answers.Posted.{Posted}
 use Rattle.fp_book.specs.declared.parcel.Content.{Content}
 use Rattle.fp_book.specs.declared.parcel.Content.TheVariants as content
@@ -17,8 +16,7 @@ use Rattle.fp_book.specs.Calls.{ClosesDialogue, EndsDialogue, entries_in, joins,
 use Rattle.fp_book.specs.Log.{logged}
 use Rattle.fp_book.specs.Outbox.{without_frames_of}
 use Rattle.fp_book.specs.Sending.{is_frame_of}
-use Rattle.fp_book.specs.Shelf.{IsOwn, Shelf, Sound, frame_out, frames_for, gone_with, keep, of_row, one_if, turns_of, unsent_for}
-use Rattle.fp_book.specs.Totals.{sum_of}
+use Rattle.fp_book.specs.Shelf.{Shelf, Sound, frame_out, frames_for, gone_with, keep, one_if, turns_of, unsent_for}
 use Rattle.fp_entry.specs.declared.prepared.Prepared.{Prepared}
 use Rattle.fp_entry.specs.Entries.{component_count}
 use Rattle.fp_row.specs.declared.ending.Ending.{Ending}

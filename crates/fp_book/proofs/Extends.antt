@@ -1,17 +1,17 @@
 -- A message that a dialogue accepts, and one that opens a dialogue, keeps what a book keeps.
-use Rattle.std.proofs.Common.{◌≡◌, ℕ, ◌<◌, ◌≤◌, ◌+◌, ◌*◌, ◌^◌, Bool, true, false, cond, eqb, not, ◌&&◌, ◌||◌, nat_lt, Option, Some, None, List, [], ◌∷◌, ◌++◌, length, take, is_some, refl, sym, ◌∙◌, ap, subst, arith, length-append, append-nil, le_refl, add-zero, zero-add, ◌⊎◌, ⊎_elim}
+use Rattle.std.proofs.Common.{◌≡◌, ℕ, ◌<◌, ◌≤◌, ◌+◌, ◌^◌, Bool, true, false, cond, not, ◌&&◌, ◌||◌, nat_lt, Option, Some, None, List, [], ◌++◌, length, take, is_some, refl, sym, ◌∙◌, ap, subst, arith, length-append, le_refl, ⊎_elim}
 use Rattle.std.proofs.lemmas.Bool.{and_from, and_parts, false≢true, lt-ltb, ltb-true, or_cases, or_left, or_right}
 use Rattle.std.proofs.lemmas.List.Sums.{count_by-le-length, sum_by-append}
 use Rattle.std.specs.FinMap as map
 use Rattle.fp_book.proofs.Changes.{Change, Sound-change, admitted, count, entries_of, one, ready}
 use Rattle.fp_book.proofs.Queue.{count-append, count_joins_own}
-use Rattle.fp_book.proofs.Sums.{amount, len-sum, sum-le}
+use Rattle.fp_book.proofs.Sums.{len-sum, sum-le}
 use Rattle.fp_book.proofs.Turns.{admitted_as, few_sent, frames_at, length_joined, none_gone, other_joined, own_after, own_joined, put_held, ready_at}
 use Rattle.fp_book.specs.declared.answers.Posted.{Posted}
 use Rattle.fp_book.specs.declared.line.LoggedStep.{LoggedStep}
 use Rattle.fp_book.specs.Calls.{ExtendsDialogue, OpensDialogue, entries_in, joins, more_accepted, posted_line}
 use Rattle.fp_book.specs.Log.{logged}
-use Rattle.fp_book.specs.Shelf.{IsOwn, Shelf, Sound, frames_for, of_row, one_if, turns_of, unsent_for}
+use Rattle.fp_book.specs.Shelf.{Shelf, Sound, one_if, turns_of, unsent_for}
 use Rattle.fp_book.specs.Totals.{accepted_by, sum_of}
 use Rattle.fp_entry.specs.declared.entry.Entry.{Entry}
 use Rattle.fp_entry.specs.declared.prepared.Prepared.{Prepared}

@@ -1,5 +1,5 @@
 -- What the verdict on a message has made sure of.
-use Rattle.std.proofs.Common.{◌≡◌, ◌≢◌, ℕ, ◌<◌, ◌≤◌, ◌+◌, ◌^◌, Bool, true, false, cond, ◌||◌, ◌⊎◌, inl, inr, nat_eq, nat_le, nat_lt, Option, Some, None, length, refl, sym, ◌∙◌, ap, subst, arith}
+use Rattle.std.proofs.Common.{◌≡◌, ◌≢◌, ℕ, ◌<◌, ◌≤◌, ◌+◌, ◌^◌, Bool, true, false, cond, ◌||◌, ◌⊎◌, inl, inr, nat_eq, nat_le, nat_lt, Option, Some, None, length, refl, subst}
 use Rattle.std.specs.Prelude.{⊤}
 use Rattle.std.proofs.lemmas.Bool.{cond_both, eqb-false, leb-false, ltb-false, or_parts}
 use Rattle.std.specs.Option.{option_and_then, option_map_or}
@@ -14,6 +14,7 @@ use Rattle.fp_entry.specs.declared.incoming.Incoming.{Incoming}
 use Rattle.fp_entry.specs.declared.prepared.Prepared.{Prepared}
 use Rattle.fp_entry.specs.declared.prepared.Prepared.TheVariants.{Message, Refused, Lost}
 use Rattle.fp_entry.specs.Entries.{place_count}
+use Rattle.fp_q773.specs.declared.ids.Ids.{Ids}
 use Rattle.fp_q773.specs.declared.kind.Kind.{Kind}
 use Rattle.fp_q773.specs.declared.kind.Kind.TheVariants.{Unidirectional, Begin, End, Continue, Abort, Unknown}
 use Rattle.fp_q773.specs.declared.provider_abort.AbortCause.TheVariants as cause
@@ -25,6 +26,12 @@ use Rattle.fp_row.specs.Row.{is_admitted}
 
 -- there is room for the entries
 pub record CanGrow (s : Shelf) (came : Prepared) : Type 0 where
+  pub few : length (entries_in came) ≤ 17
+  pub room : s.entries < 2 ^ 63
+
+-- the dialogue takes messages, and there is room for the entries
+pub record CanAccept (s : Shelf) (local : ℕ) (came : Prepared) : Type 0 where
+  pub admitted : option_map_or is_admitted (map.get s.rows local) false ≡ true
   pub few : length (entries_in came) ≤ 17
   pub room : s.entries < 2 ^ 63
 
@@ -41,29 +48,50 @@ pub record CanEnd (s : Shelf) (local : ℕ) (ending : Ending) (came : Prepared) 
   pub admitted : option_map_or is_admitted (map.get s.rows local) false ≡ true
   pub limit : ((s.entries < 2 ^ 63) × (length (entries_in came) ≤ 17)) ⊎ (length (entries_in came) ≤ 1)
 
+-- a dialogue that is named takes messages
+abbrev pub IsKnown : Shelf → Option ℕ → Type 0
+IsKnown s dialogue = (local : ℕ) → dialogue ≡ Some local → option_map_or is_admitted (map.get s.rows local) false ≡ true
+
+-- the link is up, and the dialogue that is closed took messages
+pub record CanRefuse (s : Shelf) (closes : Option ℕ) : Type 0 where
+  pub up : s.is_down ≡ false
+  pub known : IsKnown s closes
+
+-- what a verdict may rely on
+abbrev pub Allowed : Shelf → Prepared → Verdict → Type 0
+Allowed s came Discard = ⊤
+Allowed s came (Refuse cause closes) = CanRefuse s closes
+Allowed s came (Open peer) = CanOpen s came
+Allowed s came (Extend local None) = CanAccept s local came
+Allowed s came (Extend local (Some ending)) = CanEnd s local ending came
+
+-- as far as it keeps a book sound
 abbrev pub Fits : Shelf → Prepared → Verdict → Type 0
 Fits s came Discard = ⊤
 Fits s came (Refuse cause closes) = s.is_down ≡ false
 Fits s came (Open peer) = CanOpen s came
-Fits s came (Extend local None) = CanGrow s came
+Fits s came (Extend local None) = CanAccept s local came
 Fits s came (Extend local (Some ending)) = CanEnd s local ending came
 
-lost_fits : (s : Shelf) (came : Prepared) → s.is_down ≡ false → (kind : Kind) (dialogue : Option ℕ) → Fits s came (lost_of kind dialogue)
-lost_fits s came up Unidirectional dialogue = tt
-lost_fits s came up Begin dialogue = up
-lost_fits s came up Continue None = up
-lost_fits s came up Continue (Some local) = up
-lost_fits s came up End dialogue = up
-lost_fits s came up Abort dialogue = up
-lost_fits s came up Unknown dialogue = up
+none_closed : (s : Shelf) → s.is_down ≡ false → CanRefuse s None
+none_closed s up = record { up = up; known = λ local e. absurd (cc) }
 
-refused_fits : (s : Shelf) (came : Prepared) → s.is_down ≡ false → (kind : Kind) (dialogue : Option ℕ) → Fits s came (refused_of kind dialogue)
-refused_fits s came up Unidirectional dialogue = tt
-refused_fits s came up Begin dialogue = up
-refused_fits s came up Continue dialogue = up
-refused_fits s came up End dialogue = up
-refused_fits s came up Abort dialogue = up
-refused_fits s came up Unknown dialogue = up
+lost_fits : (s : Shelf) (came : Prepared) → s.is_down ≡ false → (kind : Kind) (dialogue : Option ℕ) → IsKnown s dialogue → Allowed s came (lost_of kind dialogue)
+lost_fits s came up Unidirectional dialogue known = tt
+lost_fits s came up Begin dialogue known = none_closed s up
+lost_fits s came up Continue None known = none_closed s up
+lost_fits s came up Continue (Some local) known = record { up = up; known = known }
+lost_fits s came up End dialogue known = record { up = up; known = known }
+lost_fits s came up Abort dialogue known = record { up = up; known = known }
+lost_fits s came up Unknown dialogue known = record { up = up; known = known }
+
+refused_fits : (s : Shelf) (came : Prepared) → s.is_down ≡ false → (kind : Kind) (dialogue : Option ℕ) → IsKnown s dialogue → Allowed s came (refused_of kind dialogue)
+refused_fits s came up Unidirectional dialogue known = tt
+refused_fits s came up Begin dialogue known = record { up = up; known = known }
+refused_fits s came up Continue dialogue known = record { up = up; known = known }
+refused_fits s came up End dialogue known = record { up = up; known = known }
+refused_fits s came up Abort dialogue known = record { up = up; known = known }
+refused_fits s came up Unknown dialogue known = record { up = up; known = known }
 
 few_entries : (arrival : Arrival) (incoming : Incoming) → too_many incoming ≡ false → length (entries_in (Message arrival incoming)) ≤ 17
 few_entries arrival incoming e =
@@ -72,11 +100,11 @@ few_entries arrival incoming e =
 not_full : (s : Shelf) → is_full s ≡ false → s.entries < 2 ^ 63
 not_full s e = leb-false (2 ^ 63) s.entries e
 
-begin_fits : (s : Shelf) (arrival : Arrival) (incoming : Incoming) → s.is_down ≡ false → (peer : Option Tid) → Fits s (Message arrival incoming) (begin_of s peer incoming)
+begin_fits : (s : Shelf) (arrival : Arrival) (incoming : Incoming) → s.is_down ≡ false → (peer : Option Tid) → Allowed s (Message arrival incoming) (begin_of s peer incoming)
 begin_fits s arrival incoming up None = tt
 begin_fits s arrival incoming up (Some peer) =
     let none = no_place_left None (place_count incoming.entries) in
-    cond_both (too_many incoming || (no_dialogue_left s || none)) (Refuse (Some cause.ResourceLimitation) None) (Open peer) (Fits s (Message arrival incoming)) (λ _. up) (λ e.
+    cond_both (too_many incoming || (no_dialogue_left s || none)) (Refuse (Some cause.ResourceLimitation) None) (Open peer) (Allowed s (Message arrival incoming)) (λ _. none_closed s up) (λ e.
     let a : (too_many incoming ≡ false) × ((no_dialogue_left s || none) ≡ false) = or_parts (too_many incoming) (no_dialogue_left s || none) e in
     let b : (no_dialogue_left s ≡ false) × (none ≡ false) = or_parts (no_dialogue_left s) none a.1 in
     let c : (nat_le 4096 (map.len s.rows) ≡ false) × ((nat_eq (s.given + 1) (2 ^ 29) || is_full s) ≡ false) = or_parts (nat_le 4096 (map.len s.rows)) (nat_eq (s.given + 1) (2 ^ 29) || is_full s) b.0 in
@@ -89,11 +117,11 @@ begin_fits s arrival incoming up (Some peer) =
     })
 
 -- a Continue or an End that is taken
-more_fits : (s : Shelf) (local : ℕ) (arrival : Arrival) (incoming : Incoming) → s.is_down ≡ false → (ending : Option Ending) → (CanGrow s (Message arrival incoming) → Fits s (Message arrival incoming) (Extend local ending))
-    → Fits s (Message arrival incoming) (more_of s local ending incoming)
-more_fits s local arrival incoming up ending fits =
+more_fits : (s : Shelf) (local : ℕ) (arrival : Arrival) (incoming : Incoming) → CanRefuse s (Some local) → (ending : Option Ending) → (CanGrow s (Message arrival incoming) → Allowed s (Message arrival incoming) (Extend local ending))
+    → Allowed s (Message arrival incoming) (more_of s local ending incoming)
+more_fits s local arrival incoming closed ending fits =
     let none = no_place_left (map.get s.rows local) (place_count incoming.entries) in
-    cond_both (too_many incoming || (none || is_full s)) (Refuse (Some cause.ResourceLimitation) (Some local)) (Extend local ending) (Fits s (Message arrival incoming)) (λ _. up) (λ e.
+    cond_both (too_many incoming || (none || is_full s)) (Refuse (Some cause.ResourceLimitation) (Some local)) (Extend local ending) (Allowed s (Message arrival incoming)) (λ _. closed) (λ e.
     let a : (too_many incoming ≡ false) × ((none || is_full s) ≡ false) = or_parts (too_many incoming) (none || is_full s) e in
     let b : (none ≡ false) × (is_full s ≡ false) = or_parts none (is_full s) a.1 in
     fits (record { few = few_entries arrival incoming a.0; room = not_full s b.1 }))
@@ -101,22 +129,22 @@ more_fits s local arrival incoming up ending fits =
 end_fits : (s : Shelf) (local : ℕ) (came : Prepared) → option_map_or is_admitted (map.get s.rows local) false ≡ true → CanGrow s came → CanEnd s local ByPeer came
 end_fits s local came takes_more grow = record { by_peer = refl; admitted = takes_more; limit = inl (grow.room, grow.few) }
 
-abort_fits : (s : Shelf) (local : ℕ) (arrival : Arrival) (incoming : Incoming) → s.is_down ≡ false → option_map_or is_admitted (map.get s.rows local) false ≡ true
-    → Fits s (Message arrival incoming) (abort_of local incoming)
-abort_fits s local arrival incoming up takes_more =
-    cond_both (nat_lt 1 (length incoming.entries)) (Refuse None (Some local)) (Extend local (Some ByPeer)) (Fits s (Message arrival incoming)) (λ _. up)
-    (λ e. record { by_peer = refl; admitted = takes_more; limit = inr (ltb-false 1 (length incoming.entries) e) })
+abort_fits : (s : Shelf) (local : ℕ) (arrival : Arrival) (incoming : Incoming) → CanRefuse s (Some local)
+    → Allowed s (Message arrival incoming) (abort_of local incoming)
+abort_fits s local arrival incoming closed =
+    cond_both (nat_lt 1 (length incoming.entries)) (Refuse None (Some local)) (Extend local (Some ByPeer)) (Allowed s (Message arrival incoming)) (λ _. closed)
+    (λ e. record { by_peer = refl; admitted = closed.known local refl; limit = inr (ltb-false 1 (length incoming.entries) e) })
 
 message_fits : (s : Shelf) (arrival : Arrival) (incoming : Incoming) → s.is_down ≡ false → (kind : Kind) (dialogue : Option ℕ)
-    → ((local : ℕ) → dialogue ≡ Some local → option_map_or is_admitted (map.get s.rows local) false ≡ true) → Fits s (Message arrival incoming) (message_of s arrival.ids incoming kind dialogue)
+    → IsKnown s dialogue → Allowed s (Message arrival incoming) (message_of s arrival.ids incoming kind dialogue)
 message_fits s arrival incoming up Unidirectional dialogue known = tt
 message_fits s arrival incoming up Begin dialogue known = begin_fits s arrival incoming up arrival.ids.orig
-message_fits s arrival incoming up Continue None known = up
-message_fits s arrival incoming up Continue (Some local) known = more_fits s local arrival incoming up None (λ grow. grow)
+message_fits s arrival incoming up Continue None known = none_closed s up
+message_fits s arrival incoming up Continue (Some local) known = more_fits s local arrival incoming (record { up = up; known = known }) None (λ grow. record { admitted = known local refl; few = grow.few; room = grow.room })
 message_fits s arrival incoming up End None known = tt
-message_fits s arrival incoming up End (Some local) known = more_fits s local arrival incoming up (Some ByPeer) (λ grow. end_fits s local (Message arrival incoming) (known local refl) grow)
+message_fits s arrival incoming up End (Some local) known = more_fits s local arrival incoming (record { up = up; known = known }) (Some ByPeer) (λ grow. end_fits s local (Message arrival incoming) (known local refl) grow)
 message_fits s arrival incoming up Abort None known = tt
-message_fits s arrival incoming up Abort (Some local) known = abort_fits s local arrival incoming up (known local refl)
+message_fits s arrival incoming up Abort (Some local) known = abort_fits s local arrival incoming (record { up = up; known = known })
 message_fits s arrival incoming up Unknown dialogue known = tt
 
 -- a message names an admitted dialogue, or none
@@ -130,12 +158,26 @@ known_of s (Some l) local e =
     let is : (option_map_or is_admitted (map.get s.rows l) false ≡ true) × (l ≡ local) = known_by (option_map_or is_admitted (map.get s.rows l) false) l local e in
     subst (λ d. option_map_or is_admitted (map.get s.rows d) false ≡ true) is.1 is.0
 
-arrived_fits : (s : Shelf) (came : Prepared) → s.is_down ≡ false → Fits s came (arrived s came)
-arrived_fits s (Lost arrival) up = lost_fits s (Lost arrival) up arrival.ids.kind (named s arrival.ids)
-arrived_fits s (Refused arrival fault) up = refused_fits s (Refused arrival fault) up arrival.ids.kind (named s arrival.ids)
-arrived_fits s (Message arrival incoming) up =
-    message_fits s arrival incoming up arrival.ids.kind (named s arrival.ids)
-    (λ local e. known_of s (option_and_then (λ (tid : Tid). number_of (octets_of tid)) arrival.ids.dest) local e)
+-- so does what came
+named_known : (s : Shelf) (ids : Ids) → IsKnown s (named s ids)
+named_known s ids local e = known_of s (option_and_then (λ (tid : Tid). number_of (octets_of tid)) ids.dest) local e
 
+arrived_fits : (s : Shelf) (came : Prepared) → s.is_down ≡ false → Allowed s came (arrived s came)
+arrived_fits s (Lost arrival) up = lost_fits s (Lost arrival) up arrival.ids.kind (named s arrival.ids) (named_known s arrival.ids)
+arrived_fits s (Refused arrival fault) up = refused_fits s (Refused arrival fault) up arrival.ids.kind (named s arrival.ids) (named_known s arrival.ids)
+arrived_fits s (Message arrival incoming) up = message_fits s arrival incoming up arrival.ids.kind (named s arrival.ids) (named_known s arrival.ids)
+
+-- each verdict has made sure of what it may rely on
+pub verdict_allowed : (s : Shelf) (came : Prepared) → Allowed s came (verdict s came)
+verdict_allowed s came = cond_both s.is_down Discard (arrived s came) (Allowed s came) (λ _. tt) (λ up. arrived_fits s came up)
+
+fits_by : (s : Shelf) (came : Prepared) (v : Verdict) → Allowed s came v → Fits s came v
+fits_by s came Discard can = tt
+fits_by s came (Refuse cause closes) can = can.up
+fits_by s came (Open peer) can = can
+fits_by s came (Extend local None) can = can
+fits_by s came (Extend local (Some ending)) can = can
+
+-- so each verdict keeps a book sound
 pub verdict_fits : (s : Shelf) (came : Prepared) → Fits s came (verdict s came)
-verdict_fits s came = cond_both s.is_down Discard (arrived s came) (Fits s came) (λ _. tt) (λ up. arrived_fits s came up)
+verdict_fits s came = fits_by s came (verdict s came) (verdict_allowed s came)

@@ -1,9 +1,9 @@
 -- A message that is posted keeps what a book keeps, whatever is done with it.
-use Rattle.std.proofs.Common.{◌≡◌, ◌≢◌, ℕ, ◌<◌, ◌≤◌, ◌+◌, ◌^◌, Bool, true, false, cond, ◌⊎◌, ⊎_elim, nat_lt, Option, Some, None, List, [], ◌∷◌, ◌++◌, length, refl, sym, ◌∙◌, ap, subst, arith, length-append, le_refl}
+use Rattle.std.proofs.Common.{◌≡◌, ◌≢◌, ℕ, ◌<◌, ◌+◌, ◌^◌, Bool, true, false, cond, ⊎_elim, nat_lt, Option, Some, None, List, [], ◌∷◌, ◌++◌, length, refl, sym, ◌∙◌, ap, subst, arith, length-append, le_refl}
 use Rattle.std.proofs.lemmas.Bool.{false≢true, ltb-true}
 use Rattle.fp_book.proofs.Ends.{Sound-closes, Sound-ends}
 use Rattle.fp_book.proofs.Extends.{Sound-extends, Sound-opens}
-use Rattle.fp_book.proofs.Fits.{CanEnd, CanOpen, Fits, verdict_fits}
+use Rattle.fp_book.proofs.Fits.{CanEnd, Fits, verdict_fits}
 use Rattle.fp_book.proofs.Sends.{Sound-outbox, WaitsAlike}
 use Rattle.fp_book.specs.declared.answers.Posted.{Posted}
 use Rattle.fp_book.specs.declared.line.LoggedStep.{LoggedStep}

@@ -36,7 +36,7 @@ length_joins l true = refl
 length_joins l false = refl
 
 -- what is left of a queue once a dialogue has left it
-without_by : (l x : ℕ) (xs : List ℕ) (b : Bool) → eqb x l ≡ b → without l (x ∷ xs) ≡ cond b (without l xs) (x ∷ without l xs)
+pub without_by : (l x : ℕ) (xs : List ℕ) (b : Bool) → eqb x l ≡ b → without l (x ∷ xs) ≡ cond b (without l xs) (x ∷ without l xs)
 without_by l x xs true is = ap (λ b. cond (not b) (x ∷ without l xs) (without l xs)) is
 without_by l x xs false is = ap (λ b. cond (not b) (x ∷ without l xs) (without l xs)) is
 

@@ -1,8 +1,7 @@
 -- To hand out what is sent next, and to take it back, keeps what a book keeps.
-use Rattle.std.proofs.Common.{◌≡◌, ℕ, ◌<◌, ◌≤◌, ◌+◌, Bool, true, false, cond, eqb, not, ◌&&◌, Option, Some, None, List, [], ◌∷◌, ◌++◌, length, is_some, refl, sym, ◌∙◌, ap, subst, arith, append_assoc, append-nil, le_refl}
+use Rattle.std.proofs.Common.{◌≡◌, ℕ, ◌≤◌, true, cond, Some, None, List, [], ◌∷◌, ◌++◌, length, is_some, refl, sym, ◌∙◌, ap, subst, arith, append_assoc, le_refl}
 use Rattle.std.specs.FinMap as map
 use Rattle.fp_book.proofs.Changes.{Change, Sound-change, admitted, ready, stays_own}
-use Rattle.fp_book.proofs.Sums.{amount}
 use Rattle.fp_book.proofs.Turns.{admitted_as, few_sent, frames_at, own_after, ready_at}
 use Rattle.fp_book.proofs.Unsent.{first_other, first_own, frames_for-append}
 use Rattle.fp_book.specs.declared.line.LoggedStep.{LoggedStep}
@@ -17,8 +16,7 @@ use Rattle.fp_book.specs.Parcel.{local_of}
 use Rattle.fp_book.specs.Shelf.{Shelf, Sound, frame_out, frames_for, gone_with, keep, of_row, one_if, turns_of, unsent_for}
 use Rattle.fp_entry.specs.Entries.{component_count}
 use Rattle.fp_reply.specs.declared.provider_abort.AbortFrame.{AbortFrame}
-use Rattle.fp_row.specs.declared.row.Row.{Row}
-use Rattle.fp_row.specs.Row.{is_ready, kept_of, sent_of}
+use Rattle.fp_row.specs.Row.{kept_of, sent_of}
 use Rattle.fp_service.specs.Laws.{AsksOnceAtMost}
 
 -- the frames that are to be sent are the same, wherever they wait

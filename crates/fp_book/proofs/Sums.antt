@@ -85,7 +85,7 @@ sum-insert f rows local row =
     ∙ ap (λ o. total f (map.put nat_cmp local row (map.entries rows)) + amount f o) (map.get-entries rows local)
     ∙ total-put f local row (map.entries rows) (map.entries_sorted rows)
 
-eq_by_cmp-eqb : (q k : ℕ) → eq_by_cmp nat_cmp q k ≡ eqb q k
+pub eq_by_cmp-eqb : (q k : ℕ) → eq_by_cmp nat_cmp q k ≡ eqb q k
 eq_by_cmp-eqb q k = grind (arith, nat_tests)
 
 pub get-inserted : (rows : Rows) (local : ℕ) (row : Row) (q : ℕ) → map.get (map.insert rows local row) q ≡ cond (eqb q local) (Some row) (map.get rows q)
@@ -187,13 +187,13 @@ no_length : (es : List (ℕ × Row)) → length es ≡ 0 → es ≡ []
 no_length [] e = refl
 no_length (x ∷ es) e = absurd (omega (arith, e))
 
-sum-none : (f : Row → ℕ) (rows : Rows) → ((q : ℕ) → map.get rows q ≡ None) → sum_of f rows ≡ 0
+pub sum-none : (f : Row → ℕ) (rows : Rows) → ((q : ℕ) → map.get rows q ≡ None) → sum_of f rows ≡ 0
 sum-none f rows none =
     let empty : rows ≡ map.empty = map.same_map nat_cmp_total map.nat_cmp-IsAntisymmetric rows map.empty (λ q. none q ∙ sym (map.get-empty nat_cmp q)) in
     let entries_none : map.entries rows ≡ [] = no_length (map.entries rows) (sym (map.len-entries rows) ∙ ap map.len empty ∙ map.len-empty nat_cmp Row) in
     ap (total f) entries_none
 
-find-cons : (e : ℕ × Row) (es : List (ℕ × Row)) (q : ℕ) → map.find nat_cmp q (e ∷ es) ≡ cond (eqb q e.0) (Some e.1) (map.find nat_cmp q es)
+pub find-cons : (e : ℕ × Row) (es : List (ℕ × Row)) (q : ℕ) → map.find nat_cmp q (e ∷ es) ≡ cond (eqb q e.0) (Some e.1) (map.find nat_cmp q es)
 find-cons e es q = ap (λ b. cond b (Some e.1) (map.find nat_cmp q es)) (eq_by_cmp-eqb q e.0)
 
 -- what a dialogue that was there, and what is left of it, add to two sums

@@ -13,7 +13,7 @@ use Rattle.fp_book.specs.declared.taken.Taken.TheVariants.{Turn as ATurn, Nothin
 use Rattle.fp_book.specs.Calls.{GivesDone, PutsTurnBack, Takes, TakesTurn, joins, one_served, waiting_in}
 use Rattle.fp_book.specs.Log.{logged}
 use Rattle.fp_book.specs.Shelf.{IsOwn, Shelf, Sound, frame_out, frames_for, gone_with, keep, of_row, one_if, turns_of, unsent_for}
-use Rattle.fp_book.specs.Totals.{accepted_by, with_row}
+use Rattle.fp_book.specs.Totals.{with_row}
 use Rattle.fp_row.specs.declared.done.Done.{Done}
 use Rattle.fp_row.specs.declared.ending.Ending.{Ending}
 use Rattle.fp_row.specs.declared.ending.Ending.TheVariants.{Closed}

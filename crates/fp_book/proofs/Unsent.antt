@@ -1,5 +1,5 @@
 -- The frames of one dialogue among those that wait to be sent.
-use Rattle.std.proofs.Common.{◌≡◌, ℕ, ◌+◌, ◌≤◌, Bool, true, false, cond, eqb, not, List, [], ◌∷◌, ◌++◌, length, filter, refl, sym, ◌∙◌, ap, arith}
+use Rattle.std.proofs.Common.{◌≡◌, ℕ, ◌≤◌, Bool, true, false, cond, eqb, not, List, [], ◌∷◌, ◌++◌, length, filter, refl, sym, ◌∙◌, ap, arith}
 use Rattle.std.proofs.lemmas.Bool.{eq-eqb, eqb-true}
 use Rattle.std.proofs.lemmas.List.Concat.{flat_map-append}
 use Rattle.fp_book.proofs.Queue.{eqb_swap}
@@ -41,7 +41,7 @@ requested_count l requested.Dropped = omega arith
 abbrev pub others : ℕ → List Waiting → List Waiting
 others l frames = filter (is_of_other l) frames
 
-others_by : (l : ℕ) (w : Waiting) (ws : List Waiting) (b : Bool) → eqb w.local l ≡ b → others l (w ∷ ws) ≡ cond b (others l ws) (w ∷ others l ws)
+pub others_by : (l : ℕ) (w : Waiting) (ws : List Waiting) (b : Bool) → eqb w.local l ≡ b → others l (w ∷ ws) ≡ cond b (others l ws) (w ∷ others l ws)
 others_by l w ws true is = ap (λ b. cond (not b) (w ∷ others l ws) (others l ws)) is
 others_by l w ws false is = ap (λ b. cond (not b) (w ∷ others l ws) (others l ws)) is
 

@@ -1,31 +1,32 @@
 -- What the calls of a book do. Each says what the whole book is then.
-use Rattle.std.specs.Prelude.{◌≡◌, ◌≢◌, ◌<◌, ◌≤◌, ◌+◌, ◌==◌, ◌&&◌, ℕ, Bool, true, false, not, List, [], ◌∷◌, ◌++◌, Option, Some, None, length, filter, map, nat_lt, nat_eq, ◌⊎◌, if◌then◌else◌, All, AllPairs}
+use Rattle.std.specs.Prelude.{◌≡◌, ◌≢◌, ◌<◌, ◌≤◌, ◌+◌, ◌==◌, ◌&&◌, ℕ, Bool, true, false, not, List, [], ◌∷◌, ◌++◌, Option, Some, None, IsSome, length, filter, map, nat_lt, nat_eq, ◌⊎◌, if◌then◌else◌, All, AllPairs, ⊤}
 use Rattle.std.specs.List.{list_any}
-use Rattle.std.specs.Ordering.{nat_cmp}
-use Rattle.std.specs.FinMap.{FinMap, get, insert}
+use Rattle.std.specs.FinMap.{get, insert}
 use Rattle.fp_book.specs.declared.answers.Given.{Given}
 use Rattle.fp_book.specs.declared.answers.Given.TheVariants.{Silent, Queued, Dropped}
 use Rattle.fp_book.specs.declared.answers.Posted.{Posted}
 use Rattle.fp_book.specs.declared.answers.Posted.TheVariants.{Opened, Accepted, Aborted, Ended, Discarded}
+use Rattle.fp_book.specs.declared.line.Line.{Line}
 use Rattle.fp_book.specs.declared.line.LoggedStep.{LoggedStep}
 use Rattle.fp_book.specs.declared.line.LoggedStep.TheVariants as line
 use Rattle.fp_book.specs.declared.parcel.Content.{Content}
 use Rattle.fp_book.specs.declared.parcel.Content.TheVariants as content
 use Rattle.fp_book.specs.declared.parcel.Parcel.{Parcel}
+use Rattle.fp_book.specs.declared.parcel.Picked.{Picked}
+use Rattle.fp_book.specs.declared.parcel.Picked.TheVariants as answers
 use Rattle.fp_book.specs.declared.parcel.Waiting.{Waiting}
 use Rattle.fp_book.specs.declared.taken.Taken.{Taken}
 use Rattle.fp_book.specs.declared.taken.Taken.TheVariants.{Turn as ATurn, Nothing, NoRoom, Memory}
 use Rattle.fp_book.specs.declared.totals.Totals.{Totals}
 use Rattle.fp_book.specs.declared.verdict.Verdict.{Verdict}
 use Rattle.fp_book.specs.declared.verdict.Verdict.TheVariants.{Discard, Refuse, Open, Extend}
-use Rattle.fp_book.specs.Log.{logged}
-use Rattle.fp_book.specs.Outbox.{Outbox, IsNext, with_nothing_out, without_frames_of}
+use Rattle.fp_book.specs.Log.{Drains, logged}
+use Rattle.fp_book.specs.Outbox.{Outbox, IsNext, nothing, with_nothing_out, without_frames_of}
 use Rattle.fp_book.specs.Parcel.{local_of}
 use Rattle.fp_book.specs.Shelf.{Shelf, gone_with, keep, places_held}
 use Rattle.fp_book.specs.Sending.{is_frame_of}
 use Rattle.fp_book.specs.Totals.{accepted_by, sent_by, served_by, sum_of}
 use Rattle.fp_book.specs.Verdict.{is_full, verdict}
-use Rattle.fp_entry.specs.declared.arrival.Arrival.{Arrival}
 use Rattle.fp_entry.specs.declared.entry.Entry.{Entry}
 use Rattle.fp_entry.specs.declared.prepared.Prepared.{Prepared}
 use Rattle.fp_entry.specs.declared.prepared.Prepared.TheVariants as prepared
@@ -42,7 +43,7 @@ use Rattle.fp_reply.specs.declared.provider_abort.AbortFrame.{AbortFrame}
 use Rattle.fp_reply.specs.ProviderAbort.{frame_octets}
 use Rattle.fp_row.specs.declared.done.Done.{Done}
 use Rattle.fp_row.specs.declared.ending.Ending.{Ending}
-use Rattle.fp_row.specs.declared.ending.Ending.TheVariants.{ByPeer, Closed}
+use Rattle.fp_row.specs.declared.ending.Ending.TheVariants.{Closed}
 use Rattle.fp_row.specs.declared.requested.Requested.{Requested}
 use Rattle.fp_row.specs.declared.requested.Requested.TheVariants as requested
 use Rattle.fp_row.specs.declared.row.Row.{Row}
@@ -70,6 +71,11 @@ one_sent totals = record totals { sent = totals.sent + 1 }
 abbrev pub more_accepted : Totals → List Entry → Totals
 more_accepted totals entries = record totals { accepted = totals.accepted + component_count entries }
 
+-- DRAIN: the oldest lines go behind others, as many as there is room for
+pub record DrainsBook (old : Shelf) (lines : List Line) (room : ℕ) (new : Shelf) (more : List Line) : Type 0 where
+  pub drains : Drains old.link old.log lines room new.log more
+  pub new_is : new ≡ record old { log = new.log }
+
 -- TAKE: the dialogue that has been ready longest gets a turn
 
 pub record TakesTurn (old : Shelf) (turn : Turn) (new : Shelf) : Type 0 where
@@ -91,6 +97,13 @@ Takes old (ATurn turn) new = TakesTurn old turn new
 Takes old Nothing new = (old.ready ≡ []) × (new ≡ old)
 Takes old NoRoom new = (old.ready ≢ []) × (8192 ≤ places_held old) × (new ≡ old)
 Takes old Memory new = (old.ready ≢ []) × (places_held old < 8192) × (new ≡ old)
+
+-- where nothing is handed out no dialogue is ready
+abbrev pub NoneReady : Taken → Shelf → Type 0
+NoneReady (ATurn turn) s = ⊤
+NoneReady Nothing s = (local : ℕ) (row : Row) → get s.rows local ≡ Some row → is_ready row ≡ false
+NoneReady NoRoom s = ⊤
+NoneReady Memory s = ⊤
 
 -- GIVE: the turn that was out was served
 
@@ -149,6 +162,18 @@ pub record PicksParcel (old : Shelf) (picked : Content) (new : Shelf) : Type 0 w
     outbox = record { aborts = rest.aborts; frames = rest.frames; out = Some picked };
     log = logged old.log (line.Pick (local_of picked));
   }
+
+-- what a pick hands out
+abbrev pub Hands : Shelf → Picked → Shelf → Type 0
+Hands old (answers.Parcel parcel) new = (parcel.link ≡ old.link) × PicksParcel old parcel.content new
+-- a parcel is out already
+Hands old answers.Busy new = IsSome old.outbox.out × (new ≡ old)
+-- nothing waits
+Hands old answers.Nothing new = (old.outbox ≡ nothing) × (new ≡ old)
+
+-- the parcel is of this link, and it is the one that is out
+abbrev pub IsOut : Shelf → Parcel → Type 0
+IsOut s parcel = (parcel.link ≡ s.link) × (s.outbox.out ≡ Some parcel.content)
 
 -- SENT: what was being sent was sent
 
@@ -246,6 +271,9 @@ pub record Ticks (old : Shelf) (moment added wanting : ℕ) (new : Shelf) : Type
   pub are_due : All (IsDue old moment) due
   pub added_is : added ≡ length due
   pub wanting_is : added + wanting ≡ sum_of (λ row. if due_at old moment row then 1 else 0) old.rows
+  -- those that are left are due still, and come after those
+  pub left : is_full old ≡ false → wanting ≡ sum_of (λ row. if is_due row moment then 1 else 0) new.rows
+  pub behind : (local deadline : ℕ) (row : Row) → get new.rows local ≡ Some row → deadline_of row ≡ Some deadline → All (λ (d : Due). ComesFirst d (deadline, local)) due
   pub rows : (local : ℕ) → ClocksAt (list_any (λ (d : Due). d.1 == local) due) moment (get old.rows local) (get new.rows local)
   pub new_is : new ≡ record old {
     entries = old.entries + added;
@@ -379,17 +407,36 @@ Follows (Open peer) old came answer new = OpensDialogue old peer came answer new
 Follows (Extend local None) old came answer new = ExtendsDialogue old local came answer new
 Follows (Extend local (Some ending)) old came answer new = EndsDialogue old local ending came answer new
 
--- whether memory is taken for a message
-abbrev pub grows : Verdict → Bool
-grows Discard = false
-grows (Refuse cause closes) = false
-grows (Open peer) = true
-grows (Extend local ending) = true
+-- what is counted then, by the answer: the entries of a message that was accepted
+abbrev pub posted_totals : Totals → Prepared → Posted → Totals
+posted_totals totals came (Opened local) = more_accepted totals (entries_in came)
+posted_totals totals came (Accepted count) = more_accepted totals (entries_in came)
+posted_totals totals came (Aborted cause) = totals
+posted_totals totals came Ended = totals
+posted_totals totals came Discarded = totals
 
--- The first line that fits decides; or, where a message would be accepted, memory was wanting, and it is as one that
--- was lost.
+-- whether a message is accepted
+abbrev pub accepts : Verdict → Bool
+accepts Discard = false
+accepts (Refuse cause closes) = false
+accepts (Open peer) = true
+accepts (Extend local ending) = true
+
+abbrev pub are_some : List Entry → Bool
+are_some [] = false
+are_some (entry ∷ entries) = true
+
+-- whether memory is asked for it: for a new dialogue, and for entries, if there are any
+abbrev pub asks_for_memory : Verdict → Prepared → Bool
+asks_for_memory Discard came = false
+asks_for_memory (Refuse cause closes) came = false
+asks_for_memory (Open peer) came = true
+asks_for_memory (Extend local ending) came = are_some (entries_in came)
+
+-- The first line that fits decides; or, where a message would be accepted, memory was asked for and wanting, and it is
+-- as one that was lost.
 abbrev pub Posts : Shelf → Prepared → Posted → Shelf → Type 0
 Posts old came answer new =
     Follows (verdict old came) old came answer new
-    ⊎ ((grows (verdict old came) ≡ true)
+    ⊎ ((asks_for_memory (verdict old came) came ≡ true)
     × Follows (verdict old (prepared.Lost (arrival_of came))) old (prepared.Lost (arrival_of came)) answer new)

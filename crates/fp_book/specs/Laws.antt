@@ -1,5 +1,7 @@
--- What holds of all logs, and what the calls of a book keep.
-use Rattle.std.specs.Prelude.{◌≡◌, ℕ, ◌+◌, ◌<◌, List, [], ◌∷◌, ◌++◌, length, filter, nat_lt, Bool, not, is_some, unwrap_or, None, if◌then◌else◌}
+-- What holds of all logs, what the calls of a book keep, and what that says of the frames of a dialogue.
+use Rattle.std.specs.Prelude.{◌≡◌, ℕ, ◌+◌, ◌<◌, List, [], ◌∷◌, ◌++◌, length, filter, nat_lt, Bool, not, is_some, unwrap_or, None, Some, if◌then◌else◌}
+use Rattle.std.specs.FinMap.{get}
+use mathlib.Core.List.{IsPrefix}
 use Rattle.fp_book.specs.declared.line.LoggedStep.{LoggedStep}
 use Rattle.fp_book.specs.Log.{logged, lost_in}
 use Rattle.fp_book.specs.declared.answers.Given.{Given}
@@ -9,10 +11,12 @@ use Rattle.fp_book.specs.declared.parcel.Content.{Content}
 use Rattle.fp_book.specs.declared.parcel.Parcel.{Parcel}
 use Rattle.fp_book.specs.declared.taken.Taken.{Taken}
 use Rattle.fp_book.specs.Calls.{GivesDone, GoesDown, PicksParcel, Posts, PutsTurnBack, Sends, Takes, Ticks, Unsends}
-use Rattle.fp_book.specs.Shelf.{Shelf, Sound}
+use Rattle.fp_book.specs.Shelf.{Shelf, Sound, unsent_for}
 use Rattle.fp_entry.specs.declared.prepared.Prepared.{Prepared}
 use Rattle.fp_row.specs.declared.done.Done.{Done}
+use Rattle.fp_row.specs.declared.row.Row.{Row}
 use Rattle.fp_row.specs.declared.turn.Turn.{Turn}
+use Rattle.fp_row.specs.Row.{frames_of, sent_of}
 
 -- how many steps a log accounts for: each that it tells, and as many as its gaps count
 abbrev pub accounted : List LoggedStep → ℕ
@@ -72,3 +76,12 @@ UnsendingKeepsSound = (old new : Shelf) (parcel : Parcel) → Sound old → Unse
 -- so does to give a Clock to each dialogue that is due
 abbrev pub TickingKeepsSound : Type 0
 TickingKeepsSound = (old new : Shelf) (moment added wanting : ℕ) → Sound old → Ticks old moment added wanting new → Sound new
+
+-- The frames of a dialogue that were sent, then the one that is being sent, then those that wait, are the frames of
+-- what its served entries request, in their order: all of them, or a front of them where it was ended from outside.
+pub record GoOutInOrder (s : Shelf) (local : ℕ) (row : Row) : Type 0 where
+  pub front : IsPrefix (sent_of row ++ unsent_for local s.outbox) (frames_of row)
+  pub whole : row.ended ≡ None → sent_of row ++ unsent_for local s.outbox ≡ frames_of row
+
+abbrev pub FramesGoOutInOrder : Type 0
+FramesGoOutInOrder = (s : Shelf) → Sound s → (local : ℕ) (row : Row) → get s.rows local ≡ Some row → GoOutInOrder s local row

@@ -1,5 +1,8 @@
 pub mod Calls
+pub mod Clocking
+pub mod Dialogues
 pub mod Laws
+pub mod Lines
 pub mod Log
 pub mod Outbox
 pub mod Parcel
@@ -8,3 +11,4 @@ pub mod Sending
 pub mod Shelf
 pub mod Totals
 pub mod Verdict
+pub mod Views

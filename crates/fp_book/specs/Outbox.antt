@@ -80,11 +80,12 @@ abbrev pub TakesNext : Outbox → Option Content → Outbox → Type 0
 TakesNext old None new = (old.aborts ≡ []) × (old.frames ≡ []) × (new ≡ old)
 TakesNext old (Some content) new = IsNext old content new × (new.out ≡ old.out)
 
--- what is handed out
-abbrev pub Picks : Outbox → Picked → Outbox → Type 0
--- a parcel: none was out; it holds what is sent next, and is out now
-Picks old (answers.Parcel parcel) new = (old.out ≡ None) × IsNext old parcel.content new × (new.out ≡ Some parcel.content)
+-- what is handed out on a link
+abbrev pub Picks : ℕ → Outbox → Picked → Outbox → Type 0
+-- a parcel of the link: none was out; it holds what is sent next, and is out now
+Picks link old (answers.Parcel parcel) new =
+    (old.out ≡ None) × IsNext old parcel.content new × (new.out ≡ Some parcel.content) × (parcel.link ≡ link)
 -- a parcel is out already, and nothing changes
-Picks old answers.Busy new = IsSome old.out × (new ≡ old)
+Picks link old answers.Busy new = IsSome old.out × (new ≡ old)
 -- nothing waits, and nothing changes
-Picks old answers.Nothing new = (old ≡ nothing) × (new ≡ old)
+Picks link old answers.Nothing new = (old ≡ nothing) × (new ≡ old)

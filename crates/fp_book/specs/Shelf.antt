@@ -1,15 +1,14 @@
 -- A book: the dialogues of a link, the order in which they are served, what waits to be sent, and the log.
-use Rattle.std.specs.Prelude.{◌≡◌, ◌<◌, ◌≤◌, ◌+◌, ◌^◌, ◌==◌, ◌&&◌, ℕ, Bool, true, false, not, List, [], ◌∷◌, ◌++◌, Option, Some, None, length, count_by, is_some, if◌then◌else◌, ◌⊎◌}
+use Rattle.std.specs.Prelude.{◌≡◌, ◌<◌, ◌≤◌, ◌+◌, ◌^◌, ◌==◌, ℕ, Bool, true, false, List, [], ◌∷◌, ◌++◌, Option, Some, None, length, count_by, is_some, if◌then◌else◌}
 use Rattle.std.specs.List.{flat_map}
-use Rattle.std.specs.Option.{option_map_or}
 use Rattle.std.specs.Ordering.{nat_cmp}
-use Rattle.std.specs.FinMap.{FinMap, get, insert, remove, len}
+use Rattle.std.specs.FinMap.{FinMap, empty, get, insert, remove, len}
 use Rattle.fp_book.specs.declared.line.LoggedStep.{LoggedStep}
 use Rattle.fp_book.specs.declared.parcel.Content.{Content}
 use Rattle.fp_book.specs.declared.parcel.Content.TheVariants as content
 use Rattle.fp_book.specs.declared.parcel.Waiting.{Waiting}
 use Rattle.fp_book.specs.declared.totals.Totals.{Totals}
-use Rattle.fp_book.specs.Outbox.{Outbox, frames_held}
+use Rattle.fp_book.specs.Outbox.{Outbox, frames_held, nothing}
 use Rattle.fp_book.specs.Totals.{accepted_by, sent_by, served_by, sum_of, with_row}
 use Rattle.fp_row.specs.declared.ending.Ending.TheVariants.{Closed}
 use Rattle.fp_row.specs.declared.row.Row.{Row}
@@ -40,6 +39,26 @@ pub record Shelf : Type 0 where
   pub log : List LoggedStep
   -- whether the link is down
   pub is_down : Bool
+
+-- nothing was counted
+abbrev pub no_totals : Totals
+no_totals = record { accepted = 0; served = 0; sent = 0 }
+
+-- a link that is up, on which nothing came yet
+abbrev pub empty_shelf : ℕ → Shelf
+empty_shelf link = record {
+  link = link;
+  given = 0;
+  births = 0;
+  entries = 0;
+  rows = empty;
+  ready = [];
+  outbox = nothing;
+  totals = no_totals;
+  gone = no_totals;
+  log = [];
+  is_down = false;
+}
 
 -- the frames of one dialogue among those that wait
 abbrev pub frames_for : ℕ → List Waiting → List (List ℕ)

@@ -1,18 +1,15 @@
 -- What is to be done with a message, by the dialogues that there are: the first line that fits decides.
-use Rattle.std.specs.Prelude.{ℕ, Bool, true, false, ◌+◌, ◌*◌, ◌^◌, ◌&&◌, ◌||◌, List, [], ◌∷◌, Option, Some, None, length, nat_le, nat_lt, nat_eq, if◌then◌else◌}
+use Rattle.std.specs.Prelude.{ℕ, Bool, false, ◌+◌, ◌*◌, ◌^◌, ◌||◌, List, [], ◌∷◌, Option, Some, None, length, nat_le, nat_lt, nat_eq, if◌then◌else◌}
 use Rattle.std.specs.Option.{option_and_then, option_map_or}
 use Rattle.std.specs.Ordering.{nat_cmp}
 use Rattle.std.specs.FinMap.{FinMap, get, len}
 use Rattle.fp_book.specs.declared.verdict.Verdict.{Verdict}
 use Rattle.fp_book.specs.declared.verdict.Verdict.TheVariants.{Discard, Refuse, Open, Extend}
 use Rattle.fp_book.specs.Shelf.{Shelf}
-use Rattle.fp_entry.specs.declared.arrival.Arrival.{Arrival}
-use Rattle.fp_entry.specs.declared.fault.Fault.{Fault}
 use Rattle.fp_entry.specs.declared.incoming.Incoming.{Incoming}
 use Rattle.fp_entry.specs.declared.prepared.Prepared.{Prepared}
 use Rattle.fp_entry.specs.declared.prepared.Prepared.TheVariants.{Message, Refused, Lost}
 use Rattle.fp_entry.specs.Entries.{place_count}
-use Rattle.fp_entry.specs.Prepared.{arrival_of}
 use Rattle.fp_q773.specs.declared.ids.Ids.{Ids}
 use Rattle.fp_q773.specs.declared.kind.Kind.{Kind}
 use Rattle.fp_q773.specs.declared.kind.Kind.TheVariants.{Unidirectional, Begin, End, Continue, Abort, Unknown}
@@ -109,3 +106,7 @@ arrived s (Message arrival incoming) = message_of s arrival.ids incoming arrival
 -- what came; a link that is down takes nothing
 abbrev pub verdict : Shelf → Prepared → Verdict
 verdict s prepared = if s.is_down then Discard else arrived s prepared
+
+-- so of a readable message
+abbrev pub verdict_on : Shelf → Ids → Incoming → Verdict
+verdict_on s ids incoming = if s.is_down then Discard else message_of s ids incoming ids.kind (named s ids)

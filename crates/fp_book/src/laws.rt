@@ -1,7 +1,11 @@
-//! What holds of all logs, and what the calls of a book keep.
+//! What holds of all logs, what the calls of a book keep, by which line a message is taken, and in which order frames
+//! go out.
 
-ghost use Rattle.fp_book.specs.Laws.{EachStepIsAccountedFor, GivingKeepsSound, GoingDownKeepsSound, PickingKeepsSound, PostingKeepsSound, PuttingBackKeepsSound, SendingKeepsSound, TakingKeepsSound, TickingKeepsSound, ToldStepsStay, UnsendingKeepsSound};
+ghost use Rattle.fp_book.specs.Laws.{EachStepIsAccountedFor, FramesGoOutInOrder, GivingKeepsSound, GoingDownKeepsSound, PickingKeepsSound, PostingKeepsSound, PuttingBackKeepsSound, SendingKeepsSound, TakingKeepsSound, TickingKeepsSound, ToldStepsStay, UnsendingKeepsSound};
+ghost use Rattle.fp_book.specs.Lines.{MessagesGetTheirLine, ReadMessagesHaveFewEntries, SevenLinesDecide};
 
+use fp_q773::{identifiers_are_those_of_the_message, ids_are_one};
+use fp_row::rows_keep_their_order;
 use fp_service::entries_ask_once_at_most;
 
 /// A log tells each step that it is given, or counts it in a gap, as long as it accounts for fewer than 2^64 - 1; and
@@ -50,4 +54,28 @@ pub fn clocks_keep_a_book_sound()
     ensures { TickingKeepsSound }
 {
     entries_ask_once_at_most();
+}
+
+/// What is done with a message is what the first line says that fits it.
+pub fn messages_get_their_line()
+    ensures { MessagesGetTheirLine }
+{}
+
+/// A message that was read has a known tag, a Begin an originating identifier and an Abort one entry, and any has at
+/// most one entry more than its component portion has elements. So the tests that a book makes besides the seven lines
+/// change nothing: on a frame that was prepared the seven alone decide.
+pub fn read_messages_have_few_entries()
+    ensures few { ReadMessagesHaveFewEntries }
+    ensures seven { SevenLinesDecide }
+{
+    identifiers_are_those_of_the_message();
+    ids_are_one();
+}
+
+/// Of each dialogue what was sent, then what is being sent, then what waits are the frames of what its served entries
+/// request, in their order, or a front of them where it was ended from outside.
+pub fn frames_go_out_in_order()
+    ensures { FramesGoOutInOrder }
+{
+    rows_keep_their_order();
 }

@@ -1,38 +1,77 @@
-//! All dialogues of a link (ITU-T Q.774, clause 3): so far the parts of a book that know nothing of dialogues, what
-//! waits to be sent, the order in which dialogues are served, and the log of steps; and what a book is, as definitions:
-//! what it keeps (`specs/Shelf.antt`), what is to be done with a message (`specs/Verdict.antt`), and what each call
-//! makes of it (`specs/Calls.antt`).
+//! All dialogues of a link (the transaction sublayer of ITU-T Q.774, clause 3): each event of the link is one call of
+//! its book.
 //!
-//! The layer asks the system for nothing but memory, and takes that when a part is made: what grows later has its
-//! places reserved.
+//! The layer is handed messages that were prepared, moments, turns that were served and word of what was sent, and says
+//! what is to be done next. It knows no clock, no thread and no socket, and asks the system for nothing but memory:
+//! what [`Book::new`] reserves is never grown, and after it nothing but [`Book::post`], [`Book::tick`] and
+//! [`Book::take`] takes any.
 //!
-//! * [`Outbox`] is what waits to be sent on a link, and what is being sent: at most 64 Aborts of the provider, which go
-//!   first, and 8,192 frames of dialogues, in order. A [`Parcel`] is what is being sent, and must be spent.
-//! * [`ReadyQueue`] is the order in which dialogues are served, at most 4,096.
-//! * [`Log`] is what a link did, step by step, at most 8,192 lines: in the last place a gap counts what was lost
-//!   ([`steps_are_told_or_counted`]).
+//! | Call | What comes | What is answered |
+//! |---|---|---|
+//! | [`Book::post`] | a message | [`Posted`]: what became of it |
+//! | [`Book::tick`] | a moment | [`Ticked`]: how many dialogues were given a Clock |
+//! | [`Book::take`] | a worker is free | [`Taken`]: the turn of the dialogue that has been ready longest, or why none |
+//! | [`Book::give`] | a turn that was served | [`Given`]: what became of its request |
+//! | [`Book::put_back`] | a turn that wasn't served | |
+//! | [`Book::pick`] | the link may send | [`Picked`]: the parcel that is sent next, or why none |
+//! | [`Book::sent`], [`Book::unsent`] | the parcel went out, or didn't | |
+//! | [`Book::down`] | the link is gone | |
+//! | [`Book::drain`] | room for lines | the oldest lines of the log |
+//! | [`Book::totals`] | | [`Totals`]: components accepted, entries served, frames sent |
 //!
-//! The layer above may rely on this: contracts see each of the parts as its lists, and each call says what it does to
-//! them. Of the calls of a book, which don't exist yet, it is proved that each keeps what a book keeps
-//! ([`turns_keep_a_book_sound`], [`sending_keeps_a_book_sound`], [`messages_keep_a_book_sound`],
-//! [`going_down_keeps_a_book_sound`], [`clocks_keep_a_book_sound`]).
+//! A dialogue is *admitted* from its Begin until its core is over, its peer's End or Abort is accepted, a message for
+//! it is refused, or its link goes down; it is *closed* by the last two of these. It is *ready* when an entry of it
+//! waits and no turn of it is out, and *held* as long as it is admitted, an entry or a frame of it waits, or a turn or
+//! a parcel of it is out. What is no longer held is forgotten, but for what was counted.
+//!
+//! A [`Turn`](fp_row::Turn) and a [`Parcel`] must be spent. What comes back is compared with what is out, and a
+//! stranger comes back and changes nothing. A dialogue whose turn or parcel was abandoned stays held.
+//!
+//! What a call costs, by the number of dialogues that are held: `post`, `take`, `give`, `put_back` and `sent` look one of
+//! them up by halves, and where one comes or goes those with greater identifiers move; setting a deadline moves those of
+//! greater identifiers. `tick` goes through all deadlines once for each that is due, and once more; where memory was
+//! wanting, through all dialogues. A message that is refused or ends its dialogue goes through the frames that wait only
+//! where one of them is that dialogue's, and through the order of service only where that dialogue stands in it. `down`
+//! and `unsent` go through everything. Nothing else grows with what other dialogues have.
+//!
+//! The layer above may rely on this: contracts see a [`Book`] as a `Shelf` (`specs/Shelf.antt`), and its type keeps
+//! what `Sound` says: identifiers are those of the link, each of a serial that was given; of each dialogue what was
+//! sent, then what is being sent, then what waits is what is kept of the frames that its served entries request (its
+//! [`Row`](fp_row::Row) keeps the rest of it); each dialogue that is ready stands once in the order of service; all
+//! limits; and each total is the sum over the dialogues held and those gone. Each call says of the whole shelf what it
+//! is then (`specs/Calls.antt`), which line decides on a message is said by `specs/Verdict.antt`, and that a strange
+//! turn or parcel comes back, and the right one never, by the clauses named `known`. Laws say what follows:
+//!
+//! * [`messages_get_their_line`]: the first line of `specs/Lines.antt` that fits a message says what is done with it.
+//! * [`read_messages_have_few_entries`]: on a frame that was prepared the seven of them alone decide.
+//! * [`frames_go_out_in_order`]: what was sent of a dialogue, what is being sent and what waits are the frames of what
+//!   its served entries request, in their order, or a front of them where it was ended from outside.
 #![tactic(auto)]
 
 mod answers;
+mod book;
+mod dialogues;
 mod laws;
 mod line;
 mod log;
 mod outbox;
 mod parcel;
+mod posting;
 mod ready_queue;
 mod sending;
+mod sending_out;
+mod serving;
 mod taken;
+mod ticked;
+mod ticking;
 mod totals;
 mod verdict;
 
 pub use answers::{Given, Posted};
+pub use book::Book;
 pub use laws::{
-    clocks_keep_a_book_sound, going_down_keeps_a_book_sound, messages_keep_a_book_sound,
+    clocks_keep_a_book_sound, frames_go_out_in_order, going_down_keeps_a_book_sound,
+    messages_get_their_line, messages_keep_a_book_sound, read_messages_have_few_entries,
     sending_keeps_a_book_sound, steps_are_told_or_counted, turns_keep_a_book_sound,
 };
 pub use line::{Line, LoggedStep};
@@ -41,4 +80,5 @@ pub use outbox::Outbox;
 pub use parcel::{Parcel, Picked};
 pub use ready_queue::ReadyQueue;
 pub use taken::Taken;
+pub use ticked::Ticked;
 pub use totals::Totals;

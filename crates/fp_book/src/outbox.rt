@@ -106,9 +106,9 @@ impl Outbox {
     }
 
     /// Hands out what is sent next: the oldest Abort of the provider, or, where none waits, the oldest frame. While a
-    /// parcel is out there is no other. Takes no memory.
-    pub fn pick(&mut self) -> Picked
-        ensures { Picks self.old result self.new }
+    /// parcel is out there is no other. It is a parcel of this link, 0 to 7. Takes no memory.
+    pub fn pick(&mut self, link: u8) -> Picked
+        ensures { Picks link self.old result self.new }
     {
         if self.sending.is_busy() {
             return Picked::Busy;
@@ -117,17 +117,18 @@ impl Outbox {
             return Picked::Nothing;
         };
         self.sending.start(&content);
-        Picked::Parcel(Parcel { content })
+        Picked::Parcel(Parcel { link, content })
     }
 
-    /// Takes back the parcel that is out: nothing is being sent from now on, and what waits stays. A strange parcel,
-    /// whose content isn't what is being sent, comes back, and nothing changes. Takes no memory.
-    pub fn take_back(&mut self, parcel: Parcel) -> Result<(), Parcel>
+    /// Takes back the parcel of this link that is out: nothing is being sent from now on, and what waits stays. A
+    /// strange parcel, one of another link or whose content isn't what is being sent, comes back, and nothing changes.
+    /// Takes no memory.
+    pub fn take_back(&mut self, link: u8, parcel: Parcel) -> Result<(), Parcel>
         ensures ok { IfOk result (λ _. self.new ≡ with_nothing_out self.old) }
         ensures err { IfErr result (λ back. (back ≡ parcel) × (self.new ≡ self.old)) }
-        ensures known { IsOk result ↔ (self.old.out ≡ Some parcel.content) }
+        ensures known { IsOk result ↔ ((parcel.link ≡ link) × (self.old.out ≡ Some parcel.content)) }
     {
-        if !self.sending.is(&parcel.content) {
+        if parcel.link != link || !self.sending.is(&parcel.content) {
             return Err(parcel);
         }
         parcel.abandon();

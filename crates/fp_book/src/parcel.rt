@@ -1,7 +1,7 @@
 //! Parcels.
 
 ghost use Rattle.std.specs.Prelude.{◌≡◌};
-ghost use Rattle.fp_book.specs.Parcel.{local_of, octets_of};
+ghost use Rattle.fp_book.specs.Parcel.{dialogue_of, local_of, octets_of};
 
 use fp_reply::AbortFrame;
 use fp_row::RequestFrame;
@@ -11,6 +11,8 @@ use fp_row::RequestFrame;
 #[must_use]
 #[derive(Debug)]
 pub struct Parcel {
+    /// The link, 0 to 7.
+    pub(crate) link: u8,
     pub(crate) content: Content,
 }
 
@@ -45,6 +47,16 @@ pub enum Picked {
 }
 
 impl Parcel {
+    /// The local transaction identifier of the dialogue whose frame it is; `None` for an Abort of the provider.
+    pub fn dialogue(&self) -> Option<u32>
+        ensures { result ≡ dialogue_of self.now.content }
+    {
+        match &self.content {
+            Content::Abort(_) => None,
+            Content::Frame(waiting) => Some(waiting.local),
+        }
+    }
+
     /// The local transaction identifier of the dialogue, 0 for an Abort of the provider.
     pub fn local(&self) -> u32
         ensures { result ≡ local_of self.now.content }
@@ -67,6 +79,9 @@ impl Parcel {
 
     /// Spends a parcel that nobody reports. Its link stays busy with it. Takes no memory.
     pub fn abandon(self) {
-        let Parcel { content: _ } = self;
+        let Parcel {
+            link: _,
+            content: _,
+        } = self;
     }
 }

@@ -1,0 +1,211 @@
+-- What is done with a message is what the first line says that fits.
+use Rattle.std.proofs.Common.{◌≡◌, ℕ, ◌+◌, ◌≤◌, ◌<◌, ◌^◌, Bool, true, false, cond, ◌||◌, List, [], ◌∷◌, ◌++◌, nat_eq, nat_le, nat_lt, Option, Some, None, IsSome, is_none, length, refl, sym, ◌∙◌, ap, arith}
+use Rattle.std.proofs.lemmas.Bool.{false≢true, lt-ltb, ltb-true}
+use Rattle.std.proofs.lemmas.List.Sums.{sum_by-append}
+use Rattle.std.specs.Option.{option_map_or}
+use Rattle.std.specs.FinMap as map
+use Rattle.fp_book.specs.declared.verdict.Verdict.{Verdict}
+use Rattle.fp_book.specs.declared.verdict.Verdict.TheVariants.{Discard, Refuse, Open, Extend}
+use Rattle.fp_book.specs.Lines.{IsAsRead, MessagesGetTheirLine, ReadMessagesHaveFewEntries, SevenLinesDecide, first_lines, first_that_fits, last_lines, own_tests, unserved_in}
+use Rattle.fp_book.specs.Shelf.{Shelf, of_row}
+use Rattle.fp_book.specs.Verdict.{begin_of, lost_of, message_of, more_of, named, refused_of}
+use Rattle.fp_entry.specs.declared.arrival.Arrival.{Arrival}
+use Rattle.fp_entry.specs.declared.entry.Entry.{Entry}
+use Rattle.fp_entry.specs.declared.fault.Fault.{Fault}
+use Rattle.fp_entry.specs.declared.incoming.Incoming.{Incoming}
+use Rattle.fp_entry.specs.declared.prepared.Prepared.{Prepared}
+use Rattle.fp_entry.specs.declared.prepared.Prepared.TheVariants.{Message, Refused, Lost}
+use Rattle.fp_entry.specs.Entries.{place_count, takes_a_place}
+use Rattle.fp_q773.specs.declared.kind.Kind.{Kind}
+use Rattle.fp_q773.specs.declared.kind.Kind.TheVariants.{Unidirectional, Begin, End, Continue, Abort, Unknown}
+use Rattle.fp_q773.specs.declared.provider_abort.AbortCause.TheVariants as cause
+use Rattle.fp_q773.specs.declared.tid.Tid.{Tid}
+use Rattle.fp_row.specs.declared.ending.Ending.{Ending}
+use Rattle.fp_row.specs.declared.ending.Ending.TheVariants.{ByPeer}
+use Rattle.fp_row.specs.declared.row.Row.{Row}
+use Rattle.fp_row.specs.Row.{places_taken, unserved}
+
+-- on a link that is up
+abbrev up : Shelf → Shelf
+up s = record s { is_down = false }
+
+-- what the first lines decide on a message that is lost, whatever others stand behind them
+lost_line : (s : Shelf) (arrival : Arrival) (others : List (Bool × Verdict)) (kind : Kind) (dialogue : Option ℕ)
+    → lost_of kind dialogue ≡ first_that_fits (first_lines (up s) (Lost arrival) kind dialogue ++ others)
+lost_line s arrival others Unidirectional dialogue = refl
+lost_line s arrival others Begin dialogue = refl
+lost_line s arrival others Continue None = refl
+lost_line s arrival others Continue (Some local) = refl
+lost_line s arrival others End dialogue = refl
+lost_line s arrival others Abort dialogue = refl
+lost_line s arrival others Unknown dialogue = refl
+
+-- so on octets that are no message that is taken
+refused_line : (s : Shelf) (arrival : Arrival) (fault : Fault) (others : List (Bool × Verdict)) (kind : Kind) (dialogue : Option ℕ)
+    → refused_of kind dialogue ≡ first_that_fits (first_lines (up s) (Refused arrival fault) kind dialogue ++ others)
+refused_line s arrival fault others Unidirectional dialogue = refl
+refused_line s arrival fault others Begin dialogue = refl
+refused_line s arrival fault others Continue dialogue = refl
+refused_line s arrival fault others End dialogue = refl
+refused_line s arrival fault others Abort dialogue = refl
+refused_line s arrival fault others Unknown dialogue = refl
+
+-- where one of several reasons is there it is refused, in whatever order they are looked for
+reasons_of_begin : (elements entries rows serials full places : Bool) (away taken : Verdict)
+    → cond ((elements || entries) || ((rows || (serials || full)) || places)) away taken
+    ≡ cond entries away (cond (elements || (places || (full || (rows || serials)))) away taken)
+reasons_of_begin true true rows serials full places away taken = refl
+reasons_of_begin true false rows serials full places away taken = refl
+reasons_of_begin false true rows serials full places away taken = refl
+reasons_of_begin false false true serials true true away taken = refl
+reasons_of_begin false false true serials true false away taken = refl
+reasons_of_begin false false true serials false true away taken = refl
+reasons_of_begin false false true serials false false away taken = refl
+reasons_of_begin false false false true true true away taken = refl
+reasons_of_begin false false false true true false away taken = refl
+reasons_of_begin false false false true false true away taken = refl
+reasons_of_begin false false false true false false away taken = refl
+reasons_of_begin false false false false true true away taken = refl
+reasons_of_begin false false false false true false away taken = refl
+reasons_of_begin false false false false false true away taken = refl
+reasons_of_begin false false false false false false away taken = refl
+
+reasons_of_more : (elements entries places full : Bool) (away taken : Verdict)
+    → cond ((elements || entries) || (places || full)) away taken ≡ cond entries away (cond (elements || (places || (full || false))) away taken)
+reasons_of_more true true places full away taken = refl
+reasons_of_more true false places full away taken = refl
+reasons_of_more false true places full away taken = refl
+reasons_of_more false false true full away taken = refl
+reasons_of_more false false false true away taken = refl
+reasons_of_more false false false false away taken = refl
+
+-- the places of a dialogue, with those that more entries take, are those of all of them
+places_of_all : (o : Option Row) (entries : List Entry) → option_map_or places_taken o 0 + place_count entries ≡ place_count (of_row unserved o ++ entries)
+places_of_all None entries = omega arith
+places_of_all (Some row) entries = sym (sum_by-append (λ (entry : Entry). cond (takes_a_place entry.kind) 1 0) (unserved row) entries)
+
+-- what the lines say of a Begin
+begin_line : (s : Shelf) (incoming : Incoming) (orig : Option Tid)
+    → begin_of s orig incoming
+    ≡ cond (is_none orig) Discard
+    (cond (nat_lt 17 (length incoming.entries)) (Refuse (Some cause.ResourceLimitation) None)
+    (cond (nat_lt 16 incoming.elements || (nat_lt 64 (place_count incoming.entries) || (nat_le (2 ^ 63) s.entries || (nat_le 4096 (map.len s.rows) || nat_eq (s.given + 1) (2 ^ 29)))))
+    (Refuse (Some cause.ResourceLimitation) None)
+    (option_map_or (λ peer. Open peer) orig Discard)))
+begin_line s incoming None = refl
+begin_line s incoming (Some peer) =
+    let many = nat_lt 16 incoming.elements in
+    let long = nat_lt 17 (length incoming.entries) in
+    let held = nat_le 4096 (map.len s.rows) in
+    let given = nat_eq (s.given + 1) (2 ^ 29) in
+    let full = nat_le (2 ^ 63) s.entries in
+    let away : Verdict = Refuse (Some cause.ResourceLimitation) None in
+    ap (λ (n : ℕ). cond ((many || long) || ((held || (given || full)) || nat_lt 64 n)) away (Open peer)) (places_of_all None incoming.entries)
+    ∙ reasons_of_begin many long held given full (nat_lt 64 (place_count incoming.entries)) away (Open peer)
+
+-- what they say of a Continue or an End of an admitted dialogue
+more_line : (s : Shelf) (local : ℕ) (ending : Option Ending) (incoming : Incoming)
+    → more_of s local ending incoming
+    ≡ cond (nat_lt 17 (length incoming.entries)) (Refuse (Some cause.ResourceLimitation) (Some local))
+    (cond (nat_lt 16 incoming.elements || (nat_lt 64 (place_count (unserved_in s (Some local) ++ incoming.entries)) || (nat_le (2 ^ 63) s.entries || false)))
+    (Refuse (Some cause.ResourceLimitation) (Some local))
+    (Extend local ending))
+more_line s local ending incoming =
+    let many = nat_lt 16 incoming.elements in
+    let long = nat_lt 17 (length incoming.entries) in
+    let full = nat_le (2 ^ 63) s.entries in
+    let all = place_count (unserved_in s (Some local) ++ incoming.entries) in
+    let away : Verdict = Refuse (Some cause.ResourceLimitation) (Some local) in
+    ap (λ (n : ℕ). cond ((many || long) || (nat_lt 64 n || full)) away (Extend local ending)) (places_of_all (map.get s.rows local) incoming.entries)
+    ∙ reasons_of_more many long (nat_lt 64 all) full away (Extend local ending)
+
+-- what they say of a readable message
+message_line : (s : Shelf) (arrival : Arrival) (incoming : Incoming) (kind : Kind) (dialogue : Option ℕ)
+    → message_of s arrival.ids incoming kind dialogue
+    ≡ first_that_fits (first_lines (up s) (Message arrival incoming) kind dialogue ++ (own_tests (Message arrival incoming) kind dialogue ++ last_lines s (Message arrival incoming) kind dialogue))
+message_line s arrival incoming Unidirectional dialogue = refl
+message_line s arrival incoming Begin dialogue = begin_line s incoming arrival.ids.orig
+message_line s arrival incoming Continue None = refl
+message_line s arrival incoming Continue (Some local) = more_line s local None incoming
+message_line s arrival incoming End None = refl
+message_line s arrival incoming End (Some local) = more_line s local (Some ByPeer) incoming
+message_line s arrival incoming Abort None = refl
+message_line s arrival incoming Abort (Some local) = refl
+message_line s arrival incoming Unknown dialogue = refl
+
+-- what is done with what came is what the first line says that fits
+pub first_line_decides : MessagesGetTheirLine
+first_line_decides s (Message arrival incoming) = ap (λ (v : Verdict). cond s.is_down Discard v) (message_line s arrival incoming arrival.ids.kind (named s arrival.ids))
+first_line_decides s (Refused arrival fault) =
+    let kind = arrival.ids.kind in
+    let dialogue = named s arrival.ids in
+    ap (λ (v : Verdict). cond s.is_down Discard v)
+    (refused_line s arrival fault (own_tests (Refused arrival fault) kind dialogue ++ last_lines s (Refused arrival fault) kind dialogue) kind dialogue)
+first_line_decides s (Lost arrival) =
+    let kind = arrival.ids.kind in
+    let dialogue = named s arrival.ids in
+    ap (λ (v : Verdict). cond s.is_down Discard v)
+    (lost_line s arrival (own_tests (Lost arrival) kind dialogue ++ last_lines s (Lost arrival) kind dialogue) kind dialogue)
+
+-- lines that decide alike do so behind others
+alike_behind : (front xs ys : List (Bool × Verdict)) → first_that_fits xs ≡ first_that_fits ys → first_that_fits (front ++ xs) ≡ first_that_fits (front ++ ys)
+alike_behind [] xs ys same = same
+alike_behind (line ∷ front) xs ys same = ap (λ (v : Verdict). cond line.0 line.1 v) (alike_behind front xs ys same)
+
+-- where one test is met only where another is, which decides the same, it needn't be made
+covered : (entries elements rest : Bool) (away taken : Verdict) → (entries ≡ true → elements ≡ true) → cond entries away (cond (elements || rest) away taken) ≡ cond (elements || rest) away taken
+covered false elements rest away taken within = refl
+covered true true rest away taken within = refl
+covered true false rest away taken within = absurd (false≢true (within refl))
+
+-- so many entries are brought by as many elements alone
+many_by : (arrival : Arrival) (incoming : Incoming) → IsAsRead arrival incoming → nat_lt 17 (length incoming.entries) ≡ true → nat_lt 16 incoming.elements ≡ true
+many_by arrival incoming is e =
+    let few : length incoming.entries ≤ incoming.elements + 1 = is.few in
+    let long : 17 < length incoming.entries = ltb-true 17 (length incoming.entries) e in
+    lt-ltb 16 incoming.elements (omega arith)
+
+-- a Begin that was read has an originating identifier
+begin_unasked : (orig : Option Tid) (v : Verdict) → IsSome orig → cond (is_none orig) Discard v ≡ v
+begin_unasked None v there = absurd (false≢true there)
+begin_unasked (Some peer) v there = refl
+
+-- the book's own tests decide nothing on a message that was read
+unasked : (s : Shelf) (arrival : Arrival) (incoming : Incoming) → IsAsRead arrival incoming → (kind : Kind) (dialogue : Option ℕ) → arrival.ids.kind ≡ kind
+    → first_that_fits (own_tests (Message arrival incoming) kind dialogue ++ last_lines s (Message arrival incoming) kind dialogue)
+    ≡ first_that_fits (last_lines s (Message arrival incoming) kind dialogue)
+unasked s arrival incoming is Unidirectional dialogue e = refl
+unasked s arrival incoming is Begin dialogue e =
+    begin_unasked arrival.ids.orig _ (is.begins e)
+    ∙ covered (nat_lt 17 (length incoming.entries)) (nat_lt 16 incoming.elements)
+    (nat_lt 64 (place_count incoming.entries) || (nat_le (2 ^ 63) s.entries || (nat_le 4096 (map.len s.rows) || nat_eq (s.given + 1) (2 ^ 29))))
+    (Refuse (Some cause.ResourceLimitation) None) (option_map_or (λ peer. Open peer) arrival.ids.orig Discard) (many_by arrival incoming is)
+unasked s arrival incoming is Continue dialogue e =
+    covered (nat_lt 17 (length incoming.entries)) (nat_lt 16 incoming.elements)
+    (nat_lt 64 (place_count (unserved_in s dialogue ++ incoming.entries)) || (nat_le (2 ^ 63) s.entries || false))
+    (Refuse (Some cause.ResourceLimitation) dialogue) (option_map_or (λ local. Extend local None) dialogue Discard) (many_by arrival incoming is)
+unasked s arrival incoming is End dialogue e =
+    covered (nat_lt 17 (length incoming.entries)) (nat_lt 16 incoming.elements)
+    (nat_lt 64 (place_count (unserved_in s dialogue ++ incoming.entries)) || (nat_le (2 ^ 63) s.entries || false))
+    (Refuse (Some cause.ResourceLimitation) dialogue) (option_map_or (λ local. Extend local (Some ByPeer)) dialogue Discard) (many_by arrival incoming is)
+unasked s arrival incoming is Abort dialogue e =
+    ap (λ (n : ℕ). cond (nat_lt 1 n) (Refuse None dialogue) (option_map_or (λ local. Extend local (Some ByPeer)) dialogue Discard)) (is.aborts e)
+unasked s arrival incoming is Unknown dialogue e = absurd (is.known e)
+
+-- so the seven lines alone decide on what a frame is prepared to
+pub seven_decide : ReadMessagesHaveFewEntries → SevenLinesDecide
+seven_decide law contents contexts octets moment s (Message arrival incoming) is =
+    let kind = arrival.ids.kind in
+    let dialogue = named s arrival.ids in
+    let came : Prepared = Message arrival incoming in
+    first_line_decides s came
+    ∙ alike_behind (first_lines s came kind dialogue) (own_tests came kind dialogue ++ last_lines s came kind dialogue) (last_lines s came kind dialogue)
+    (unasked s arrival incoming (law contents contexts octets moment arrival incoming is) kind dialogue refl)
+seven_decide law contents contexts octets moment s (Refused arrival fault) is =
+    let kind = arrival.ids.kind in
+    let dialogue = named s arrival.ids in
+    ap (λ (v : Verdict). cond s.is_down Discard v) (refused_line s arrival fault (last_lines s (Refused arrival fault) kind dialogue) kind dialogue)
+seven_decide law contents contexts octets moment s (Lost arrival) is =
+    let kind = arrival.ids.kind in
+    let dialogue = named s arrival.ids in
+    ap (λ (v : Verdict). cond s.is_down Discard v) (lost_line s arrival (last_lines s (Lost arrival) kind dialogue) kind dialogue)

@@ -1,0 +1,12 @@
+use Rattle.fp_book.specs.Views.{shelf_of}
+use Rattle.fp_book.proofs.Posts.{Sound-logs}
+use Rattle.fp_book.proofs.book.Book.discard.Goals as goal
+
+-- only the log changes
+pub invariant_of-self : goal.invariant_of-self
+invariant_of-self c = record {
+  sound = Sound-logs (shelf_of c.self.inside) c.add.new.self c.self.invariant.sound;
+  links = c.self.invariant.links;
+  turns = c.self.invariant.turns;
+  timed = c.self.invariant.timed;
+}

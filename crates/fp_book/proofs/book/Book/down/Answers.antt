@@ -1,0 +1,21 @@
+use Rattle.fp_book.proofs.Unsents.{Leaves, down_book, gone_down}
+use Rattle.fp_book.specs.declared.line.LoggedStep.TheVariants as line
+use Rattle.fp_book.specs.Calls.{GoesDown}
+use Rattle.fp_book.specs.Views.{shelf_of}
+use Rattle.fp_book.proofs.book.Book.down.Goals as goal
+
+leaves : (c : goal.After-add) → Leaves (down_book c.self.inside c.close_all.new.rows c.close_all.new.deadlines c.clear.new.self c.clear-2.new.self c.add.new.self)
+    (λ new. GoesDown c.self.inside.outbox.out (shelf_of c.self.inside) line.Down new)
+leaves c =
+    gone_down c.self.inside c.self.inside.outbox.out line.Down c.close_all.new.rows c.close_all.new.deadlines c.clear.new.self c.clear-2.new.self c.add.new.self
+    (λ new down. c.going_down_keeps_a_book_sound.ensures.down (shelf_of c.self.inside) new c.self.invariant.sound down) c.self.invariant c.close_all.ensures.closes c.close_all.ensures.timed
+    c.clear.ensures c.clear-2.ensures c.add.ensures
+
+pub invariant_of-self : goal.invariant_of-self
+invariant_of-self c = (leaves c).kept
+
+pub returns-clause-down : goal.returns-clause-down
+returns-clause-down c = rw (← c.self.view_is) (leaves c).is
+
+pub returns-clause-sound : goal.returns-clause-sound
+returns-clause-sound c = (leaves c).kept.sound

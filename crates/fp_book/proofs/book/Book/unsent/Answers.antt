@@ -1,0 +1,32 @@
+use Rattle.std.proofs.Common.{None, refl, ◌∙◌, ap, subst}
+use Rattle.fp_book.proofs.Unsents.{Leaves, down_book, gone_down}
+use Rattle.fp_book.specs.declared.line.LoggedStep.TheVariants as line
+use Rattle.fp_book.specs.Calls.{ClosesAt, GoesDown}
+use Rattle.fp_book.specs.Log.{logged}
+use Rattle.fp_book.specs.Outbox.{without_waiting}
+use Rattle.fp_book.specs.Parcel.{local_of}
+use Rattle.fp_book.specs.Sending.{is_frame_of}
+use Rattle.fp_book.specs.Views.{shelf_of}
+use Rattle.std.specs.FinMap.{get}
+use Rattle.fp_book.proofs.book.Book.unsent.Goals as goal
+
+leaves : (c : goal.After-add) → Leaves (down_book c.self.inside c.close_all.new.rows c.close_all.new.deadlines c.clear.new.self c.clear-2.new.self c.add.new.self)
+    (λ new. GoesDown None (shelf_of c.self.inside) (line.Unsent (local_of c.args.parcel.content)) new)
+leaves c =
+    gone_down c.self.inside None (line.Unsent (local_of c.args.parcel.content)) c.close_all.new.rows c.close_all.new.deadlines c.clear.new.self c.clear-2.new.self c.add.new.self
+    (λ new down.
+    c.going_down_keeps_a_book_sound.ensures.unsent (shelf_of c.self.inside) new c.args.parcel c.self.invariant.sound
+    (record { was_out = (c.in-Ok.ensures.known.0 refl).1; down = down }))
+    c.self.invariant
+    (λ q. subst (λ o. ClosesAt (is_frame_of q o) (get c.self.inside.rows q) (get c.close_all.new.rows q)) (ap (λ o. o.out) c.in-Ok.ensures.ok) (c.close_all.ensures.closes q))
+    c.close_all.ensures.timed c.clear.ensures (c.clear-2.ensures ∙ ap without_waiting c.in-Ok.ensures.ok)
+    (c.add.ensures ∙ ap (λ local. logged c.self.inside.log (line.Unsent local)) c.local-local.ensures)
+
+pub invariant_of-self-2 : goal.invariant_of-self-2
+invariant_of-self-2 c = (leaves c).kept
+
+pub returns-clause-ok : goal.returns-clause-ok
+returns-clause-ok c = rw (← c.self.view_is) (record { was_out = (c.in-Ok.ensures.known.0 refl).1; down = (leaves c).is })
+
+pub returns-clause-sound : goal.returns-clause-sound
+returns-clause-sound c = (leaves c).kept.sound

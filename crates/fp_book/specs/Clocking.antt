@@ -1,0 +1,72 @@
+-- What becomes of the dialogues of a link, their deadlines and their queue while each that is due is given a Clock.
+use Rattle.std.specs.Prelude.{◌≡◌, ℕ, ◌+◌, ◌≤◌, ◌==◌, Bool, true, false, List, ◌++◌, Some, None, length, filter, map, if◌then◌else◌, All, AllPairs}
+use Rattle.std.specs.List.{list_any}
+use Rattle.std.specs.Ordering.{nat_cmp}
+use Rattle.std.specs.FinMap.{FinMap, get, len, remove}
+use Rattle.fp_book.specs.Calls.{ClocksAt, ComesFirst, Due, is_idle, joins}
+use Rattle.fp_book.specs.Dialogues.{ClockedAt, Rows}
+use Rattle.fp_book.specs.Shelf.{one_if, turns_of}
+use Rattle.fp_book.specs.Totals.{sum_of}
+use Rattle.fp_book.specs.Views.{AreTimed}
+use Rattle.fp_row.specs.declared.row.Row.{Row}
+use Rattle.fp_row.specs.Row.{deadline_of, is_due, is_ready}
+use Rattle.fp_timers.specs.Deadlines.{IsEarliestDue}
+
+abbrev pub Deadlines : Type 0
+Deadlines = FinMap nat_cmp ℕ
+
+-- one for a dialogue that is due at this moment
+abbrev pub due_now : ℕ → Row → ℕ
+due_now moment row = if is_due row moment then 1 else 0
+
+-- what is relied on: the deadlines are those of the dialogues, at most 4,096, and the queue has as many as are ready
+pub record AreAgreed (rows : Rows) (deadlines : Deadlines) (ready : List ℕ) : Type 0 where
+  pub timed : AreTimed deadlines rows
+  pub held : len rows ≤ 4096
+  pub ready_length : length ready ≡ sum_of (λ row. one_if (is_ready row)) rows
+
+-- the dialogue with the earliest deadline that is due is given a Clock
+pub record ClocksFirst (moment : ℕ) (rows : Rows) (deadlines : Deadlines) (ready : List ℕ) (rows_then : Rows) (deadlines_then : Deadlines) (ready_then : List ℕ) : Type 0 where
+  pub local : ℕ
+  pub is_joining : Bool
+  pub first : IsEarliestDue deadlines moment (Some local)
+  pub clocked : ClockedAt rows local moment is_joining rows_then
+  pub deadlines_are : deadlines_then ≡ remove deadlines local
+  pub ready_is : ready_then ≡ ready ++ joins local is_joining
+
+-- one was, or nothing changed
+abbrev pub ClocksIf : Bool → ℕ → Rows → Deadlines → List ℕ → Rows → Deadlines → List ℕ → Type 0
+ClocksIf true moment rows deadlines ready rows_then deadlines_then ready_then = ClocksFirst moment rows deadlines ready rows_then deadlines_then ready_then
+ClocksIf false moment rows deadlines ready rows_then deadlines_then ready_then = (rows_then ≡ rows) × (deadlines_then ≡ deadlines) × (ready_then ≡ ready)
+
+-- the dialogue is due, and this is its deadline
+pub record IsDueIn (rows : Rows) (moment : ℕ) (due : Due) : Type 0 where
+  pub row : Row
+  pub was : get rows due.1 ≡ Some row
+  pub deadline : deadline_of row ≡ Some due.0
+  pub now : is_due row moment ≡ true
+
+-- whether a dialogue is among them
+abbrev pub is_among : ℕ → List Due → Bool
+is_among local due = list_any (λ (d : Due). d.1 == local) due
+
+-- those of them that become ready, in their order
+abbrev pub idle_among : Rows → List Due → List ℕ
+idle_among rows due = filter (λ local. is_idle (get rows local)) (map (λ (d : Due). d.1) due)
+
+-- so many dialogues were given a Clock so far
+pub record Clocking (moment : ℕ) (old : Rows) (was : List ℕ) (rows : Rows) (deadlines : Deadlines) (ready : List ℕ) (added : ℕ) : Type 0 where
+  -- those that were, in their order
+  pub due : List Due
+  pub in_order : AllPairs ComesFirst due
+  pub are_due : All (IsDueIn old moment) due
+  pub added_is : added ≡ length due
+  -- each deadline that is left comes after theirs, and they have none
+  pub behind : (local deadline : ℕ) → get deadlines local ≡ Some deadline → All (λ d. ComesFirst d (deadline, local)) due
+  pub cleared : (local : ℕ) → is_among local due ≡ true → get deadlines local ≡ None
+  pub rows_are : (local : ℕ) → ClocksAt (is_among local due) moment (get old local) (get rows local)
+  pub ready_is : ready ≡ was ++ idle_among old due
+  pub agreed : AreAgreed rows deadlines ready
+  -- those that are still due
+  pub left : sum_of (due_now moment) rows + added ≡ sum_of (due_now moment) old
+  pub turns : sum_of turns_of rows ≡ sum_of turns_of old

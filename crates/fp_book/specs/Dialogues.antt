@@ -1,0 +1,152 @@
+-- What becomes of the dialogues of a link where one of them changes.
+use Rattle.std.specs.Prelude.{◌≡◌, ℕ, ◌+◌, ◌&&◌, Bool, false, not, min, nat_lt, Option, Some, None, List, [], ◌∷◌, ◌++◌, length}
+use Rattle.std.specs.Option.{option_map_or}
+use Rattle.std.specs.Ordering.{nat_cmp}
+use Rattle.std.specs.FinMap.{FinMap, get, insert, remove}
+use Rattle.fp_book.specs.declared.dialogues.Dropped.{Dropped}
+use Rattle.fp_book.specs.declared.dialogues.Left.{Left}
+use Rattle.fp_book.specs.declared.answers.Posted.{Posted}
+use Rattle.fp_book.specs.declared.answers.Posted.TheVariants.{Aborted}
+use Rattle.fp_book.specs.Calls.{abort_for, closed_answer}
+use Rattle.fp_book.specs.Outbox.{Outbox}
+use Rattle.fp_book.specs.Shelf.{keep}
+use Rattle.fp_ber.specs.Canon.{canon}
+use Rattle.fp_frames.specs.Frame.{framed}
+use Rattle.fp_q773.specs.declared.provider_abort.AbortCause.{AbortCause}
+use Rattle.fp_q773.specs.ProviderAbort.{cause_code, provider_abort}
+use Rattle.fp_q773.specs.Tid.{octets_of}
+use Rattle.fp_reply.specs.declared.provider_abort.AbortFrame.{AbortFrame}
+use Rattle.fp_reply.specs.ProviderAbort.{frame_octets}
+use Rattle.fp_entry.specs.declared.entry.Entry.{Entry}
+use Rattle.fp_entry.specs.declared.entry.EntryKind.TheVariants.{Clock}
+use Rattle.fp_entry.specs.Entries.{entry_at}
+use Rattle.fp_q773.specs.declared.tid.Tid.{Tid}
+use Rattle.fp_row.specs.declared.done.Done.{Done}
+use Rattle.fp_row.specs.declared.ending.Ending.{Ending}
+use Rattle.fp_row.specs.declared.requested.Requested.{Requested}
+use Rattle.fp_row.specs.declared.row.Row.{Row}
+use Rattle.fp_row.specs.declared.turn.Turn.{Turn}
+use Rattle.fp_row.specs.Calls.{Ends, Extends, Gives, HandsOut, Opens, PutsBack, SendsOne, sending}
+use Rattle.fp_row.specs.Row.{deadline_of, is_admitted, is_due, is_ready}
+
+abbrev pub Rows : Type 0
+Rows = FinMap nat_cmp Row
+
+-- what the other parts of a book are to be told of a dialogue that changed
+abbrev pub left_as : Row → Left
+left_as row = record { is_ready = is_ready row; deadline = deadline_of row }
+
+-- a deadline is set, or taken away
+abbrev pub with_deadline : FinMap nat_cmp ℕ → ℕ → Option ℕ → FinMap nat_cmp ℕ
+with_deadline deadlines local None = remove deadlines local
+with_deadline deadlines local (Some deadline) = insert deadlines local deadline
+
+-- the dialogue hands out a turn
+pub record HandsOutAt (old : Rows) (local : ℕ) (turn : Turn) (new : Rows) : Type 0 where
+  pub before : Row
+  pub after : Row
+  pub was : get old local ≡ Some before
+  pub takes : HandsOut before turn after
+  pub rows : new ≡ insert old local after
+
+-- the dialogue takes its turn back, served, and goes where nothing of it is left
+pub record GivesAt (old : Rows) (done : Done) (requested : Requested) (left : Left) (new : Rows) : Type 0 where
+  pub before : Row
+  pub after : Row
+  pub was : get old done.turn.local ≡ Some before
+  pub gives : Gives before done requested after
+  pub left_is : left ≡ left_as after
+  pub rows : new ≡ keep old done.turn.local after
+
+-- it takes it back, not served, and is ready then or not
+pub record PutsBackAt (old : Rows) (turn : Turn) (joins : Bool) (new : Rows) : Type 0 where
+  pub before : Row
+  pub after : Row
+  pub was : get old turn.local ≡ Some before
+  pub puts : PutsBack before turn after
+  pub joins_is : joins ≡ is_ready after
+  pub rows : new ≡ keep old turn.local after
+
+-- whether a frame of the dialogue is kept that wasn't sent
+abbrev pub is_unsent : Option Row → Bool
+is_unsent None = false
+is_unsent (Some row) = nat_lt row.sent row.kept
+
+-- one more of its frames was sent
+pub record SendsAt (old : Rows) (local : ℕ) (new : Rows) : Type 0 where
+  pub before : Row
+  pub after : Row
+  pub was : get old local ≡ Some before
+  pub sends : SendsOne before after
+  pub rows : new ≡ keep old local after
+
+-- it is ended from outside
+pub record EndsAt (old : Rows) (local : ℕ) (ending : Ending) (is_sending : Bool) (new : Rows) : Type 0 where
+  pub before : Row
+  pub after : Row
+  pub was : get old local ≡ Some before
+  pub ends : Ends ending is_sending before after
+  pub rows : new ≡ keep old local after
+
+-- whether a dialogue that is ended drops frames that wait: those that are kept and weren't sent, but the one that is
+-- being sent
+abbrev pub drops_frames : Row → Bool → Bool
+drops_frames row is_sending = nat_lt (min row.kept (row.sent + sending is_sending)) row.kept
+
+-- what of it is to be dropped
+abbrev pub dropped_of : Row → Bool → Dropped
+dropped_of row is_sending = record { was_ready = is_ready row; frames = drops_frames row is_sending }
+
+-- whether there is a dialogue that takes messages
+abbrev pub takes_more : Option Row → Bool
+takes_more o = option_map_or is_admitted o false
+
+-- it is ended, if it is
+abbrev pub EndsIf : Option Ending → Bool → Row → Row → Type 0
+EndsIf None is_sending extended after = after ≡ extended
+EndsIf (Some ending) is_sending extended after = Ends ending is_sending extended after
+
+-- entries stand behind its others, and it is ended, if it is
+pub record ExtendsAt (old : Rows) (local : ℕ) (entries : List Entry) (ending : Option Ending) (is_sending : Bool) (left : Left) (new : Rows) : Type 0 where
+  pub before : Row
+  pub extended : Row
+  pub after : Row
+  pub was : get old local ≡ Some before
+  pub extends : Extends before entries extended
+  pub ends : EndsIf ending is_sending extended after
+  pub left_is : left ≡ record { is_ready = not (is_ready before) && is_ready after; deadline = deadline_of after }
+  pub rows : new ≡ keep old local after
+
+-- a dialogue is opened with these entries
+pub record OpensAt (old : Rows) (local : ℕ) (peer : Tid) (birth moment : ℕ) (entries : List Entry) (left : Left) (new : Rows) : Type 0 where
+  pub opened : Row
+  pub after : Row
+  pub opens : Opens local peer birth moment opened
+  pub extends : Extends opened entries after
+  pub left_is : left ≡ left_as after
+  pub rows : new ≡ insert old local after
+
+-- whether there is a dialogue that is due at this moment
+abbrev pub is_due_at : Option Row → ℕ → Bool
+is_due_at o moment = option_map_or (λ row. is_due row moment) o false
+
+-- the dialogue is given a Clock, and joins those that are ready, or not
+pub record ClockedAt (old : Rows) (local moment : ℕ) (joins : Bool) (new : Rows) : Type 0 where
+  pub before : Row
+  pub after : Row
+  pub was : get old local ≡ Some before
+  pub extends : Extends before (entry_at moment Clock ∷ []) after
+  pub joins_is : joins ≡ (not (is_ready before) && is_ready after)
+  pub rows : new ≡ insert old local after
+
+-- what a message that is refused is answered, and what waits to be sent then
+abbrev pub AnsweredBy : Outbox → Option (Tid × AbortCause) → Option ℕ → Posted → Outbox → Type 0
+AnsweredBy old None closed answer new = (answer ≡ closed_answer closed) × (new ≡ old)
+AnsweredBy old (Some (peer, cause)) closed answer new =
+    (answer ≡ Aborted cause)
+    × ((frame : AbortFrame)
+    × (frame_octets frame ≡ framed (canon (provider_abort (octets_of peer) (cause_code cause))))
+    × (new ≡ record old { aborts = old.aborts ++ frame ∷ [] }))
+
+abbrev pub AnswersBy : Outbox → Option AbortCause → Option Tid → Option ℕ → Posted → Outbox → Type 0
+AnswersBy old cause peer closed answer new = AnsweredBy old (abort_for (length old.aborts) cause peer) closed answer new

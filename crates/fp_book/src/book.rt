@@ -1,0 +1,125 @@
+//! The book of a link.
+
+ghost use Rattle.std.specs.Prelude.{◌≡◌, ◌+◌, ◌-◌, ◌<◌, ◌≤◌, [], IfOk, vec_capacity, vec_len};
+ghost use Rattle.fp_book.specs.Calls.{DrainsBook};
+ghost use Rattle.fp_book.specs.Log.{Drains};
+ghost use Rattle.fp_book.specs.Outbox.{frames_held};
+ghost use Rattle.fp_book.specs.Shelf.{Sound, empty_shelf, places_held};
+ghost use Rattle.fp_book.specs.declared.totals.Totals as counts;
+
+use crate::{Line, Log, Outbox, ReadyQueue, Totals};
+use fp_row::Rows;
+use fp_tids::LocalIds;
+use fp_timers::Deadlines;
+use std::alloc::{AllocError, Global};
+use std::marker::Model;
+
+/// All dialogues of a link, the order in which they are served, what waits to be sent, and the log. Contracts see it as
+/// a [`Shelf`](crate): its parts as lists and finite maps, and what was counted.
+#[derive(Debug, Drop)]
+pub struct Book {
+    // The link, 0 to 7.
+    pub(crate) link: u8,
+    pub(crate) ids: LocalIds,
+    // How many Begins were accepted.
+    pub(crate) births: u64,
+    // How many entries were ever accepted.
+    pub(crate) entries: u64,
+    // The dialogues that are held.
+    pub(crate) rows: Rows,
+    // The deadline of each that has one.
+    pub(crate) deadlines: Deadlines,
+    pub(crate) ready: ReadyQueue,
+    pub(crate) outbox: Outbox,
+    // How many turns are out.
+    pub(crate) turns: usize,
+    pub(crate) totals: Totals,
+    pub(crate) log: Log,
+    pub(crate) is_down: bool,
+}
+
+impl Model for Book {
+    ghost use Rattle.std.specs.Coded.{codes, coded_ℕ};
+    ghost use Rattle.std.specs.Ordering.{nat_cmp};
+    ghost use Rattle.std.specs.FinMap as map;
+    ghost use Rattle.fp_book.specs.Shelf.{Shelf};
+    ghost use Rattle.fp_row.specs.contracts.row.Row as row_type;
+
+    ghost Value = { Shelf };
+
+    ghost coded = { Prim.hlevel (codes, map.code {R = nat_cmp} coded_ℕ row_type.the_row.coded) };
+
+    ghost use Rattle.fp_book.specs.Views.{IsKept, shelf_of};
+
+    ghost view = { λ book. shelf_of book };
+
+    ghost invariant = { λ book. IsKept book };
+}
+
+impl Book {
+    /// How many dialogues may be held.
+    pub const MOST_DIALOGUES: usize = 4096;
+
+    /// How many entries of a dialogue may wait to be served or be out, those of the clock and the peer's end and abort
+    /// not counted.
+    pub const MOST_ENTRIES: usize = 64;
+
+    /// How many elements the component portion of a message may hold.
+    pub const MOST_ELEMENTS: usize = 16;
+
+    /// How many entries a link accepts before it takes no more: from then on each Begin, Continue and End is refused, and
+    /// no dialogue is given a Clock. An Abort of the peer is accepted all the same.
+    pub const ALL_ENTRIES: u64 = 1 << 63;
+
+    /// The book of a link, 0 to 7, which is up. It holds no dialogue, and has memory for all but the dialogues.
+    pub fn new(alloc: Global, link: u8) -> Result<Book, AllocError>
+        requires { link < LocalIds.LINKS }
+        ensures value { IfOk result (λ book. book ≡ empty_shelf link) }
+        ensures sound { IfOk result (λ book. Sound book) }
+    {
+        Ok(Book {
+            link,
+            ids: LocalIds::new(link),
+            births: 0,
+            entries: 0,
+            rows: Rows::new(alloc),
+            deadlines: Deadlines::new(alloc)?,
+            ready: ReadyQueue::new(alloc)?,
+            outbox: Outbox::new(alloc)?,
+            turns: 0,
+            totals: Totals {
+                accepted: 0,
+                served: 0,
+                sent: 0,
+            },
+            log: Log::new(alloc)?,
+            is_down: false,
+        })
+    }
+
+    /// What was counted since the book was made.
+    pub fn totals(&self) -> Totals
+        ensures value { result ≡ self.now.totals }
+        ensures sound { Sound self.now }
+    {
+        self.totals
+    }
+
+    /// Moves the oldest lines of the log behind `lines`, as many as `lines` has room for, and changes nothing else.
+    /// Takes no memory.
+    pub fn drain(&mut self, lines: &mut Vec<Line>)
+        ensures drains { DrainsBook self.old lines.old.items (vec_capacity lines.old - vec_len lines.old) self.new lines.new.items }
+        ensures capacity { vec_capacity lines.new ≡ vec_capacity lines.old }
+        ensures sound { Sound self.new }
+    {
+        self.log.drain(self.link, lines);
+    }
+
+    /// How many places for frames are held: by frames that wait, by the one that is being sent, and by turns that are
+    /// out.
+    pub(crate) fn places_held(&self) -> usize
+        ensures { result ≡ places_held self.now }
+    {
+        self.outbox.frames_held() + self.turns
+    }
+}

@@ -1,0 +1,236 @@
+//! The dialogues of a link where one of them changes.
+
+ghost use Rattle.std.specs.Prelude.{◌≡◌, ◌≢◌, [], ◌↔◌, true, Some, IfErr, IfOk, IsOk, IsTrue, OnErr, ◌&&◌, is_some, if◌then◌else◌};
+ghost use Rattle.std.specs.FinMap.{contains_key, get, remove};
+ghost use Rattle.fp_book.specs.Calls.{turn_of};
+ghost use Rattle.fp_book.specs.Dialogues.{ClockedAt, EndsAt, ExtendsAt, GivesAt, HandsOutAt, OpensAt, PutsBackAt, SendsAt, dropped_of, drops_frames, is_due_at, is_unsent, left_as, takes_more};
+ghost use Rattle.fp_row.specs.declared.row.Row.{Row};
+ghost use Rattle.fp_book.specs.Shelf.{ready_count};
+
+use fp_digits::Moment;
+use fp_entry::Entries;
+use fp_q773::Tid;
+use fp_row::{Done, Ending, Requested, Row, Rows, Turn, putting_back_changes_nothing};
+use std::alloc::{AllocError, Global};
+
+/// What the other parts of a book are to be told of a dialogue that changed.
+#[derive(Clone, Copy, Debug)]
+pub(crate) struct Left {
+    /// Whether it is ready, or has become so.
+    pub(crate) is_ready: bool,
+    /// The earliest moment at which it is given a Clock, in milliseconds, if there is one.
+    pub(crate) deadline: Option<u64>,
+}
+
+impl Left {
+    /// What is to be told of this dialogue.
+    fn of(row: &Row) -> Left
+        ensures { result ≡ left_as row.now }
+    {
+        Left {
+            is_ready: row.is_ready(),
+            deadline: row.deadline(),
+        }
+    }
+}
+
+/// What comes of a turn that a dialogue takes back, served.
+#[derive(Debug, Drop)]
+pub(crate) struct Served {
+    /// What becomes of its request.
+    pub(crate) requested: Requested,
+    /// What is to be told of the dialogue.
+    pub(crate) left: Left,
+}
+
+/// What comes of the entries that a dialogue accepts.
+#[derive(Clone, Copy, Debug)]
+pub(crate) struct Extended {
+    /// What is to be told of the dialogue, and whether it has become ready.
+    pub(crate) left: Left,
+    /// Whether frames of it that wait are to be dropped.
+    pub(crate) drops_frames: bool,
+}
+
+/// What of a dialogue that is ended from outside is to be dropped by the other parts of a book.
+#[derive(Clone, Copy, Debug)]
+pub(crate) struct Dropped {
+    /// Whether it was ready, so that it has a place in the order of service.
+    pub(crate) was_ready: bool,
+    /// Whether frames of it wait.
+    pub(crate) frames: bool,
+}
+
+/// Takes a dialogue off of which nothing is left. Takes no memory.
+fn keep(rows: &mut Rows, local: u32, is_held: bool)
+    ensures { rows.new ≡ (if is_held then rows.old else remove rows.old local) }
+{
+    if !is_held {
+        drop(rows.remove(local));
+    }
+}
+
+/// Hands out the turn of a dialogue that is ready. Where memory for a copy of the entry is wanting nothing changes.
+pub(crate) fn take(rows: &mut Rows, local: u32) -> Result<Turn, AllocError>
+    requires { ready_count (get rows.old local) ≡ 1 }
+    ensures ok { IfOk result (λ turn. HandsOutAt rows.old local turn rows.new) }
+    ensures err { OnErr result (rows.new ≡ rows.old) }
+{
+    putting_back_changes_nothing();
+    let Some(row) = rows.get_mut(local) else {
+        unreachable!()
+    };
+    let Some(turn) = row.take()? else {
+        unreachable!()
+    };
+    Ok(turn)
+}
+
+/// Gives a turn that was served back to its dialogue, which goes where nothing of it is left. A strange one comes back,
+/// and nothing changes. Takes no memory.
+pub(crate) fn give(rows: &mut Rows, done: Done) -> Result<Served, Done>
+    ensures ok { IfOk result (λ served. GivesAt rows.old done served.requested served.left rows.new) }
+    ensures err { IfErr result (λ back. (back ≡ done) × (rows.new ≡ rows.old)) }
+    ensures known { IsOk result ↔ (turn_of (get rows.old done.turn.local) ≡ Some done.turn) }
+{
+    putting_back_changes_nothing();
+    let local = done.turn().local();
+    let Some(row) = rows.get_mut(local) else {
+        return Err(done);
+    };
+    let requested = match row.give(done) {
+        Ok(requested) => requested,
+        Err(strange) => return Err(strange),
+    };
+    let left = Left::of(row);
+    let is_held = row.is_held();
+    keep(rows, local, is_held);
+    Ok(Served { requested, left })
+}
+
+/// Gives a turn that wasn't served back to its dialogue, which goes where nothing of it is left, and says whether the
+/// dialogue is ready then. A strange one comes back, and nothing changes. Takes no memory.
+pub(crate) fn put_back(rows: &mut Rows, turn: Turn) -> Result<bool, Turn>
+    ensures ok { IfOk result (λ joins. PutsBackAt rows.old turn joins rows.new) }
+    ensures err { IfErr result (λ back. (back ≡ turn) × (rows.new ≡ rows.old)) }
+    ensures known { IsOk result ↔ (turn_of (get rows.old turn.local) ≡ Some turn) }
+{
+    putting_back_changes_nothing();
+    let local = turn.local();
+    let Some(row) = rows.get_mut(local) else {
+        return Err(turn);
+    };
+    match row.put_back(turn) {
+        Ok(()) => {}
+        Err(strange) => return Err(strange),
+    }
+    let is_ready = row.is_ready();
+    let is_held = row.is_held();
+    keep(rows, local, is_held);
+    Ok(is_ready)
+}
+
+/// Counts one more frame of a dialogue as sent, of which one is kept that wasn't. The dialogue goes where nothing of it
+/// is left. Takes no memory.
+pub(crate) fn sent(rows: &mut Rows, local: u32)
+    requires { is_unsent (get rows.old local) ≡ true }
+    ensures { SendsAt rows.old local rows.new }
+{
+    let Some(row) = rows.get_mut(local) else {
+        unreachable!()
+    };
+    row.sent();
+    let is_held = row.is_held();
+    keep(rows, local, is_held);
+}
+
+/// Ends a dialogue that is there from outside, which goes where nothing of it is left. Tells what of it is to be
+/// dropped elsewhere. Takes no memory.
+pub(crate) fn end(rows: &mut Rows, local: u32, ending: Ending, is_sending: bool) -> Dropped
+    requires { IsTrue (contains_key rows.old local) }
+    ensures ends { EndsAt rows.old local ending is_sending rows.new }
+    ensures dropped { (row : Row) → get rows.old local ≡ Some row → result ≡ dropped_of row is_sending }
+{
+    let Some(row) = rows.get_mut(local) else {
+        unreachable!()
+    };
+    let was_ready = row.is_ready();
+    let frames = row.end(ending, is_sending);
+    let is_held = row.is_held();
+    keep(rows, local, is_held);
+    Dropped { was_ready, frames }
+}
+
+/// Puts entries behind those of a dialogue that takes messages, and ends it from outside, where it is ended. It goes
+/// where nothing of it is left. Tells whether it has become ready. Where memory is wanting, which it never is for no
+/// entries, nothing changes, and the entries are gone.
+pub(crate) fn extend(
+    rows: &mut Rows,
+    local: u32,
+    entries: Entries,
+    ending: Option<Ending>,
+    is_sending: bool,
+) -> Result<Extended, AllocError>
+    requires { takes_more (get rows.old local) ≡ true }
+    ensures ok { IfOk result (λ extended. ExtendsAt rows.old local entries ending is_sending extended.left rows.new) }
+    ensures only { OnErr result (entries ≢ []) }
+    ensures drops { IfOk result (λ extended. (row : Row) → get rows.old local ≡ Some row → extended.drops_frames ≡ (is_some ending && drops_frames row is_sending)) }
+    ensures err { OnErr result (rows.new ≡ rows.old) }
+{
+    putting_back_changes_nothing();
+    let Some(row) = rows.get_mut(local) else {
+        unreachable!()
+    };
+    let was_ready = row.is_ready();
+    row.accept(entries)?;
+    let drops_frames = match ending {
+        Some(ending) => row.end(ending, is_sending),
+        None => false,
+    };
+    let left = Left {
+        is_ready: !was_ready && row.is_ready(),
+        deadline: row.deadline(),
+    };
+    let is_held = row.is_held();
+    keep(rows, local, is_held);
+    Ok(Extended { left, drops_frames })
+}
+
+/// Opens a dialogue with these entries: this end knows it by `local`, its peer by `peer`, and it is the `birth`-th of
+/// its link. Where memory is wanting nothing changes, and the entries are gone.
+pub(crate) fn open(
+    alloc: Global,
+    rows: &mut Rows,
+    local: u32,
+    peer: Tid,
+    birth: u64,
+    moment: Moment,
+    entries: Entries,
+) -> Result<Left, AllocError>
+    ensures ok { IfOk result (λ left. OpensAt rows.old local peer birth moment entries left rows.new) }
+    ensures err { OnErr result (rows.new ≡ rows.old) }
+{
+    let mut opened = Row::open(alloc, local, peer, birth, moment);
+    opened.accept(entries)?;
+    let left = Left::of(&opened);
+    match rows.insert(local, opened) {
+        Ok(()) => Ok(left),
+        Err(_) => Err(AllocError),
+    }
+}
+
+/// Gives a dialogue that is due a Clock of this moment, and tells whether it has become ready. Where memory is wanting
+/// nothing changes.
+pub(crate) fn clock(rows: &mut Rows, local: u32, moment: Moment) -> Result<bool, AllocError>
+    requires { is_due_at (get rows.old local) moment ≡ true }
+    ensures ok { IfOk result (λ joins. ClockedAt rows.old local moment joins rows.new) }
+    ensures err { OnErr result (rows.new ≡ rows.old) }
+{
+    putting_back_changes_nothing();
+    let Some(row) = rows.get_mut(local) else {
+        unreachable!()
+    };
+    let was_ready = row.is_ready();
+    row.accept_clock(moment)?;
+    Ok(!was_ready && row.is_ready())
+}

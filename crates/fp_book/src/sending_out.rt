@@ -1,0 +1,113 @@
+//! Parcels of a book: picked, sent and unsent; and the end of a link.
+
+ghost use Rattle.std.specs.Prelude.{◌≡◌, ◌↔◌, ℕ, IfErr, IsOk, OnOk};
+ghost use Rattle.std.specs.FinMap.{get};
+ghost use Rattle.fp_book.specs.declared.line.LoggedStep.TheVariants as line;
+ghost use Rattle.fp_book.specs.Calls.{ClosesAt, GoesDown, Hands, IsOut, Sends, Unsends};
+ghost use Rattle.fp_book.specs.Sending.{is_frame_of};
+ghost use Rattle.fp_book.specs.Shelf.{Sound};
+ghost use Rattle.fp_book.specs.Views.{AreTimed};
+
+use crate::{
+    Book, LoggedStep, Outbox, Parcel, Picked, dialogues, going_down_keeps_a_book_sound,
+    sending_keeps_a_book_sound,
+};
+use fp_row::{Ending, Rows};
+use fp_service::entries_ask_once_at_most;
+use fp_timers::Deadlines;
+
+/// Closes all dialogues. Takes no memory.
+fn close_all(rows: &mut Rows, deadlines: &mut Deadlines, outbox: &Outbox)
+    requires { AreTimed deadlines.old rows.old }
+    ensures closes { (local : ℕ) → ClosesAt (is_frame_of local outbox.now.out) (get rows.old local) (get rows.new local) }
+    ensures timed { AreTimed deadlines.new rows.new }
+{
+    let mut next = rows.after(None);
+    while let Some(local) = next {
+        let is_sending = outbox.is_sending(local);
+        dialogues::end(rows, local, Ending::Closed, is_sending);
+        deadlines.clear(local);
+        next = rows.after(Some(local));
+    }
+}
+
+impl Book {
+    /// Hands out what is sent next: the oldest Abort of the provider, or, where none waits, the oldest frame of a
+    /// dialogue. `Busy`: a parcel is out already. `Nothing`: nothing waits. In these cases nothing changes. Takes no
+    /// memory.
+    pub fn pick(&mut self) -> Picked
+        ensures hands { Hands self.old result self.new }
+        ensures sound { Sound self.new }
+    {
+        sending_keeps_a_book_sound();
+        let picked = self.outbox.pick(self.link);
+        if let Picked::Parcel(parcel) = &picked {
+            let local = parcel.local();
+            self.log.add(LoggedStep::Pick { local });
+        }
+        picked
+    }
+
+    /// Takes the parcel back that was sent: a frame counts as one more that its dialogue sent, an Abort of the provider
+    /// isn't counted. A strange parcel, of another link or not the one that is out, comes back, and nothing changes.
+    /// Takes no memory.
+    pub fn sent(&mut self, parcel: Parcel) -> Result<(), Parcel>
+        ensures ok { OnOk result (Sends self.old parcel.content self.new) }
+        ensures err { IfErr result (λ back. (back ≡ parcel) × (self.new ≡ self.old)) }
+        ensures known { IsOk result ↔ IsOut self.old parcel }
+        ensures sound { Sound self.new }
+    {
+        sending_keeps_a_book_sound();
+        entries_ask_once_at_most();
+        let dialogue = parcel.dialogue();
+        match self.outbox.take_back(self.link, parcel) {
+            Ok(()) => {}
+            Err(strange) => return Err(strange),
+        }
+        let Some(local) = dialogue else {
+            self.log.add(LoggedStep::Sent { local: 0 });
+            return Ok(());
+        };
+        dialogues::sent(&mut self.rows, local);
+        self.totals.sent += 1;
+        self.log.add(LoggedStep::Sent { local });
+        Ok(())
+    }
+
+    /// Takes the parcel back that couldn't be sent: the link goes down, as by [`Book::down`], and its frame counts as
+    /// not sent. A strange parcel comes back, and nothing changes. Takes no memory.
+    pub fn unsent(&mut self, parcel: Parcel) -> Result<(), Parcel>
+        ensures ok { OnOk result (Unsends self.old parcel self.new) }
+        ensures err { IfErr result (λ back. (back ≡ parcel) × (self.new ≡ self.old)) }
+        ensures known { IsOk result ↔ IsOut self.old parcel }
+        ensures sound { Sound self.new }
+    {
+        going_down_keeps_a_book_sound();
+        let local = parcel.local();
+        match self.outbox.take_back(self.link, parcel) {
+            Ok(()) => {}
+            Err(strange) => return Err(strange),
+        }
+        close_all(&mut self.rows, &mut self.deadlines, &self.outbox);
+        self.ready.clear();
+        self.outbox.clear();
+        self.is_down = true;
+        self.log.add(LoggedStep::Unsent { local });
+        Ok(())
+    }
+
+    /// The link goes down: all dialogues are closed, and what waits is dropped. What is out may still come back: turns,
+    /// whose requests aren't accepted, and the parcel. Each message that is posted from now on is discarded. Where the
+    /// link is down already, nothing but the log changes. Takes no memory.
+    pub fn down(&mut self)
+        ensures down { GoesDown self.old.outbox.out self.old line.Down self.new }
+        ensures sound { Sound self.new }
+    {
+        going_down_keeps_a_book_sound();
+        close_all(&mut self.rows, &mut self.deadlines, &self.outbox);
+        self.ready.clear();
+        self.outbox.clear();
+        self.is_down = true;
+        self.log.add(LoggedStep::Down);
+    }
+}

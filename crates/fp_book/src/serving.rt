@@ -1,0 +1,130 @@
+//! Turns of a book: taken, given and put back.
+
+ghost use Rattle.std.specs.Prelude.{◌≡◌, ◌↔◌, ◌<◌, ◌++◌, true, Some, IfErr, IfOk, IsOk, IsSome, IsTrue, length, is_some, OnOk};
+ghost use Rattle.std.specs.FinMap.{get};
+ghost use Rattle.fp_timers.specs.Deadlines.{HasRoom};
+ghost use Rattle.fp_book.specs.Calls.{GivesDone, NoneReady, PutsTurnBack, Takes, given_of, joins, turn_of, waiting_in};
+ghost use Rattle.fp_book.specs.Dialogues.{with_deadline};
+ghost use Rattle.fp_book.specs.Shelf.{Sound};
+
+use crate::{
+    Book, Given, LoggedStep, Outbox, ReadyQueue, Taken, dialogues, turns_keep_a_book_sound,
+};
+use fp_row::{Done, Requested, Turn};
+use fp_timers::Deadlines;
+
+/// Gives a dialogue its deadline, or takes it away. Takes no memory.
+pub(crate) fn set_deadline(deadlines: &mut Deadlines, local: u32, deadline: Option<u64>)
+    requires { HasRoom deadlines.old local }
+    ensures { deadlines.new ≡ with_deadline deadlines.old local deadline }
+{
+    match deadline {
+        Some(deadline) => deadlines.set(local, deadline),
+        None => deadlines.clear(local),
+    }
+}
+
+/// Puts a dialogue behind the others that are ready, where it has become so. Takes no memory.
+pub(crate) fn join(ready: &mut ReadyQueue, local: u32, is_ready: bool)
+    requires { IsTrue is_ready → length ready.old < ReadyQueue.MOST }
+    ensures { ready.new ≡ ready.old ++ joins local is_ready }
+{
+    if is_ready {
+        ready.join(local);
+    }
+}
+
+/// Puts the frame of a request behind the others that wait, where there is one to be sent. Takes no memory.
+fn queue(outbox: &mut Outbox, local: u32, requested: Requested) -> Given
+    requires { length outbox.old.frames < Outbox.MOST_FRAMES }
+    ensures value { outbox.new ≡ record outbox.old { frames = outbox.old.frames ++ waiting_in local requested } }
+    ensures given { result ≡ given_of requested }
+{
+    match requested {
+        Requested::Nothing => Given::Silent,
+        Requested::Frame(frame) => {
+            outbox.add_frame(local, frame);
+            Given::Queued
+        }
+        Requested::Dropped => Given::Dropped,
+    }
+}
+
+impl Book {
+    /// Hands out the turn of the dialogue that has been ready longest. `Nothing`: no dialogue is ready. `NoRoom`: all
+    /// 8,192 places for frames are held, by frames that wait, by the one that is being sent, and by turns that are out.
+    /// `Memory`: memory for a copy of the entry was wanting. In these cases nothing changes.
+    pub fn take(&mut self) -> Taken
+        ensures takes { Takes self.old result self.new }
+        ensures none { NoneReady result self.old }
+        ensures sound { Sound self.new }
+    {
+        turns_keep_a_book_sound();
+        let Some(local) = self.ready.first() else {
+            return Taken::Nothing;
+        };
+        if self.places_held() >= Outbox::MOST_FRAMES {
+            return Taken::NoRoom;
+        }
+        let Ok(turn) = dialogues::take(&mut self.rows, local) else {
+            return Taken::Memory;
+        };
+        self.ready.next();
+        self.turns += 1;
+        let position = turn.position();
+        self.log.add(LoggedStep::Take { local, position });
+        Taken::Turn(turn)
+    }
+
+    /// Takes a turn back that was served: its entry counts as served. `Queued`: the frame of its request waits behind
+    /// the others. `Silent`: it requests nothing. `Dropped`: the dialogue was ended from outside, so its request isn't
+    /// accepted. A strange turn, one whose identifiers, position, entry or core before aren't those of a turn that is
+    /// out, comes back, and nothing changes. Takes no memory.
+    pub fn give(&mut self, done: Done) -> Result<Given, Done>
+        ensures ok { IfOk result (λ given. GivesDone self.old done given self.new) }
+        ensures err { IfErr result (λ back. (back ≡ done) × (self.new ≡ self.old)) }
+        ensures known { IsOk result ↔ (turn_of (get self.old.rows done.turn.local) ≡ Some done.turn) }
+        ensures sound { Sound self.new }
+    {
+        turns_keep_a_book_sound();
+        let local = done.turn().local();
+        let position = done.turn().position();
+        let served = match dialogues::give(&mut self.rows, done) {
+            Ok(served) => served,
+            Err(strange) => return Err(strange),
+        };
+        self.turns -= 1;
+        self.totals.served += 1;
+        set_deadline(&mut self.deadlines, local, served.left.deadline);
+        join(&mut self.ready, local, served.left.is_ready);
+        let given = queue(&mut self.outbox, local, served.requested);
+        self.log.add(LoggedStep::Give {
+            local,
+            position,
+            given,
+        });
+        Ok(given)
+    }
+
+    /// Takes a turn back that wasn't served: its entry is the next one of its dialogue again, which joins those that
+    /// are ready behind the others; or it is dropped, where the dialogue was closed meanwhile. A strange turn comes
+    /// back, and nothing changes. Takes no memory.
+    pub fn put_back(&mut self, turn: Turn) -> Result<(), Turn>
+        ensures ok { OnOk result (PutsTurnBack self.old turn self.new) }
+        ensures err { IfErr result (λ back. (back ≡ turn) × (self.new ≡ self.old)) }
+        ensures known { IsOk result ↔ (turn_of (get self.old.rows turn.local) ≡ Some turn) }
+        ensures sound { Sound self.new }
+    {
+        turns_keep_a_book_sound();
+        let local = turn.local();
+        let position = turn.position();
+        let is_ready = match dialogues::put_back(&mut self.rows, turn) {
+            Ok(is_ready) => is_ready,
+            Err(strange) => return Err(strange),
+        };
+        self.turns -= 1;
+        join(&mut self.ready, local, is_ready);
+        self.log.add(LoggedStep::PutBack { local, position });
+        Ok(())
+    }
+}

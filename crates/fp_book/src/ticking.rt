@@ -1,0 +1,107 @@
+//! The clock of a book.
+
+ghost use Rattle.std.specs.Prelude.{◌≡◌, ◌≤◌, ◌+◌, nat_eq, if◌then◌else◌};
+ghost use Rattle.std.specs.FinMap.{len};
+ghost use Rattle.fp_book.specs.declared.line.LoggedStep.TheVariants as line;
+ghost use Rattle.fp_book.specs.Calls.{Ticks};
+ghost use Rattle.fp_book.specs.Clocking.{AreAgreed, Clocking, ClocksIf, due_now};
+ghost use Rattle.fp_book.specs.Log.{logged};
+ghost use Rattle.fp_book.specs.Shelf.{Sound};
+ghost use Rattle.fp_book.specs.Totals.{sum_of};
+ghost use Rattle.fp_book.specs.Views.{AreTimed};
+
+use crate::serving::join;
+use crate::{Book, Log, LoggedStep, ReadyQueue, Ticked, clocks_keep_a_book_sound, dialogues};
+use fp_digits::Moment;
+use fp_row::Rows;
+use fp_timers::Deadlines;
+
+/// Gives the dialogue with the earliest deadline that is due at a moment a Clock, the one with the smallest identifier
+/// among those, and says so. Where none is due, or memory is wanting, nothing changes.
+fn clock_first(
+    rows: &mut Rows,
+    deadlines: &mut Deadlines,
+    ready: &mut ReadyQueue,
+    moment: Moment,
+) -> bool
+    requires { AreAgreed rows.old deadlines.old ready.old }
+    ensures { ClocksIf result moment rows.old deadlines.old ready.old rows.new deadlines.new ready.new }
+{
+    let Some(local) = deadlines.due(moment) else {
+        return false;
+    };
+    let Ok(joins) = dialogues::clock(rows, local, moment) else {
+        return false;
+    };
+    deadlines.clear(local);
+    join(ready, local, joins);
+    true
+}
+
+/// How many dialogues are due at a moment. Goes through all of them only where one is.
+fn count_due(rows: &Rows, deadlines: &Deadlines, moment: Moment) -> u32
+    requires timed { AreTimed deadlines.now rows.now }
+    requires held { len rows.now ≤ 4096 }
+    ensures { result ≡ sum_of (due_now moment) rows.now }
+{
+    if deadlines.due(moment).is_none() {
+        return 0;
+    }
+    rows.count_due(moment) as u32
+}
+
+/// Gives each dialogue that is due at a moment a Clock, the one with the earliest deadline first, and the one with the
+/// smallest identifier among those. It ends where memory is wanting: the others stay due.
+fn clock_all(
+    rows: &mut Rows,
+    deadlines: &mut Deadlines,
+    ready: &mut ReadyQueue,
+    moment: Moment,
+) -> Ticked
+    requires { AreAgreed rows.old deadlines.old ready.old }
+    ensures clocks { Clocking moment rows.old ready.old rows.new deadlines.new ready.new result.added }
+    ensures wanting { result.wanting ≡ sum_of (due_now moment) rows.new }
+{
+    let mut added: u32 = 0;
+    while clock_first(rows, deadlines, ready, moment) {
+        added += 1;
+    }
+    let wanting = count_due(rows, deadlines, moment);
+    Ticked { added, wanting }
+}
+
+/// Logs a tick at which a dialogue was due.
+fn log_tick(log: &mut Log, moment: Moment, ticked: Ticked)
+    ensures { log.new ≡ (if nat_eq (ticked.added + ticked.wanting) 0 then log.old else logged log.old (line.Tick moment ticked.added ticked.wanting)) }
+{
+    let Ticked { added, wanting } = ticked;
+    if added > 0 || wanting > 0 {
+        log.add(LoggedStep::Tick {
+            moment,
+            added,
+            wanting,
+        });
+    }
+}
+
+impl Book {
+    /// Time goes by: each dialogue whose deadline is at or before this moment is given a Clock, the one with the
+    /// earliest deadline first, and the one with the smallest identifier among those. Where memory is wanting for one,
+    /// it and those behind it are left, and stay due. None is due once the link accepted [`Book::ALL_ENTRIES`].
+    pub fn tick(&mut self, moment: Moment) -> Ticked
+        ensures ticks { Ticks self.old moment result.added result.wanting self.new }
+        ensures sound { Sound self.new }
+    {
+        clocks_keep_a_book_sound();
+        if self.is_full() {
+            return Ticked {
+                added: 0,
+                wanting: 0,
+            };
+        }
+        let ticked = clock_all(&mut self.rows, &mut self.deadlines, &mut self.ready, moment);
+        self.entries += u64::from(ticked.added);
+        log_tick(&mut self.log, moment, ticked);
+        ticked
+    }
+}
