@@ -13,6 +13,7 @@
 //! | `messages` | messages and components of TCAP, their identifiers |
 //! | `portions` | the dialogue portion |
 //! | `arguments` | operations of INAP and their arguments |
+//! | `streams` | the lines of a reader, and octets written whole |
 //!
 //! `elements` makes elements of text for all of them.
 #![tactic(auto)]
@@ -24,6 +25,7 @@ mod frames;
 mod messages;
 mod numbers;
 mod portions;
+mod streams;
 
 use std::alloc::Global;
 
@@ -42,6 +44,9 @@ fn given(alloc: Global, words: &[&str]) -> anyhow::Result<Option<String>> {
         return Ok(Some(text));
     }
     if let Some(text) = portions::case(alloc, words)? {
+        return Ok(Some(text));
+    }
+    if let Some(text) = streams::case(alloc, words)? {
         return Ok(Some(text));
     }
     arguments::case(alloc, words)

@@ -1,0 +1,6 @@
+pub mod Device
+pub mod Held
+pub mod Line
+pub mod Moved
+pub mod Parting
+pub mod Write
