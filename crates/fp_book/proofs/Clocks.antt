@@ -34,7 +34,7 @@ abbrev clock : ℕ → List Entry
 clock moment = entry_at moment Clock ∷ []
 
 -- each of these dialogues stands there once
-abbrev Apart : List Due → Type 0
+abbrev pub Apart : List Due → Type 0
 Apart [] = ⊤
 Apart (d ∷ due) = AllByRecursion (λ (e : Due). eqb d.1 e.1 ≡ false) due × Apart due
 
@@ -63,7 +63,7 @@ two_apart s moment d e first a b =
     let deadline : d.0 ≡ e.0 = let found : Some d.0 ≡ Some e.0 = sym a.deadline ∙ ap deadline_of row ∙ b.deadline in cc in
     ⊎_elim {C = ⊥} (λ (less : d.0 < e.0). absurd (omega (arith, less, deadline))) (λ h. let less : d.1 < e.1 = h.1 in absurd (omega (arith, same))) first)
 
-apart : (s : Shelf) (moment : ℕ) (due : List Due) → AllPairs ComesFirst due → All (IsDue s moment) due → Apart due
+pub apart : (s : Shelf) (moment : ℕ) (due : List Due) → AllPairs ComesFirst due → All (IsDue s moment) due → Apart due
 apart s moment [] order are = tt
 apart s moment (d ∷ due) order are = (
   recursion_from_All (λ (e : Due). eqb d.1 e.1 ≡ false) due (λ k x within.

@@ -1,6 +1,6 @@
 mod Accounts
-mod Changes
-mod Clocks
+pub mod Changes
+pub mod Clocks
 mod Closes
 mod Counts
 mod Downs
@@ -9,22 +9,23 @@ mod Drops
 mod Dues
 mod Ends
 mod Extends
-mod Fits
+pub mod Fits
 mod Fresh
 mod Grows
 mod Headline
-mod Kept
+pub mod Kept
 mod Lines
 mod Opens
-mod Posts
-mod Queue
+pub mod Posts
+pub mod Queue
 mod Readable
 mod Refusals
 mod Sends
 mod Serves
-mod Sums
+pub mod Sums
+pub mod Tells
 mod Ticks
-mod Turns
-mod Unsent
+pub mod Turns
+pub mod Unsent
 mod Unsents
 mod Verdicts

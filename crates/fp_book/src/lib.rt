@@ -82,3 +82,4 @@ pub use ready_queue::ReadyQueue;
 pub use taken::Taken;
 pub use ticked::Ticked;
 pub use totals::Totals;
+pub use verdict::Verdict;

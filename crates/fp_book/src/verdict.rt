@@ -5,7 +5,7 @@ use fp_row::Ending;
 
 /// What is to be done with a message that is posted, by the dialogues that there are.
 #[derive(Clone, Copy, Debug)]
-pub(crate) enum Verdict {
+pub enum Verdict {
     /// Nothing.
     Discard,
     /// It is refused.

@@ -1,0 +1,12 @@
+mod Arriving
+mod Beginning
+mod Counting
+mod Draining
+mod DueOrder
+mod OneSent
+mod OneTurn
+mod Posting
+mod Resting
+mod Rows
+mod Talks
+mod Ticking

@@ -1,0 +1,139 @@
+-- What is done with a message, by the book and by the list.
+use Rattle.std.proofs.Common.{◌≡◌, ℕ, Bool, true, false, cond, ◌||◌, nat_lt, Option, Some, None, [], length, refl, sym, ◌∙◌, ap, subst, ⊎_elim, zero-add}
+use Rattle.std.specs.FinMap as fin
+use Rattle.std.proofs.lemmas.Bool.{false≢true}
+use Rattle.fp_book.specs.declared.answers.Posted.{Posted}
+use Rattle.fp_book.specs.declared.verdict.Verdict.{Verdict}
+use Rattle.fp_book.specs.declared.verdict.Verdict.TheVariants.{Discard, Refuse, Open, Extend}
+use Rattle.fp_book.specs.Calls.{Answers, ClosesOne, Follows, Posts, abort_for, posted_line}
+use Rattle.fp_book.specs.Log.{logged}
+use Rattle.fp_book.specs.Shelf.{Shelf, Sound}
+use Rattle.fp_book.specs.Verdict as book
+use Rattle.fp_book.proofs.Fits.{verdict_allowed}
+use Rattle.fp_entry.specs.declared.arrival.Arrival.{Arrival}
+use Rattle.fp_entry.specs.declared.incoming.Incoming.{Incoming}
+use Rattle.fp_entry.specs.declared.prepared.Prepared.{Prepared}
+use Rattle.fp_entry.specs.declared.prepared.Prepared.TheVariants.{Message, Refused, Lost}
+use Rattle.fp_entry.specs.Entries.{place_count}
+use Rattle.fp_entry.specs.Prepared.{arrival_of}
+use Rattle.fp_q773.specs.declared.kind.Kind.{Kind}
+use Rattle.fp_q773.specs.declared.kind.Kind.TheVariants.{Unidirectional, Begin, End, Continue, Abort, Unknown}
+use Rattle.fp_q773.specs.declared.provider_abort.AbortCause.{AbortCause}
+use Rattle.fp_q773.specs.declared.provider_abort.AbortCause.TheVariants as cause
+use Rattle.fp_q773.specs.declared.tid.Tid.{Tid}
+use Rattle.fp_row.specs.declared.ending.Ending.TheVariants.{ByPeer}
+use Rattle.fp_ask.specs.Solo.{World, begun, came as came_of, is_no_abort, is_too_much, misread, no_dialogue_left, opened, post, refused, too_many_entries}
+use Rattle.fp_ask.specs.Tied.{Fit, Matches, Rest, is_lost, tells_lost}
+use Rattle.fp_ask.proofs.Arriving.{Came, done, follows_came, follows_fit}
+use Rattle.fp_ask.proofs.Resting.{dialogue_test, full_test, named_test, place_test}
+
+by_test : (a b : Bool) (x y : Verdict) (w : World) (came : Prepared) → a ≡ b → cond a (done x w came) (done y w came) ≡ done (cond b x y) w came
+by_test a true x y w came e = ap (λ t. cond t (done x w came) (done y w came)) e
+by_test a false x y w came e = ap (λ t. cond t (done x w came) (done y w came)) e
+
+module _ (s : Shelf) (w : World) (r : Rest s) (m : Matches w s) (arrival : Arrival) (incoming : Incoming) where
+  open_test : (book.too_many incoming || (no_dialogue_left w || too_many_entries incoming)) ≡ (book.too_many incoming || (book.no_dialogue_left s || book.no_place_left None (place_count incoming.entries)))
+  open_test =
+      ap (λ b. book.too_many incoming || (b || too_many_entries incoming)) (dialogue_test s w r m)
+      ∙ ap (λ n. book.too_many incoming || (book.no_dialogue_left s || nat_lt 64 n)) (sym (zero-add (place_count incoming.entries)))
+
+  begun_is : (o : Option Tid) → arrival.ids.orig ≡ o → begun w o arrival.moment incoming ≡ done (book.begin_of s o incoming) w (Message arrival incoming)
+  begun_is None e = refl
+  begun_is (Some peer) e =
+      ap (λ o. cond (book.too_many incoming || (no_dialogue_left w || too_many_entries incoming)) (refused w (Some cause.ResourceLimitation) None o) (opened w peer arrival.moment incoming.entries)) (sym e)
+      ∙ by_test _ _ (Refuse (Some cause.ResourceLimitation) None) (Open peer) w (Message arrival incoming) open_test
+
+  more_test : (local : ℕ) → is_too_much w incoming ≡ (book.too_many incoming || (book.no_place_left (fin.get s.rows local) (place_count incoming.entries) || book.is_full s))
+  more_test local =
+      ap (λ b. book.too_many incoming || (too_many_entries incoming || b)) (full_test s w m)
+      ∙ ap (λ b. book.too_many incoming || (b || book.is_full s)) (sym (place_test s r local (place_count incoming.entries)))
+
+  message_is : (kind : Kind) (dialogue : Option ℕ) → came_of w arrival.ids arrival.moment incoming kind dialogue ≡ done (book.message_of s arrival.ids incoming kind dialogue) w (Message arrival incoming)
+  message_is Unidirectional dialogue = refl
+  message_is Begin dialogue = begun_is arrival.ids.orig refl
+  message_is Continue None = refl
+  message_is Continue (Some local) = by_test _ _ (Refuse (Some cause.ResourceLimitation) (Some local)) (Extend local None) w (Message arrival incoming) (more_test local)
+  message_is End None = refl
+  message_is End (Some local) = by_test _ _ (Refuse (Some cause.ResourceLimitation) (Some local)) (Extend local (Some ByPeer)) w (Message arrival incoming) (more_test local)
+  message_is Abort None = refl
+  message_is Abort (Some local) = by_test (is_no_abort incoming) (is_no_abort incoming) (Refuse None (Some local)) (Extend local (Some ByPeer)) w (Message arrival incoming) refl
+  message_is Unknown dialogue = refl
+
+misread_is : (w : World) (arrival : Arrival) (came : Prepared) → arrival_of came ≡ arrival → (kind : Kind) (dialogue : Option ℕ) → misread w arrival.ids kind dialogue ≡ done (book.refused_of kind dialogue) w came
+misread_is w arrival came e Unidirectional dialogue = refl
+misread_is w arrival came e Begin dialogue = ap (λ (a : Arrival). refused w (Some cause.BadlyFormattedTransactionPortion) dialogue a.ids.orig) (sym e)
+misread_is w arrival came e End dialogue = ap (λ (a : Arrival). refused w (Some cause.BadlyFormattedTransactionPortion) dialogue a.ids.orig) (sym e)
+misread_is w arrival came e Continue dialogue = ap (λ (a : Arrival). refused w (Some cause.BadlyFormattedTransactionPortion) dialogue a.ids.orig) (sym e)
+misread_is w arrival came e Abort dialogue = ap (λ (a : Arrival). refused w (Some cause.BadlyFormattedTransactionPortion) dialogue a.ids.orig) (sym e)
+misread_is w arrival came e Unknown dialogue = ap (λ (a : Arrival). refused w (Some cause.UnrecognizedMessageType) dialogue a.ids.orig) (sym e)
+
+-- the message was read, or refused
+abbrev pub is_read : Prepared → Bool
+is_read (Message arrival incoming) = true
+is_read (Refused arrival fault) = true
+is_read (Lost arrival) = false
+
+up_verdict : (s : Shelf) (came : Prepared) → s.is_down ≡ false → book.verdict s came ≡ book.arrived s came
+up_verdict s came up = ap (λ b. cond b Discard (book.arrived s came)) up
+
+-- the list does with a message what the book does
+pub post_is : (s : Shelf) (w : World) (came : Prepared) → Rest s → Matches w s → is_read came ≡ true → post w came ≡ done (book.verdict s came) w came
+post_is s w (Message arrival incoming) r m is =
+    ap (came_of w arrival.ids arrival.moment incoming arrival.ids.kind) (named_test s w m arrival.ids)
+    ∙ message_is s w r m arrival incoming arrival.ids.kind (book.named s arrival.ids)
+    ∙ ap (λ v. done v w (Message arrival incoming)) (sym (up_verdict s (Message arrival incoming) r.served.fit.up))
+post_is s w (Refused arrival fault) r m is =
+    ap (misread w arrival.ids arrival.ids.kind) (named_test s w m arrival.ids)
+    ∙ misread_is w arrival (Refused arrival fault) refl arrival.ids.kind (book.named s arrival.ids)
+    ∙ ap (λ v. done v w (Refused arrival fault)) (sym (up_verdict s (Refused arrival fault) r.served.fit.up))
+post_is s w (Lost arrival) r m is = absurd (false≢true is)
+
+-- WANT OF MEMORY IS TOLD BY THE LOG
+
+answered_log : (closed answered : Shelf) (closes : Option ℕ) (abort : Option (Tid × AbortCause)) (answer : Posted) → Answers closed closes abort answer answered → answered.log ≡ closed.log
+answered_log closed answered closes None answer e = ap (λ (x : Shelf). x.log) e.1
+answered_log closed answered closes (Some (peer, cause)) answer e = ap (λ (x : Shelf). x.log) e.1.new_is
+
+closed_log : (s closed : Shelf) (closes : Option ℕ) → ClosesOne s closes closed → closed.log ≡ s.log
+closed_log s closed None e = ap (λ (x : Shelf). x.log) e
+closed_log s closed (Some local) e = ap (λ (x : Shelf). x.log) e.new_is
+
+log_is : (v : Verdict) (s new : Shelf) (came : Prepared) (answer : Posted) → Follows v s came answer new → new.log ≡ logged s.log (posted_line came answer)
+log_is Discard s new came answer x = ap (λ (x : Shelf). x.log) x.new_is
+log_is (Refuse cause closes) s new came answer x =
+    ap (λ (x : Shelf). x.log) x.new_is ∙ ap (λ l. logged l (posted_line came answer))
+    (answered_log x.closed x.answered closes (abort_for (length s.outbox.aborts) cause (arrival_of came).ids.orig) answer x.answering ∙ closed_log s x.closed closes x.closing)
+log_is (Open peer) s new came answer x = ap (λ (x : Shelf). x.log) x.new_is
+log_is (Extend local None) s new came answer x = ap (λ (x : Shelf). x.log) x.new_is
+log_is (Extend local (Some ending)) s new came answer x = ap (λ (x : Shelf). x.log) x.new_is
+
+first_told : (v : Verdict) (s new : Shelf) (came : Prepared) (answer : Posted) → s.log ≡ [] → Follows v s came answer new → is_lost new.log ≡ tells_lost (posted_line came answer)
+first_told v s new came answer none x = ap is_lost (log_is v s new came answer x ∙ ap (λ l. logged l (posted_line came answer)) none)
+
+lost_told : (came : Prepared) (answer : Posted) → tells_lost (posted_line came answer) ≡ false → is_read came ≡ true
+lost_told (Message arrival incoming) answer e = refl
+lost_told (Refused arrival fault) answer e = refl
+lost_told (Lost arrival) answer e = absurd (false≢true (sym e))
+
+-- a message that wasn't lost was done with by its verdict
+pub record Done (s new : Shelf) (came : Prepared) (answer : Posted) : Type 0 where
+  pub read : is_read came ≡ true
+  pub follows : Follows (book.verdict s came) s came answer new
+
+pub was_done : (s new : Shelf) (came : Prepared) (answer : Posted) → s.log ≡ [] → Posts s came answer new → is_lost new.log ≡ false → Done s new came answer
+was_done s new came answer none posts told = ⊎_elim
+    (λ x. record {
+      read = lost_told came answer (sym (first_told (book.verdict s came) s new came answer none x) ∙ told);
+      follows = x;
+    })
+    (λ x. absurd (false≢true (sym told ∙ first_told (book.verdict s (Lost (arrival_of came))) s new (Lost (arrival_of came)) answer none x.1)))
+    posts
+
+-- so it is ready to be served,
+pub posted_fit : (s new : Shelf) (came : Prepared) (answer : Posted) → Rest s → Sound new → Done s new came answer → Fit new
+posted_fit s new came answer r sound d = follows_fit (book.verdict s came) s new came answer r sound (verdict_allowed s came) d.follows
+
+-- and is told by the list
+pub posted_came : (s new : Shelf) (w : World) (came : Prepared) (answer : Posted) → Rest s → Matches w s → Done s new came answer → Came (post w came) new
+posted_came s new w came answer r m d =
+    subst (λ p. Came p new) (sym (post_is s w came r m d.read)) (follows_came (book.verdict s came) s new w came answer r m (verdict_allowed s came) d.follows)

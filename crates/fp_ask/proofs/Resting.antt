@@ -1,0 +1,209 @@
+-- A book in which nothing waits.
+use Rattle.std.proofs.Common.{◌≡◌, ℕ, ◌≤◌, ◌+◌, Bool, true, false, cond, eqb, not, ◌&&◌, ◌||◌, nat_eq, nat_le, nat_lt, ◌^◌, Option, Some, None, is_some, List, [], ◌∷◌, ◌++◌, length, drop, refl, sym, ◌∙◌, ap, arith, append-nil, zero-add}
+use Rattle.std.specs.FinMap as fin
+use Rattle.std.specs.Option.{option_and_then, option_map_or}
+use Rattle.std.proofs.lemmas.Bool.{eq-eqb, false≢true, ltb-true}
+use Rattle.std.proofs.lemmas.List.{length-take-le}
+use Rattle.fp_book.specs.Outbox.{Outbox, nothing}
+use Rattle.fp_book.specs.Shelf.{Shelf, Sound, of_row, ready_count, unsent_for}
+use Rattle.fp_book.specs.Verdict as book
+use Rattle.fp_book.proofs.Changes.{count}
+use Rattle.fp_book.proofs.Sums.{len-sum, removed, sum-none}
+use Rattle.fp_entry.specs.declared.entry.Entry.{Entry}
+use Rattle.fp_entry.specs.Entries.{place_count}
+use Rattle.fp_q773.specs.declared.ids.Ids.{Ids}
+use Rattle.fp_q773.specs.Tid.{octets_of}
+use Rattle.fp_row.specs.declared.ending.Ending.{Ending}
+use Rattle.fp_row.specs.declared.row.Row.{Row}
+use Rattle.fp_row.specs.Row.{frames_of, is_admitted, is_closed, is_ready, kept_of, places_taken, sent_of, unserved, waiting_of, waits}
+use Rattle.fp_row.proofs.Keeping.{queued_within, sent_within}
+use Rattle.fp_service.specs.Dialogue.{is_over}
+use Rattle.fp_tids.specs.Identifiers.{identifier}
+use Rattle.fp_ask.specs.Solo.{Talk, World, found, going, is_full, named, no_dialogue_left}
+use Rattle.fp_ask.specs.Tied.{Matches, Rest, Rows, Same, is_out, live, talk_of, times}
+use Rattle.fp_ask.proofs.Rows.{none_waits}
+use Rattle.fp_ask.proofs.Talks.{by_number, swapped, times-cons, unit}
+
+not_one : (b : Bool) → 0 ≡ cond {A = ℕ} b 1 0 → b ≡ false
+not_one true h = absurd (omega (arith, h))
+not_one false h = refl
+
+-- no dialogue is ready
+pub nothing_ready : (s : Shelf) (d : ℕ) (row : Row) → Sound s → s.ready ≡ [] → fin.get s.rows d ≡ Some row → is_ready row ≡ false
+nothing_ready s d row k none was = not_one (is_ready row) (sym (ap (count d) none) ∙ k.ready d ∙ ap ready_count was)
+
+waits_by : (out waits : Bool) → out ≡ false → (not out && waits) ≡ false → waits ≡ false
+waits_by true waits o h = absurd (false≢true (sym o))
+waits_by false waits o h = h
+
+-- as many frames were sent as are counted, and kept as are counted
+all_sent : (row : Row) → sent_of row ≡ kept_of row → row.sent ≡ row.kept
+all_sent row same =
+    let n = length (frames_of row) in
+    let kept : row.kept ≤ n = omega (arith, row.kept_within, queued_within row) in
+    omega (arith, ap length same, length-take-le row.sent (frames_of row) (sent_within row), length-take-le row.kept (frames_of row) kept)
+
+nothing_unsent : (d : ℕ) (outbox : Outbox) → outbox ≡ nothing → unsent_for d outbox ≡ []
+nothing_unsent d outbox e = ap (unsent_for d) e
+
+held_by : (a o w k : Bool) → (a || (o || (w || k))) ≡ true → o ≡ false → w ≡ false → k ≡ false → a ≡ true
+held_by true o w k h x y z = refl
+held_by false true w k h x y z = absurd (false≢true (sym x))
+held_by false false true k h x y z = absurd (false≢true (sym y))
+held_by false false false true h x y z = absurd (false≢true (sym z))
+held_by false false false false h x y z = absurd (false≢true h)
+
+not_less : (m n : ℕ) → m ≡ n → nat_lt m n ≡ false
+not_less m n e = grind (arith, ltb-true)
+
+-- what is known of a dialogue then
+pub record Quiet (row : Row) : Type 0 where
+  pub is_out : row.is_out ≡ false
+  pub unready : is_ready row ≡ false
+  pub waiting : waiting_of row ≡ []
+  pub admitted : is_admitted row ≡ true
+  pub ended : row.ended ≡ None
+  pub unserved : unserved row ≡ []
+
+unserved_by : (ended : Option Ending) (over out : Bool) (xs : List Entry) → (not (is_some ended) && not over) ≡ true → out ≡ false
+    → cond (is_closed ended || over) [] (drop (cond {A = ℕ} out 1 0) xs) ≡ [] → xs ≡ []
+unserved_by (Some ending) over out xs a o h = absurd (false≢true a)
+unserved_by None true out xs a o h = absurd (false≢true a)
+unserved_by None false true xs a o h = absurd (false≢true (sym o))
+unserved_by None false false xs a o h = h
+
+ended_by : (ended : Option Ending) (over : Bool) → (not (is_some ended) && not over) ≡ true → ended ≡ None
+ended_by None over h = refl
+ended_by (Some ending) over h = absurd (false≢true h)
+
+pub quiet : (s : Shelf) → Rest s → (d : ℕ) (row : Row) → fin.get s.rows d ≡ Some row → Quiet row
+quiet s r d row was =
+    let sound = r.served.fit.sound in
+    let out : row.is_out ≡ false = sym (ap is_out was) ∙ r.served.fit.idle d in
+    let unready : is_ready row ≡ false = nothing_ready s d row sound r.served.ready was in
+    let waits_none : waits row ≡ false = waits_by row.is_out (waits row) out unready in
+    let none = none_waits row out unready in
+    let frames : sent_of row ≡ kept_of row =
+    sym (append-nil (sent_of row)) ∙ ap (λ u. sent_of row ++ u) (sym (nothing_unsent d s.outbox r.outbox))
+    ∙ ap (λ o. of_row sent_of o ++ unsent_for d s.outbox) (sym was) ∙ sound.frames d ∙ ap (of_row kept_of) was in
+    let admitted : is_admitted row ≡ true =
+    held_by (is_admitted row) row.is_out (waits row) (nat_lt row.sent row.kept) (sound.own d row was).is_left out waits_none (not_less row.sent row.kept (all_sent row frames)) in
+    record {
+      is_out = out;
+      unready = unready;
+      waiting = none;
+      admitted = admitted;
+      ended = ended_by row.ended (is_over row.core) admitted;
+      unserved = unserved_by row.ended (is_over row.core) row.is_out (unserved row) admitted out none;
+    }
+
+-- THE TESTS OF A BOOK ARE THOSE OF THE LIST
+
+places_none : (s : Shelf) → Rest s → (d : ℕ) (o : Option Row) → fin.get s.rows d ≡ o → option_map_or places_taken o 0 ≡ 0
+places_none s r d None was = refl
+places_none s r d (Some row) was = ap place_count (quiet s r d row was).unserved
+
+-- no entry has a place, so that those of the message count alone
+pub place_test : (s : Shelf) → Rest s → (d places : ℕ) → book.no_place_left (fin.get s.rows d) places ≡ nat_lt 64 places
+place_test s r d places =
+    ap (λ n. nat_lt 64 (n + places)) (places_none s r d (fin.get s.rows d) refl) ∙ ap (nat_lt 64) (zero-add places)
+
+-- a dialogue that stands in no list isn't found
+none_found : (b : Bool) (t : Talk) (d : ℕ) (rest : Option Talk) → eqb t.local d ≡ b → unit b ≡ 0 → rest ≡ None → cond b (Some t) rest ≡ None
+none_found true t d rest e n h = absurd (omega (arith, n))
+none_found false t d rest e n h = h
+
+pub not_found : (d : ℕ) (talks : List Talk) → times d talks ≡ 0 → found d talks ≡ None
+not_found d [] h = refl
+not_found d (t ∷ talks) h =
+    let parts = times-cons d t talks in
+    none_found (eqb t.local d) t d (found d talks) refl (omega (arith, h, parts)) (not_found d talks (omega (arith, h, parts)))
+
+found_first : (t : Talk) (talks : List Talk) → found t.local (t ∷ talks) ≡ Some t
+found_first t talks = ap (λ b. cond b (Some t) (found t.local talks)) (eq-eqb t.local t.local refl)
+
+live_some : (o : Option Row) (t : Talk) → live o ≡ Some t → (row : Row) × (o ≡ Some row)
+live_some None t e = absurd (cc)
+live_some (Some row) t e = (row, refl)
+
+live_none : (o : Option Row) → ((row : Row) → o ≡ Some row → is_admitted row ≡ true) → live o ≡ None → o ≡ None
+live_none None h e = refl
+live_none (Some row) h e = absurd (let is : live (Some row) ≡ Some (talk_of row) = ap (λ b. cond b (Some (talk_of row)) None) (h row refl) in let clash : None ≡ Some (talk_of row) = sym e ∙ is in cc)
+
+abbrev AllGoOn : Rows → Type 0
+AllGoOn rows = (d : ℕ) (row : Row) → fin.get rows d ≡ Some row → is_admitted row ≡ true
+
+-- a list and a map of the same dialogues are of one size
+same_size : (talks : List Talk) (rows : Rows) → Same talks rows → AllGoOn rows → ((d : ℕ) → times d talks ≤ 1) → length talks ≡ fin.len rows
+same_size [] rows same all once =
+    sym (len-sum rows ∙ sum-none (λ _. 1) rows (λ d. live_none (fin.get rows d) (all d) (sym (same d))))
+same_size (t ∷ talks) rows same all once =
+    let d = t.local in
+    let there = live_some (fin.get rows d) t (sym (same d) ∙ found_first t talks) in
+    let gone = removed rows d (Some there.0) there.1 in
+    let rest = fin.remove rows d in
+    let own : times d talks ≡ 0 = omega (arith, once d, times-cons d t talks, ap unit (eq-eqb d d refl)) in
+    let fewer : (k : ℕ) → times k talks ≤ 1 = λ k. omega (arith, once k, times-cons k t talks) in
+    let same_rest : Same talks rest = λ k. by_number k d (λ k. found k talks ≡ live (fin.get rest k))
+    (not_found d talks own ∙ sym (ap live gone.there))
+    (λ ne. sym (ap (λ b. cond b (Some t) (found k talks)) (swapped k d ne)) ∙ same k ∙ ap live (sym (gone.others k ne))) in
+    let all_rest : AllGoOn rest = λ k row was. by_number k d (λ k. fin.get rest k ≡ Some row → is_admitted row ≡ true)
+    (λ was. absurd (let clash : None ≡ Some row = sym gone.there ∙ was in cc)) (λ ne was. all k row (sym (gone.others k ne) ∙ was)) was in
+    let fewer_rows = gone.sums (λ _. 1) in
+    let size : length talks ≡ fin.len rest = same_size talks rest same_rest all_rest fewer in
+    omega (arith, size, fewer_rows, len-sum rows, len-sum rest)
+
+-- as many dialogues go on as are held
+pub size_is : (s : Shelf) (w : World) → Rest s → Matches w s → length w.talks ≡ fin.len s.rows
+size_is s w r m = same_size w.talks s.rows m.same (λ d row was. (quiet s r d row was).admitted) m.once
+
+-- the link has accepted all that it accepts
+pub full_test : (s : Shelf) (w : World) → Matches w s → is_full w ≡ book.is_full s
+full_test s w m = ap (λ n. nat_le (2 ^ 63) n) m.entries
+
+-- no further dialogue
+pub dialogue_test : (s : Shelf) (w : World) → Rest s → Matches w s → no_dialogue_left w ≡ book.no_dialogue_left s
+dialogue_test s w r m =
+    ap (λ n. nat_le 4096 n || (nat_eq (w.births + 1) (2 ^ 29) || is_full w)) (size_is s w r m)
+    ∙ ap (λ n. nat_le 4096 (fin.len s.rows) || (nat_eq (n + 1) (2 ^ 29) || is_full w)) (m.births ∙ r.served.fit.sound.births)
+    ∙ ap (λ b. nat_le 4096 (fin.len s.rows) || (nat_eq (s.given + 1) (2 ^ 29) || b)) (full_test s w m)
+
+some_by : (b : Bool) (t : Talk) → is_some (cond b (Some t) None) ≡ b
+some_by true t = refl
+some_by false t = refl
+
+some_live : (o : Option Row) → is_some (live o) ≡ option_map_or is_admitted o false
+some_live None = refl
+some_live (Some row) = some_by (is_admitted row) (talk_of row)
+
+going_test : (s : Shelf) (w : World) → Matches w s → (d : ℕ) → going w d ≡ book.admitted s.rows d
+going_test s w m d = ap (λ b. cond b (Some d) None) (ap is_some (m.same d) ∙ some_live (fin.get s.rows d))
+
+named_by : (s : Shelf) (w : World) → Matches w s → (o : Option ℕ) → option_and_then (going w) o ≡ option_and_then (book.admitted s.rows) o
+named_by s w m None = refl
+named_by s w m (Some d) = going_test s w m d
+
+-- the dialogue that a message names
+pub named_test : (s : Shelf) (w : World) → Matches w s → (ids : Ids) → named w ids ≡ book.named s ids
+named_test s w m ids = named_by s w m (option_and_then (λ tid. book.number_of (octets_of tid)) ids.dest)
+
+-- one that isn't found stands nowhere
+stands_by : (b : Bool) (t : Talk) (rest : Option Talk) → cond b (Some t) rest ≡ None → (b ≡ false) × (rest ≡ None)
+stands_by true t rest e = absurd (cc)
+stands_by false t rest e = (refl, e)
+
+pub stands_nowhere : (d : ℕ) (talks : List Talk) → found d talks ≡ None → times d talks ≡ 0
+stands_nowhere d [] h = refl
+stands_nowhere d (t ∷ talks) h =
+    let parts = stands_by (eqb t.local d) t (found d talks) h in
+    omega (arith, times-cons d t talks, ap unit parts.0, stands_nowhere d talks parts.1)
+
+-- no dialogue has the identifier of the next one
+next_free : (s : Shelf) (o : Option Row) → Sound s → fin.get s.rows (identifier s.link (s.given + 1)) ≡ o → o ≡ None
+next_free s None k was = refl
+next_free s (Some row) k was =
+    let own = (k.own (identifier s.link (s.given + 1)) row was).serial in
+    absurd (omega (arith, own.2, own.3))
+
+pub next_is_free : (s : Shelf) → Sound s → fin.get s.rows (identifier s.link (s.given + 1)) ≡ None
+next_is_free s k = next_free s (fin.get s.rows (identifier s.link (s.given + 1))) k refl

@@ -1,0 +1,269 @@
+-- What is sent for messages and for moments, one after another, told over a plain list of dialogues. What one of them
+-- brings is served and answered before the next one comes.
+use Rattle.std.specs.Prelude.{ℕ, Bool, not, ◌+◌, ◌^◌, ◌==◌, ◌&&◌, ◌||◌, List, [], ◌∷◌, ◌++◌, Option, Some, None, is_some, length, map, nat_eq, nat_le, nat_lt, if◌then◌else◌}
+use Rattle.std.specs.List.{filter, find}
+use Rattle.std.specs.Option.{option_and_then}
+use Rattle.fp_ber.specs.Canon.{canon}
+use Rattle.fp_book.specs.Verdict.{number_of, too_many}
+use Rattle.fp_entry.specs.declared.entry.Entry.{Entry}
+use Rattle.fp_entry.specs.declared.entry.EntryKind.TheVariants.{Clock}
+use Rattle.fp_entry.specs.declared.incoming.Incoming.{Incoming}
+use Rattle.fp_entry.specs.declared.prepared.Prepared.{Prepared}
+use Rattle.fp_entry.specs.declared.prepared.Prepared.TheVariants.{Message, Refused, Lost}
+use Rattle.fp_entry.specs.Entries.{entry_at, place_count}
+use Rattle.fp_frames.specs.Frame.{framed}
+use Rattle.fp_q773.specs.declared.ids.Ids.{Ids}
+use Rattle.fp_q773.specs.declared.kind.Kind.{Kind}
+use Rattle.fp_q773.specs.declared.kind.Kind.TheVariants.{Unidirectional, Begin, End, Continue, Abort, Unknown}
+use Rattle.fp_q773.specs.declared.provider_abort.AbortCause.{AbortCause}
+use Rattle.fp_q773.specs.declared.provider_abort.AbortCause.TheVariants as cause
+use Rattle.fp_q773.specs.declared.tid.Tid.{Tid}
+use Rattle.fp_q773.specs.ProviderAbort.{cause_code, provider_abort}
+use Rattle.fp_q773.specs.Tid.{octets_of}
+use Rattle.fp_reply.specs.Reply.{frame_of}
+use Rattle.fp_service.specs.declared.dialogue.Core.{Core}
+use Rattle.fp_service.specs.declared.request.Request.{Request}
+use Rattle.fp_service.specs.Dialogue.{fresh, is_over, next_due}
+use Rattle.fp_service.specs.Serve.{next, request_of}
+use Rattle.fp_tids.specs.Identifiers.{identifier}
+
+-- DIALOGUES
+
+-- a dialogue: its number among those that were opened, the identifiers by which this end and its peer know it, and what
+-- the service logic knows of it
+pub record Talk : Type 0 where
+  pub birth : ℕ
+  pub local : ℕ
+  pub peer : List ℕ
+  pub core : Core
+
+-- how many dialogues were opened, how many entries were accepted, and the dialogues that go on
+pub record World : Type 0 where
+  pub births : ℕ
+  pub entries : ℕ
+  pub talks : List Talk
+
+-- no dialogue was opened yet
+abbrev pub at_first : World
+at_first = record { births = 0; entries = 0; talks = [] }
+
+-- the dialogue that this end knows by an identifier
+abbrev pub found : ℕ → List Talk → Option Talk
+found local talks = find (λ (talk : Talk). talk.local == local) talks
+
+-- the others
+abbrev pub without : ℕ → List Talk → List Talk
+without local talks = filter (λ (talk : Talk). not (talk.local == local)) talks
+
+-- SERVING
+
+-- the dialogues that go on then, and the frames that are sent, each with its head
+pub record Served : Type 0 where
+  pub talks : List Talk
+  pub frames : List (List ℕ)
+
+-- the frame of a request, under the identifiers of its dialogue
+abbrev pub answer_of : Talk → Option Request → List (List ℕ)
+answer_of talk None = []
+answer_of talk (Some request) = frame_of request talk.local talk.peer ∷ []
+
+-- the dialogue after an entry
+abbrev pub after : Talk → Entry → Talk
+after talk entry = record talk { core = next talk.core entry }
+
+-- a dialogue goes on until its core is over
+abbrev pub going_on : Talk → List Talk
+going_on talk = if is_over talk.core then [] else talk ∷ []
+
+-- one entry goes through the service step; nothing comes of an entry of a dialogue that doesn't go on
+abbrev pub serve_at : ℕ → Entry → List Talk → Option Talk → Served
+serve_at local entry talks None = record { talks = talks; frames = [] }
+serve_at local entry talks (Some talk) = record {
+  talks = going_on (after talk entry) ++ without local talks;
+  frames = answer_of talk (request_of talk.core entry);
+}
+
+abbrev pub serve_one : ℕ → Entry → List Talk → Served
+serve_one local entry talks = serve_at local entry talks (found local talks)
+
+-- an entry, and the dialogue whose it is
+pub record Job : Type 0 where
+  pub local : ℕ
+  pub entry : Entry
+
+-- one entry after another
+abbrev pub serve_all : List Job → List Talk → Served
+serve_all [] talks = record { talks = talks; frames = [] }
+serve_all (job ∷ jobs) talks = record {
+  talks = (serve_all jobs (serve_one job.local job.entry talks).talks).talks;
+  frames = (serve_one job.local job.entry talks).frames ++ (serve_all jobs (serve_one job.local job.entry talks).talks).frames;
+}
+
+-- the entries of one dialogue
+abbrev pub jobs_for : ℕ → List Entry → List Job
+jobs_for local entries = map (λ entry. record { local = local; entry = entry }) entries
+
+-- WHAT COMES OF A MESSAGE
+
+-- what is so then, and the frames that are sent
+pub record Played : Type 0 where
+  pub world : World
+  pub frames : List (List ℕ)
+
+-- the message is discarded
+abbrev pub discarded : World → Played
+discarded w = record { world = w; frames = [] }
+
+-- the frame of the provider's Abort, where a cause is named and the message told its sender's identifier
+abbrev pub aborts : Option AbortCause → Option Tid → List (List ℕ)
+aborts None sender = []
+aborts (Some cause) None = []
+aborts (Some cause) (Some sender) = framed (canon (provider_abort (octets_of sender) (cause_code cause))) ∷ []
+
+-- a dialogue leaves the list
+abbrev pub left_by : Option ℕ → List Talk → List Talk
+left_by None talks = talks
+left_by (Some local) talks = without local talks
+
+-- the message is refused: the dialogue that is closed for it leaves the list
+abbrev pub refused : World → Option AbortCause → Option ℕ → Option Tid → Played
+refused w cause closes sender = record {
+  world = record w { talks = left_by closes w.talks };
+  frames = aborts cause sender;
+}
+
+-- so many entries more were accepted, and these were served
+abbrev pub accepted : World → ℕ → ℕ → Served → Played
+accepted w births entries served = record {
+  world = record { births = births; entries = w.entries + entries; talks = served.talks };
+  frames = served.frames;
+}
+
+-- the identifier of the next dialogue
+abbrev pub next_local : World → ℕ
+next_local w = identifier 0 (w.births + 1)
+
+-- the next dialogue, as its Begin finds it
+abbrev pub newborn : World → Tid → ℕ → Talk
+newborn w sender moment = record {
+  birth = w.births + 1;
+  local = next_local w;
+  peer = octets_of sender;
+  core = fresh (w.births + 1) moment;
+}
+
+-- a dialogue is opened
+abbrev pub opened : World → Tid → ℕ → List Entry → Played
+opened w sender moment entries =
+    accepted w (w.births + 1) (length entries) (serve_all (jobs_for (next_local w) entries) (newborn w sender moment ∷ w.talks))
+
+-- a dialogue goes on
+abbrev pub continued : World → ℕ → List Entry → Played
+continued w local entries = accepted w w.births (length entries) (serve_all (jobs_for local entries) w.talks)
+
+-- a dialogue is ended by its peer: it leaves the list, and nothing is sent
+abbrev pub ended : World → ℕ → List Entry → Played
+ended w local entries = accepted w w.births (length entries) (record { talks = without local w.talks; frames = [] })
+
+-- WHICH MESSAGES ARE REFUSED
+
+-- the dialogue that a destination identifier names: its four octets are this end's identifier
+abbrev pub going : World → ℕ → Option ℕ
+going w local = if is_some (found local w.talks) then Some local else None
+
+abbrev pub named : World → Ids → Option ℕ
+named w ids = option_and_then (going w) (option_and_then (λ tid. number_of (octets_of tid)) ids.dest)
+
+-- 2^63 entries were accepted
+abbrev pub is_full : World → Bool
+is_full w = nat_le (2 ^ 63) w.entries
+
+-- 4,096 dialogues go on, or no serial is left, or no entry may be accepted
+abbrev pub no_dialogue_left : World → Bool
+no_dialogue_left w = nat_le 4096 (length w.talks) || (nat_eq (w.births + 1) (2 ^ 29) || is_full w)
+
+-- more than 64 entries that take a place
+abbrev pub too_many_entries : Incoming → Bool
+too_many_entries incoming = nat_lt 64 (place_count incoming.entries)
+
+-- a Begin
+abbrev pub begun : World → Option Tid → ℕ → Incoming → Played
+begun w None moment incoming = discarded w
+begun w (Some sender) moment incoming =
+    if too_many incoming || (no_dialogue_left w || too_many_entries incoming)
+    then refused w (Some cause.ResourceLimitation) None (Some sender)
+    else opened w sender moment incoming.entries
+
+-- a Continue or an End of a dialogue that goes on is refused
+abbrev pub is_too_much : World → Incoming → Bool
+is_too_much w incoming = too_many incoming || (too_many_entries incoming || is_full w)
+
+-- an Abort brings one entry
+abbrev pub is_no_abort : Incoming → Bool
+is_no_abort incoming = nat_lt 1 (length incoming.entries)
+
+-- a readable message, of a kind, that names a dialogue that goes on, or none
+abbrev pub came : World → Ids → ℕ → Incoming → Kind → Option ℕ → Played
+came w ids moment incoming Unidirectional dialogue = discarded w
+came w ids moment incoming Begin dialogue = begun w ids.orig moment incoming
+came w ids moment incoming Continue None = refused w (Some cause.UnrecognizedTransactionIdentifier) None ids.orig
+came w ids moment incoming Continue (Some local) =
+    if is_too_much w incoming then refused w (Some cause.ResourceLimitation) (Some local) ids.orig
+    else continued w local incoming.entries
+came w ids moment incoming End None = discarded w
+came w ids moment incoming End (Some local) =
+    if is_too_much w incoming then refused w (Some cause.ResourceLimitation) (Some local) ids.orig
+    else ended w local incoming.entries
+came w ids moment incoming Abort None = discarded w
+came w ids moment incoming Abort (Some local) =
+    if is_no_abort incoming then refused w None (Some local) ids.orig else ended w local incoming.entries
+came w ids moment incoming Unknown dialogue = discarded w
+
+-- octets that are no message that is taken, of a kind, that name a dialogue that goes on, or none
+abbrev pub misread : World → Ids → Kind → Option ℕ → Played
+misread w ids Unidirectional dialogue = discarded w
+misread w ids Begin dialogue = refused w (Some cause.BadlyFormattedTransactionPortion) dialogue ids.orig
+misread w ids End dialogue = refused w (Some cause.BadlyFormattedTransactionPortion) dialogue ids.orig
+misread w ids Continue dialogue = refused w (Some cause.BadlyFormattedTransactionPortion) dialogue ids.orig
+misread w ids Abort dialogue = refused w (Some cause.BadlyFormattedTransactionPortion) dialogue ids.orig
+misread w ids Unknown dialogue = refused w (Some cause.UnrecognizedMessageType) dialogue ids.orig
+
+-- what comes of a message; nothing is told of one for which memory was wanting
+abbrev pub post : World → Prepared → Played
+post w (Message arrival incoming) = came w arrival.ids arrival.moment incoming arrival.ids.kind (named w arrival.ids)
+post w (Refused arrival fault) = misread w arrival.ids arrival.ids.kind (named w arrival.ids)
+post w (Lost arrival) = discarded w
+
+-- WHAT COMES OF A MOMENT
+
+-- a deadline, and the dialogue that has it
+pub record Due : Type 0 where
+  pub deadline : ℕ
+  pub local : ℕ
+
+-- the earlier deadline comes first, and the smaller identifier among equals
+abbrev pub comes_first : Due → Due → Bool
+comes_first a b = nat_lt a.deadline b.deadline || ((a.deadline == b.deadline) && nat_lt a.local b.local)
+
+-- in its place among others
+abbrev pub placed : Due → List Due → List Due
+placed due [] = due ∷ []
+placed due (other ∷ others) = if comes_first due other then due ∷ other ∷ others else (other ∷ placed due others)
+
+-- the dialogues that are due at a moment, in order
+abbrev pub due_at : ℕ → List Talk → List Due
+due_at moment [] = []
+due_at moment (talk ∷ talks) =
+    if nat_le (next_due talk.core) moment
+    then placed (record { deadline = next_due talk.core; local = talk.local }) (due_at moment talks)
+    else due_at moment talks
+
+-- each of them gets one Clock
+abbrev pub clocks : ℕ → List Due → List Job
+clocks moment dues = map (λ (due : Due). record { local = due.local; entry = entry_at moment Clock }) dues
+
+-- what comes of a moment
+abbrev pub tick : World → ℕ → Played
+tick w moment =
+    if is_full w then discarded w
+    else accepted w w.births (length (due_at moment w.talks)) (serve_all (clocks moment (due_at moment w.talks)) w.talks)

@@ -1,0 +1,139 @@
+-- How a book stands to the plain list of dialogues.
+use Rattle.std.specs.Prelude.{◌≡◌, ◌<◌, ◌≤◌, ◌+◌, ◌==◌, ℕ, Bool, true, false, List, [], ◌∷◌, ◌++◌, Option, Some, None, count_by, length, map, if◌then◌else◌, ◌⊎◌}
+use Rattle.std.specs.List.{flat_map}
+use Rattle.std.specs.Ordering.{nat_cmp}
+use Rattle.std.specs.FinMap.{FinMap, get}
+use Rattle.fp_book.specs.declared.line.LoggedStep.{LoggedStep}
+use Rattle.fp_book.specs.declared.line.LoggedStep.TheVariants as line
+use Rattle.fp_book.specs.declared.parcel.Waiting.{Waiting}
+use Rattle.fp_book.specs.Outbox.{Outbox, nothing}
+use Rattle.fp_book.specs.Shelf.{Shelf, Sound}
+use Rattle.fp_entry.specs.declared.entry.Entry.{Entry}
+use Rattle.fp_q773.specs.Tid.{octets_of}
+use Rattle.fp_reply.specs.ProviderAbort.{frame_octets}
+use Rattle.fp_row.specs.declared.row.Row.{Row}
+use Rattle.fp_row.specs.Row.{is_admitted, waiting_of}
+use Rattle.fp_ask.specs.Solo.{Job, Played, Served, Talk, World, found, jobs_for, serve_all}
+
+abbrev pub Rows : Type 0
+Rows = FinMap nat_cmp Row
+
+-- a dialogue as the plain list has it
+abbrev pub talk_of : Row → Talk
+talk_of row = record { birth = row.birth; local = row.local; peer = octets_of row.peer; core = row.core }
+
+-- the list has those that are admitted
+abbrev pub live : Option Row → Option Talk
+live None = None
+live (Some row) = if is_admitted row then Some (talk_of row) else None
+
+-- whether a turn is out
+abbrev pub is_out : Option Row → Bool
+is_out None = false
+is_out (Some row) = row.is_out
+
+-- the entries that wait
+abbrev pub waiting_at : Option Row → List Entry
+waiting_at None = []
+waiting_at (Some row) = waiting_of row
+
+abbrev pub jobs_in : List ℕ → Rows → List Job
+jobs_in queue rows = flat_map (λ local. jobs_for local (waiting_at (get rows local))) queue
+
+-- the entries that wait, in the order in which they will be served
+abbrev pub jobs_of : Shelf → List Job
+jobs_of s = jobs_in s.ready s.rows
+
+-- the frames that wait, in the order in which they will be sent
+abbrev pub frames_in : Outbox → List (List ℕ)
+frames_in outbox = map frame_octets outbox.aborts ++ map (λ (w : Waiting). w.frame) outbox.frames
+
+-- each of these has one entry
+abbrev pub Singles : List ℕ → Rows → Type 0
+Singles [] rows = Unit {0}
+Singles (local ∷ queue) rows = (length (waiting_at (get rows local)) ≡ 1) × Singles queue rows
+
+-- The link is up and nothing is out; one dialogue is ready, or each that is ready has one entry; and there is a place
+-- for each frame that may be requested.
+pub record Fit (s : Shelf) : Type 0 where
+  pub sound : Sound s
+  pub link : s.link ≡ 0
+  pub up : s.is_down ≡ false
+  pub idle : (local : ℕ) → is_out (get s.rows local) ≡ false
+  pub none_out : s.outbox.out ≡ None
+  pub orderly : (length s.ready ≤ 1) ⊎ Singles s.ready s.rows
+  pub room : length s.outbox.frames + length (jobs_of s) < 8192
+
+-- nothing waits to be served
+pub record IsServed (s : Shelf) : Type 0 where
+  pub fit : Fit s
+  pub ready : s.ready ≡ []
+
+-- nothing waits, and nothing is out
+pub record Rest (s : Shelf) : Type 0 where
+  pub served : IsServed s
+  pub outbox : s.outbox ≡ nothing
+
+-- the list has the dialogues that are admitted, and no others
+abbrev pub Same : List Talk → Rows → Type 0
+Same talks rows = (local : ℕ) → found local talks ≡ live (get rows local)
+
+-- how often a dialogue stands in the list
+abbrev pub times : ℕ → List Talk → ℕ
+times local talks = count_by (λ (talk : Talk). talk.local == local) talks
+
+-- the plain list tells of this book
+pub record Matches (w : World) (s : Shelf) : Type 0 where
+  pub births : w.births ≡ s.births
+  pub entries : w.entries ≡ s.entries
+  pub same : Same w.talks s.rows
+  pub once : (local : ℕ) → times local w.talks ≤ 1
+
+-- to serve what waits ends with this list, after these frames
+pub record Midway (s : Shelf) (served : Served) : Type 0 where
+  pub talks : List Talk
+  pub same : Same talks s.rows
+  pub talks_end : (serve_all (jobs_of s) talks).talks ≡ served.talks
+  pub frames_end : frames_in s.outbox ++ (serve_all (jobs_of s) talks).frames ≡ served.frames
+
+-- what was counted is as it was
+pub record SameCounts (old new : Shelf) : Type 0 where
+  pub births : new.births ≡ old.births
+  pub entries : new.entries ≡ old.entries
+
+-- whatever the end was, it still is
+abbrev pub KeepsEnd : Shelf → Shelf → Type 0
+KeepsEnd old new = (served : Served) → Midway old served → Midway new served
+
+-- a book went on as the plain list does, and these frames were sent
+pub record GoesOn (p : Played) (new : Shelf) (frames : List (List ℕ)) : Type 0 where
+  pub matches : Matches p.world new
+  pub frames_are : frames ≡ p.frames
+
+-- whatever list tells of the book before
+abbrev pub Follows : (World → Played) → Shelf → Shelf → List (List ℕ) → Type 0
+Follows play old new frames = (w : World) → Matches w old → GoesOn (play w) new frames
+
+-- the dialogues are as they were, but for what was sent
+pub record KeepsTalks (old new : Shelf) : Type 0 where
+  pub lives : (local : ℕ) → live (get new.rows local) ≡ live (get old.rows local)
+  pub counts : SameCounts old new
+
+-- whether a step tells of a message for which memory was wanting
+abbrev pub tells_lost : LoggedStep → Bool
+tells_lost (line.Post moment message answer) = false
+tells_lost (line.Lost moment message answer) = true
+tells_lost (line.Tick moment added wanting) = false
+tells_lost (line.Take local position) = false
+tells_lost (line.Give local position given) = false
+tells_lost (line.PutBack local position) = false
+tells_lost (line.Pick local) = false
+tells_lost (line.Sent local) = false
+tells_lost (line.Unsent local) = false
+tells_lost line.Down = false
+tells_lost (line.Gap lost) = false
+
+-- whether the oldest step does
+abbrev pub is_lost : List LoggedStep → Bool
+is_lost [] = false
+is_lost (step ∷ log) = tells_lost step

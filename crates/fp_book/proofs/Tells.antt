@@ -1,0 +1,165 @@
+-- What the verdict on a message tells of it.
+use Rattle.std.proofs.Common.{◌≡◌, ℕ, Bool, true, false, cond, not, ◌&&◌, ◌||◌, Option, Some, None, List, [], ◌∷◌, length, refl, sym, ◌∙◌, ap, subst, nat_lt, ◌⊎◌, inl, inr, ⊎_elim}
+use Rattle.std.specs.Prelude.{⊤}
+use Rattle.std.proofs.lemmas.Bool.{cond_both}
+use Rattle.std.specs.Option.{option_and_then, option_map_or}
+use Rattle.std.specs.FinMap as map
+use Rattle.fp_book.specs.declared.verdict.Verdict.{Verdict}
+use Rattle.fp_book.specs.declared.verdict.Verdict.TheVariants.{Discard, Refuse, Open, Extend}
+use Rattle.fp_book.specs.Shelf.{Shelf}
+use Rattle.fp_book.specs.Verdict.{abort_of, admitted, arrived, begin_of, is_full, lost_of, message_of, more_of, named, no_dialogue_left, no_place_left, number_of, refused_of, too_many, verdict}
+use Rattle.fp_entry.specs.declared.arrival.Arrival.{Arrival}
+use Rattle.fp_entry.specs.declared.incoming.Incoming.{Incoming}
+use Rattle.fp_entry.specs.declared.prepared.Prepared.{Prepared}
+use Rattle.fp_entry.specs.declared.prepared.Prepared.TheVariants.{Message, Refused, Lost}
+use Rattle.fp_entry.specs.Entries.{place_count}
+use Rattle.fp_entry.specs.Prepared.{arrival_of}
+use Rattle.fp_q773.specs.declared.ids.Ids.{Ids}
+use Rattle.fp_q773.specs.declared.kind.Kind.{Kind}
+use Rattle.fp_q773.specs.declared.kind.Kind.TheVariants.{Unidirectional, Begin, End, Continue, Abort, Unknown}
+use Rattle.fp_q773.specs.declared.provider_abort.AbortCause.TheVariants as cause
+use Rattle.fp_q773.specs.declared.tid.Tid.{Tid}
+use Rattle.fp_q773.specs.Tid.{octets_of}
+use Rattle.fp_row.specs.declared.ending.Ending.{Ending}
+use Rattle.fp_row.specs.declared.ending.Ending.TheVariants.{ByPeer}
+use Rattle.fp_row.specs.declared.row.Row.{Row}
+use Rattle.fp_row.specs.Row.{is_admitted}
+use Rattle.fp_book.specs.declared.answers.Posted.{Posted}
+use Rattle.fp_book.specs.Calls.{Answers, ClosesOne, Discards, EndsDialogue, ExtendsDialogue, Follows, OpensDialogue, Refuses, abort_for, posted_line}
+use Rattle.fp_book.specs.Log.{logged}
+use Rattle.fp_q773.specs.declared.provider_abort.AbortCause.{AbortCause}
+
+-- a Begin has no destination
+abbrev pub BeginsAnew : Ids → Type 0
+BeginsAnew ids = ids.kind ≡ Begin → ids.dest ≡ None
+
+-- what is told: of a refusal, the dialogue that is named; of a Begin, its sender; of what is accepted, the dialogue
+-- that is named, and whether its peer ends it
+abbrev pub TellsOf : Ids → Kind → Option ℕ → Verdict → Type 0
+TellsOf ids kind dialogue Discard = ⊤
+TellsOf ids kind dialogue (Refuse cause closes) = closes ≡ dialogue
+TellsOf ids kind dialogue (Open peer) = ids.orig ≡ Some peer
+TellsOf ids kind dialogue (Extend local None) = (dialogue ≡ Some local) × (kind ≡ Continue)
+TellsOf ids kind dialogue (Extend local (Some ending)) = (dialogue ≡ Some local) × ((kind ≡ End) ⊎ (kind ≡ Abort))
+
+lost_tells : (ids : Ids) (kind : Kind) (dialogue : Option ℕ) → (kind ≡ Begin → dialogue ≡ None) → TellsOf ids kind dialogue (lost_of kind dialogue)
+lost_tells ids Unidirectional dialogue anew = tt
+lost_tells ids Begin dialogue anew = sym (anew refl)
+lost_tells ids Continue None anew = refl
+lost_tells ids Continue (Some local) anew = refl
+lost_tells ids End dialogue anew = refl
+lost_tells ids Abort dialogue anew = refl
+lost_tells ids Unknown dialogue anew = refl
+
+refused_tells : (ids : Ids) (kind : Kind) (dialogue : Option ℕ) → TellsOf ids kind dialogue (refused_of kind dialogue)
+refused_tells ids Unidirectional dialogue = tt
+refused_tells ids Begin dialogue = refl
+refused_tells ids Continue dialogue = refl
+refused_tells ids End dialogue = refl
+refused_tells ids Abort dialogue = refl
+refused_tells ids Unknown dialogue = refl
+
+begin_tells : (s : Shelf) (ids : Ids) (incoming : Incoming) (orig : Option Tid) (dialogue : Option ℕ) → ids.orig ≡ orig → dialogue ≡ None → TellsOf ids Begin dialogue (begin_of s orig incoming)
+begin_tells s ids incoming None dialogue orig none = tt
+begin_tells s ids incoming (Some peer) dialogue orig none =
+    cond_both (too_many incoming || (no_dialogue_left s || no_place_left None (place_count incoming.entries))) (Refuse (Some cause.ResourceLimitation) None) (Open peer) (TellsOf ids Begin dialogue) (λ _. sym none) (λ _. orig)
+
+more_tells : (s : Shelf) (ids : Ids) (incoming : Incoming) (kind : Kind) (local : ℕ) (ending : Option Ending) → TellsOf ids kind (Some local) (Extend local ending) → TellsOf ids kind (Some local) (more_of s local ending incoming)
+more_tells s ids incoming kind local ending extends =
+    cond_both (too_many incoming || (no_place_left (map.get s.rows local) (place_count incoming.entries) || is_full s)) (Refuse (Some cause.ResourceLimitation) (Some local)) (Extend local ending) (TellsOf ids kind (Some local)) (λ _. refl) (λ _. extends)
+
+abort_tells : (ids : Ids) (incoming : Incoming) (local : ℕ) → TellsOf ids Abort (Some local) (abort_of local incoming)
+abort_tells ids incoming local = cond_both (nat_lt 1 (length incoming.entries)) (Refuse None (Some local)) (Extend local (Some ByPeer)) (TellsOf ids Abort (Some local)) (λ _. refl) (λ _. (refl, inr refl))
+
+message_tells : (s : Shelf) (ids : Ids) (incoming : Incoming) (kind : Kind) (dialogue : Option ℕ) → (kind ≡ Begin → dialogue ≡ None) → TellsOf ids kind dialogue (message_of s ids incoming kind dialogue)
+message_tells s ids incoming Unidirectional dialogue anew = tt
+message_tells s ids incoming Begin dialogue anew = begin_tells s ids incoming ids.orig dialogue refl (anew refl)
+message_tells s ids incoming Continue None anew = refl
+message_tells s ids incoming Continue (Some local) anew = more_tells s ids incoming Continue local None (refl, refl)
+message_tells s ids incoming End None anew = tt
+message_tells s ids incoming End (Some local) anew = more_tells s ids incoming End local (Some ByPeer) (refl, inl refl)
+message_tells s ids incoming Abort None anew = tt
+message_tells s ids incoming Abort (Some local) anew = abort_tells ids incoming local
+message_tells s ids incoming Unknown dialogue anew = tt
+
+-- a message without a destination names none
+pub anew_named : (s : Shelf) (ids : Ids) → BeginsAnew ids → ids.kind ≡ Begin → named s ids ≡ None
+anew_named s ids anew is = ap (λ dest. option_and_then (admitted s.rows) (option_and_then (λ (tid : Tid). number_of (octets_of tid)) dest)) (anew is)
+
+abbrev pub Tells : Shelf → Prepared → Verdict → Type 0
+Tells s came v = TellsOf (arrival_of came).ids (arrival_of came).ids.kind (named s (arrival_of came).ids) v
+
+arrived_tells : (s : Shelf) (came : Prepared) → BeginsAnew (arrival_of came).ids → Tells s came (arrived s came)
+arrived_tells s (Lost arrival) anew = lost_tells arrival.ids arrival.ids.kind (named s arrival.ids) (anew_named s arrival.ids anew)
+arrived_tells s (Refused arrival fault) anew = refused_tells arrival.ids arrival.ids.kind (named s arrival.ids)
+arrived_tells s (Message arrival incoming) anew = message_tells s arrival.ids incoming arrival.ids.kind (named s arrival.ids) (anew_named s arrival.ids anew)
+
+-- what each verdict tells
+pub verdict_tells : (s : Shelf) (came : Prepared) → BeginsAnew (arrival_of came).ids → Tells s came (verdict s came)
+verdict_tells s came anew = cond_both s.is_down Discard (arrived s came) (Tells s came) (λ _. tt) (λ up. arrived_tells s came anew)
+
+-- a message names a dialogue by its number, if that dialogue takes messages
+pub record Names (s : Shelf) (o : Option ℕ) (local : ℕ) : Type 0 where
+  pub number : o ≡ Some local
+  pub takes : option_map_or is_admitted (map.get s.rows local) false ≡ true
+
+known_by : (b : Bool) (l local : ℕ) → cond b (Some l) None ≡ Some local → (b ≡ true) × (l ≡ local)
+known_by true l local e = (refl, cc)
+known_by false l local e = absurd (cc)
+
+pub names_by : (s : Shelf) (o : Option ℕ) (local : ℕ) → option_and_then (admitted s.rows) o ≡ Some local → Names s o local
+names_by s None local e = absurd (cc)
+names_by s (Some l) local e =
+    let is : (option_map_or is_admitted (map.get s.rows l) false ≡ true) × (l ≡ local) = known_by (option_map_or is_admitted (map.get s.rows l) false) l local e in
+    record { number = ap Some is.1; takes = subst (λ d. option_map_or is_admitted (map.get s.rows d) false ≡ true) is.1 is.0 }
+
+-- where no dialogue is named that takes messages, that with the number, if there is one, doesn't
+not_known : (b : Bool) (l : ℕ) → cond b (Some l) None ≡ None → b ≡ false
+not_known true l e = absurd (cc)
+not_known false l e = refl
+
+pub unnamed_by : (s : Shelf) (o : Option ℕ) (local : ℕ) → option_and_then (admitted s.rows) o ≡ None → o ≡ Some local → option_map_or is_admitted (map.get s.rows local) false ≡ false
+unnamed_by s None local e is = absurd (cc)
+unnamed_by s (Some l) local e is =
+    let same : l ≡ local = cc in
+    subst (λ d. option_map_or is_admitted (map.get s.rows d) false ≡ false) same (not_known (option_map_or is_admitted (map.get s.rows l) false) l e)
+
+-- what is done with a message, and what is told of it
+pub data Done (s : Shelf) (came : Prepared) (answer : Posted) (new : Shelf) : Type 0 where
+  discards : Discards s came answer new → Done s came answer new
+  refuses : (cause : Option AbortCause) (closes : Option ℕ) → closes ≡ named s (arrival_of came).ids → Refuses s cause closes came answer new → Done s came answer new
+  opens : (peer : Tid) → (arrival_of came).ids.orig ≡ Some peer → OpensDialogue s peer came answer new → Done s came answer new
+  extends : (local : ℕ) → named s (arrival_of came).ids ≡ Some local → (arrival_of came).ids.kind ≡ Continue → ExtendsDialogue s local came answer new → Done s came answer new
+  ends : (local : ℕ) (ending : Ending) → named s (arrival_of came).ids ≡ Some local → ((arrival_of came).ids.kind ≡ End) ⊎ ((arrival_of came).ids.kind ≡ Abort) → EndsDialogue s local ending came answer new → Done s came answer new
+
+done_by : (s : Shelf) (came : Prepared) (answer : Posted) (new : Shelf) (v : Verdict) → Tells s came v → Follows v s came answer new → Done s came answer new
+done_by s came answer new Discard told g = discards g
+done_by s came answer new (Refuse cause closes) told g = refuses cause closes told g
+done_by s came answer new (Open peer) told g = opens peer told g
+done_by s came answer new (Extend local None) told g = extends local told.0 told.1 g
+done_by s came answer new (Extend local (Some ending)) told g = ends local ending told.0 told.1 g
+
+pub done_with : (s : Shelf) (came : Prepared) (answer : Posted) (new : Shelf) → BeginsAnew (arrival_of came).ids → Follows (verdict s came) s came answer new → Done s came answer new
+done_with s came answer new anew g = done_by s came answer new (verdict s came) (verdict_tells s came anew) g
+
+-- a message is logged with its answer
+
+closed_log : (s : Shelf) (closes : Option ℕ) (closed : Shelf) → ClosesOne s closes closed → closed.log ≡ s.log
+closed_log s None closed g = ap (λ (x : Shelf). x.log) g
+closed_log s (Some local) closed g = ap (λ (x : Shelf). x.log) g.new_is
+
+answered_log : (s : Shelf) (closes : Option ℕ) (abort : Option (Tid × AbortCause)) (answer : Posted) (answered : Shelf) → Answers s closes abort answer answered → answered.log ≡ s.log
+answered_log s closes None answer answered g = ap (λ (x : Shelf). x.log) g.1
+answered_log s closes (Some (peer, cause)) answer answered g = ap (λ (x : Shelf). x.log) g.1.new_is
+
+log_by : (v : Verdict) (s : Shelf) (came : Prepared) (answer : Posted) (new : Shelf) → Follows v s came answer new → new.log ≡ logged s.log (posted_line came answer)
+log_by Discard s came answer new g = ap (λ (x : Shelf). x.log) g.new_is
+log_by (Refuse cause closes) s came answer new g =
+    ap (λ (x : Shelf). x.log) g.new_is
+    ∙ ap (λ log. logged log (posted_line came answer)) (answered_log g.closed closes (abort_for (length s.outbox.aborts) cause (arrival_of came).ids.orig) answer g.answered g.answering ∙ closed_log s closes g.closed g.closing)
+log_by (Open peer) s came answer new g = ap (λ (x : Shelf). x.log) g.new_is
+log_by (Extend local None) s came answer new g = ap (λ (x : Shelf). x.log) g.new_is
+log_by (Extend local (Some ending)) s came answer new g = ap (λ (x : Shelf). x.log) g.new_is
+
+pub followed_log : (s : Shelf) (came : Prepared) (answer : Posted) (new : Shelf) → Follows (verdict s came) s came answer new → new.log ≡ logged s.log (posted_line came answer)
+followed_log s came answer new g = log_by (verdict s came) s came answer new g
