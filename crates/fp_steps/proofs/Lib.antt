@@ -1,0 +1,13 @@
+mod Dialogues
+mod Downs
+mod Found
+mod Grown
+mod Lines
+mod Made
+mod Nexts
+mod Parcels
+mod Refused
+mod Runs
+mod Served
+mod Stories
+mod Ticked

@@ -1,0 +1,41 @@
+-- What holds of each dialogue of a run, at each moment: the entries that were served are a front of those that it
+-- accepted, cut at its end, and the frames that were sent a front of those that its service logic requests on them.
+use Rattle.std.specs.Prelude.{◌≡◌, ℕ, ◌<◌, ◌≤◌, List, [], ◌∷◌, ◌++◌, Some, length, zero, suc}
+use mathlib.Core.List.{IsPrefix}
+use Rattle.fp_service.specs.Fold.{cut}
+use Rattle.fp_steps.specs.Accepted.{accepted, positions, served, start}
+use Rattle.fp_steps.specs.Births.{Beginning, beginning}
+use Rattle.fp_steps.specs.History.{AtEachMoment, Event, Tells}
+use Rattle.fp_steps.specs.declared.output.Output.{Output}
+use Rattle.fp_steps.specs.declared.step.Step.{Step}
+use Rattle.fp_records.specs.Table.{Contents}
+use Rattle.fp_steps.specs.Sending.{aborts, aborts_sent, asked, queued, sent}
+
+-- 0, 1, 2 and so on, so many
+abbrev pub numbers : ℕ → List ℕ
+numbers zero = []
+numbers (suc n) = numbers n ++ n ∷ []
+
+-- what holds of each dialogue
+pub record InOrder (h : List Event) (d : ℕ) : Type 0 where
+  -- what was served is a front of what it accepted, cut at its end
+  pub served_first : IsPrefix (served h d) (cut (start h d) (accepted h d))
+  -- and what was sent of what it requests on that
+  pub sent_first : IsPrefix (sent h d) (asked h d)
+  -- its turns were served in the places 0, 1, 2 and so on
+  pub each_once : positions h d ≡ numbers (length (positions h d))
+  -- what was sent was accepted for sending, and no request is accepted after one that wasn't
+  pub sent_queued : IsPrefix (sent h d) (queued h d)
+  pub queued_first : IsPrefix (queued h d) (asked h d)
+
+-- what holds of all of a link
+pub record Headline (h : List Event) : Type 0 where
+  pub dialogues : (d : ℕ) → InOrder h d
+  -- no two have one local transaction identifier
+  pub apart : (c d : ℕ) (b g : Beginning) → beginning h c ≡ Some b → beginning h d ≡ Some g → b.local ≡ g.local → c ≡ d
+  -- the Aborts of the provider that were sent are a front of those that were answered
+  pub aborts_first : IsPrefix (aborts_sent h) (aborts h)
+
+-- these are outputs of these steps, and at each moment of their history all of this holds
+abbrev pub Runs : Contents → List (List ℕ) → List Step → List Output → Type 0
+Runs contents contexts steps outputs = (h : List Event) × Tells contents contexts steps outputs h × AtEachMoment Headline h

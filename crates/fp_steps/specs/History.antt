@@ -1,0 +1,65 @@
+-- What a run tells: its steps, what their messages were prepared to, and what was answered. A history holds them, the
+-- newest first.
+use Rattle.std.specs.Prelude.{◌≡◌, ℕ, Bool, true, false, List, [], ◌∷◌, Option, Some, None, map, reverse, ⊤}
+use Rattle.std.specs.List.{AllByRecursion}
+use Rattle.fp_entry.specs.declared.arrival.Arrival.{Arrival}
+use Rattle.fp_entry.specs.declared.fault.Fault.{Fault}
+use Rattle.fp_entry.specs.declared.incoming.Incoming.{Incoming}
+use Rattle.fp_entry.specs.declared.prepared.Prepared.{Prepared}
+use Rattle.fp_entry.specs.declared.prepared.Prepared.TheVariants as prepared
+use Rattle.fp_entry.specs.Prepared.{IsLost, IsPrepared}
+use Rattle.fp_records.specs.Table.{Contents}
+use Rattle.fp_steps.specs.declared.output.Output.{Output}
+use Rattle.fp_steps.specs.declared.step.Step.{Step}
+use Rattle.fp_steps.specs.declared.step.Step.TheVariants.{Post, Lost, Tick, Take, Give, PutBack, Pick, Sent, Unsent, Down}
+
+-- a step, what its message was prepared to, where it posts one, and what was answered
+pub record Event : Type 0 where
+  pub step : Step
+  pub came : Option Prepared
+  pub output : Output
+
+-- memory for reading it was wanting
+abbrev pub is_lost : Prepared → Bool
+is_lost (prepared.Message arrival incoming) = false
+is_lost (prepared.Refused arrival fault) = false
+is_lost (prepared.Lost arrival) = true
+
+-- no message comes
+abbrev pub IsNone : Option Prepared → Type 0
+IsNone None = ⊤
+IsNone (Some came) = ⊥
+
+-- a message is prepared to what its octets are, by the records and the names of the application contexts
+abbrev pub IsRead : Contents → List (List ℕ) → List ℕ → ℕ → Option Prepared → Type 0
+IsRead contents contexts octets moment None = ⊥
+IsRead contents contexts octets moment (Some came) = IsPrepared contents contexts octets moment came × (is_lost came ≡ false)
+
+-- a message that isn't read
+abbrev pub IsUnread : List ℕ → ℕ → Option Prepared → Type 0
+IsUnread octets moment None = ⊥
+IsUnread octets moment (Some came) = IsLost octets moment came
+
+-- this is what the message of a step is prepared to
+abbrev pub IsCame : Contents → List (List ℕ) → Step → Option Prepared → Type 0
+IsCame contents contexts (Post frame moment) came = IsRead contents contexts frame moment came
+IsCame contents contexts (Lost frame moment) came = IsUnread frame moment came
+IsCame contents contexts (Tick moment) came = IsNone came
+IsCame contents contexts Take came = IsNone came
+IsCame contents contexts (Give local) came = IsNone came
+IsCame contents contexts (PutBack local) came = IsNone came
+IsCame contents contexts Pick came = IsNone came
+IsCame contents contexts Sent came = IsNone came
+IsCame contents contexts Unsent came = IsNone came
+IsCame contents contexts Down came = IsNone came
+
+-- the history tells of these steps, by these records and names, and of these outputs
+pub record Tells (contents : Contents) (contexts : List (List ℕ)) (steps : List Step) (outputs : List Output) (h : List Event) : Type 0 where
+  pub steps_are : reverse (map (λ (e : Event). e.step) h) ≡ steps
+  pub outputs_are : reverse (map (λ (e : Event). e.output) h) ≡ outputs
+  pub messages : AllByRecursion (λ (e : Event). IsCame contents contexts e.step e.came) h
+
+-- at each moment of a run
+abbrev pub AtEachMoment : (List Event → Type 0) → List Event → Type 0
+AtEachMoment P [] = P []
+AtEachMoment P (e ∷ h) = P (e ∷ h) × AtEachMoment P h

@@ -1,0 +1,109 @@
+-- What the service logic of each dialogue of a run requests, what of that is accepted for sending, and what is sent.
+use Rattle.std.specs.Prelude.{ℕ, ◌==◌, Bool, true, false, List, [], ◌∷◌, ◌++◌, Option, Some, None, map, option_map, option_to_list, slice_get, if◌then◌else◌}
+use Rattle.std.specs.Option.{option_and_then}
+use Rattle.fp_ber.specs.Canon.{canon}
+use Rattle.fp_book.specs.declared.answers.Given.{Given}
+use Rattle.fp_book.specs.declared.answers.Given.TheVariants.{Silent, Queued, Dropped}
+use Rattle.fp_book.specs.declared.answers.Posted.{Posted}
+use Rattle.fp_book.specs.declared.answers.Posted.TheVariants.{Opened, Accepted, Aborted, Ended, Discarded}
+use Rattle.fp_entry.specs.declared.prepared.Prepared.{Prepared}
+use Rattle.fp_frames.specs.Frame.{framed}
+use Rattle.fp_q773.specs.ProviderAbort.{cause_code, provider_abort}
+use Rattle.fp_reply.specs.Reply.{frame_of}
+use Rattle.fp_service.specs.declared.request.Request.{Request}
+use Rattle.fp_service.specs.Fold.{requests}
+use Rattle.fp_service.specs.Serve.{request_of}
+use Rattle.fp_steps.specs.declared.output.Output.{Output}
+use Rattle.fp_steps.specs.declared.output.Output.TheVariants as outputs
+use Rattle.fp_steps.specs.Accepted.{accepted, core_of, served, start}
+use Rattle.fp_steps.specs.Births.{Beginning, beginning, for_one, named, sender_of}
+use Rattle.fp_steps.specs.History.{Event}
+
+-- the frame of a request, under the identifiers with which its dialogue began
+abbrev pub frame_from : Option Beginning → Request → List ℕ
+frame_from None request = []
+frame_from (Some b) request = frame_of request b.local b.peer
+
+-- the frames of what the service logic requests along the entries that were served, in order
+abbrev pub asked : List Event → ℕ → List (List ℕ)
+asked h d = map (frame_from (beginning h d)) (requests (start h d) (served h d))
+
+-- the frame of what it requests at the entry in this place
+abbrev pub frame_at : List Event → ℕ → ℕ → Option (List ℕ)
+frame_at h d place = option_map (frame_from (beginning h d)) (option_and_then (request_of (core_of h d)) (slice_get (accepted h d) place))
+
+-- the request was accepted for sending
+abbrev pub if_queued : Given → List (List ℕ) → List (List ℕ)
+if_queued Silent frames = []
+if_queued Queued frames = frames
+if_queued Dropped frames = []
+
+abbrev pub queued_in : Output → List Event → ℕ → List (List ℕ)
+queued_in (outputs.Gave local position given) h d = if_queued given (for_one (named h local) d (option_to_list (frame_at h d position)))
+queued_in _ h d = []
+
+-- the frames of those requests that were accepted for sending, in order
+abbrev pub queued : List Event → ℕ → List (List ℕ)
+queued [] d = []
+queued (e ∷ h) d = queued h d ++ queued_in e.output h d
+
+-- what was handed out to be sent: the identifier of its dialogue, 0 for an Abort of the provider, and its octets
+pub record Handed : Type 0 where
+  pub local : ℕ
+  pub octets : List ℕ
+
+abbrev pub out_after : Output → Option Handed → Option Handed
+out_after (outputs.Picked local frame) before = Some (record { local = local; octets = frame.items })
+out_after outputs.Sent before = None
+out_after outputs.Unsent before = None
+out_after _ before = before
+
+-- what is out to be sent
+abbrev pub out : List Event → Option Handed
+out [] = None
+out (e ∷ h) = out_after e.output (out h)
+
+-- a dialogue's frame that was out
+abbrev pub frame_for : Option Handed → List Event → ℕ → List (List ℕ)
+frame_for None h d = []
+frame_for (Some handed) h d = for_one (named h handed.local) d (handed.octets ∷ [])
+
+abbrev pub sent_in : Output → List Event → ℕ → List (List ℕ)
+sent_in outputs.Sent h d = frame_for (out h) h d
+sent_in _ h d = []
+
+-- the frames that were sent for a dialogue, in order
+abbrev pub sent : List Event → ℕ → List (List ℕ)
+sent [] d = []
+sent (e ∷ h) d = sent h d ++ sent_in e.output h d
+
+-- an Abort of the provider for this cause, to the sender of a message
+abbrev pub abort_by : Posted → Option Prepared → List (List ℕ)
+abort_by (Aborted cause) None = []
+abort_by (Aborted cause) (Some came) = framed (canon (provider_abort (sender_of came) (cause_code cause))) ∷ []
+abort_by (Opened local) came = []
+abort_by (Accepted count) came = []
+abort_by Ended came = []
+abort_by Discarded came = []
+
+abbrev pub abort_in : Output → Option Prepared → List (List ℕ)
+abort_in (outputs.Posted answer components) came = abort_by answer came
+abort_in _ came = []
+
+-- the Aborts of the provider that were answered, as frames, in order
+abbrev pub aborts : List Event → List (List ℕ)
+aborts [] = []
+aborts (e ∷ h) = aborts h ++ abort_in e.output e.came
+
+abbrev pub abort_out : Option Handed → List (List ℕ)
+abort_out None = []
+abort_out (Some handed) = if handed.local == 0 then handed.octets ∷ [] else []
+
+abbrev pub abort_sent_in : Output → List Event → List (List ℕ)
+abort_sent_in outputs.Sent h = abort_out (out h)
+abort_sent_in _ h = []
+
+-- those of them that were sent, in order
+abbrev pub aborts_sent : List Event → List (List ℕ)
+aborts_sent [] = []
+aborts_sent (e ∷ h) = aborts_sent h ++ abort_sent_in e.output h

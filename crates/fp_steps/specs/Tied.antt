@@ -1,0 +1,118 @@
+-- How a book stands to the history of its run.
+use Rattle.std.specs.Prelude.{◌≡◌, ℕ, ◌<◌, ◌≤◌, ◌&&◌, Bool, true, false, not, List, [], ◌∷◌, ◌++◌, Option, Some, None, map, is_some, length, nat_le, nat_lt, option_map, ◌==◌, if◌then◌else◌}
+use Rattle.std.specs.Option.{option_map_or}
+use Rattle.std.specs.FinMap.{get}
+use mathlib.Core.List.{IsPrefix}
+use Rattle.fp_book.specs.declared.parcel.Content.{Content}
+use Rattle.fp_book.specs.declared.parcel.Content.TheVariants as contents
+use Rattle.fp_book.specs.Parcel.{local_of, octets_of}
+use Rattle.fp_book.specs.Shelf.{Shelf}
+use Rattle.fp_entry.specs.declared.entry.Entry.{Entry}
+use Rattle.fp_q773.specs.Tid.{octets_of as octets_of_tid}
+use Rattle.fp_reply.specs.declared.provider_abort.AbortFrame.{AbortFrame}
+use Rattle.fp_reply.specs.ProviderAbort.{frame_octets}
+use Rattle.fp_row.specs.declared.row.Row.{Row}
+use Rattle.fp_row.specs.Row.{queued_of, sent_of}
+use Rattle.fp_service.specs.declared.dialogue.Core.{Core}
+use Rattle.fp_service.specs.Dialogue.{fresh, is_over}
+use Rattle.fp_service.specs.Fold.{core_after, cut, requests}
+use Rattle.fp_tids.specs.Identifiers.{identifier}
+use Rattle.fp_steps.specs.Accepted.{accepted, entry_count, in_places, is_ended, positions}
+use Rattle.fp_steps.specs.Births.{Beginning, beginning, births, named}
+use Rattle.fp_steps.specs.Headline.{numbers}
+use Rattle.fp_steps.specs.History.{Event}
+use Rattle.fp_steps.specs.Sending.{Handed, abort_out, aborts, aborts_sent, frame_from, out, queued, sent}
+
+-- all that a history tells of a dialogue
+pub record Story : Type 0 where
+  pub began : Option Beginning
+  pub accepts : List Entry
+  pub places : List ℕ
+  pub queues : List (List ℕ)
+  pub sends : List (List ℕ)
+  pub ended : Bool
+
+abbrev pub story : List Event → ℕ → Story
+story h d = record {
+  began = beginning h d;
+  accepts = accepted h d;
+  places = positions h d;
+  queues = queued h d;
+  sends = sent h d;
+  ended = is_ended h d;
+}
+
+-- the core with which it begins, what was served, the core then, and the frames that were requested
+abbrev pub start_in : ℕ → Story → Core
+start_in d t = fresh d (option_map_or (λ (b : Beginning). b.moment) t.began 0)
+
+abbrev pub served_in : Story → List Entry
+served_in t = in_places t.accepts t.places
+
+abbrev pub core_in : ℕ → Story → Core
+core_in d t = core_after (start_in d t) (served_in t)
+
+abbrev pub asked_in : ℕ → Story → List (List ℕ)
+asked_in d t = map (frame_from t.began) (requests (start_in d t) (served_in t))
+
+-- what holds of it
+pub record IsStraight (d : ℕ) (t : Story) : Type 0 where
+  pub served_first : IsPrefix (served_in t) (cut (start_in d t) t.accepts)
+  pub sent_first : IsPrefix t.sends (asked_in d t)
+  pub each_once : t.places ≡ numbers (length t.places)
+  pub sent_queued : IsPrefix t.sends t.queues
+  pub queued_first : IsPrefix t.queues (asked_in d t)
+
+-- whether it takes messages
+abbrev pub admits_in : ℕ → ℕ → Story → Bool
+admits_in births d t = (nat_lt 0 d && nat_le d births) && (not t.ended && not (is_over (core_in d t)))
+
+-- how it began
+abbrev pub beginning_of : Row → Beginning
+beginning_of row = record { local = row.local; peer = octets_of_tid row.peer; moment = row.opened }
+
+-- the dialogue is this one
+pub record IsTied (d : ℕ) (t : Story) (row : Row) : Type 0 where
+  pub birth : row.birth ≡ d
+  pub begins : t.began ≡ Some (beginning_of row)
+  pub accepts : t.accepts ≡ row.accepted
+  pub serves : t.places ≡ numbers row.served
+  pub queues : t.queues ≡ queued_of row
+  pub sends : t.sends ≡ sent_of row
+  pub ends : is_over row.core ≡ false → t.ended ≡ is_some row.ended
+
+-- nothing is left of it, or it isn't opened yet
+pub record IsGone (births : ℕ) (d : ℕ) (t : Story) : Type 0 where
+  pub straight : IsStraight d t
+  pub admitted : admits_in births d t ≡ false
+
+abbrev pub TiedAt : ℕ → ℕ → Story → Option Row → Type 0
+TiedAt births d t None = IsGone births d t
+TiedAt births d t (Some row) = IsTied d t row
+
+-- a dialogue that isn't opened yet
+abbrev pub untold : Story
+untold = record { began = None; accepts = []; places = []; queues = []; sends = []; ended = false }
+
+-- what is out to be sent
+abbrev pub handed : Content → Handed
+handed content = record { local = local_of content; octets = octets_of content }
+
+-- the Aborts of the provider that were answered: those that were sent, that which is out, and then those that wait
+pub record AbortsTied (h : List Event) (s : Shelf) : Type 0 where
+  pub rest : List (List ℕ)
+  pub all : aborts_sent h ++ (abort_out (out h) ++ rest) ≡ aborts h
+  pub waiting : s.is_down ≡ false → rest ≡ map frame_octets s.outbox.aborts
+
+pub record Tied (h : List Event) (s : Shelf) : Type 0 where
+  pub births_are : births h ≡ s.births
+  pub entries_are : entry_count h ≡ s.entries
+  -- each dialogue is the one that the book holds under its identifier, if it holds one
+  pub rows : (d : ℕ) → TiedAt (births h) d (story h d) (get s.rows (identifier s.link d))
+  pub own : (local : ℕ) (row : Row) → get s.rows local ≡ Some row → local ≡ identifier s.link row.birth
+  pub names : (local d : ℕ) → named h local ≡ Some d → (local ≡ identifier s.link d) × (0 < d) × (d ≤ births h)
+  pub are_named : (d : ℕ) → 0 < d → d ≤ births h → named h (identifier s.link d) ≡ Some d
+  pub begins : (d : ℕ) (b : Beginning) → beginning h d ≡ Some b → b.local ≡ identifier s.link d
+  pub later : (d : ℕ) → births h < d → story h d ≡ untold
+  pub is_out : out h ≡ option_map handed s.outbox.out
+  pub aborts_are : AbortsTied h s

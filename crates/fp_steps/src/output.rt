@@ -1,0 +1,59 @@
+//! Outputs of a run.
+
+use fp_book::{Given, Posted};
+
+/// What a step answers.
+#[derive(Debug, Drop)]
+pub enum Output {
+    /// A message was posted.
+    Posted {
+        /// What became of it.
+        answer: Posted,
+        /// How many components were accepted.
+        components: u32,
+    },
+    /// Time went by.
+    Ticked {
+        /// How many dialogues were given a Clock.
+        added: u32,
+        /// How many were left, since memory was wanting.
+        wanting: u32,
+    },
+    /// A turn is out.
+    Took {
+        /// The local transaction identifier of its dialogue.
+        local: u32,
+        /// The place of its entry among those that the dialogue accepted, from 0.
+        position: u64,
+    },
+    /// All places for frames are held.
+    NoRoom,
+    /// A turn was served and given back.
+    Gave {
+        /// The local transaction identifier of its dialogue.
+        local: u32,
+        /// The place of its entry.
+        position: u64,
+        /// What became of its request.
+        given: Given,
+    },
+    /// A turn was put back, not served.
+    WentBack,
+    /// A parcel is out.
+    Picked {
+        /// The local transaction identifier of its dialogue, 0 for an Abort of the provider.
+        local: u32,
+        /// The frame that is to be sent, its head included.
+        frame: Vec<u8>,
+    },
+    /// A parcel is out already.
+    Busy,
+    /// The parcel was sent.
+    Sent,
+    /// The parcel wasn't sent, and the link is down.
+    Unsent,
+    /// The link is down.
+    Down,
+    /// The step was impossible, or there was nothing to do.
+    Nothing,
+}

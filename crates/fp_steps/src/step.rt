@@ -1,0 +1,29 @@
+//! Steps of a run.
+
+use fp_digits::Moment;
+use fp_frames::Frame;
+
+/// A step of a link.
+#[derive(Debug, Drop)]
+pub enum Step {
+    /// A message came at this moment.
+    Post(Frame, Moment),
+    /// A message came at this moment, and memory for reading it was wanting.
+    Lost(Frame, Moment),
+    /// It is this moment.
+    Tick(Moment),
+    /// A worker is free.
+    Take,
+    /// The turn of the dialogue with this local transaction identifier is served and given back.
+    Give(u32),
+    /// The turn of this dialogue is put back, not served.
+    PutBack(u32),
+    /// The link may send.
+    Pick,
+    /// The parcel was sent.
+    Sent,
+    /// The parcel couldn't be sent.
+    Unsent,
+    /// The link is gone.
+    Down,
+}
