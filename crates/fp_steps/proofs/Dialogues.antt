@@ -1,8 +1,8 @@
 -- The dialogues of a book where one of them changes, tied to their stories.
-use Rattle.std.proofs.Common.{◌≡◌, ℕ, ◌<◌, ◌≤◌, ◌+◌, ◌*◌, ◌^◌, Bool, true, false, cond, eqb, not, ◌&&◌, ◌||◌, Option, Some, None, List, [], ◌∷◌, ◌++◌, is_some, refl, sym, ◌∙◌, ap, subst, arith, ⊎_elim}
+use Rattle.std.proofs.Common.{◌≡◌, ℕ, ◌<◌, ◌≤◌, true, false, eqb, Option, Some, List, ◌∷◌, sym, ◌∙◌, ap, subst, arith, ⊎_elim}
 use Rattle.std.proofs.lemmas.Bool.{cases_Bool, eqb-true, eq-eqb}
 use Rattle.std.specs.FinMap as map
-use Rattle.fp_book.proofs.Changes.{NotHeld, by_held, by_local, left_by, not_held}
+use Rattle.fp_book.proofs.Changes.{by_held, by_local, left_by, not_held}
 use Rattle.fp_book.proofs.Sums.{OneChanges, left_of}
 use Rattle.fp_book.specs.Shelf.{IsOwn, Shelf, Sound}
 use Rattle.fp_row.specs.declared.row.Row.{Row}
@@ -43,7 +43,7 @@ named_of h s local row t k was =
 
 -- what is left of a dialogue is tied, or it is gone
 pub left_tied : RowsKeepTheirOrder → (n d : ℕ) (t : Story) (after : Row) → IsTied d t after → TiedAt n d t (left_of after)
-left_tied law n d t after k = by_held after (TiedAt n d t) (λ _. k) (λ none. gone_tied law n d t after k (not_held after none).admitted)
+left_tied law n d t after k = by_held after (TiedAt n d t) (λ _. k) (λ none. gone_tied law n d t after k (not_held after none))
 
 -- one dialogue changes, and the others keep their stories
 pub rows_one : (h : List Event) (e : Event) (old new : Shelf) (local : ℕ) (before : Row) (left : Option Row) → Tied h old → OneChanges old.rows new.rows local (Some before) left

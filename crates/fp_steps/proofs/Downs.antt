@@ -1,21 +1,19 @@
 -- The end of a link keeps the tie between a book and its history.
-use Rattle.std.proofs.Common.{◌≡◌, ℕ, ◌<◌, ◌≤◌, ◌+◌, Bool, true, false, cond, eqb, not, ◌&&◌, ◌||◌, Option, Some, None, List, [], ◌∷◌, ◌++◌, is_some, refl, sym, ◌∙◌, ap, subst, arith, append-nil, append_assoc, add-zero, ⊎_elim}
-use Rattle.std.specs.Prelude.{nat_le, nat_lt, option_map}
+use Rattle.std.proofs.Common.{◌≡◌, ℕ, ◌<◌, ◌≤◌, Bool, true, false, cond, ◌&&◌, Option, Some, None, List, [], ◌∷◌, ◌++◌, refl, sym, ◌∙◌, ap, subst, arith, append-nil, add-zero, ⊎_elim}
+use Rattle.std.specs.Prelude.{nat_le, nat_lt}
 use Rattle.std.proofs.lemmas.Bool.{and_right, lt-leb}
 use Rattle.std.proofs.lemmas.Bool.Decides.{leb_tells}
-use Rattle.std.proofs.Math.Bool.{or-false}
 use Rattle.std.specs.FinMap as map
 use Rattle.fp_book.proofs.Changes.{left_by}
-use Rattle.fp_book.proofs.Sums.{left_of}
 use Rattle.fp_book.specs.declared.line.LoggedStep.{LoggedStep}
 use Rattle.fp_book.specs.declared.line.LoggedStep.TheVariants as line
 use Rattle.fp_book.specs.declared.parcel.Content.{Content}
 use Rattle.fp_book.specs.declared.parcel.Parcel.{Parcel}
-use Rattle.fp_book.specs.Calls.{Closes, ClosesAt, GoesDown, Unsends}
+use Rattle.fp_book.specs.Calls.{ClosesAt, GoesDown, Unsends}
 use Rattle.fp_book.specs.Log.{logged}
 use Rattle.fp_book.specs.Parcel.{local_of}
 use Rattle.fp_book.specs.Sending.{is_frame_of}
-use Rattle.fp_book.specs.Shelf.{IsOwn, Shelf, Sound}
+use Rattle.fp_book.specs.Shelf.{Shelf, Sound}
 use Rattle.fp_entry.specs.declared.prepared.Prepared.{Prepared}
 use Rattle.fp_row.specs.declared.ending.Ending.{Ending}
 use Rattle.fp_row.specs.declared.ending.Ending.TheVariants.{ByPeer, Closed}
@@ -23,50 +21,53 @@ use Rattle.fp_row.specs.declared.row.Row.{Row}
 use Rattle.fp_row.specs.Calls.{Ends, ended_by}
 use Rattle.fp_row.specs.Laws.{RowsKeepTheirOrder}
 use Rattle.fp_row.specs.Row.{is_held}
-use Rattle.fp_service.specs.Dialogue.{is_over}
 use Rattle.fp_tids.specs.Identifiers.{identifier}
-use Rattle.fp_steps.specs.declared.output.Output.{Output}
 use Rattle.fp_steps.specs.declared.output.Output.TheVariants as outputs
 use Rattle.fp_steps.specs.declared.step.Step.{Step}
-use Rattle.fp_steps.specs.Accepted.{accepted, entry_count, is_ended, positions}
+use Rattle.fp_steps.specs.Accepted.{accepted, ending, entry_count, positions}
 use Rattle.fp_steps.specs.Births.{births}
 use Rattle.fp_steps.specs.Headline.{numbers}
 use Rattle.fp_steps.specs.History.{Event}
 use Rattle.fp_steps.specs.Sending.{abort_out, aborts, aborts_sent, out, queued, sent}
-use Rattle.fp_steps.specs.Tied.{AbortsTied, IsGone, IsStraight, IsTied, Story, Tied, TiedAt, admits_in, core_in, handed, story}
-use Rattle.fp_steps.proofs.Dialogues.{left_tied, tied_of}
+use Rattle.fp_steps.specs.Tied.{AbortsTied, IsGone, IsStraight, IsTied, Story, Tied, TiedAt, story}
+use Rattle.fp_steps.proofs.Dialogues.{left_tied}
 use Rattle.fp_steps.proofs.Nexts.{Next, Tied-next}
 use Rattle.fp_steps.proofs.Stories.{same_beginning, same_story}
 
--- the story of a dialogue that something may have ended
-abbrev pub with_end : Story → Bool → Story
-with_end t x = record { began = t.began; accepts = t.accepts; places = t.places; queues = t.queues; sends = t.sends; ended = t.ended || x }
+-- the story of a dialogue that was ended so from outside, or not
+abbrev pub with_end : Story → Option Ending → Story
+with_end t x = record { began = t.began; accepts = t.accepts; places = t.places; queues = t.queues; sends = t.sends; ended = x; out = t.out }
 
-fewer_admitted : (b e l x : Bool) → (b && (not e && l)) ≡ false → (b && (not (e || x) && l)) ≡ false
-fewer_admitted false e l x h = refl
-fewer_admitted true true l x h = refl
-fewer_admitted true false l x h = and_right (not x) l h
+-- closed, or as it was
+abbrev pub closed_if : Bool → Option Ending → Option Ending
+closed_if b before = cond b (Some Closed) before
+
+straight_ended : (d : ℕ) (t : Story) (x : Option Ending) → IsStraight d t → IsStraight d (with_end t x)
+straight_ended d t x s = record { served_first = s.served_first; sent_first = s.sent_first; each_once = s.each_once; sent_queued = s.sent_queued; queued_first = s.queued_first }
 
 -- what is gone stays so
-pub gone_ended : (n d : ℕ) (t : Story) (x : Bool) → IsGone n d t → IsGone n d (with_end t x)
-gone_ended n d t x g =
-    let s : IsStraight d t = g.straight in
-    record {
-      straight = record { served_first = s.served_first; sent_first = s.sent_first; each_once = s.each_once; sent_queued = s.sent_queued; queued_first = s.queued_first };
-      admitted = fewer_admitted (nat_lt 0 d && nat_le d n) t.ended (not (is_over (core_in d t))) x g.admitted;
-    }
+pub gone_ended : (n d : ℕ) (t : Story) (b : Bool) → IsGone n d t → IsGone n d (with_end t (closed_if b t.ended))
+gone_ended n d t true g = record {
+  straight = straight_ended d t (Some Closed) g.straight;
+  admitted = and_right (nat_lt 0 d && nat_le d n) false refl;
+  waits = refl;
+  outs = g.outs;
+}
+gone_ended n d t false g = record {
+  straight = straight_ended d t t.ended g.straight;
+  admitted = g.admitted;
+  waits = g.waits;
+  outs = g.outs;
+}
 
-pub is_ended_by : (ending : Ending) (was : Option Ending) → is_some (ended_by ending was) ≡ true
-is_ended_by ending None = refl
-is_ended_by ending (Some ByPeer) = refl
-is_ended_by ending (Some Closed) = refl
-
-or-true : (b x : Bool) → x ≡ true → (b || x) ≡ true
-or-true true x e = refl
-or-true false x e = e
+-- who is closed stays so
+pub closed_by : (was : Option Ending) → ended_by Closed was ≡ Some Closed
+closed_by None = refl
+closed_by (Some ByPeer) = refl
+closed_by (Some Closed) = refl
 
 -- a dialogue that was ended from outside
-pub tied_ends : (d : ℕ) (t : Story) (ending : Ending) (sending : Bool) (before after : Row) (x : Bool) → IsTied d t before → Ends ending sending before after → x ≡ true → IsTied d (with_end t x) after
+pub tied_ends : (d : ℕ) (t : Story) (ending : Ending) (sending : Bool) (before after : Row) (x : Option Ending) → IsTied d t before → Ends ending sending before after → x ≡ ended_by ending before.ended → IsTied d (with_end t x) after
 tied_ends d t ending sending before after x k e is = record {
   birth = e.same.birth ∙ k.birth;
   begins = k.begins ∙ ap Some (sym (same_beginning before after e.same));
@@ -74,15 +75,18 @@ tied_ends d t ending sending before after x k e is = record {
   serves = k.serves ∙ ap numbers (sym e.served);
   queues = k.queues ∙ sym e.queued_frames;
   sends = k.sends ∙ sym e.sent_frames;
-  ends = λ live. or-true t.ended x is ∙ sym (ap is_some e.ended ∙ is_ended_by ending before.ended);
+  ends = is ∙ sym e.ended;
+  outs = k.outs ∙ sym e.is_out;
 }
 
 -- all dialogues are closed
-pub closed_at : RowsKeepTheirOrder → (n d : ℕ) (t : Story) (sending : Bool) (o left : Option Row) (x : Bool) → TiedAt n d t o → ClosesAt sending o left → ((row : Row) → o ≡ Some row → x ≡ true)
-    → TiedAt n d (with_end t x) left
-closed_at law n d t sending None left x k c is = subst (TiedAt n d (with_end t x)) (sym c) (gone_ended n d t x k)
-closed_at law n d t sending (Some row) left x k c is =
-    subst (TiedAt n d (with_end t x)) (sym c.left_is) (left_tied law n d (with_end t x) c.after (tied_ends d t Closed sending row c.after x k c.ends (is row refl)))
+pub closed_at : RowsKeepTheirOrder → (n d : ℕ) (t : Story) (sending : Bool) (o left : Option Row) (b : Bool) → TiedAt n d t o → ClosesAt sending o left → ((row : Row) → o ≡ Some row → b ≡ true)
+    → TiedAt n d (with_end t (closed_if b t.ended)) left
+closed_at law n d t sending None left b k c is = subst (TiedAt n d (with_end t (closed_if b t.ended))) (sym c) (gone_ended n d t b k)
+closed_at law n d t sending (Some row) left b k c is =
+    let x = closed_if b t.ended in
+    let closed : x ≡ ended_by Closed row.ended = ap (λ b. closed_if b t.ended) (is row refl) ∙ sym (closed_by row.ended) in
+    subst (TiedAt n d (with_end t x)) (sym c.left_is) (left_tied law n d (with_end t x) c.after (tied_ends d t Closed sending row c.after x k c.ends closed))
 
 -- each that is left has its birth
 closed_birth : (sending : Bool) (o : Option Row) (row : Row) → ClosesAt sending o (Some row) → (before : Row) × ((o ≡ Some before) × (row.birth ≡ before.birth))
@@ -102,7 +106,7 @@ born_by h s local row t k was = let last : row.birth ≤ s.births = (k.own local
 
 -- what an event tells that ends all dialogues
 abbrev EndsAll : List Event → Event → Type 0
-EndsAll h e = (d : ℕ) → story (e ∷ h) d ≡ with_end (story h d) (nat_le d (births h))
+EndsAll h e = (d : ℕ) → story (e ∷ h) d ≡ with_end (story h d) (closed_if (nat_le d (births h)) (ending h d))
 
 rows_closed : RowsKeepTheirOrder → (h : List Event) (e : Event) (old new : Shelf) (out_then : Option Content) (step : LoggedStep) → Tied h old → Sound old → GoesDown out_then old step new → EndsAll h e
     → (d : ℕ) → TiedAt (births h) d (story (e ∷ h) d) (map.get new.rows (identifier old.link d))
@@ -123,7 +127,7 @@ own_closed h old new out_then step t g local row was =
 later_closed : (h : List Event) (e : Event) → EndsAll h e → (d : ℕ) → births h < d → story (e ∷ h) d ≡ story h d
 later_closed h e told d past =
     let none : nat_le d (births h) ≡ false = lt-leb d (births h) past in
-    told d ∙ same_story (with_end (story h d) (nat_le d (births h))) (story h d) refl refl refl refl refl (ap (λ b. is_ended h d || b) none ∙ or-false (is_ended h d))
+    told d ∙ same_story (with_end (story h d) (closed_if (nat_le d (births h)) (ending h d))) (story h d) refl refl refl refl refl (ap (λ b. closed_if b (ending h d)) none) refl
 
 -- the link goes down
 pub Tied-down : RowsKeepTheirOrder → (h : List Event) (step : Step) (came : Option Prepared) (old new : Shelf) → Tied h old → Sound old → GoesDown old.outbox.out old line.Down new
@@ -139,7 +143,7 @@ Tied-down law h step came old new t k g =
       is_down = true;
     } in
     let told : EndsAll h e = λ d.
-    same_story (story (e ∷ h) d) (with_end (story h d) (nat_le d (births h))) refl (append-nil (accepted h d)) (append-nil (positions h d)) (append-nil (queued h d)) (append-nil (sent h d)) refl
+    same_story (story (e ∷ h) d) (with_end (story h d) (closed_if (nat_le d (births h)) (ending h d))) refl (append-nil (accepted h d)) (append-nil (positions h d)) (append-nil (queued h d)) (append-nil (sent h d)) refl refl
     in
     let a : AbortsTied h old = t.aborts_are in
     let next : Next h e old then =
@@ -179,7 +183,7 @@ Tied-unsends law h step came old new parcel t k u =
       is_down = true;
     } in
     let told : EndsAll h e = λ d.
-    same_story (story (e ∷ h) d) (with_end (story h d) (nat_le d (births h))) refl (append-nil (accepted h d)) (append-nil (positions h d)) (append-nil (queued h d)) (append-nil (sent h d)) refl
+    same_story (story (e ∷ h) d) (with_end (story h d) (closed_if (nat_le d (births h)) (ending h d))) refl (append-nil (accepted h d)) (append-nil (positions h d)) (append-nil (queued h d)) (append-nil (sent h d)) refl refl
     in
     let a : AbortsTied h old = t.aborts_are in
     let next : Next h e old then =

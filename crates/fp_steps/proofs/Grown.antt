@@ -1,21 +1,21 @@
 -- A message that is accepted keeps the tie between a book and its history.
-use Rattle.std.proofs.Common.{◌≡◌, ℕ, ◌<◌, ◌≤◌, ◌+◌, Bool, true, false, cond, eqb, not, ◌&&◌, ◌||◌, Option, Some, None, List, [], ◌∷◌, ◌++◌, length, take, is_some, refl, sym, ◌∙◌, ap, subst, arith, append-nil, add-zero, ⊎_elim}
-use Rattle.std.specs.Prelude.{nat_le, nat_lt, option_map}
+use Rattle.std.proofs.Common.{◌≡◌, ℕ, ◌<◌, ◌≤◌, ◌+◌, Bool, true, false, cond, eqb, not, ◌&&◌, Option, Some, None, List, [], ◌∷◌, ◌++◌, length, take, is_some, refl, sym, ◌∙◌, ap, subst, arith, append-nil, ⊎_elim}
+use Rattle.std.specs.Prelude.{nat_le, nat_lt}
 use Rattle.std.specs.Option.{option_and_then, option_map_or}
-use Rattle.std.proofs.lemmas.Bool.{cases_Bool, eq-eqb, eqb-true, eqb-false, lt-leb, ne_eqb}
+use Rattle.std.proofs.lemmas.Bool.{cases_Bool, eq-eqb, eqb-true, eqb-false, ne_eqb}
 use Rattle.std.proofs.lemmas.Bool.Decides.{leb_tells}
-use Rattle.std.proofs.Math.Bool.{or-false}
 use Rattle.std.specs.FinMap as map
 use Rattle.fp_book.proofs.Changes.{by_local}
 use Rattle.fp_book.proofs.Sums.{OneChanges, inserted, kept, left_of}
 use Rattle.fp_book.specs.declared.answers.Posted.{Posted}
-use Rattle.fp_book.specs.declared.answers.Posted.TheVariants.{Opened, Accepted, Aborted, Ended, Discarded}
+use Rattle.fp_book.specs.declared.answers.Posted.TheVariants.{Opened, Accepted}
 use Rattle.fp_book.specs.Calls.{EndsDialogue, ExtendsDialogue, OpensDialogue, entries_in, joins, more_accepted, posted_line}
 use Rattle.fp_book.specs.Log.{logged}
 use Rattle.fp_book.specs.Outbox.{without_frames_of}
 use Rattle.fp_book.specs.Sending.{is_frame_of}
-use Rattle.fp_book.specs.Shelf.{IsOwn, Shelf, Sound, gone_with, keep}
-use Rattle.fp_book.specs.Verdict.{named as named_in}
+use Rattle.fp_book.specs.Shelf.{Shelf, Sound, gone_with, keep}
+use Rattle.fp_book.specs.Verdict.{admitted as admitted_in, named as named_in}
+use Rattle.fp_row.specs.declared.ending.Ending.TheVariants.{ByPeer}
 use Rattle.fp_entry.specs.declared.entry.Entry.{Entry}
 use Rattle.fp_entry.specs.declared.prepared.Prepared.{Prepared}
 use Rattle.fp_entry.specs.Prepared.{arrival_of}
@@ -23,31 +23,29 @@ use Rattle.fp_q773.specs.declared.tid.Tid.{Tid}
 use Rattle.fp_q773.specs.Tid.{octets_of}
 use Rattle.fp_row.specs.declared.ending.Ending.{Ending}
 use Rattle.fp_row.specs.declared.row.Row.{Row}
-use Rattle.fp_row.specs.Calls.{Ends, Extends, Opens}
+use Rattle.fp_row.specs.Calls.{Extends, ended_by}
 use Rattle.fp_row.specs.Laws.{RowsKeepTheirOrder}
-use Rattle.fp_row.specs.Row.{frames_of, is_ready, queued_of, sent_of}
+use Rattle.fp_row.specs.Row.{frames_of, is_admitted, is_ready}
 use Rattle.fp_service.specs.Dialogue.{is_over}
 use Rattle.fp_tids.specs.Identifiers.{identifier}
-use Rattle.fp_steps.specs.declared.output.Output.{Output}
-use Rattle.fp_steps.specs.declared.output.Output.TheVariants as outputs
 use Rattle.fp_steps.specs.declared.step.Step.{Step}
-use Rattle.fp_steps.specs.Accepted.{accepted, entry_count, is_ended, is_ending, positions}
-use Rattle.fp_steps.specs.Births.{Beginning, beginning, births, destination, for_one, is_one, named, sender_of}
+use Rattle.fp_steps.specs.Accepted.{accepted, admits, ending, ending_at, ending_by, is_ending, positions}
+use Rattle.fp_steps.specs.Births.{Beginning, beginning, births, destination, for_one, named, sender_of}
 use Rattle.fp_steps.specs.Headline.{numbers}
 use Rattle.fp_steps.specs.History.{Event}
-use Rattle.fp_steps.specs.Sending.{out, queued, sent}
-use Rattle.fp_steps.specs.Tied.{AbortsTied, IsGone, IsStraight, IsTied, Story, Tied, TiedAt, admits_in, beginning_of, core_in, handed, story, untold}
+use Rattle.fp_steps.specs.Sending.{queued, sent}
+use Rattle.fp_steps.specs.Tied.{IsTied, Story, Tied, TiedAt, beginning_of, core_in, story, untold}
 use Rattle.fp_steps.proofs.Dialogues.{apart, left_birth, left_tied, named_of, own_one, rows_one, tied_of}
 use Rattle.fp_steps.proofs.Downs.{tied_ends, with_end}
 use Rattle.fp_steps.proofs.Nexts.{Next, Tied-next}
-use Rattle.fp_steps.proofs.Refused.{number_in, one_of, posts}
+use Rattle.fp_steps.proofs.Refused.{names_taker, number_in, own_named_takes, posts, takes_by}
 use Rattle.fp_steps.proofs.Served.{aborts_stay, later_other, the_same}
-use Rattle.fp_steps.proofs.Stories.{for_other, for_own, same_beginning, same_story, stays}
+use Rattle.fp_steps.proofs.Stories.{for_other, for_own, is_other, same_beginning, same_story, stays}
 use Rattle.fp_book.proofs.Tells.{names_by}
 
 -- the story of a dialogue with more entries
 abbrev pub with_more : Story → List Entry → Story
-with_more t entries = record { began = t.began; accepts = t.accepts ++ entries; places = t.places; queues = t.queues; sends = t.sends; ended = t.ended }
+with_more t entries = record { began = t.began; accepts = t.accepts ++ entries; places = t.places; queues = t.queues; sends = t.sends; ended = t.ended; out = t.out }
 
 pub tied_extends : (d : ℕ) (t : Story) (before after : Row) (entries : List Entry) → IsTied d t before → Extends before entries after → IsTied d (with_more t entries) after
 tied_extends d t before after entries k e = record {
@@ -57,34 +55,32 @@ tied_extends d t before after entries k e = record {
   serves = k.serves ∙ ap numbers (sym e.stay.served);
   queues = k.queues ∙ sym e.stay.queued_frames;
   sends = k.sends ∙ sym e.stay.sent_frames;
-  ends = λ live. k.ends (ap is_over (sym e.stay.core) ∙ live) ∙ ap is_some (sym e.ended);
+  ends = k.ends ∙ sym e.ended;
+  outs = k.outs ∙ sym e.is_out;
 }
 
-and_one : (x b y : Bool) → b ≡ true → x ≡ y → (x && b) ≡ y
-and_one true b true is e = is
-and_one true b false is e = absurd (cc)
-and_one false b true is e = absurd (cc)
-and_one false b false is e = refl
-
-and_none : (x b : Bool) → b ≡ false → (x && b) ≡ false
-and_none true b is = is
-and_none false b is = refl
+-- a message doesn't end a dialogue that it doesn't name, or that takes none
+pub unended : (by : Option Ending) (takes : Bool) (before : Option Ending) → takes ≡ false → ending_at by takes before ≡ before
+unended None takes before none = refl
+unended (Some ending) takes before none = ap (λ b. cond b (Some ending) before) none
 
 -- what an accepted message tells of its dialogue, and of the others
-own_told : (h : List Event) (step : Step) (came : Prepared) (count components b : ℕ) (x : Bool) → destination h (Some came) ≡ Some b → is_ending (arrival_of came).ids.kind ≡ x
+own_told : (h : List Event) (step : Step) (came : Prepared) (count components b : ℕ) (x : Option Ending) → destination h (Some came) ≡ Some b
+    → ending_at (ending_by (Accepted count) (Some came)) (names_taker h came b) (ending h b) ≡ x
     → story (posts step came (Accepted count) components ∷ h) b ≡ with_end (with_more (story h b) (entries_in came)) x
-own_told h step came count components b x dest ending =
+own_told h step came count components b x dest ends_so =
     let e = posts step came (Accepted count) components in
     same_story (story (e ∷ h) b) (with_end (with_more (story h b) (entries_in came)) x) refl
     (ap (λ xs. accepted h b ++ xs) (for_own (destination h (Some came)) b (entries_in came) dest))
     (append-nil (positions h b)) (append-nil (queued h b)) (append-nil (sent h b))
-    (ap (λ y. is_ended h b || y) (and_one (is_ending (arrival_of came).ids.kind) (is_one (destination h (Some came)) b) x (one_of (destination h (Some came)) b b dest ∙ eq-eqb b b refl) ending))
+    ends_so refl
 
 others_told : (h : List Event) (step : Step) (came : Prepared) (count components b : ℕ) → destination h (Some came) ≡ Some b
     → (d : ℕ) → eqb d b ≡ false → story (posts step came (Accepted count) components ∷ h) d ≡ story h d
 others_told h step came count components b dest d ne =
     stays (posts step came (Accepted count) components) h d refl (for_other (destination h (Some came)) d b (entries_in came) dest ne) refl refl refl
-    (and_none (is_ending (arrival_of came).ids.kind) (is_one (destination h (Some came)) d) (one_of (destination h (Some came)) d b dest ∙ ne))
+    (unended (ending_by (Accepted count) (Some came)) (names_taker h came d) (ending h d) (ap (λ b. b && admits h d) (is_other (destination h (Some came)) d b dest ne)))
+    refl
 
 dest_of : (h : List Event) (old : Shelf) (came : Prepared) (local : ℕ) (before : Row) → Tied h old → Sound old → named_in old (arrival_of came).ids ≡ Some local → map.get old.rows local ≡ Some before
     → destination h (Some came) ≡ Some before.birth
@@ -93,7 +89,7 @@ dest_of h old came local before t k names was = ap (option_and_then (named h)) (
 -- a dialogue accepts a message
 pub Tied-extends : RowsKeepTheirOrder → (h : List Event) (step : Step) (came : Prepared) (answer : Posted) (components : ℕ) (old new : Shelf) (local : ℕ) → Tied h old → Sound old
     → named_in old (arrival_of came).ids ≡ Some local → is_ending (arrival_of came).ids.kind ≡ false → ExtendsDialogue old local came answer new → Tied (posts step came answer components ∷ h) new
-Tied-extends law h step came answer components old new local t k names ending g =
+Tied-extends law h step came answer components old new local t k names no_end g =
     let count = length (entries_in came) in
     let e = posts step came (Accepted count) components in
     let b = g.before.birth in
@@ -107,7 +103,7 @@ Tied-extends law h step came answer components old new local t k names ending g 
     let dest : destination h (Some came) ≡ Some b = dest_of h old came local g.before t k names g.was in
     let others : (d : ℕ) → eqb d b ≡ false → story (e ∷ h) d ≡ story h d = others_told h step came count components b dest in
     let told : story (e ∷ h) b ≡ with_more (story h b) (entries_in came) =
-    own_told h step came count components b false dest ending ∙ same_story (with_end (with_more (story h b) (entries_in came)) false) (with_more (story h b) (entries_in came)) refl refl refl refl refl (or-false (is_ended h b))
+    own_told h step came count components b (ending h b) dest (ap (λ x. ending_at (cond x (Some ByPeer) None) (names_taker h came b) (ending h b)) no_end)
     in
     let one : OneChanges old.rows then.rows local (Some g.before) (Some g.after) = inserted old.rows local (Some g.before) g.after g.was in
     let tied : IsTied b (with_more (story h b) (entries_in came)) g.after = tied_extends b (story h b) g.before g.after (entries_in came) (tied_of h old local g.before t g.was) g.extends in
@@ -128,10 +124,14 @@ Tied-extends law h step came answer components old new local t k names ending g 
     in
     subst (λ a. Tied (posts step came a components ∷ h) new) (sym g.answer_is) (subst (Tied (e ∷ h)) (sym g.new_is) (Tied-next h e old then t next))
 
+-- the dialogue that is named takes messages
+names_takes : (s : Shelf) (o : Option ℕ) (local : ℕ) (row : Row) → option_and_then (admitted_in s.rows) o ≡ Some local → map.get s.rows local ≡ Some row → is_admitted row ≡ true
+names_takes s o local row names was = sym (ap (λ r. option_map_or is_admitted r false) was) ∙ (names_by s o local names).takes
+
 -- a dialogue accepts its peer's end
-pub Tied-ends : RowsKeepTheirOrder → (h : List Event) (step : Step) (came : Prepared) (answer : Posted) (components : ℕ) (old new : Shelf) (local : ℕ) (ending : Ending) → Tied h old → Sound old
-    → named_in old (arrival_of came).ids ≡ Some local → is_ending (arrival_of came).ids.kind ≡ true → EndsDialogue old local ending came answer new → Tied (posts step came answer components ∷ h) new
-Tied-ends law h step came answer components old new local ending t k names is_end g =
+pub Tied-ends : RowsKeepTheirOrder → (h : List Event) (step : Step) (came : Prepared) (answer : Posted) (components : ℕ) (old new : Shelf) (local : ℕ) (by : Ending) → Tied h old → Sound old
+    → named_in old (arrival_of came).ids ≡ Some local → is_ending (arrival_of came).ids.kind ≡ true → by ≡ ByPeer → EndsDialogue old local by came answer new → Tied (posts step came answer components ∷ h) new
+Tied-ends law h step came answer components old new local by t k names is_end by_peer g =
     let count = length (entries_in came) in
     let e = posts step came (Accepted count) components in
     let b = g.before.birth in
@@ -146,11 +146,17 @@ Tied-ends law h step came answer components old new local ending t k names is_en
     } in
     let dest : destination h (Some came) ≡ Some b = dest_of h old came local g.before t k names g.was in
     let others : (d : ℕ) → eqb d b ≡ false → story (e ∷ h) d ≡ story h d = others_told h step came count components b dest in
-    let told : story (e ∷ h) b ≡ with_end (with_more (story h b) (entries_in came)) true = own_told h step came count components b true dest is_end in
+    let takes : names_taker h came b ≡ true = own_named_takes h old came local g.before t k names g.was in
+    let told : story (e ∷ h) b ≡ with_end (with_more (story h b) (entries_in came)) (Some ByPeer) =
+    own_told h step came count components b (Some ByPeer) dest
+    (ap (λ x. ending_at (cond x (Some ByPeer) None) (names_taker h came b) (ending h b)) is_end ∙ ap (λ x. cond x (Some ByPeer) (ending h b)) takes)
+    in
     let one : OneChanges old.rows then.rows local (Some g.before) (left_of g.after) = kept old.rows local (Some g.before) g.after g.was in
     let extended : IsTied b (with_more (story h b) (entries_in came)) g.extended = tied_extends b (story h b) g.before g.extended (entries_in came) (tied_of h old local g.before t g.was) g.extends in
-    let tied : IsTied b (with_end (with_more (story h b) (entries_in came)) true) g.after =
-    tied_ends b (with_more (story h b) (entries_in came)) ending (is_frame_of local old.outbox.out) g.extended g.after true extended g.ends refl
+    let was_none : g.extended.ended ≡ None = g.extends.ended ∙ takes_by g.before (names_takes old (number_in came) local g.before names g.was) in
+    let ends_so : Some ByPeer ≡ ended_by by g.extended.ended = ap Some (sym by_peer) ∙ ap (ended_by by) (sym was_none) in
+    let tied : IsTied b (with_end (with_more (story h b) (entries_in came)) (Some ByPeer)) g.after =
+    tied_ends b (with_more (story h b) (entries_in came)) by (is_frame_of local old.outbox.out) g.extended g.after (Some ByPeer) extended g.ends ends_so
     in
     let next : Next h e old then =
     record {
@@ -161,7 +167,7 @@ Tied-ends law h step came answer components old new local ending t k names is_en
       beginnings_stay = λ d. refl;
       entries = ap (λ n. n + length (entries_in came)) t.entries_are;
       rows = rows_one h e old then local g.before (left_of g.after) t one
-          (subst (λ s. TiedAt (births h) b s (left_of g.after)) (sym told) (left_tied law (births h) b (with_end (with_more (story h b) (entries_in came)) true) g.after tied)) others;
+          (subst (λ s. TiedAt (births h) b s (left_of g.after)) (sym told) (left_tied law (births h) b (with_end (with_more (story h b) (entries_in came)) (Some ByPeer)) g.after tied)) others;
       own = own_one h old then local g.before (left_of g.after) t one (λ row is. left_birth g.before g.after row (g.ends.same.birth ∙ g.extends.same.birth) is);
       later = λ d past. others d (later_other d b (births h) past (let last : b ≤ old.births = (k.own local g.before g.was).born.1 in omega (arith, last, t.births_are)));
       is_out = t.is_out;
@@ -182,7 +188,9 @@ at_more : (d n : ℕ) (t : Story) (o : Option Row) → eqb d (n + 1) ≡ false �
 at_more d n t (Some row) ne k = k
 at_more d n t None ne k = record {
   straight = k.straight;
-  admitted = ap (λ b. (nat_lt 0 d && b) && (not t.ended && not (is_over (core_in d t)))) (le_more d n ne) ∙ k.admitted;
+  admitted = ap (λ b. (nat_lt 0 d && b) && (not (is_some t.ended) && not (is_over (core_in d t)))) (le_more d n ne) ∙ k.admitted;
+  waits = k.waits;
+  outs = k.outs;
 }
 
 none_taken : (xs : List (List ℕ)) (n : ℕ) → n ≡ 0 → take n xs ≡ []
@@ -219,7 +227,7 @@ Tied-opens law h step came answer components old new peer t k orig g =
     let place : l ≡ identifier old.link b = ap (λ m. identifier old.link (m + 1)) (sym (all ∙ given)) in
     let untold_yet : story h b ≡ untold = t.later b (omega arith) in
     let start : Beginning = record { local = l; peer = sender_of came; moment = (arrival_of came).moment } in
-    let fresh_one : Story = record { began = Some start; accepts = entries_in came; places = []; queues = []; sends = []; ended = false } in
+    let fresh_one : Story = record { began = Some start; accepts = entries_in came; places = []; queues = []; sends = []; ended = None; out = false } in
     let told : story (e ∷ h) b ≡ fresh_one =
     same_story (story (e ∷ h) b) fresh_one
     (ap (λ y. cond y (Some start) (beginning h b)) (eq-eqb b b refl))
@@ -227,10 +235,11 @@ Tied-opens law h step came answer components old new peer t k orig g =
     (append-nil (positions h b) ∙ ap (λ (s : Story). s.places) untold_yet)
     (append-nil (queued h b) ∙ ap (λ (s : Story). s.queues) untold_yet)
     (append-nil (sent h b) ∙ ap (λ (s : Story). s.sends) untold_yet)
-    (or-false (is_ended h b) ∙ ap (λ (s : Story). s.ended) untold_yet)
+    (ap (λ (s : Story). s.ended) untold_yet)
+    (ap (λ (s : Story). s.out) untold_yet)
     in
     let others : (d : ℕ) → eqb d b ≡ false → story (e ∷ h) d ≡ story h d = λ d ne.
-    stays e h d (ap (λ y. cond y (Some start) (beginning h d)) ne) (for_other (Some b) d b (entries_in came) refl ne) refl refl refl refl
+    stays e h d (ap (λ y. cond y (Some start) (beginning h d)) ne) (for_other (Some b) d b (entries_in came) refl ne) refl refl refl refl refl
     in
     let make : ℕ → List ℕ → ℕ → Option Beginning = λ l p m. Some (record { local = l; peer = p; moment = m }) in
     let begins : Some start ≡ Some (beginning_of g.after) =
@@ -247,7 +256,8 @@ Tied-opens law h step came answer components old new peer t k orig g =
       serves = ap numbers (sym (g.extends.stay.served ∙ g.opens.served));
       queues = sym (g.extends.stay.queued_frames ∙ none_taken (frames_of g.opened) g.opened.queued g.opens.queued);
       sends = sym (g.extends.stay.sent_frames ∙ none_taken (frames_of g.opened) g.opened.sent g.opens.sent);
-      ends = λ live. sym (ap is_some (g.extends.ended ∙ g.opens.ended));
+      ends = sym (g.extends.ended ∙ g.opens.ended);
+      outs = sym (g.extends.is_out ∙ g.opens.is_out);
     }
     in
     let one : OneChanges old.rows then.rows l (map.get old.rows l) (Some g.after) = inserted old.rows l (map.get old.rows l) g.after refl in

@@ -1,19 +1,17 @@
 -- Lines that are taken out of the log.
-use Rattle.std.proofs.Common.{◌≡◌, ℕ, ◌<◌, Bool, true, false, is_some, Option, Some, None, List, [], ◌∷◌, length, ◌⊎◌, inl, inr, not, ◌&&◌, refl, sym, ◌∙◌, ap, subst, arith}
+use Rattle.std.proofs.Common.{◌≡◌, ℕ, ◌<◌, true, false, is_some, Option, Some, None, List, [], ◌∷◌, length, inl, inr, not, ◌&&◌, refl, sym, ◌∙◌, ap, arith}
 use Rattle.fp_book.proofs.Tells.{followed_log}
 use Rattle.std.specs.Prelude.{IfOk, Result, Ok, Err, min}
 use Rattle.fp_book.specs.declared.answers.Posted.{Posted}
 use Rattle.fp_book.specs.declared.answers.Posted.TheVariants.{Opened, Accepted, Aborted, Ended, Discarded}
 use Rattle.fp_entry.specs.Prepared.{components_of}
 use Rattle.fp_book.specs.declared.line.Line.{Line}
-use Rattle.fp_book.specs.declared.line.Line.TheVariants as lines
 use Rattle.fp_book.specs.declared.line.LoggedStep.{LoggedStep}
 use Rattle.fp_book.specs.Calls.{Follows, Posts as BookPosts, posted_line}
 use Rattle.fp_book.specs.Shelf.{Shelf, Sound}
 use Rattle.fp_book.specs.Verdict.{verdict}
 use Rattle.fp_entry.specs.declared.prepared.Prepared.{Prepared}
 use Rattle.fp_entry.specs.declared.prepared.Prepared.TheVariants as prepared
-use Rattle.fp_entry.specs.Prepared.{arrival_of}
 use Rattle.fp_steps.specs.declared.output.Output.TheVariants as outputs
 use Rattle.fp_steps.specs.History.{is_lost}
 use Rattle.fp_steps.specs.Makes.{Drained, Posts, TakesLine, components_by, components_if, is_lost_step, tells_lost}
@@ -58,7 +56,7 @@ told_by old (Some taken) new step g log =
     ap (λ t. tells_lost (Some t)) g.1 ∙ ap is_lost_step (first_step g.0 step new.log [] (sym g.2 ∙ log))
 
 -- memory was wanting: only where the message was lost, as it had been
-posted_by : (old mid new : Shelf) (came : Prepared) (answer : Posted) (line : Option Line) → BookPosts (record old { log = [] }) came answer mid → TakesLine mid line new → (tells_lost line && not (is_lost came)) ≡ false
+pub posted_by : (old mid new : Shelf) (came : Prepared) (answer : Posted) (line : Option Line) → BookPosts (record old { log = [] }) came answer mid → TakesLine mid line new → (tells_lost line && not (is_lost came)) ≡ false
     → Follows (verdict (record old { log = [] }) came) (record old { log = [] }) came answer mid
 posted_by old mid new came answer line (inl g) taken none = g
 posted_by old mid new (prepared.Lost arrival) answer line (inr g) taken none = g.1

@@ -1,10 +1,13 @@
 -- Each step keeps the tie between a book and its history, and the tie gives the headline.
-use Rattle.std.proofs.Common.{◌≡◌, ℕ, ◌<◌, ◌≤◌, ◌&&◌, nat_le, nat_lt, ⊎_elim, Bool, true, false, Option, Some, None, List, [], ◌∷◌, ◌++◌, refl, sym, ◌∙◌, ap, subst, arith, ◌⊎◌, inl, inr, add-zero, append-nil}
+use Rattle.std.proofs.Common.{◌≡◌, ℕ, ◌≤◌, ◌&&◌, nat_le, nat_lt, ⊎_elim, true, false, Option, Some, None, List, [], ◌∷◌, ◌++◌, refl, sym, ◌∙◌, ap, subst, arith, inl, inr, add-zero}
 use Rattle.std.specs.Prelude.{option_map}
-use Rattle.std.specs.Option.{option_and_then}
-use mathlib.Core.List.{IsPrefix}
 use Rattle.std.specs.FinMap as map
-use Rattle.fp_book.proofs.Tells.{BeginsAnew, Done, discards, done_with, ends, extends, opens, refuses}
+use Rattle.fp_book.proofs.Tells.{BeginsAnew, Tells, verdict_tells}
+use Rattle.fp_book.specs.declared.verdict.Verdict.{Verdict}
+use Rattle.fp_book.specs.declared.verdict.Verdict.TheVariants.{Discard, Refuse, Open, Extend}
+use Rattle.fp_book.specs.Calls.{Follows}
+use Rattle.fp_book.specs.Verdict.{verdict}
+use Rattle.fp_steps.proofs.Endings.{EndsByPeer, verdict_ends}
 use Rattle.fp_book.specs.declared.answers.Given.{Given}
 use Rattle.fp_book.specs.declared.answers.Posted.{Posted}
 use Rattle.fp_book.specs.Calls.{GivesDone}
@@ -18,9 +21,8 @@ use Rattle.std.proofs.lemmas.Bool.Decides.{leb_tells}
 use Rattle.fp_book.specs.Shelf.{Shelf, Sound, empty_shelf}
 use Rattle.fp_entry.specs.declared.prepared.Prepared.{Prepared}
 use Rattle.fp_entry.specs.declared.prepared.Prepared.TheVariants as prepared
-use Rattle.fp_entry.specs.Arrival.{HasIds, IsArrival}
-use Rattle.fp_entry.specs.Prepared.{IsLost, IsPrepared, arrival_of}
-use Rattle.fp_q773.specs.declared.ids.Ids.{Ids}
+use Rattle.fp_entry.specs.Arrival.{IsArrival}
+use Rattle.fp_entry.specs.Prepared.{IsLost, arrival_of}
 use Rattle.fp_q773.specs.declared.kind.Kind.TheVariants as kinds
 use Rattle.fp_q773.specs.Ids.{AreIds, AreIdsIn}
 use Rattle.fp_q773.specs.Tid.{octets_of}
@@ -33,12 +35,12 @@ use Rattle.fp_steps.specs.declared.output.Output.TheVariants as outputs
 use Rattle.fp_steps.specs.declared.step.Step.{Step}
 use Rattle.fp_steps.specs.declared.step.Step.TheVariants as steps
 use Rattle.fp_steps.specs.Accepted.{entry_count, is_ending}
-use Rattle.fp_steps.specs.Births.{Beginning, beginning, births, named}
-use Rattle.fp_steps.specs.Headline.{Headline, InOrder}
-use Rattle.fp_steps.specs.History.{Event, IsCame, is_lost}
-use Rattle.fp_steps.specs.Makes.{Drained, GivesTo, GoesDownTo, Makes, MakesOf, PicksTo, Posts, PutsBackTo, SendsTo, TakesTo, TicksTo, UnsendsTo}
+use Rattle.fp_steps.specs.Births.{beginning, births, named}
+use Rattle.fp_steps.specs.Headline.{Headline}
+use Rattle.fp_steps.specs.History.{Event, IsCame}
+use Rattle.fp_steps.specs.Makes.{GivesTo, GoesDownTo, Makes, MakesOf, PicksTo, Posts, PutsBackTo, SendsTo, TakesTo, TicksTo, UnsendsTo}
 use Rattle.fp_steps.specs.Sending.{abort_out, out}
-use Rattle.fp_steps.specs.Tied.{AbortsTied, IsGone, IsStraight, IsTied, Story, Tied, TiedAt, admits_in, story, untold}
+use Rattle.fp_steps.specs.Tied.{AbortsTied, IsStraight, Story, Tied, TiedAt, admits_in, story, untold}
 use Rattle.fp_steps.proofs.Downs.{Tied-down, Tied-unsends}
 use Rattle.fp_steps.proofs.Grown.{Tied-ends, Tied-extends, Tied-opens}
 use Rattle.fp_steps.proofs.Nexts.{Next, Tied-drained, Tied-next}
@@ -73,33 +75,34 @@ quiet_next h e old t births_same begins_same named_same entries_same quiet out_s
 tied_nothing : (h : List Event) (step : Step) (came : Option Prepared) (old : Shelf) → Tied h old → Tied (record { step = step; came = came; output = outputs.Nothing } ∷ h) old
 tied_nothing h step came old t =
     let e : Event = record { step = step; came = came; output = outputs.Nothing } in
-    quiet_next h e old t refl (λ d. refl) (λ local. refl) (add-zero (entry_count h)) (λ d. stays e h d refl refl refl refl refl refl) refl (aborts_stay h e old old t.aborts_are refl refl refl refl refl)
+    quiet_next h e old t refl (λ d. refl) (λ local. refl) (add-zero (entry_count h)) (λ d. stays e h d refl refl refl refl refl refl refl) refl (aborts_stay h e old old t.aborts_are refl refl refl refl refl)
 
 tied_no_room : (h : List Event) (step : Step) (came : Option Prepared) (old : Shelf) → Tied h old → Tied (record { step = step; came = came; output = outputs.NoRoom } ∷ h) old
 tied_no_room h step came old t =
     let e : Event = record { step = step; came = came; output = outputs.NoRoom } in
-    quiet_next h e old t refl (λ d. refl) (λ local. refl) (add-zero (entry_count h)) (λ d. stays e h d refl refl refl refl refl refl) refl (aborts_stay h e old old t.aborts_are refl refl refl refl refl)
+    quiet_next h e old t refl (λ d. refl) (λ local. refl) (add-zero (entry_count h)) (λ d. stays e h d refl refl refl refl refl refl refl) refl (aborts_stay h e old old t.aborts_are refl refl refl refl refl)
 
 tied_busy : (h : List Event) (step : Step) (came : Option Prepared) (old : Shelf) → Tied h old → Tied (record { step = step; came = came; output = outputs.Busy } ∷ h) old
 tied_busy h step came old t =
     let e : Event = record { step = step; came = came; output = outputs.Busy } in
-    quiet_next h e old t refl (λ d. refl) (λ local. refl) (add-zero (entry_count h)) (λ d. stays e h d refl refl refl refl refl refl) refl (aborts_stay h e old old t.aborts_are refl refl refl refl refl)
+    quiet_next h e old t refl (λ d. refl) (λ local. refl) (add-zero (entry_count h)) (λ d. stays e h d refl refl refl refl refl refl refl) refl (aborts_stay h e old old t.aborts_are refl refl refl refl refl)
 
 -- by the step, and by its answer
 
-made_done : RowsKeepTheirOrder → (h : List Event) (step : Step) (came : Prepared) (answer : Posted) (components : ℕ) (old new : Shelf) → Tied h old → Sound old → Done old came answer new → Tied (posts step came answer components ∷ h) new
-made_done law h step came answer components old new t k (discards g) = Tied-discards h step came answer components old new t g
-made_done law h step came answer components old new t k (refuses cause closes names g) = Tied-refuses law h step came answer components old new cause closes t k names g
-made_done law h step came answer components old new t k (opens peer orig g) = Tied-opens law h step came answer components old new peer t k orig g
-made_done law h step came answer components old new t k (extends local names kind g) = Tied-extends law h step came answer components old new local t k names (ap is_ending kind) g
-made_done law h step came answer components old new t k (ends local ending names (inl kind) g) = Tied-ends law h step came answer components old new local ending t k names (ap is_ending kind) g
-made_done law h step came answer components old new t k (ends local ending names (inr kind) g) = Tied-ends law h step came answer components old new local ending t k names (ap is_ending kind) g
+made_by : RowsKeepTheirOrder → (h : List Event) (step : Step) (came : Prepared) (answer : Posted) (components : ℕ) (old new : Shelf) (v : Verdict) → Tied h old → Sound old → Tells old came v → EndsByPeer v → Follows v old came answer new
+    → Tied (posts step came answer components ∷ h) new
+made_by law h step came answer components old new Discard t k told peer g = Tied-discards h step came answer components old new t g
+made_by law h step came answer components old new (Refuse cause closes) t k told peer g = Tied-refuses law h step came answer components old new cause closes t k told g
+made_by law h step came answer components old new (Open sender) t k told peer g = Tied-opens law h step came answer components old new sender t k told g
+made_by law h step came answer components old new (Extend local None) t k told peer g = Tied-extends law h step came answer components old new local t k told.0 (ap is_ending told.1) g
+made_by law h step came answer components old new (Extend local (Some ending)) t k told peer g =
+    Tied-ends law h step came answer components old new local ending t k told.0 (⊎_elim (λ kind. ap is_ending kind) (λ kind. ap is_ending kind) told.1) peer g
 
 made_post : RowsKeepTheirOrder → (h : List Event) (step : Step) (came : Option Prepared) (output : Output) (old new : Shelf) → Tied h old → Sound old
     → ((p : Prepared) → came ≡ Some p → BeginsAnew (arrival_of p).ids) → Posts came output old new → Tied (record { step = step; came = came; output = output } ∷ h) new
 made_post law h step None output old new t k anew g = absurd g
 made_post law h step (Some came) (outputs.Posted answer components) old new t k anew g =
-    made_done law h step came answer components old new t k (done_with old came answer new (anew came refl) g.1)
+    made_by law h step came answer components old new (verdict old came) t k (verdict_tells old came (anew came refl)) (verdict_ends old came) g.1
 made_post law h step (Some came) (outputs.Ticked added wanting) old new t k anew g = absurd g
 made_post law h step (Some came) (outputs.Took local position) old new t k anew g = absurd g
 made_post law h step (Some came) outputs.NoRoom old new t k anew g = absurd g
@@ -158,7 +161,7 @@ made_give law h came local outputs.Busy old new t k g = absurd g
 made_give law h came local outputs.Sent old new t k g = absurd g
 made_give law h came local outputs.Unsent old new t k g = absurd g
 made_give law h came local outputs.Down old new t k g = absurd g
-made_give law h came local outputs.Nothing old new t k g = subst (Tied (record { step = steps.Give local; came = came; output = outputs.Nothing } ∷ h)) (sym g) (tied_nothing h (steps.Give local) came old t)
+made_give law h came local outputs.Nothing old new t k g = subst (Tied (record { step = steps.Give local; came = came; output = outputs.Nothing } ∷ h)) (sym g.1) (tied_nothing h (steps.Give local) came old t)
 
 made_put_back : RowsKeepTheirOrder → (h : List Event) (came : Option Prepared) (local : ℕ) (output : Output) (old new : Shelf) → Tied h old → Sound old → PutsBackTo local output old new → Tied (record { step = steps.PutBack local; came = came; output = output } ∷ h) new
 made_put_back law h came local (outputs.Posted answer components) old new t k g = absurd g
@@ -166,13 +169,13 @@ made_put_back law h came local (outputs.Ticked added wanting) old new t k g = ab
 made_put_back law h came local (outputs.Took l position) old new t k g = absurd g
 made_put_back law h came local outputs.NoRoom old new t k g = absurd g
 made_put_back law h came local (outputs.Gave l position given) old new t k g = absurd g
-made_put_back law h came local outputs.WentBack old new t k g = Tied-puts_back law h (steps.PutBack local) came old new g.0 t k g.2
+made_put_back law h came local outputs.WentBack old new t k g = subst (λ l. Tied (record { step = steps.PutBack l; came = came; output = outputs.WentBack } ∷ h) new) g.1 (Tied-puts_back law h came old new g.0 t k g.2)
 made_put_back law h came local (outputs.Picked l frame) old new t k g = absurd g
 made_put_back law h came local outputs.Busy old new t k g = absurd g
 made_put_back law h came local outputs.Sent old new t k g = absurd g
 made_put_back law h came local outputs.Unsent old new t k g = absurd g
 made_put_back law h came local outputs.Down old new t k g = absurd g
-made_put_back law h came local outputs.Nothing old new t k g = subst (Tied (record { step = steps.PutBack local; came = came; output = outputs.Nothing } ∷ h)) (sym g) (tied_nothing h (steps.PutBack local) came old t)
+made_put_back law h came local outputs.Nothing old new t k g = subst (Tied (record { step = steps.PutBack local; came = came; output = outputs.Nothing } ∷ h)) (sym g.1) (tied_nothing h (steps.PutBack local) came old t)
 
 made_pick : RowsKeepTheirOrder → (h : List Event) (came : Option Prepared) (output : Output) (old new : Shelf) → Tied h old → Sound old → PicksTo output old new → Tied (record { step = steps.Pick; came = came; output = output } ∷ h) new
 made_pick law h came (outputs.Posted answer components) old new t k g = absurd g
@@ -200,7 +203,7 @@ made_sent law h came outputs.Busy old new t k g = absurd g
 made_sent law h came outputs.Sent old new t k g = Tied-sends law h steps.Sent came old new g.0 t k g.1
 made_sent law h came outputs.Unsent old new t k g = absurd g
 made_sent law h came outputs.Down old new t k g = absurd g
-made_sent law h came outputs.Nothing old new t k g = subst (Tied (record { step = steps.Sent; came = came; output = outputs.Nothing } ∷ h)) (sym g) (tied_nothing h steps.Sent came old t)
+made_sent law h came outputs.Nothing old new t k g = subst (Tied (record { step = steps.Sent; came = came; output = outputs.Nothing } ∷ h)) (sym g.1) (tied_nothing h steps.Sent came old t)
 
 made_unsent : RowsKeepTheirOrder → (h : List Event) (came : Option Prepared) (output : Output) (old new : Shelf) → Tied h old → Sound old → UnsendsTo output old new → Tied (record { step = steps.Unsent; came = came; output = output } ∷ h) new
 made_unsent law h came (outputs.Posted answer components) old new t k g = absurd g
@@ -214,7 +217,7 @@ made_unsent law h came outputs.Busy old new t k g = absurd g
 made_unsent law h came outputs.Sent old new t k g = absurd g
 made_unsent law h came outputs.Unsent old new t k g = Tied-unsends law h steps.Unsent came old new g.0 t k g.1
 made_unsent law h came outputs.Down old new t k g = absurd g
-made_unsent law h came outputs.Nothing old new t k g = subst (Tied (record { step = steps.Unsent; came = came; output = outputs.Nothing } ∷ h)) (sym g) (tied_nothing h steps.Unsent came old t)
+made_unsent law h came outputs.Nothing old new t k g = subst (Tied (record { step = steps.Unsent; came = came; output = outputs.Nothing } ∷ h)) (sym g.1) (tied_nothing h steps.Unsent came old t)
 
 made_down : RowsKeepTheirOrder → (h : List Event) (came : Option Prepared) (output : Output) (old new : Shelf) → Tied h old → Sound old → GoesDownTo output old new → Tied (record { step = steps.Down; came = came; output = output } ∷ h) new
 made_down law h came (outputs.Posted answer components) old new t k g = absurd g
@@ -268,7 +271,7 @@ lost_arrival octets moment (prepared.Message arrival incoming) is = absurd is
 lost_arrival octets moment (prepared.Refused arrival fault) is = absurd is
 lost_arrival octets moment (prepared.Lost arrival) is = is
 
-came_anew : (contents : Contents) (contexts : List (List ℕ)) (step : Step) (came : Option Prepared) → IsCame contents contexts step came → (p : Prepared) → came ≡ Some p → BeginsAnew (arrival_of p).ids
+pub came_anew : (contents : Contents) (contexts : List (List ℕ)) (step : Step) (came : Option Prepared) → IsCame contents contexts step came → (p : Prepared) → came ≡ Some p → BeginsAnew (arrival_of p).ids
 came_anew contents contexts (steps.Post frame moment) (Some came) is p same = subst (λ (q : Prepared). BeginsAnew (arrival_of q).ids) (the_prepared came p same) (anew frame moment (arrival_of came) is.0.is_arrival)
 came_anew contents contexts (steps.Lost frame moment) (Some came) is p same = subst (λ (q : Prepared). BeginsAnew (arrival_of q).ids) (the_prepared came p same) (anew frame moment (arrival_of came) (lost_arrival frame moment came is))
 came_anew contents contexts (steps.Tick moment) (Some came) is p same = absurd is
@@ -290,7 +293,7 @@ Tied-makes law contents contexts h e old new t is g =
 
 -- a book on which nothing came yet is tied to no history
 
-none_there : (link l : ℕ) → map.get (empty_shelf link).rows l ≡ None
+pub none_there : (link l : ℕ) → map.get (empty_shelf link).rows l ≡ None
 none_there link l = map.get-empty nat_cmp l
 
 straight_none : (d : ℕ) → IsStraight d untold
@@ -313,7 +316,7 @@ pub Tied-none : (link : ℕ) → Tied [] (empty_shelf link)
 Tied-none link = record {
   births_are = refl;
   entries_are = refl;
-  rows = λ d. subst (TiedAt 0 d untold) (sym (none_there link (identifier link d))) (record { straight = straight_none d; admitted = admits_none d });
+  rows = λ d. subst (TiedAt 0 d untold) (sym (none_there link (identifier link d))) (record { straight = straight_none d; admitted = admits_none d; waits = refl; outs = refl });
   own = λ local row was. absurd (let clash : None ≡ Some row = sym (none_there link local) ∙ was in cc);
   names = λ local d is. absurd (cc);
   are_named = λ d first last. absurd (omega (arith, first, last));

@@ -1,5 +1,5 @@
 -- A step at which no dialogue is opened keeps the tie between a book and its history.
-use Rattle.std.proofs.Common.{◌≡◌, ℕ, ◌<◌, ◌≤◌, ◌+◌, Option, Some, None, List, [], ◌∷◌, ◌++◌, is_some, refl, sym, ◌∙◌, ap, subst, arith}
+use Rattle.std.proofs.Common.{◌≡◌, ℕ, ◌<◌, ◌≤◌, Some, List, ◌∷◌, sym, ◌∙◌, ap, subst}
 use Rattle.std.specs.Prelude.{option_map}
 use Rattle.std.specs.FinMap as map
 use Rattle.fp_book.specs.declared.line.LoggedStep.{LoggedStep}
@@ -7,10 +7,10 @@ use Rattle.fp_book.specs.Shelf.{Shelf}
 use Rattle.fp_row.specs.declared.row.Row.{Row}
 use Rattle.fp_tids.specs.Identifiers.{identifier}
 use Rattle.fp_steps.specs.Accepted.{entry_count}
-use Rattle.fp_steps.specs.Births.{Beginning, beginning, births, named}
+use Rattle.fp_steps.specs.Births.{beginning, births, named}
 use Rattle.fp_steps.specs.History.{Event}
-use Rattle.fp_steps.specs.Sending.{Handed, out}
-use Rattle.fp_steps.specs.Tied.{AbortsTied, Story, Tied, TiedAt, handed, story, untold}
+use Rattle.fp_steps.specs.Sending.{out}
+use Rattle.fp_steps.specs.Tied.{AbortsTied, Tied, TiedAt, handed, story}
 
 -- what such a step owes
 pub record Next (h : List Event) (e : Event) (old new : Shelf) : Type 0 where

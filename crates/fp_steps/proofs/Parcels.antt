@@ -1,8 +1,7 @@
 -- Steps of parcels keep the tie between a book and its history.
-use Rattle.std.proofs.Common.{◌≡◌, ℕ, ◌<◌, ◌≤◌, ◌+◌, ◌*◌, ◌^◌, Bool, true, false, cond, eqb, not, ◌&&◌, ◌||◌, Option, Some, None, List, [], ◌∷◌, ◌++◌, length, is_some, refl, sym, ◌∙◌, ap, subst, arith, append-nil, append_assoc, add-zero, ⊎_elim}
+use Rattle.std.proofs.Common.{◌≡◌, ℕ, ◌<◌, ◌≤◌, false, cond, eqb, Option, Some, None, List, [], ◌∷◌, ◌++◌, refl, sym, ◌∙◌, ap, subst, arith, append-nil, append_assoc, add-zero, ⊎_elim}
 use Rattle.std.specs.Prelude.{map as map_list, option_map}
-use Rattle.std.proofs.lemmas.Bool.{cases_Bool, eq-eqb, eqb-true, ne_eqb}
-use Rattle.std.proofs.Math.Bool.{or-false}
+use Rattle.std.proofs.lemmas.Bool.{cases_Bool, ne_eqb}
 use Rattle.std.specs.FinMap as map
 use Rattle.std.specs.Global.{Vec}
 use Rattle.fp_book.proofs.Turns.{frames_at}
@@ -16,27 +15,25 @@ use Rattle.fp_book.specs.Calls.{PicksParcel, Sends, SendsAbort, SendsFrame, one_
 use Rattle.fp_book.specs.Log.{logged}
 use Rattle.fp_book.specs.Outbox.{IsNext, Outbox, with_nothing_out}
 use Rattle.fp_book.specs.Parcel.{local_of, octets_of}
-use Rattle.fp_book.specs.Shelf.{IsOwn, Shelf, Sound, frame_out, frames_for, gone_with, keep, of_row, unsent_for}
+use Rattle.fp_book.specs.Shelf.{Shelf, Sound, frame_out, frames_for, gone_with, keep}
 use Rattle.fp_entry.specs.declared.prepared.Prepared.{Prepared}
 use Rattle.fp_reply.specs.declared.provider_abort.AbortFrame.{AbortFrame}
 use Rattle.fp_reply.specs.ProviderAbort.{frame_octets}
 use Rattle.fp_row.specs.declared.row.Row.{Row}
 use Rattle.fp_row.specs.Laws.{RowsKeepTheirOrder}
 use Rattle.fp_row.specs.Row.{kept_of, sent_of}
-use Rattle.fp_service.specs.Dialogue.{is_over}
 use Rattle.fp_steps.specs.Headline.{numbers}
 use Rattle.fp_tids.specs.Identifiers.{identifier}
-use Rattle.fp_steps.specs.declared.output.Output.{Output}
 use Rattle.fp_steps.specs.declared.output.Output.TheVariants as outputs
 use Rattle.fp_steps.specs.declared.step.Step.{Step}
-use Rattle.fp_steps.specs.Accepted.{accepted, entry_count, is_ended, positions}
+use Rattle.fp_steps.specs.Accepted.{accepted, entry_count, positions}
 use Rattle.fp_steps.specs.Births.{births, for_one, named}
 use Rattle.fp_steps.specs.History.{Event}
 use Rattle.fp_steps.specs.Sending.{Handed, abort_out, aborts, aborts_sent, frame_for, out, queued, sent}
-use Rattle.fp_steps.specs.Tied.{AbortsTied, IsTied, Story, Tied, TiedAt, handed, story}
+use Rattle.fp_steps.specs.Tied.{AbortsTied, IsTied, Tied, TiedAt, handed, story}
 use Rattle.fp_steps.proofs.Dialogues.{left_birth, left_tied, named_of, own_one, rows_one, tied_of}
 use Rattle.fp_steps.proofs.Nexts.{Next, Tied-next}
-use Rattle.fp_steps.proofs.Served.{aborts_stay, later_other}
+use Rattle.fp_steps.proofs.Served.{later_other}
 use Rattle.fp_steps.proofs.Stories.{for_other, for_own, same_beginning, stays}
 
 -- nothing that has an identifier of a dialogue is an Abort of the provider
@@ -51,7 +48,7 @@ none_named h s t (Some d) e =
     absurd (let zero_is : 0 ≡ identifier s.link d = is.0 in let first : 0 < d = is.1 in omega (arith, zero_is, first))
 
 -- a frame that waits is of a dialogue that is held
-none_here : (xs ys : List (List ℕ)) (y : List ℕ) → xs ++ y ∷ ys ≡ [] → ⊥
+pub none_here : (xs ys : List (List ℕ)) (y : List ℕ) → xs ++ y ∷ ys ≡ [] → ⊥
 none_here [] ys y e = cc
 none_here (x ∷ xs) ys y e = cc
 
@@ -119,7 +116,7 @@ Tied-picks h step came old new content local frame t k local_is octets_are g =
       outbox = record { aborts = g.rest.aborts; frames = g.rest.frames; out = Some content };
       log = logged old.log (line.Pick (local_of content));
     } in
-    let quiet : (d : ℕ) → story (e ∷ h) d ≡ story h d = λ d. stays e h d refl refl refl refl refl refl in
+    let quiet : (d : ℕ) → story (e ∷ h) d ≡ story h d = λ d. stays e h d refl refl refl refl refl refl refl in
     let make : ℕ → List ℕ → Option Handed = λ l xs. Some (record { local = l; octets = xs }) in
     let is : out (e ∷ h) ≡ Some (handed content) = ap (λ l. make l frame.items) (sym local_is) ∙ ap (λ xs. make (local_of content) xs) (sym octets_are) in
     let next : Next h e old then =
@@ -148,7 +145,7 @@ Tied-sends_abort h step came old new frame t k g =
     let was : out h ≡ Some (handed (contents.Abort frame)) = t.is_out ∙ ap (option_map handed) g.was_out in
     let none : named h 0 ≡ None = none_named h old t (named h 0) refl in
     let quiet : (d : ℕ) → story (e ∷ h) d ≡ story h d = λ d.
-    stays e h d refl refl refl refl (ap (λ o. frame_for o h d) was ∙ ap (λ o. for_one o d (frame_octets frame ∷ [])) none) refl
+    stays e h d refl refl refl refl (ap (λ o. frame_for o h d) was ∙ ap (λ o. for_one o d (frame_octets frame ∷ [])) none) refl refl
     in
     let a : AbortsTied h old = t.aborts_are in
     let next : Next h e old then =
@@ -190,7 +187,7 @@ Tied-sends_frame law h step came old new w t k g =
     let name : named h l ≡ Some b = named_of h old l g.before t k g.was in
     let before : IsTied b (story h b) g.before = tied_of h old l g.before t g.was in
     let others : (d : ℕ) → eqb d b ≡ false → story (e ∷ h) d ≡ story h d = λ d ne.
-    stays e h d refl refl refl refl (ap (λ o. frame_for o h d) was ∙ for_other (named h l) d b (w.frame ∷ []) name ne) refl
+    stays e h d refl refl refl refl (ap (λ o. frame_for o h d) was ∙ for_other (named h l) d b (w.frame ∷ []) name ne) refl refl
     in
     let one : OneChanges old.rows then.rows l (Some g.before) (left_of g.after) = kept old.rows l (Some g.before) g.after g.was in
     let waits_for = frames_for l old.outbox.frames in
@@ -206,7 +203,8 @@ Tied-sends_frame law h step came old new w t k g =
       queues = append-nil (queued h b) ∙ before.queues ∙ sym g.sends.queued_frames;
       sends = ap (λ o. sent h b ++ frame_for o h b) was ∙ ap (λ xs. sent h b ++ xs) (for_own (named h l) b (w.frame ∷ []) name)
           ∙ ap (λ xs. xs ++ w.frame ∷ []) before.sends ∙ sym (g.sends.one_more w.frame waits_for all);
-      ends = λ live. or-false (is_ended h b) ∙ before.ends (ap is_over (sym g.sends.core) ∙ live) ∙ ap is_some (sym g.sends.ended);
+      ends = before.ends ∙ sym g.sends.ended;
+      outs = before.outs ∙ sym g.sends.is_out;
     }
     in
     let a : AbortsTied h old = t.aborts_are in

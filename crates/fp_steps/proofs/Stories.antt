@@ -1,58 +1,60 @@
 -- What a history tells of a dialogue, one event further; and of one that a book holds.
-use Rattle.std.proofs.Common.{◌≡◌, ℕ, ◌<◌, ◌≤◌, ◌+◌, Bool, true, false, cond, eqb, not, ◌&&◌, ◌||◌, Option, Some, None, List, [], ◌∷◌, ◌++◌, length, take, map, is_some, refl, sym, ◌∙◌, ap, subst, arith, zero, suc, append_assoc, append-nil, add-one, length-append, ⊎_elim}
+use Rattle.std.proofs.Common.{◌≡◌, ℕ, ◌<◌, ◌≤◌, Bool, true, false, cond, eqb, not, ◌&&◌, Option, Some, List, [], ◌∷◌, ◌++◌, length, take, map, is_some, refl, sym, ◌∙◌, ap, subst, arith, zero, suc, append_assoc, append-nil, add-one, length-append}
 use Rattle.std.specs.Prelude.{option_to_list, slice_get, nat_lt, nat_le}
-use Rattle.std.specs.List.{flat_map}
 use Rattle.std.specs.Option.{option_map_or}
 use mathlib.Core.List.{IsPrefix}
 use Rattle.std.proofs.lemmas.List.Concat.{flat_map-append}
 use Rattle.std.proofs.lemmas.List.{take_more}
 use Rattle.std.proofs.lemmas.Option.{get_or_from_slice_get}
 use Rattle.fp_row.proofs.Fronts.{slice_get_some}
-use Rattle.std.proofs.lemmas.Bool.{and_left, and_right, cases_Bool, eq-eqb}
-use Rattle.std.proofs.Math.Bool.{or-false}
+use Rattle.std.proofs.lemmas.Bool.{and_right, eq-eqb}
 use Rattle.fp_entry.specs.declared.entry.Entry.{Entry}
 use Rattle.fp_q773.specs.Tid.{octets_of}
 use Rattle.fp_row.specs.declared.ending.Ending.{Ending}
 use Rattle.fp_row.specs.declared.row.Row.{Row}
 use Rattle.fp_row.specs.Calls.{IsSame}
 use Rattle.fp_row.specs.Laws.{KeepsOrder, RowsKeepTheirOrder}
-use Rattle.fp_row.specs.Row.{frames_of, is_admitted, queued_of, requests_of, sent_of, served_of, start_of}
+use Rattle.fp_row.specs.Row.{frames_of, is_admitted, is_closed, queued_of, sent_of, served_of, start_of, waits}
+use Rattle.fp_book.proofs.Changes.{NotHeld}
 use Rattle.fp_service.specs.Dialogue.{fresh, is_over}
 use Rattle.fp_service.specs.Fold.{core_after, cut, requests}
-use Rattle.fp_steps.specs.Accepted.{accepted, accepted_in, ends_in, in_places, is_ended, position_in, positions}
-use Rattle.fp_steps.specs.Births.{Beginning, beginning, for_one}
+use Rattle.fp_steps.specs.Accepted.{accepted, accepted_in, course, ending, ending_in, in_places, position_in, positions}
+use Rattle.fp_steps.specs.Births.{Beginning, beginning, for_one, is_one}
 use Rattle.fp_steps.specs.Headline.{numbers}
 use Rattle.fp_steps.specs.History.{Event}
 use Rattle.fp_steps.specs.Sending.{frame_from, queued, queued_in, sent, sent_in}
-use Rattle.fp_steps.specs.Tied.{IsGone, IsStraight, IsTied, Story, admits_in, asked_in, beginning_of, core_in, served_in, start_in, story}
+use Rattle.fp_steps.specs.Tied.{IsGone, IsStraight, IsTied, Story, asked_in, beginning_of, core_in, served_in, start_in, story, waits_in}
+use Rattle.fp_steps.specs.Turns.{turn_after, turn_out}
 
 -- two stories of equal parts are one
-pub same_story : (s t : Story) → s.began ≡ t.began → s.accepts ≡ t.accepts → s.places ≡ t.places → s.queues ≡ t.queues → s.sends ≡ t.sends → s.ended ≡ t.ended → s ≡ t
-same_story s t b a p q n e =
-    let make : Option Beginning → List Entry → List ℕ → List (List ℕ) → List (List ℕ) → Bool → Story =
-    λ b a p q n e. record { began = b; accepts = a; places = p; queues = q; sends = n; ended = e }
+pub same_story : (s t : Story) → s.began ≡ t.began → s.accepts ≡ t.accepts → s.places ≡ t.places → s.queues ≡ t.queues → s.sends ≡ t.sends → s.ended ≡ t.ended → s.out ≡ t.out → s ≡ t
+same_story s t b a p q n e o =
+    let make : Option Beginning → List Entry → List ℕ → List (List ℕ) → List (List ℕ) → Option Ending → Bool → Story =
+    λ b a p q n e o. record { began = b; accepts = a; places = p; queues = q; sends = n; ended = e; out = o }
     in
-    ap (λ x. make x s.accepts s.places s.queues s.sends s.ended) b
-    ∙ ap (λ x. make t.began x s.places s.queues s.sends s.ended) a
-    ∙ ap (λ x. make t.began t.accepts x s.queues s.sends s.ended) p
-    ∙ ap (λ x. make t.began t.accepts t.places x s.sends s.ended) q
-    ∙ ap (λ x. make t.began t.accepts t.places t.queues x s.ended) n
-    ∙ ap (λ x. make t.began t.accepts t.places t.queues t.sends x) e
+    ap (λ x. make x s.accepts s.places s.queues s.sends s.ended s.out) b
+    ∙ ap (λ x. make t.began x s.places s.queues s.sends s.ended s.out) a
+    ∙ ap (λ x. make t.began t.accepts x s.queues s.sends s.ended s.out) p
+    ∙ ap (λ x. make t.began t.accepts t.places x s.sends s.ended s.out) q
+    ∙ ap (λ x. make t.began t.accepts t.places t.queues x s.ended s.out) n
+    ∙ ap (λ x. make t.began t.accepts t.places t.queues t.sends x s.out) e
+    ∙ ap (λ x. make t.began t.accepts t.places t.queues t.sends t.ended x) o
 
 -- nothing is added behind a list
 pub none_more : {X : Type 0} → (xs ys : List X) → ys ≡ [] → xs ++ ys ≡ xs
 none_more xs ys e = ap (λ y. xs ++ y) e ∙ append-nil xs
 
 -- an event that has nothing to do with a dialogue adds nothing to its story
-pub stays : (e : Event) (h : List Event) (d : ℕ) → beginning (e ∷ h) d ≡ beginning h d → accepted_in e h d (accepted h d) e.output ≡ [] → position_in e.output h d ≡ [] → queued_in e.output h d ≡ []
-    → sent_in e.output h d ≡ [] → ends_in e.output e.came h d ≡ false → story (e ∷ h) d ≡ story h d
-stays e h d b a p q s n =
+pub stays : (e : Event) (h : List Event) (d : ℕ) → beginning (e ∷ h) d ≡ beginning h d → accepted_in e h d (course h d) e.output ≡ [] → position_in e.output h d ≡ [] → queued_in e.output h d ≡ []
+    → sent_in e.output h d ≡ [] → ending_in e.output e.came h d (course h d) ≡ ending h d → turn_after e.output e.step h d (turn_out h d) ≡ turn_out h d
+    → story (e ∷ h) d ≡ story h d
+stays e h d b a p q s n o =
     same_story (story (e ∷ h) d) (story h d) b
-    (none_more (accepted h d) (accepted_in e h d (accepted h d) e.output) a)
+    (none_more (accepted h d) (accepted_in e h d (course h d) e.output) a)
     (none_more (positions h d) (position_in e.output h d) p)
     (none_more (queued h d) (queued_in e.output h d) q)
     (none_more (sent h d) (sent_in e.output h d) s)
-    (ap (λ b. is_ended h d || b) n ∙ or-false (is_ended h d))
+    n o
 
 -- what has to do with one dialogue
 pub for_own : {X : Type 0} → (o : Option ℕ) (d : ℕ) (xs : List X) → o ≡ Some d → for_one o d xs ≡ xs
@@ -60,6 +62,13 @@ for_own o d xs e = ap (λ o. for_one o d xs) e ∙ ap (λ b. cond b xs []) (eq-e
 
 pub for_other : {X : Type 0} → (o : Option ℕ) (d own : ℕ) (xs : List X) → o ≡ Some own → eqb d own ≡ false → for_one o d xs ≡ []
 for_other o d own xs e ne = ap (λ o. for_one o d xs) e ∙ ap (λ b. cond b xs []) ne
+
+-- an identifier names one dialogue
+pub is_own : (o : Option ℕ) (d : ℕ) → o ≡ Some d → is_one o d ≡ true
+is_own o d e = ap (λ o. is_one o d) e ∙ eq-eqb d d refl
+
+pub is_other : (o : Option ℕ) (d own : ℕ) → o ≡ Some own → eqb d own ≡ false → is_one o d ≡ false
+is_other o d own e ne = ap (λ o. is_one o d) e ∙ ne
 
 pub length-numbers : (n : ℕ) → length (numbers n) ≡ n
 length-numbers zero = refl
@@ -131,20 +140,26 @@ straight_tied law d t row k =
       queued_first = subst (λ xs. IsPrefix t.queues xs) (sym asked) queues;
     }
 
-live_by : (over : Bool) (t_ended row_ended : Bool) → (over ≡ false → t_ended ≡ row_ended) → (not t_ended && not over) ≡ (not row_ended && not over)
-live_by true t_ended row_ended e = and_right (not t_ended) false refl ∙ sym (and_right (not row_ended) false refl)
-live_by false t_ended row_ended e = ap (λ b. not b && true) (e refl)
-
 -- it takes messages where the row does
-pub live_tied : (d : ℕ) (t : Story) (row : Row) → IsTied d t row → (not t.ended && not (is_over (core_in d t))) ≡ is_admitted row
+pub live_tied : (d : ℕ) (t : Story) (row : Row) → IsTied d t row → (not (is_some t.ended) && not (is_over (core_in d t))) ≡ is_admitted row
 live_tied d t row k =
-    ap (λ c. not t.ended && not (is_over c)) (core_tied d t row k) ∙ live_by (is_over row.core) t.ended (is_some row.ended) k.ends
+    ap (λ c. not (is_some t.ended) && not (is_over c)) (core_tied d t row k) ∙ ap (λ e. not (is_some e) && not (is_over row.core)) k.ends
+
+-- and an entry of it waits where one of the row does
+pub waits_tied : (d : ℕ) (t : Story) (row : Row) → IsTied d t row → waits_in d t ≡ waits row
+waits_tied d t row k =
+    ap (λ e. not (is_closed e) && (not (is_over (core_in d t)) && nat_lt (length t.places) (length t.accepts))) k.ends
+    ∙ ap (λ c. not (is_closed row.ended) && (not (is_over c) && nat_lt (length t.places) (length t.accepts))) (core_tied d t row k)
+    ∙ ap (λ n. not (is_closed row.ended) && (not (is_over row.core) && nat_lt n (length t.accepts))) (ap length k.serves ∙ length-numbers row.served)
+    ∙ ap (λ xs. not (is_closed row.ended) && (not (is_over row.core) && nat_lt row.served (length xs))) k.accepts
 
 -- what goes is gone
-pub gone_tied : RowsKeepTheirOrder → (births d : ℕ) (t : Story) (row : Row) → IsTied d t row → is_admitted row ≡ false → IsGone births d t
-gone_tied law births d t row k not_admitted = record {
+pub gone_tied : RowsKeepTheirOrder → (births d : ℕ) (t : Story) (row : Row) → IsTied d t row → NotHeld row → IsGone births d t
+gone_tied law births d t row k none = record {
   straight = straight_tied law d t row k;
-  admitted = and_right (nat_lt 0 d && nat_le d births) _ (live_tied d t row k ∙ not_admitted);
+  admitted = and_right (nat_lt 0 d && nat_le d births) _ (live_tied d t row k ∙ none.admitted);
+  waits = waits_tied d t row k ∙ none.waits;
+  outs = k.outs ∙ none.is_out;
 }
 
 -- it began as it did
@@ -155,15 +170,20 @@ same_beginning before after same =
     ∙ ap (λ p. make before.local (octets_of p) after.opened) same.peer
     ∙ ap (λ m. make before.local (octets_of before.peer) m) same.opened
 
--- the same dialogue, of which nothing changed that its story tells
-pub tied_same : (d : ℕ) (t : Story) (before after : Row) → IsTied d t before → IsSame before after → after.accepted ≡ before.accepted → after.served ≡ before.served → queued_of after ≡ queued_of before
-    → sent_of after ≡ sent_of before → after.core ≡ before.core → after.ended ≡ before.ended → IsTied d t after
-tied_same d t before after k same accepted served queued sent core ended = record {
+-- the story of a dialogue whose turn is out, or not
+abbrev pub with_out : Story → Bool → Story
+with_out t x = record { began = t.began; accepts = t.accepts; places = t.places; queues = t.queues; sends = t.sends; ended = t.ended; out = x }
+
+-- the same dialogue, of which nothing else changed that its story tells
+pub tied_same : (d : ℕ) (t : Story) (x : Bool) (before after : Row) → IsTied d t before → IsSame before after → after.accepted ≡ before.accepted → after.served ≡ before.served → queued_of after ≡ queued_of before
+    → sent_of after ≡ sent_of before → after.core ≡ before.core → after.ended ≡ before.ended → after.is_out ≡ x → IsTied d (with_out t x) after
+tied_same d t x before after k same accepted served queued sent core ended out = record {
   birth = same.birth ∙ k.birth;
   begins = k.begins ∙ ap Some (sym (same_beginning before after same));
   accepts = k.accepts ∙ sym accepted;
   serves = k.serves ∙ ap numbers (sym served);
   queues = k.queues ∙ sym queued;
   sends = k.sends ∙ sym sent;
-  ends = λ live. k.ends (ap is_over (sym core) ∙ live) ∙ ap is_some (sym ended);
+  ends = k.ends ∙ sym ended;
+  outs = sym out;
 }

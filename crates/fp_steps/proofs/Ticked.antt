@@ -1,12 +1,10 @@
 -- A tick keeps the tie between a book and its history: those that are given a Clock are all that are due.
-use Rattle.std.proofs.Common.{◌≡◌, ℕ, ◌<◌, ◌≤◌, ◌+◌, ◌^◌, Bool, true, false, cond, eqb, not, ◌&&◌, ◌||◌, nat_lt, nat_le, Option, Some, None, List, [], ◌∷◌, ◌++◌, length, drop, count_by, is_some, slice_index_or, refl, sym, ◌∙◌, ap, subst, arith, append-nil, add-zero, ⊎_elim}
+use Rattle.std.proofs.Common.{◌≡◌, ℕ, ◌<◌, ◌≤◌, ◌+◌, ◌^◌, Bool, true, false, cond, eqb, not, ◌&&◌, ◌||◌, nat_lt, nat_le, Option, Some, None, List, [], ◌∷◌, ◌++◌, length, drop, count_by, is_some, slice_index_or, refl, sym, ◌∙◌, ap, subst, arith, append-nil, ⊎_elim}
 use Rattle.std.specs.Prelude.{nat_eq, map as map_list, filter}
 use Rattle.std.specs.List.{AllByRecursion, list_any}
 use Rattle.std.specs.Option.{option_map_or}
-use Rattle.std.proofs.lemmas.Bool.{and_left, and_right, cases_Bool, eq-eqb, eqb-true, lt-leb, or_parts}
-use Rattle.std.proofs.lemmas.Bool.Decides.{leb_tells}
+use Rattle.std.proofs.lemmas.Bool.{and_left, and_right, cases_Bool, eqb-true, lt-leb, or_parts}
 use Rattle.std.proofs.lemmas.List.Elements.{recursion_from_All}
-use Rattle.std.proofs.Math.Bool.{or-false}
 use Rattle.std.specs.FinMap as map
 use Rattle.fp_book.proofs.Clocks.{Apart, apart}
 use Rattle.fp_book.proofs.Queue.{eqb_swap}
@@ -22,29 +20,25 @@ use Rattle.fp_entry.specs.declared.entry.EntryKind.TheVariants.{Clock}
 use Rattle.fp_entry.specs.declared.prepared.Prepared.{Prepared}
 use Rattle.fp_entry.specs.Entries.{entry_at, is_clock}
 use Rattle.fp_row.specs.declared.row.Row.{Row}
-use Rattle.fp_row.specs.Calls.{Extends}
-use Rattle.fp_row.specs.Laws.{RowsKeepTheirOrder}
-use Rattle.fp_row.specs.Row.{deadline_of, has_clock, is_admitted, is_due as row_is_due}
+use Rattle.fp_row.specs.Row.{has_clock, is_admitted, is_due as row_is_due}
 use Rattle.fp_service.specs.declared.dialogue.Core.{Core}
 use Rattle.fp_service.specs.Dialogue.{is_over, next_due}
 use Rattle.fp_tids.specs.Identifiers.{identifier}
-use Rattle.fp_steps.specs.declared.output.Output.{Output}
 use Rattle.fp_steps.specs.declared.output.Output.TheVariants as outputs
-use Rattle.fp_steps.specs.declared.step.Step.{Step}
 use Rattle.fp_steps.specs.declared.step.Step.TheVariants as steps
-use Rattle.fp_steps.specs.Accepted.{accepted, admits_on, clock_at, core_on, entry_count, has_clock_on, is_due_on, is_ended, is_full, positions}
+use Rattle.fp_steps.specs.Accepted.{accepted, admits_on, core_on, course, ending, has_clock_on, is_due_on, is_full, positions}
 use Rattle.fp_steps.specs.Births.{births}
-use Rattle.fp_steps.specs.Headline.{numbers}
 use Rattle.fp_steps.specs.History.{Event}
 use Rattle.fp_steps.specs.Sending.{queued, sent}
-use Rattle.fp_steps.specs.Tied.{IsTied, Story, Tied, TiedAt, admits_in, core_in, story}
+use Rattle.fp_steps.specs.Tied.{IsTied, Story, Tied, TiedAt, core_in, story}
+use Rattle.fp_steps.proofs.Born.{born_at}
 use Rattle.fp_steps.proofs.Grown.{tied_extends, with_more}
 use Rattle.fp_steps.proofs.Nexts.{Next, Tied-next}
 use Rattle.fp_steps.proofs.Served.{aborts_stay}
 use Rattle.fp_steps.proofs.Stories.{core_tied, length-numbers, live_tied, same_story}
 
 -- whether a dialogue is among those
-abbrev among : ℕ → List Due → Bool
+abbrev pub among : ℕ → List Due → Bool
 among q due = list_any (λ (d : Due). eqb d.1 q) due
 
 -- each of these adds one to a sum
@@ -132,20 +126,14 @@ all_due old new moment added wanting none g l row was =
 
 -- the same, by the story
 
-born_at : (d n : ℕ) → 0 < d → d ≤ n → (nat_lt 0 d && nat_le d n) ≡ true
-born_at d n first last =
-    let a : nat_lt 0 d ≡ true = ⊎_elim (λ h. h.0) (λ h. absurd (let lt : d < 1 = h.1 in omega (arith, first, lt))) (leb_tells 1 d) in
-    let b : nat_le d n ≡ true = ⊎_elim (λ h. h.0) (λ h. absurd (let lt : n < d = h.1 in omega (arith, last, lt))) (leb_tells d n) in
-    ap (λ x. x && nat_le d n) a ∙ b
-
 due_of : (a b : Bool) (n moment : ℕ) → option_map_or (λ deadline. nat_le deadline moment) (cond (a && b) (Some n) None) false ≡ ((a && b) && nat_le n moment)
 due_of true true n moment = refl
 due_of true false n moment = refl
 due_of false b n moment = refl
 
-due_tied : (h : List Event) (moment d : ℕ) (row : Row) → 0 < d → d ≤ births h → IsTied d (story h d) row → is_due_on h moment d (accepted h d) ≡ row_is_due row moment
+due_tied : (h : List Event) (moment d : ℕ) (row : Row) → 0 < d → d ≤ births h → IsTied d (story h d) row → is_due_on h moment d (course h d) ≡ row_is_due row moment
 due_tied h moment d row first last k =
-    let admits : admits_on h d (accepted h d) ≡ is_admitted row = ap (λ b. b && (not (is_ended h d) && not (is_over (core_in d (story h d))))) (born_at d (births h) first last) ∙ live_tied d (story h d) row k in
+    let admits : admits_on h d (course h d) ≡ is_admitted row = ap (λ b. b && (not (is_some (ending h d)) && not (is_over (core_in d (story h d))))) (born_at d (births h) first last) ∙ live_tied d (story h d) row k in
     let count : length (positions h d) ≡ row.served = ap length k.serves ∙ length-numbers row.served in
     let clock : has_clock_on h d (accepted h d) ≡ has_clock row =
     ap (λ n. nat_lt 0 (count_by (λ (entry : Entry). is_clock entry.kind) (drop n (accepted h d)))) count
@@ -157,8 +145,8 @@ due_tied h moment d row first last k =
     ∙ sym (due_of (is_admitted row) (not (has_clock row)) (next_due row.core) moment)
 
 -- the story of a dialogue at a tick
-abbrev clock_in : List Event → ℕ → ℕ → Bool
-clock_in h moment d = not (is_full h) && is_due_on h moment d (accepted h d)
+abbrev pub clock_in : List Event → ℕ → ℕ → Bool
+clock_in h moment d = not (is_full h) && is_due_on h moment d (course h d)
 
 tick_told : (h : List Event) (came : Option Prepared) (moment added wanting d : ℕ) (x : Bool) → clock_in h moment d ≡ x
     → (x ≡ true → story (record { step = steps.Tick moment; came = came; output = outputs.Ticked added wanting } ∷ h) d ≡ with_more (story h d) (entry_at moment Clock ∷ []))
@@ -167,10 +155,10 @@ tick_told h came moment added wanting d x is =
     let e : Event = record { step = steps.Tick moment; came = came; output = outputs.Ticked added wanting } in (
       λ has.
           same_story (story (e ∷ h) d) (with_more (story h d) (entry_at moment Clock ∷ [])) refl (ap (λ b. accepted h d ++ cond b (entry_at moment Clock ∷ []) []) (is ∙ has))
-          (append-nil (positions h d)) (append-nil (queued h d)) (append-nil (sent h d)) (or-false (is_ended h d)),
+          (append-nil (positions h d)) (append-nil (queued h d)) (append-nil (sent h d)) refl refl,
       λ lacks.
           same_story (story (e ∷ h) d) (story h d) refl (ap (λ b. accepted h d ++ cond b (entry_at moment Clock ∷ []) []) (is ∙ lacks) ∙ append-nil (accepted h d))
-          (append-nil (positions h d)) (append-nil (queued h d)) (append-nil (sent h d)) (or-false (is_ended h d)),
+          (append-nil (positions h d)) (append-nil (queued h d)) (append-nil (sent h d)) refl refl,
     )
 
 -- one that was given a Clock is tied, and so is one that wasn't
@@ -186,15 +174,15 @@ none_clocked true moment None c = absurd c
 none_clocked true moment (Some after) c = absurd c
 
 -- each that is there then has its birth
-clock_birth : (x : Bool) (moment : ℕ) (o : Option Row) (row : Row) → ClocksAt x moment o (Some row) → (before : Row) × ((o ≡ Some before) × (row.birth ≡ before.birth))
+pub clock_birth : (x : Bool) (moment : ℕ) (o : Option Row) (row : Row) → ClocksAt x moment o (Some row) → (before : Row) × ((o ≡ Some before) × (row.birth ≡ before.birth))
 clock_birth false moment o row c = (row, (sym c, refl))
 clock_birth true moment None row c = absurd c
 clock_birth true moment (Some before) row c = (before, (refl, c.same.birth))
 
-gone_due : (h : List Event) (moment d : ℕ) → admits_on h d (accepted h d) ≡ false → clock_in h moment d ≡ false
+gone_due : (h : List Event) (moment d : ℕ) → admits_on h d (course h d) ≡ false → clock_in h moment d ≡ false
 gone_due h moment d none =
-    let a : (admits_on h d (accepted h d) && not (has_clock_on h d (accepted h d))) ≡ false = and_left _ _ none in
-    and_right (not (is_full h)) (is_due_on h moment d (accepted h d)) (and_left _ _ a)
+    let a : (admits_on h d (course h d) && not (has_clock_on h d (accepted h d))) ≡ false = and_left _ _ none in
+    and_right (not (is_full h)) (is_due_on h moment d (course h d)) (and_left _ _ a)
 
 ticked_at : (h : List Event) (came : Option Prepared) (old new : Shelf) (moment added wanting : ℕ) → wanting ≡ 0 → Tied h old → Sound old → (g : Ticks old moment added wanting new) → (d : ℕ) (o : Option Row)
     → map.get old.rows (identifier old.link d) ≡ o → TiedAt (births h) d (story h d) o
@@ -212,7 +200,7 @@ ticked_at h came old new moment added wanting nothing t k g d (Some row) was tie
     let first : 0 < d = let f : 0 < row.birth = own.born.0 in omega (arith, f, birth) in
     let last : d ≤ births h = let f : row.birth ≤ old.births = own.born.1 in let all : births h ≡ old.births = t.births_are in omega (arith, f, birth, all) in
     let is : clock_in h moment d ≡ among l g.due =
-    ap (λ n. not (nat_le (2 ^ 63) n) && is_due_on h moment d (accepted h d)) t.entries_are
+    ap (λ n. not (nat_le (2 ^ 63) n) && is_due_on h moment d (course h d)) t.entries_are
     ∙ ap (λ b. not (book_is_full old) && b) (due_tied h moment d row first last tied)
     ∙ sym (all_due old new moment added wanting nothing g l row was)
     in
@@ -220,7 +208,7 @@ ticked_at h came old new moment added wanting nothing t k g d (Some row) was tie
     clocked_at (births h) d moment (story h d) _ (among l g.due) row (map.get new.rows l) told.0 told.1 tied
     (subst (λ o. ClocksAt (among l g.due) moment o (map.get new.rows l)) was (g.rows l))
 
-later_none : (h : List Event) (d : ℕ) → births h < d → admits_on h d (accepted h d) ≡ false
+later_none : (h : List Event) (d : ℕ) → births h < d → admits_on h d (course h d) ≡ false
 later_none h d past = and_left (nat_lt 0 d && nat_le d (births h)) _ (and_right (nat_lt 0 d) (nat_le d (births h)) (lt-leb d (births h) past))
 
 -- each dialogue that is due is given a Clock
@@ -252,3 +240,15 @@ Tied-ticks h came old new moment added wanting t k nothing g =
     }
     in
     subst (Tied (e ∷ h)) (sym g.new_is) (Tied-next h e old then t next)
+
+-- what a dialogue adds to the number of those that are due
+pub due_at_is : (h : List Event) (s : Shelf) (moment d : ℕ) (o : Option Row) → Tied h s → Sound s → map.get s.rows (identifier s.link d) ≡ o → TiedAt (births h) d (story h d) o
+    → amount (λ row. cond {A = ℕ} (due_at s moment row) 1 0) o ≡ cond {A = ℕ} (clock_in h moment d) 1 0
+due_at_is h s moment d None t k was tied = ap (λ b. cond {A = ℕ} b 1 0) (sym (gone_due h moment d tied.admitted))
+due_at_is h s moment d (Some row) t k was tied =
+    let own : IsOwn s (identifier s.link d) row = k.own (identifier s.link d) row was in
+    let birth : row.birth ≡ d = tied.birth in
+    let first : 0 < d = let f : 0 < row.birth = own.born.0 in omega (arith, f, birth) in
+    let last : d ≤ births h = let f : row.birth ≤ s.births = own.born.1 in let all : births h ≡ s.births = t.births_are in omega (arith, f, birth, all) in
+    ap (λ b. cond {A = ℕ} b 1 0)
+    (sym (ap (λ n. not (nat_le (2 ^ 63) n) && is_due_on h moment d (course h d)) t.entries_are ∙ ap (λ b. not (book_is_full s) && b) (due_tied h moment d row first last tied)))

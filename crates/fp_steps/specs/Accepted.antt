@@ -1,5 +1,5 @@
 -- The entries that each dialogue of a run accepts, and those of them that are served.
-use Rattle.std.specs.Prelude.{ℕ, ◌+◌, ◌^◌, ◌==◌, ◌&&◌, ◌||◌, not, Bool, true, false, List, [], ◌∷◌, ◌++◌, Option, Some, None, length, drop, count_by, slice_get, option_to_list, nat_le, nat_lt, if◌then◌else◌}
+use Rattle.std.specs.Prelude.{ℕ, ◌+◌, ◌^◌, ◌&&◌, not, Bool, true, false, List, [], ◌∷◌, ◌++◌, Option, Some, None, length, drop, count_by, is_some, slice_get, option_to_list, nat_le, nat_lt, if◌then◌else◌}
 use Rattle.std.specs.List.{flat_map}
 use Rattle.std.specs.Option.{option_map_or}
 use Rattle.fp_book.specs.declared.answers.Posted.{Posted}
@@ -12,6 +12,8 @@ use Rattle.fp_entry.specs.Entries.{entry_at, is_clock}
 use Rattle.fp_entry.specs.Prepared.{arrival_of}
 use Rattle.fp_q773.specs.declared.kind.Kind.{Kind}
 use Rattle.fp_q773.specs.declared.kind.Kind.TheVariants as kinds
+use Rattle.fp_row.specs.declared.ending.Ending.{Ending}
+use Rattle.fp_row.specs.declared.ending.Ending.TheVariants.{ByPeer, Closed}
 use Rattle.fp_service.specs.declared.dialogue.Core.{Core}
 use Rattle.fp_service.specs.Dialogue.{fresh, is_over, next_due}
 use Rattle.fp_service.specs.Fold.{core_after}
@@ -45,26 +47,11 @@ abbrev pub ends_peer : Option Prepared → Bool
 ends_peer None = false
 ends_peer (Some came) = is_ending (arrival_of came).ids.kind
 
--- a message ends the dialogue that it names where it is refused, or an accepted End or Abort
-abbrev pub ends_by : Posted → Option Prepared → Bool
-ends_by (Opened local) came = false
-ends_by (Accepted count) came = ends_peer came
-ends_by (Aborted cause) came = true
-ends_by Ended came = true
-ends_by Discarded came = false
-
--- whether an event ends a dialogue from outside
-abbrev pub ends_in : Output → Option Prepared → List Event → ℕ → Bool
-ends_in (outputs.Posted answer components) came h d = ends_by answer came && is_one (destination h came) d
-ends_in outputs.Unsent came h d = nat_le d (births h)
-ends_in outputs.Down came h d = nat_le d (births h)
-ends_in _ came h d = false
-
--- whether something ended the dialogue from outside: an End or an Abort that was accepted, a message for it that was
--- refused, or the end of the link
-abbrev pub is_ended : List Event → ℕ → Bool
-is_ended [] d = false
-is_ended (e ∷ h) d = is_ended h d || ends_in e.output e.came h d
+-- what a history tells of the course of a dialogue: the entries that it accepted, in order, and how it was ended from
+-- outside, if it was
+pub record Course : Type 0 where
+  pub accepts : List Entry
+  pub ending : Option Ending
 
 -- the entries in these places
 abbrev pub in_places : List Entry → List ℕ → List Entry
@@ -78,18 +65,40 @@ start h d = fresh d (option_map_or (λ (b : Beginning). b.moment) (beginning h d
 abbrev pub core_on : List Event → ℕ → List Entry → Core
 core_on h d entries = core_after (start h d) (in_places entries (positions h d))
 
--- whether the dialogue, of which these entries were accepted, takes messages: it was opened, its core isn't over, and
--- nothing ended it from outside
-abbrev pub admits_on : List Event → ℕ → List Entry → Bool
-admits_on h d entries = (nat_lt 0 d && nat_le d (births h)) && (not (is_ended h d) && not (is_over (core_on h d entries)))
+-- whether the dialogue of this course takes messages: it was opened, its core isn't over, and nothing ended it from
+-- outside
+abbrev pub admits_on : List Event → ℕ → Course → Bool
+admits_on h d c = (nat_lt 0 d && nat_le d (births h)) && (not (is_some c.ending) && not (is_over (core_on h d c.accepts)))
 
 -- whether a Clock of it is unserved
 abbrev pub has_clock_on : List Event → ℕ → List Entry → Bool
 has_clock_on h d entries = nat_lt 0 (count_by (λ (entry : Entry). is_clock entry.kind) (drop (length (positions h d)) entries))
 
 -- whether it is given a Clock at a moment
-abbrev pub is_due_on : List Event → ℕ → ℕ → List Entry → Bool
-is_due_on h moment d entries = (admits_on h d entries && not (has_clock_on h d entries)) && nat_le (next_due (core_on h d entries)) moment
+abbrev pub is_due_on : List Event → ℕ → ℕ → Course → Bool
+is_due_on h moment d c = (admits_on h d c && not (has_clock_on h d c.accepts)) && nat_le (next_due (core_on h d c.accepts)) moment
+
+-- how a message ends the dialogue that it names, while that takes messages: refused, it closes it; accepted, an End or
+-- an Abort is its peer's end
+abbrev pub ending_by : Posted → Option Prepared → Option Ending
+ending_by (Opened local) came = None
+ending_by (Accepted count) came = if ends_peer came then Some ByPeer else None
+ending_by (Aborted cause) came = Some Closed
+ending_by Ended came = Some Closed
+ending_by Discarded came = None
+
+-- a message ends the dialogue that it names only while that takes messages
+abbrev pub ending_at : Option Ending → Bool → Option Ending → Option Ending
+ending_at None takes before = before
+ending_at (Some ending) takes before = if takes then Some ending else before
+
+-- how a dialogue was ended from outside, after an event: the end of the link closes all that were opened
+abbrev pub ending_in : Output → Option Prepared → List Event → ℕ → Course → Option Ending
+ending_in (outputs.Posted answer components) came h d c =
+    ending_at (ending_by answer came) (is_one (destination h came) d && admits_on h d c) c.ending
+ending_in outputs.Unsent came h d c = if nat_le d (births h) then Some Closed else c.ending
+ending_in outputs.Down came h d c = if nat_le d (births h) then Some Closed else c.ending
+ending_in _ came h d c = c.ending
 
 -- how many entries the link accepted at an event
 abbrev pub entries_by : Posted → List Entry → ℕ
@@ -130,17 +139,33 @@ abbrev pub clock_at : Step → Bool → (ℕ → Bool) → List Entry
 clock_at (steps.Tick moment) full is_due = if not full && is_due moment then entry_at moment Clock ∷ [] else []
 clock_at _ full is_due = []
 
--- what a dialogue accepts at an event, where it had accepted these entries before
-abbrev pub accepted_in : Event → List Event → ℕ → List Entry → Output → List Entry
-accepted_in e h d before (outputs.Posted answer components) = for_one (taker answer e.came h) d (entries_came e.came)
-accepted_in e h d before (outputs.Ticked added wanting) = clock_at e.step (is_full h) (λ moment. is_due_on h moment d before)
-accepted_in e h d before _ = []
+-- what a dialogue of this course accepts at an event
+abbrev pub accepted_in : Event → List Event → ℕ → Course → Output → List Entry
+accepted_in e h d c (outputs.Posted answer components) = for_one (taker answer e.came h) d (entries_came e.came)
+accepted_in e h d c (outputs.Ticked added wanting) = clock_at e.step (is_full h) (λ moment. is_due_on h moment d c)
+accepted_in e h d c _ = []
+
+-- the course of a dialogue
+abbrev pub course : List Event → ℕ → Course
+course [] d = record { accepts = []; ending = None }
+course (e ∷ h) d = record {
+  accepts = (course h d).accepts ++ accepted_in e h d (course h d) e.output;
+  ending = ending_in e.output e.came h d (course h d);
+}
 
 -- the entries that a dialogue accepted, in order: those of its Begin, of each message for it that was accepted, and a
 -- Clock for each tick at which it was due
 abbrev pub accepted : List Event → ℕ → List Entry
-accepted [] d = []
-accepted (e ∷ h) d = accepted h d ++ accepted_in e h d (accepted h d) e.output
+accepted h d = (course h d).accepts
+
+-- how it was ended from outside, if it was: by an End or an Abort of its peer; or closed, by a message for it that was
+-- refused while it took messages, or by the end of the link
+abbrev pub ending : List Event → ℕ → Option Ending
+ending h d = (course h d).ending
+
+-- whether it was
+abbrev pub is_ended : List Event → ℕ → Bool
+is_ended h d = is_some (ending h d)
 
 -- those that were served, in order
 abbrev pub served : List Event → ℕ → List Entry
@@ -152,8 +177,8 @@ core_of h d = core_on h d (accepted h d)
 
 -- whether the dialogue takes messages
 abbrev pub admits : List Event → ℕ → Bool
-admits h d = admits_on h d (accepted h d)
+admits h d = admits_on h d (course h d)
 
 -- whether it is due at a moment
 abbrev pub is_due : List Event → ℕ → ℕ → Bool
-is_due h moment d = is_due_on h moment d (accepted h d)
+is_due h moment d = is_due_on h moment d (course h d)

@@ -1,9 +1,10 @@
 -- What holds of each dialogue of a run, at each moment: the entries that were served are a front of those that it
 -- accepted, cut at its end, and the frames that were sent a front of those that its service logic requests on them.
-use Rattle.std.specs.Prelude.{◌≡◌, ℕ, ◌<◌, ◌≤◌, List, [], ◌∷◌, ◌++◌, Some, length, zero, suc}
+use Rattle.std.specs.Prelude.{◌≡◌, ℕ, List, [], ◌∷◌, ◌++◌, Some, length, zero, suc}
 use mathlib.Core.List.{IsPrefix}
 use Rattle.fp_service.specs.Fold.{cut}
 use Rattle.fp_steps.specs.Accepted.{accepted, positions, served, start}
+use Rattle.fp_steps.specs.Answers.{AllAnswered}
 use Rattle.fp_steps.specs.Births.{Beginning, beginning}
 use Rattle.fp_steps.specs.History.{AtEachMoment, Event, Tells}
 use Rattle.fp_steps.specs.declared.output.Output.{Output}
@@ -36,6 +37,8 @@ pub record Headline (h : List Event) : Type 0 where
   -- the Aborts of the provider that were sent are a front of those that were answered
   pub aborts_first : IsPrefix (aborts_sent h) (aborts h)
 
--- these are outputs of these steps, and at each moment of their history all of this holds
-abbrev pub Runs : Contents → List (List ℕ) → List Step → List Output → Type 0
-Runs contents contexts steps outputs = (h : List Event) × Tells contents contexts steps outputs h × AtEachMoment Headline h
+-- these are outputs of these steps on a link; at each moment of their history all of this holds, and each output is the
+-- answer at its moment
+abbrev pub Runs : Contents → List (List ℕ) → ℕ → List Step → List Output → Type 0
+Runs contents contexts link steps outputs =
+    (h : List Event) × Tells contents contexts steps outputs h × AtEachMoment Headline h × AllAnswered link h

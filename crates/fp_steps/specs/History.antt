@@ -2,9 +2,6 @@
 -- newest first.
 use Rattle.std.specs.Prelude.{◌≡◌, ℕ, Bool, true, false, List, [], ◌∷◌, Option, Some, None, map, reverse, ⊤}
 use Rattle.std.specs.List.{AllByRecursion}
-use Rattle.fp_entry.specs.declared.arrival.Arrival.{Arrival}
-use Rattle.fp_entry.specs.declared.fault.Fault.{Fault}
-use Rattle.fp_entry.specs.declared.incoming.Incoming.{Incoming}
 use Rattle.fp_entry.specs.declared.prepared.Prepared.{Prepared}
 use Rattle.fp_entry.specs.declared.prepared.Prepared.TheVariants as prepared
 use Rattle.fp_entry.specs.Prepared.{IsLost, IsPrepared}

@@ -1,7 +1,15 @@
 pub mod Accepted
+pub mod Answers
 pub mod Births
 pub mod Headline
 pub mod History
+pub mod Laws
+pub mod Lined
+pub mod Lines
 pub mod Makes
 pub mod Sending
 pub mod Tied
+pub mod Tokens
+pub mod Totals
+pub mod Turns
+pub mod Waiting

@@ -52,12 +52,12 @@ TakesTo _ old new = ⊥
 abbrev pub GivesTo : ℕ → Output → Shelf → Shelf → Type 0
 GivesTo local (outputs.Gave given_local position given) old new =
     (given_local ≡ local) × ((done : Done) × (done.turn.local ≡ local) × (done.turn.position ≡ position) × GivesDone old done given new)
-GivesTo local outputs.Nothing old new = new ≡ old
+GivesTo local outputs.Nothing old new = (turn_of (get old.rows local) ≡ None) × (new ≡ old)
 GivesTo local _ old new = ⊥
 
 abbrev pub PutsBackTo : ℕ → Output → Shelf → Shelf → Type 0
 PutsBackTo local outputs.WentBack old new = (turn : Turn) × (turn.local ≡ local) × PutsTurnBack old turn new
-PutsBackTo local outputs.Nothing old new = new ≡ old
+PutsBackTo local outputs.Nothing old new = (turn_of (get old.rows local) ≡ None) × (new ≡ old)
 PutsBackTo local _ old new = ⊥
 
 abbrev pub PicksTo : Output → Shelf → Shelf → Type 0
@@ -69,12 +69,12 @@ PicksTo _ old new = ⊥
 
 abbrev pub SendsTo : Output → Shelf → Shelf → Type 0
 SendsTo outputs.Sent old new = (content : Content) × Sends old content new
-SendsTo outputs.Nothing old new = new ≡ old
+SendsTo outputs.Nothing old new = (old.outbox.out ≡ None) × (new ≡ old)
 SendsTo _ old new = ⊥
 
 abbrev pub UnsendsTo : Output → Shelf → Shelf → Type 0
 UnsendsTo outputs.Unsent old new = (parcel : Parcel) × Unsends old parcel new
-UnsendsTo outputs.Nothing old new = new ≡ old
+UnsendsTo outputs.Nothing old new = (old.outbox.out ≡ None) × (new ≡ old)
 UnsendsTo _ old new = ⊥
 
 abbrev pub GoesDownTo : Output → Shelf → Shelf → Type 0

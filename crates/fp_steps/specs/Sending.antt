@@ -1,5 +1,5 @@
 -- What the service logic of each dialogue of a run requests, what of that is accepted for sending, and what is sent.
-use Rattle.std.specs.Prelude.{ℕ, ◌==◌, Bool, true, false, List, [], ◌∷◌, ◌++◌, Option, Some, None, map, option_map, option_to_list, slice_get, if◌then◌else◌}
+use Rattle.std.specs.Prelude.{ℕ, ◌==◌, List, [], ◌∷◌, ◌++◌, Option, Some, None, map, option_map, option_to_list, slice_get, if◌then◌else◌}
 use Rattle.std.specs.Option.{option_and_then}
 use Rattle.fp_ber.specs.Canon.{canon}
 use Rattle.fp_book.specs.declared.answers.Given.{Given}

@@ -1,27 +1,27 @@
 -- How a book stands to the history of its run.
-use Rattle.std.specs.Prelude.{◌≡◌, ℕ, ◌<◌, ◌≤◌, ◌&&◌, Bool, true, false, not, List, [], ◌∷◌, ◌++◌, Option, Some, None, map, is_some, length, nat_le, nat_lt, option_map, ◌==◌, if◌then◌else◌}
+use Rattle.std.specs.Prelude.{◌≡◌, ℕ, ◌<◌, ◌≤◌, ◌&&◌, Bool, false, not, List, [], ◌++◌, Option, Some, None, map, is_some, length, nat_le, nat_lt, option_map}
 use Rattle.std.specs.Option.{option_map_or}
 use Rattle.std.specs.FinMap.{get}
 use mathlib.Core.List.{IsPrefix}
 use Rattle.fp_book.specs.declared.parcel.Content.{Content}
-use Rattle.fp_book.specs.declared.parcel.Content.TheVariants as contents
 use Rattle.fp_book.specs.Parcel.{local_of, octets_of}
 use Rattle.fp_book.specs.Shelf.{Shelf}
 use Rattle.fp_entry.specs.declared.entry.Entry.{Entry}
 use Rattle.fp_q773.specs.Tid.{octets_of as octets_of_tid}
-use Rattle.fp_reply.specs.declared.provider_abort.AbortFrame.{AbortFrame}
 use Rattle.fp_reply.specs.ProviderAbort.{frame_octets}
+use Rattle.fp_row.specs.declared.ending.Ending.{Ending}
 use Rattle.fp_row.specs.declared.row.Row.{Row}
-use Rattle.fp_row.specs.Row.{queued_of, sent_of}
+use Rattle.fp_row.specs.Row.{is_closed, queued_of, sent_of}
 use Rattle.fp_service.specs.declared.dialogue.Core.{Core}
 use Rattle.fp_service.specs.Dialogue.{fresh, is_over}
 use Rattle.fp_service.specs.Fold.{core_after, cut, requests}
 use Rattle.fp_tids.specs.Identifiers.{identifier}
-use Rattle.fp_steps.specs.Accepted.{accepted, entry_count, in_places, is_ended, positions}
+use Rattle.fp_steps.specs.Accepted.{accepted, ending, entry_count, in_places, positions}
 use Rattle.fp_steps.specs.Births.{Beginning, beginning, births, named}
 use Rattle.fp_steps.specs.Headline.{numbers}
 use Rattle.fp_steps.specs.History.{Event}
 use Rattle.fp_steps.specs.Sending.{Handed, abort_out, aborts, aborts_sent, frame_from, out, queued, sent}
+use Rattle.fp_steps.specs.Turns.{turn_out}
 
 -- all that a history tells of a dialogue
 pub record Story : Type 0 where
@@ -30,7 +30,8 @@ pub record Story : Type 0 where
   pub places : List ℕ
   pub queues : List (List ℕ)
   pub sends : List (List ℕ)
-  pub ended : Bool
+  pub ended : Option Ending
+  pub out : Bool
 
 abbrev pub story : List Event → ℕ → Story
 story h d = record {
@@ -39,7 +40,8 @@ story h d = record {
   places = positions h d;
   queues = queued h d;
   sends = sent h d;
-  ended = is_ended h d;
+  ended = ending h d;
+  out = turn_out h d;
 }
 
 -- the core with which it begins, what was served, the core then, and the frames that were requested
@@ -65,7 +67,11 @@ pub record IsStraight (d : ℕ) (t : Story) : Type 0 where
 
 -- whether it takes messages
 abbrev pub admits_in : ℕ → ℕ → Story → Bool
-admits_in births d t = (nat_lt 0 d && nat_le d births) && (not t.ended && not (is_over (core_in d t)))
+admits_in births d t = (nat_lt 0 d && nat_le d births) && (not (is_some t.ended) && not (is_over (core_in d t)))
+
+-- whether an entry of it is still to be served
+abbrev pub waits_in : ℕ → Story → Bool
+waits_in d t = not (is_closed t.ended) && (not (is_over (core_in d t)) && nat_lt (length t.places) (length t.accepts))
 
 -- how it began
 abbrev pub beginning_of : Row → Beginning
@@ -79,12 +85,15 @@ pub record IsTied (d : ℕ) (t : Story) (row : Row) : Type 0 where
   pub serves : t.places ≡ numbers row.served
   pub queues : t.queues ≡ queued_of row
   pub sends : t.sends ≡ sent_of row
-  pub ends : is_over row.core ≡ false → t.ended ≡ is_some row.ended
+  pub ends : t.ended ≡ row.ended
+  pub outs : t.out ≡ row.is_out
 
 -- nothing is left of it, or it isn't opened yet
 pub record IsGone (births : ℕ) (d : ℕ) (t : Story) : Type 0 where
   pub straight : IsStraight d t
   pub admitted : admits_in births d t ≡ false
+  pub waits : waits_in d t ≡ false
+  pub outs : t.out ≡ false
 
 abbrev pub TiedAt : ℕ → ℕ → Story → Option Row → Type 0
 TiedAt births d t None = IsGone births d t
@@ -92,7 +101,7 @@ TiedAt births d t (Some row) = IsTied d t row
 
 -- a dialogue that isn't opened yet
 abbrev pub untold : Story
-untold = record { began = None; accepts = []; places = []; queues = []; sends = []; ended = false }
+untold = record { began = None; accepts = []; places = []; queues = []; sends = []; ended = None; out = false }
 
 -- what is out to be sent
 abbrev pub handed : Content → Handed

@@ -4,14 +4,20 @@ ghost use Rattle.std.specs.Prelude.{◌≡◌, ◌<◌, ◌==◌, ◌&&◌, not,
 ghost use Rattle.std.specs.List.{position};
 ghost use Rattle.fp_book.specs.Shelf.{Sound};
 ghost use Rattle.fp_row.specs.declared.turn.Turn.{Turn};
-ghost use Rattle.fp_steps.specs.Makes.{Drained, GivesTo, Posts, PicksTo, PutsBackTo, SendsTo, StepsTo, TakesLine, TakesTo, TicksTo, UnsendsTo, components_by, components_if, is_lost_step, tells_lost};
+ghost use Rattle.fp_steps.specs.Makes.{Drained, GivesTo, Posts, PicksTo, PutsBackTo, SendsTo, StepsTo, TakesLine};
+ghost use Rattle.fp_steps.specs.Makes.{TakesTo, TicksTo, UnsendsTo, is_lost_step, tells_lost};
 ghost use Rattle.fp_steps.specs.Headline.{Runs};
 ghost use Rattle.fp_steps.specs.History.{is_lost};
+ghost use Rattle.fp_steps.specs.Lined.{Lined};
 ghost use Rattle.fp_steps.specs.Tied.{Tied};
+ghost use Rattle.fp_steps.specs.Tokens.{Holds};
 
+use crate::parts::{components_if, copied, index_of, is_lost};
 use crate::{Output, Step};
 use fp_apdu::Name;
-use fp_book::{Book, Line, LoggedStep, Parcel, Picked, Posted, Taken};
+use fp_book::{
+    Book, Line, LoggedStep, Parcel, Picked, Posted, Taken, read_messages_have_few_entries,
+};
 use fp_digits::Moment;
 use fp_entry::Prepared;
 use fp_records::Table;
@@ -24,33 +30,6 @@ struct Engine {
     book: Book,
     turns: Vec<Turn>,
     parcel: Option<Parcel>,
-}
-
-/// Where the turn of a dialogue is.
-fn index_of(turns: &[Turn], local: u32) -> Option<usize>
-    ensures { result ≡ position (λ (t : Turn). t.local == local) turns.now }
-{
-    turns.iter().position(|turn| turn.local() == local)
-}
-
-/// Whether memory was wanting for reading a message.
-fn is_lost(came: &Prepared) -> bool
-    ensures { result ≡ is_lost came.now }
-{
-    match came {
-        Prepared::Message { .. } | Prepared::Refused { .. } => false,
-        Prepared::Lost { .. } => true,
-    }
-}
-
-/// The components that are accepted by this answer.
-fn components_if(answer: Posted, components: u32) -> u32
-    ensures { result ≡ components_if answer components }
-{
-    match answer {
-        Posted::Opened(_) | Posted::Accepted(_) => components,
-        Posted::Aborted(_) | Posted::Ended | Posted::Discarded => 0,
-    }
 }
 
 /// Takes the oldest line out of the log, if there is one.
@@ -93,9 +72,11 @@ fn is_wanting(line: &Option<Line>, was_lost: bool) -> bool
 impl Engine {
     /// Time goes by. `Err`: memory was wanting for a Clock.
     fn tick(&mut self, moment: Moment) -> Result<Output, AllocError>
-        requires { Sound self.old.book }
+        requires sound { Sound self.old.book }
+        requires holds { Holds self.old.turns.items self.old.parcel self.old.book }
         ensures makes { IfOk result (λ output. TicksTo moment output self.old.book self.new.book) }
         ensures sound { Sound self.new.book }
+        ensures holds { IfOk result (λ _. Holds self.new.turns.items self.new.parcel self.new.book) }
     {
         let ticked = self.book.tick(moment);
         if ticked.wanting > 0 {
@@ -109,9 +90,11 @@ impl Engine {
 
     /// Hands out a turn.
     fn take(&mut self) -> Result<Output, AllocError>
-        requires { Sound self.old.book }
+        requires sound { Sound self.old.book }
+        requires holds { Holds self.old.turns.items self.old.parcel self.old.book }
         ensures makes { IfOk result (λ output. TakesTo output self.old.book self.new.book) }
         ensures sound { Sound self.new.book }
+        ensures holds { IfOk result (λ _. Holds self.new.turns.items self.new.parcel self.new.book) }
     {
         self.turns.reserve(1)?;
         match self.book.take() {
@@ -134,9 +117,11 @@ impl Engine {
 
     /// Serves the turn of a dialogue and gives it back.
     fn give(&mut self, alloc: Global, local: u32) -> Result<Output, AllocError>
-        requires { Sound self.old.book }
+        requires sound { Sound self.old.book }
+        requires holds { Holds self.old.turns.items self.old.parcel self.old.book }
         ensures makes { IfOk result (λ output. GivesTo local output self.old.book self.new.book) }
         ensures sound { Sound self.new.book }
+        ensures holds { IfOk result (λ _. Holds self.new.turns.items self.new.parcel self.new.book) }
     {
         let Some(index) = index_of(&self.turns, local) else {
             return Ok(Output::Nothing);
@@ -165,9 +150,11 @@ impl Engine {
 
     /// Puts the turn of a dialogue back.
     fn put_back(&mut self, local: u32) -> Output
-        requires { Sound self.old.book }
+        requires sound { Sound self.old.book }
+        requires holds { Holds self.old.turns.items self.old.parcel self.old.book }
         ensures makes { PutsBackTo local result self.old.book self.new.book }
         ensures sound { Sound self.new.book }
+        ensures holds { Holds self.new.turns.items self.new.parcel self.new.book }
     {
         let Some(index) = index_of(&self.turns, local) else {
             return Output::Nothing;
@@ -183,9 +170,11 @@ impl Engine {
 
     /// The parcel was sent.
     fn sent(&mut self) -> Output
-        requires { Sound self.old.book }
+        requires sound { Sound self.old.book }
+        requires holds { Holds self.old.turns.items self.old.parcel self.old.book }
         ensures makes { SendsTo result self.old.book self.new.book }
         ensures sound { Sound self.new.book }
+        ensures holds { Holds self.new.turns.items self.new.parcel self.new.book }
     {
         let Some(parcel) = self.parcel.take() else {
             return Output::Nothing;
@@ -201,9 +190,11 @@ impl Engine {
 
     /// The parcel wasn't sent.
     fn unsent(&mut self) -> Output
-        requires { Sound self.old.book }
+        requires sound { Sound self.old.book }
+        requires holds { Holds self.old.turns.items self.old.parcel self.old.book }
         ensures makes { UnsendsTo result self.old.book self.new.book }
         ensures sound { Sound self.new.book }
+        ensures holds { Holds self.new.turns.items self.new.parcel self.new.book }
     {
         let Some(parcel) = self.parcel.take() else {
             return Output::Nothing;
@@ -219,9 +210,11 @@ impl Engine {
 
     /// Hands out what is sent next.
     fn pick(&mut self, alloc: Global) -> Result<Output, AllocError>
-        requires { Sound self.old.book }
+        requires sound { Sound self.old.book }
+        requires holds { Holds self.old.turns.items self.old.parcel self.old.book }
         ensures makes { IfOk result (λ output. PicksTo output self.old.book self.new.book) }
         ensures sound { Sound self.new.book }
+        ensures holds { IfOk result (λ _. Holds self.new.turns.items self.new.parcel self.new.book) }
     {
         match self.book.pick() {
             Picked::Busy => Ok(Output::Busy),
@@ -243,8 +236,11 @@ impl Engine {
     /// The engine of a link on which nothing came yet.
     fn new(alloc: Global, link: u8) -> Result<Engine, AllocError>
         requires { link < LocalIds.LINKS }
+        ensures link { IfOk result (λ engine. engine.book.link ≡ link) }
         ensures tied { IfOk result (λ engine. Tied [] engine.book) }
+        ensures lined { IfOk result (λ engine. Lined [] engine.book) }
         ensures sound { IfOk result (λ engine. Sound engine.book) }
+        ensures holds { IfOk result (λ engine. Holds engine.turns.items engine.parcel engine.book) }
     {
         Ok(Engine {
             book: Book::new(alloc, link)?,
@@ -255,9 +251,11 @@ impl Engine {
 
     /// A message is posted. `Err`: memory was wanting for it, though it was read.
     fn post(&mut self, alloc: Global, came: Prepared) -> Result<Output, AllocError>
-        requires { Sound self.old.book }
+        requires sound { Sound self.old.book }
+        requires holds { Holds self.old.turns.items self.old.parcel self.old.book }
         ensures makes { IfOk result (λ output. Drained (Posts (Some came) output) self.old.book self.new.book) }
         ensures sound { IfOk result (λ _. Sound self.new.book) }
+        ensures holds { IfOk result (λ _. Holds self.new.turns.items self.new.parcel self.new.book) }
     {
         empty_log(alloc, &mut self.book)?;
         let was_lost = is_lost(&came);
@@ -281,9 +279,11 @@ impl Engine {
         contexts: &[Name],
         step: &Step,
     ) -> Result<Output, AllocError>
-        requires { Sound self.old.book }
-        ensures makes { IfOk result (λ output. StepsTo table.now contexts.now self.old.book step.now output self.new.book) }
+        requires sound { Sound self.old.book }
+        requires holds { Holds self.old.turns.items self.old.parcel self.old.book }
+        ensures makes { IfOk result (λ o. StepsTo table.now contexts.now self.old.book step.now o self.new.book) }
         ensures sound { IfOk result (λ _. Sound self.new.book) }
+        ensures holds { IfOk result (λ _. Holds self.new.turns.items self.new.parcel self.new.book) }
     {
         match step {
             Step::Post(frame, moment) => {
@@ -320,10 +320,13 @@ impl Engine {
         steps: &[Step],
     ) -> Result<Vec<Output>, AllocError>
         requires tied { Tied [] self.old.book }
+        requires lined { Lined [] self.old.book }
         requires sound { Sound self.old.book }
-        ensures { IfOk result (λ outputs. Runs table.now contexts.now steps.now outputs.items) }
+        requires holds { Holds self.old.turns.items self.old.parcel self.old.book }
+        ensures { IfOk result (λ outputs. Runs table.now contexts.now self.old.book.link steps.now outputs.items) }
     {
         rows_keep_their_order();
+        read_messages_have_few_entries();
         let mut outputs = Vec::new(alloc);
         for step in steps {
             let output = self.step(alloc, table, contexts, step)?;
@@ -349,15 +352,6 @@ impl Engine {
     }
 }
 
-/// A copy of octets.
-fn copied(alloc: Global, octets: &[u8]) -> Result<Vec<u8>, AllocError>
-    ensures { IfOk result (λ copy. copy.items ≡ octets.now) }
-{
-    let mut copy = Vec::new(alloc);
-    copy.extend_from_slice(octets)?;
-    Ok(copy)
-}
-
 /// The outputs of these steps on a link, 0 to 7, on which nothing came yet, by these records and names of application
 /// contexts. Where a step is impossible its output is `Nothing`, and it changes nothing. `Err`: memory was wanting.
 ///
@@ -366,6 +360,11 @@ fn copied(alloc: Global, octets: &[u8]) -> Result<Vec<u8>, AllocError>
 /// that its service logic requests on them, in their order and each once, under its own identifiers. No two dialogues
 /// have one local transaction identifier, and the Aborts of the provider that were sent are a front of those that were
 /// answered.
+///
+/// Each output is the answer at its moment, which the steps and outputs before it tell. A message is answered by the
+/// first line that fits it. A tick counts the dialogues that are due. A turn is handed out for the dialogue that has
+/// been ready longest, unless none is ready or all places are held; it is given or put back while it is out. The oldest
+/// Abort of the provider is sent next, or, where none waits, the oldest frame, while nothing else is out to be sent.
 pub fn run(
     alloc: Global,
     table: &Table,
@@ -374,7 +373,7 @@ pub fn run(
     steps: &[Step],
 ) -> Result<Vec<Output>, AllocError>
     requires { link < LocalIds.LINKS }
-    ensures headline { IfOk result (λ outputs. Runs table.now contexts.now steps.now outputs.items) }
+    ensures headline { IfOk result (λ outputs. Runs table.now contexts.now link steps.now outputs.items) }
 {
     let mut engine = Engine::new(alloc, link)?;
     let outputs = engine.run_all(alloc, table, contexts, steps);

@@ -1,4 +1,4 @@
-use Rattle.std.proofs.Common.{refl, sym, ◌∙◌}
+use Rattle.std.proofs.Common.{refl, sym}
 use Rattle.fp_steps.proofs.Lines.{log_more, log_none, took_none, took_one}
 use Rattle.fp_steps.proofs.engine.empty_log.Goals as goal
 

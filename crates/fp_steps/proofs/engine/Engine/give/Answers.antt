@@ -1,4 +1,8 @@
-use Rattle.std.proofs.Common.{◌≡◌, slice_index_or, refl, sym, ◌∙◌, ap}
+use Rattle.std.proofs.lemmas.Bool.{false≢true}
+use Rattle.std.proofs.Common.{◌≡◌, eqb, slice_index_or, refl, sym, ◌∙◌, ap, subst}
+use Rattle.std.specs.List.{position}
+use Rattle.fp_steps.specs.Tokens.{Holds}
+use Rattle.fp_steps.proofs.Holds.{At, here_at, holds_gives, no_stranger, none_kept}
 use Rattle.fp_row.specs.declared.turn.Turn.{Turn}
 use Rattle.fp_steps.proofs.Found.{found}
 use Rattle.fp_steps.proofs.engine.Engine.give.Goals as goal
@@ -10,3 +14,34 @@ returns-in-Ok-give-clause-makes c =
     (c.remove.ensures.value ∙ ap (λ xs. slice_index_or xs c.in-Some.index c.remove.result) (sym c.deref.ensures.value))
     in
     (refl, (c.in-Ok.done, ap (λ (t : Turn). t.local) c.in-Ok.ensures.turn ∙ local, sym (c.position-position.ensures ∙ ap (λ (t : Turn). t.position) c.turn.ensures), c.in-Ok-give.ensures.ok))
+
+pub returns-in_default-clause-makes : goal.returns-in_default-clause-makes
+returns-in_default-clause-makes c = (
+  none_kept c.args.self.now.turns.items c.args.self.now.parcel c.args.self.now.book c.args.local c.requires.holds
+      (ap (position (λ (t : Turn). eqb t.local c.args.local)) (sym c.deref.ensures.value) ∙ sym c.index_of.ensures ∙ c.in_default.is),
+  refl,
+)
+
+pub returns-in-Ok-give-clause-holds : goal.returns-in-Ok-give-clause-holds
+returns-in-Ok-give-clause-holds c =
+    let here : At c.args.self.now.turns.items c.args.local c.in-Some.index c.remove.result =
+    here_at c.args.self.now.turns.items c.deref.result.now c.args.local c.in-Some.index c.remove.result c.index_of.result c.deref.ensures.value c.index_of.ensures c.in-Some.is c.remove.ensures.value
+    in
+    let local : c.in-Ok.done.turn.local ≡ c.args.local = ap (λ (t : Turn). t.local) c.in-Ok.ensures.turn ∙ here.local_is in
+    subst (λ ts. Holds ts c.args.self.now.parcel c.give.new.self) (sym c.remove.ensures.items)
+    (holds_gives c.args.self.now.turns.items c.args.self.now.parcel c.args.self.now.book c.give.new.self c.in-Ok.done c.in-Ok-give.given c.in-Some.index c.remove.result c.requires.holds
+    (subst (λ l. At c.args.self.now.turns.items l c.in-Some.index c.remove.result) (sym local) here) c.in-Ok-give.ensures.ok)
+
+pub returns-in-Err-give-clause-makes : goal.returns-in-Err-give-clause-makes
+returns-in-Err-give-clause-makes c =
+    let here : At c.args.self.now.turns.items c.args.local c.in-Some.index c.remove.result =
+    here_at c.args.self.now.turns.items c.deref.result.now c.args.local c.in-Some.index c.remove.result c.index_of.result c.deref.ensures.value c.index_of.ensures c.in-Some.is c.remove.ensures.value
+    in
+    absurd (false≢true (c.in-Err-give.ensures.known.1 (no_stranger c.args.self.now.turns.items c.args.self.now.parcel c.args.self.now.book c.args.local c.in-Some.index c.remove.result c.in-Ok.done.turn c.requires.holds here c.in-Ok.ensures.turn)))
+
+pub returns-in-Err-give-clause-holds : goal.returns-in-Err-give-clause-holds
+returns-in-Err-give-clause-holds c =
+    let here : At c.args.self.now.turns.items c.args.local c.in-Some.index c.remove.result =
+    here_at c.args.self.now.turns.items c.deref.result.now c.args.local c.in-Some.index c.remove.result c.index_of.result c.deref.ensures.value c.index_of.ensures c.in-Some.is c.remove.ensures.value
+    in
+    absurd (false≢true (c.in-Err-give.ensures.known.1 (no_stranger c.args.self.now.turns.items c.args.self.now.parcel c.args.self.now.book c.args.local c.in-Some.index c.remove.result c.in-Ok.done.turn c.requires.holds here c.in-Ok.ensures.turn)))

@@ -1,0 +1,203 @@
+-- The frames that wait are those that weren't picked: the oldest goes where one is picked, one more stands behind the
+-- others where a request is accepted for sending, and those of a dialogue go where it is ended.
+use Rattle.std.proofs.Common.{◌≡◌, ℕ, ◌<◌, ◌≤◌, ◌+◌, Bool, true, false, cond, eqb, ◌&&◌, List, [], ◌∷◌, ◌++◌, refl, sym, ◌∙◌, ap, subst, arith, suc, add-zero, ⊎_elim}
+use Rattle.std.specs.Prelude.{⊤, filter, nat_le}
+use Rattle.std.proofs.lemmas.Bool.{and_right, cases_Bool, eqb-true, eq-eqb, lt-leb}
+use Rattle.std.proofs.lemmas.Bool.Decides.{leb_tells}
+use Rattle.fp_book.proofs.Queue.{eqb_swap}
+use Rattle.fp_steps.specs.Waiting.{Accepted}
+
+-- one more of a dialogue
+abbrev pub bump : ℕ → (ℕ → ℕ) → ℕ → ℕ
+bump d f c = cond (eqb c d) (suc (f c)) (f c)
+
+-- the places of each dialogue's frames are one behind the other, from these on
+abbrev pub Numbered : (ℕ → ℕ) → List Accepted → Type 0
+Numbered f [] = ⊤
+Numbered f (a ∷ xs) = (a.place ≡ f a.dialogue) × Numbered (bump a.dialogue f) xs
+
+-- how many are of a dialogue
+abbrev pub n_of : ℕ → List Accepted → ℕ
+n_of d [] = 0
+n_of d (a ∷ xs) = cond (eqb a.dialogue d) (suc (n_of d xs)) (n_of d xs)
+
+pub n_of-snoc : (d : ℕ) (xs : List Accepted) (a : Accepted) → n_of d (xs ++ a ∷ []) ≡ n_of d xs + cond {A = ℕ} (eqb a.dialogue d) 1 0
+n_of-snoc d [] a = ⊎_elim (λ e. ap (λ b. cond {A = ℕ} b 1 0) e ∙ sym (ap (λ b. 0 + cond {A = ℕ} b 1 0) e)) (λ e. ap (λ b. cond {A = ℕ} b 1 0) e ∙ sym (ap (λ b. 0 + cond {A = ℕ} b 1 0) e)) (cases_Bool (eqb a.dialogue d))
+n_of-snoc d (b ∷ xs) a =
+    ⊎_elim
+    (λ e.
+    let l : n_of d (b ∷ (xs ++ a ∷ [])) ≡ suc (n_of d (xs ++ a ∷ [])) = ap (λ x. cond x (suc (n_of d (xs ++ a ∷ []))) (n_of d (xs ++ a ∷ []))) e in
+    let r : n_of d (b ∷ xs) ≡ suc (n_of d xs) = ap (λ x. cond x (suc (n_of d xs)) (n_of d xs)) e in
+    omega (arith, l, r, n_of-snoc d xs a))
+    (λ e.
+    let l : n_of d (b ∷ (xs ++ a ∷ [])) ≡ n_of d (xs ++ a ∷ []) = ap (λ x. cond x (suc (n_of d (xs ++ a ∷ []))) (n_of d (xs ++ a ∷ []))) e in
+    let r : n_of d (b ∷ xs) ≡ n_of d xs = ap (λ x. cond x (suc (n_of d xs)) (n_of d xs)) e in
+    omega (arith, l, r, n_of-snoc d xs a))
+    (cases_Bool (eqb b.dialogue d))
+
+-- one dialogue's, or another's
+bump_own : (d c : ℕ) (f : ℕ → ℕ) → eqb c d ≡ true → bump d f c ≡ suc (f c)
+bump_own d c f e = ap (λ b. cond b (suc (f c)) (f c)) e
+
+bump_other : (d c : ℕ) (f : ℕ → ℕ) → eqb c d ≡ false → bump d f c ≡ f c
+bump_other d c f e = ap (λ b. cond b (suc (f c)) (f c)) e
+
+bump_more : (d c : ℕ) (f : ℕ → ℕ) → f c ≤ bump d f c
+bump_more d c f = ⊎_elim (λ e. omega (arith, bump_own d c f e)) (λ e. omega (arith, bump_other d c f e)) (cases_Bool (eqb c d))
+
+eqb_turn : (a b : ℕ) → eqb a b ≡ true → eqb b a ≡ true
+eqb_turn a b e = eq-eqb b a (sym (eqb-true a b e))
+
+pub numbered-snoc : (f : ℕ → ℕ) (xs : List Accepted) (a : Accepted) → Numbered f xs → a.place ≡ f a.dialogue + n_of a.dialogue xs → Numbered f (xs ++ a ∷ [])
+numbered-snoc f [] a n is = (is ∙ add-zero (f a.dialogue), tt)
+numbered-snoc f (b ∷ xs) a n is = (
+  n.0,
+  numbered-snoc (bump b.dialogue f) xs a n.1
+      (⊎_elim
+      (λ e.
+      let r : n_of a.dialogue (b ∷ xs) ≡ suc (n_of a.dialogue xs) = ap (λ x. cond x (suc (n_of a.dialogue xs)) (n_of a.dialogue xs)) e in
+      omega (arith, is, r, bump_own b.dialogue a.dialogue f (eqb_turn b.dialogue a.dialogue e)))
+      (λ e.
+      let r : n_of a.dialogue (b ∷ xs) ≡ n_of a.dialogue xs = ap (λ x. cond x (suc (n_of a.dialogue xs)) (n_of a.dialogue xs)) e in
+      omega (arith, is, r, bump_other b.dialogue a.dialogue f (eqb_swap b.dialogue a.dialogue e)))
+      (cases_Bool (eqb b.dialogue a.dialogue))),
+)
+
+-- a frame waits where its dialogue's go out, and so many of them were picked at most
+abbrev pub waits_by : (ℕ → Bool) → (ℕ → ℕ) → Accepted → Bool
+waits_by sends k a = sends a.dialogue && nat_le (k a.dialogue) a.place
+
+at_most : (a b : ℕ) → a ≤ b → nat_le a b ≡ true
+at_most a b le = ⊎_elim (λ h. h.0) (λ h. absurd (let more : b < a = h.1 in omega (arith, le, more))) (leb_tells a b)
+
+is_most : (a b : ℕ) → nat_le a b ≡ true → a ≤ b
+is_most a b e = ⊎_elim (λ h. h.1) (λ h. absurd (let clash : true ≡ false = sym e ∙ h.0 in cc)) (leb_tells a b)
+
+is_less : (a b : ℕ) → nat_le a b ≡ false → b < a
+is_less a b e = ⊎_elim (λ h. absurd (let clash : true ≡ false = sym h.0 ∙ e in cc)) (λ h. h.1) (leb_tells a b)
+
+right_of : (a b : Bool) → (a && b) ≡ true → b ≡ true
+right_of true b e = e
+right_of false b e = absurd (cc)
+
+filter_both : (p q : Accepted → Bool) (a : Accepted) (xs : List Accepted) (b : Bool) → p a ≡ b → q a ≡ b → filter p xs ≡ filter q xs → filter p (a ∷ xs) ≡ filter q (a ∷ xs)
+filter_both p q a xs b x y e =
+    ap (λ b. cond b (a ∷ filter p xs) (filter p xs)) (x ∙ sym y) ∙ ap (λ r. cond (q a) (a ∷ r) r) e
+
+-- none of a dialogue's later frames is affected where one more of it was picked
+pub stay_all : (sends : ℕ → Bool) (k : ℕ → ℕ) (d : ℕ) (g : ℕ → ℕ) (xs : List Accepted) → Numbered g xs → k d < g d → filter (waits_by sends (bump d k)) xs ≡ filter (waits_by sends k) xs
+stay_all sends k d g [] n lt = refl
+stay_all sends k d g (a ∷ xs) n lt =
+    let c = a.dialogue in
+    let more : k d < bump c g d = omega (arith, lt, bump_more c d g) in
+    let rest : filter (waits_by sends (bump d k)) xs ≡ filter (waits_by sends k) xs = stay_all sends k d (bump c g) xs n.1 more in
+    let place : a.place ≡ g c = n.0 in
+    ⊎_elim
+    (λ e.
+    let same : c ≡ d = eqb-true c d e in
+    let kc : k c ≡ k d = ap k same in
+    let gc : g c ≡ g d = ap g same in
+    let one : nat_le (k c) a.place ≡ true = at_most (k c) a.place (omega (arith, place, kc, gc, lt)) in
+    let two : nat_le (bump d k c) a.place ≡ true = at_most (bump d k c) a.place (omega (arith, bump_own d c k e, place, kc, gc, lt)) in
+    filter_both (waits_by sends (bump d k)) (waits_by sends k) a xs (sends c && true) (ap (λ b. sends c && b) two) (ap (λ b. sends c && b) one) rest)
+    (λ e. filter_both (waits_by sends (bump d k)) (waits_by sends k) a xs (waits_by sends k a) (ap (λ n. sends c && nat_le n a.place) (bump_other d c k e)) refl rest)
+    (cases_Bool (eqb c d))
+
+-- what becomes of those that wait where the oldest is picked
+pub record Goes (sends : ℕ → Bool) (k f : ℕ → ℕ) (xs : List Accepted) (first : Accepted) (rest : List Accepted) : Type 0 where
+  pub left : filter (waits_by sends (bump first.dialogue k)) xs ≡ rest
+  pub place : first.place ≡ k first.dialogue
+  pub within : k first.dialogue < f first.dialogue + n_of first.dialogue xs
+
+the_first : (a b : Accepted) (xs bs : List Accepted) → a ∷ xs ≡ b ∷ bs → (a ≡ b) × (xs ≡ bs)
+the_first a b xs bs e = ((let x : a ≡ b = cc in x), (let y : xs ≡ bs = cc in y))
+
+left_of : (a b : Bool) → (a && b) ≡ true → a ≡ true
+left_of true b e = refl
+left_of false b e = absurd (cc)
+
+first_here : (sends : ℕ → Bool) (k f : ℕ → ℕ) (a : Accepted) (xs : List Accepted) → Numbered f (a ∷ xs) → (sends a.dialogue ≡ true → f a.dialogue ≤ k a.dialogue) → waits_by sends k a ≡ true
+    → Goes sends k f (a ∷ xs) a (filter (waits_by sends k) xs)
+first_here sends k f a xs n few w =
+    let d = a.dialogue in
+    let place : a.place ≡ f d = n.0 in
+    let le : k d ≤ a.place = is_most (k d) a.place (right_of (sends d) (nat_le (k d) a.place) w) in
+    let alive : sends d ≡ true = left_of (sends d) (nat_le (k d) a.place) w in
+    let most : f d ≤ k d = few alive in
+    let own : eqb d d ≡ true = eq-eqb d d refl in
+    let gone : waits_by sends (bump d k) a ≡ false =
+    and_right (sends d) (nat_le (bump d k d) a.place) (lt-leb (bump d k d) a.place (omega (arith, bump_own d d k own, place, most)))
+    in
+    let later : k d < bump d f d = omega (arith, bump_own d d f own, le, place) in
+    let count : n_of d (a ∷ xs) ≡ suc (n_of d xs) = ap (λ b. cond b (suc (n_of d xs)) (n_of d xs)) own in
+    record {
+      left = ap (λ b. cond b (a ∷ filter (waits_by sends (bump d k)) xs) (filter (waits_by sends (bump d k)) xs)) gone ∙ stay_all sends k d (bump d f) xs n.1 later;
+      place = omega (arith, place, most, le);
+      within = omega (arith, le, place, count);
+    }
+
+still_few : (sends : ℕ → Bool) (k f : ℕ → ℕ) (a : Accepted) → a.place ≡ f a.dialogue → ((c : ℕ) → sends c ≡ true → f c ≤ k c) → waits_by sends k a ≡ false
+    → (c : ℕ) → sends c ≡ true → bump a.dialogue f c ≤ k c
+still_few sends k f a place few w c alive =
+    let le : f c ≤ k c = few c alive in
+    ⊎_elim
+    (λ e.
+    let same : c ≡ a.dialogue = eqb-true c a.dialogue e in
+    let lives : sends a.dialogue ≡ true = ap sends (sym same) ∙ alive in
+    let less : a.place < k a.dialogue = is_less (k a.dialogue) a.place (ap (λ b. b && nat_le (k a.dialogue) a.place) (sym lives) ∙ w) in
+    let kc : k c ≡ k a.dialogue = ap k same in
+    let fc : f c ≡ f a.dialogue = ap f same in
+    omega (arith, bump_own a.dialogue c f e, less, place, kc, fc))
+    (λ e. omega (arith, bump_other a.dialogue c f e, le))
+    (cases_Bool (eqb c a.dialogue))
+
+stays_gone : (sends : ℕ → Bool) (k : ℕ → ℕ) (d : ℕ) (a : Accepted) → waits_by sends k a ≡ false → waits_by sends (bump d k) a ≡ false
+stays_gone sends k d a w =
+    let c = a.dialogue in
+    ⊎_elim
+    (λ alive.
+    let less : a.place < k c = is_less (k c) a.place (ap (λ b. b && nat_le (k c) a.place) (sym alive) ∙ w) in
+    and_right (sends c) (nat_le (bump d k c) a.place) (lt-leb (bump d k c) a.place (omega (arith, less, bump_more d c k))))
+    (λ dead. ap (λ b. b && nat_le (bump d k c) a.place) dead)
+    (cases_Bool (sends c))
+
+n_of_more : (d : ℕ) (f : ℕ → ℕ) (a : Accepted) (xs : List Accepted) → bump a.dialogue f d + n_of d xs ≡ f d + n_of d (a ∷ xs)
+n_of_more d f a xs =
+    ⊎_elim
+    (λ e.
+    let r : n_of d (a ∷ xs) ≡ suc (n_of d xs) = ap (λ x. cond x (suc (n_of d xs)) (n_of d xs)) e in
+    omega (arith, r, bump_own a.dialogue d f (eqb_turn a.dialogue d e)))
+    (λ e.
+    let r : n_of d (a ∷ xs) ≡ n_of d xs = ap (λ x. cond x (suc (n_of d xs)) (n_of d xs)) e in
+    omega (arith, r, bump_other a.dialogue d f (eqb_swap a.dialogue d e)))
+    (cases_Bool (eqb a.dialogue d))
+
+pub first_goes : (sends : ℕ → Bool) (k f : ℕ → ℕ) (xs : List Accepted) (first : Accepted) (rest : List Accepted) → Numbered f xs → ((c : ℕ) → sends c ≡ true → f c ≤ k c) → filter (waits_by sends k) xs ≡ first ∷ rest
+    → Goes sends k f xs first rest
+first_goes sends k f [] first rest n few is = absurd (let clash : [] ≡ first ∷ rest = is in cc)
+first_goes sends k f (a ∷ xs) first rest n few is =
+    ⊎_elim
+    (λ w.
+    let parts = the_first a first (filter (waits_by sends k) xs) rest (sym (ap (λ b. cond b (a ∷ filter (waits_by sends k) xs) (filter (waits_by sends k) xs)) w) ∙ is) in
+    subst (λ r. Goes sends k f (a ∷ xs) first r) parts.1
+    (subst (λ x. Goes sends k f (a ∷ xs) x (filter (waits_by sends k) xs)) parts.0 (first_here sends k f a xs n (few a.dialogue) w)))
+    (λ w.
+    let is_rest : filter (waits_by sends k) xs ≡ first ∷ rest = sym (ap (λ b. cond b (a ∷ filter (waits_by sends k) xs) (filter (waits_by sends k) xs)) w) ∙ is in
+    let g : Goes sends k (bump a.dialogue f) xs first rest = first_goes sends k (bump a.dialogue f) xs first rest n.1 (still_few sends k f a n.0 few w) is_rest in
+    let within : k first.dialogue < bump a.dialogue f first.dialogue + n_of first.dialogue xs = g.within in
+    record {
+      left = ap (λ b. cond b (a ∷ filter (waits_by sends (bump first.dialogue k)) xs) (filter (waits_by sends (bump first.dialogue k)) xs)) (stays_gone sends k first.dialogue a w) ∙ g.left;
+      place = g.place;
+      within = omega (arith, within, n_of_more first.dialogue f a xs);
+    })
+    (cases_Bool (waits_by sends k a))
+
+-- those that go out by the same tests are the same
+pub filter_same : (p q : Accepted → Bool) (xs : List Accepted) → ((a : Accepted) → p a ≡ q a) → filter p xs ≡ filter q xs
+filter_same p q [] same = refl
+filter_same p q (a ∷ xs) same = filter_both p q a xs (q a) (same a) refl (filter_same p q xs same)
+
+-- none goes out where none is to
+pub filter_none : (p : Accepted → Bool) (xs : List Accepted) → ((a : Accepted) → p a ≡ false) → filter p xs ≡ []
+filter_none p [] none = refl
+filter_none p (a ∷ xs) none = ap (λ b. cond b (a ∷ filter p xs) (filter p xs)) (none a) ∙ filter_none p xs none

@@ -1,0 +1,117 @@
+-- What each step of a run is answered, from what its history tells before it.
+use Rattle.std.specs.Prelude.{◌≡◌, ◌≤◌, ◌<◌, ℕ, ◌==◌, ◌&&◌, Bool, true, false, not, List, [], ◌∷◌, Option, Some, None, length, is_some, slice_get, ⊤, if◌then◌else◌}
+use Rattle.std.specs.Option.{option_and_then}
+use Rattle.fp_book.specs.declared.answers.Given.{Given}
+use Rattle.fp_book.specs.declared.answers.Given.TheVariants.{Silent, Queued, Dropped}
+use Rattle.fp_entry.specs.declared.prepared.Prepared.{Prepared}
+use Rattle.fp_service.specs.declared.request.Request.{Request}
+use Rattle.fp_service.specs.Serve.{request_of}
+use Rattle.fp_tids.specs.Identifiers.{identifier}
+use Rattle.fp_steps.specs.declared.output.Output.{Output}
+use Rattle.fp_steps.specs.declared.output.Output.TheVariants as outputs
+use Rattle.fp_steps.specs.declared.step.Step.{Step}
+use Rattle.fp_steps.specs.declared.step.Step.TheVariants as steps
+use Rattle.fp_steps.specs.Accepted.{accepted, core_of, is_due, is_ended, is_full, positions}
+use Rattle.fp_steps.specs.Births.{births, named}
+use Rattle.fp_steps.specs.History.{Event}
+use Rattle.fp_steps.specs.Lines.{answer_to, components_in}
+use Rattle.fp_steps.specs.Sending.{Handed, out}
+use Rattle.fp_steps.specs.Turns.{IsReadyBefore, is_ready, turn_out}
+use Rattle.fp_steps.specs.Waiting.{Accepted, aborts_waiting, how_many, places, waiting}
+
+-- POST, LOST
+
+-- the first line that fits says what is answered; the components are those of a message that is accepted
+abbrev pub IsPosted : ℕ → List Event → Option Prepared → Output → Type 0
+IsPosted link h None output = ⊥
+IsPosted link h (Some came) output = output ≡ outputs.Posted (answer_to link h came) (components_in (answer_to link h came) came)
+
+-- GIVE
+
+-- what the service logic requests at the next entry of a dialogue
+abbrev pub next_request : List Event → ℕ → Option Request
+next_request h d = option_and_then (request_of (core_of h d)) (slice_get (accepted h d) (length (positions h d)))
+
+-- a request is accepted for sending where nothing ended its dialogue from outside; the end of the link ends all
+abbrev pub given_for : Bool → Option Request → Given
+given_for is_ended None = Silent
+given_for is_ended (Some request) = if is_ended then Dropped else Queued
+
+-- the turn of this dialogue is served, if it is out
+abbrev pub gave : List Event → ℕ → Option ℕ → Output
+gave h local None = outputs.Nothing
+gave h local (Some d) =
+    if turn_out h d then outputs.Gave local (length (positions h d)) (given_for (is_ended h d) (next_request h d)) else outputs.Nothing
+
+-- PUT BACK
+
+-- the turn of this dialogue goes back, if it is out
+abbrev pub put_back : List Event → Option ℕ → Output
+put_back h None = outputs.Nothing
+put_back h (Some d) = if turn_out h d then outputs.WentBack else outputs.Nothing
+
+-- SENT, UNSENT
+
+-- this, if something is out to be sent
+abbrev pub if_out : Option Handed → Output → Output
+if_out None output = outputs.Nothing
+if_out (Some handed) output = output
+
+-- TICK
+
+-- each dialogue that is due is given a Clock, and memory was wanting for none; none is due once the link has accepted
+-- 2^63 entries
+abbrev pub ticked : List Event → ℕ → Output
+ticked h moment = outputs.Ticked (how_many (births h) (λ d. not (is_full h) && is_due h moment d)) 0
+
+-- TAKE
+
+-- the dialogue that has been ready longest
+pub record IsLongestReady (link : ℕ) (h : List Event) (local position : ℕ) : Type 0 where
+  pub dialogue : ℕ
+  pub local_is : local ≡ identifier link dialogue
+  pub stands : is_ready h dialogue ≡ true
+  pub longest : (other : ℕ) → is_ready h other ≡ true → (other == dialogue) ≡ false → IsReadyBefore h dialogue other
+  -- its next entry
+  pub next : position ≡ length (positions h dialogue)
+
+-- that one gets a turn; or all places are held; or no dialogue is ready
+abbrev pub IsTaken : ℕ → List Event → Output → Type 0
+IsTaken link h (outputs.Took local position) = IsLongestReady link h local position × (places h < 8192)
+IsTaken link h outputs.NoRoom = ((d : ℕ) × (is_ready h d ≡ true)) × (8192 ≤ places h)
+IsTaken link h outputs.Nothing = (d : ℕ) → is_ready h d ≡ false
+IsTaken link h _ = ⊥
+
+-- PICK
+
+-- the oldest Abort of the provider; or, where none waits, the oldest frame
+abbrev pub IsNext : ℕ → List (List ℕ) → List Accepted → ℕ → List ℕ → Type 0
+IsNext link (abort ∷ aborts) frames local octets = (local ≡ 0) × (octets ≡ abort)
+IsNext link [] (first ∷ frames) local octets = (local ≡ identifier link first.dialogue) × (octets ≡ first.frame)
+IsNext link [] [] local octets = ⊥
+
+-- that one is handed out; or something is out to be sent already; or nothing waits
+abbrev pub IsPicked : ℕ → List Event → Output → Type 0
+IsPicked link h outputs.Busy = is_some (out h) ≡ true
+IsPicked link h (outputs.Picked local frame) = (out h ≡ None) × IsNext link (aborts_waiting h) (waiting h) local frame.items
+IsPicked link h outputs.Nothing = (out h ≡ None) × (aborts_waiting h ≡ []) × (waiting h ≡ [])
+IsPicked link h _ = ⊥
+
+-- EACH STEP
+
+abbrev pub IsAnswer : ℕ → List Event → Step → Option Prepared → Output → Type 0
+IsAnswer link h (steps.Post frame moment) came output = IsPosted link h came output
+IsAnswer link h (steps.Lost frame moment) came output = IsPosted link h came output
+IsAnswer link h (steps.Tick moment) came output = output ≡ ticked h moment
+IsAnswer link h steps.Take came output = IsTaken link h output
+IsAnswer link h (steps.Give local) came output = output ≡ gave h local (named h local)
+IsAnswer link h (steps.PutBack local) came output = output ≡ put_back h (named h local)
+IsAnswer link h steps.Pick came output = IsPicked link h output
+IsAnswer link h steps.Sent came output = output ≡ if_out (out h) outputs.Sent
+IsAnswer link h steps.Unsent came output = output ≡ if_out (out h) outputs.Unsent
+IsAnswer link h steps.Down came output = output ≡ outputs.Down
+
+-- each output of a history is the answer at its moment
+abbrev pub AllAnswered : ℕ → List Event → Type 0
+AllAnswered link [] = ⊤
+AllAnswered link (e ∷ h) = IsAnswer link h e.step e.came e.output × AllAnswered link h

@@ -1,0 +1,51 @@
+-- The totals of a run, from its outputs alone.
+use Rattle.std.specs.Prelude.{ℕ, ◌+◌, ◌==◌, Bool, true, false, not, List, [], ◌∷◌, Option, Some, None, count_by, min, reverse, if◌then◌else◌}
+use Rattle.std.specs.List.{sum_by}
+use Rattle.std.specs.Option.{option_map_or}
+use Rattle.fp_book.specs.declared.totals.Totals.{Totals}
+use Rattle.fp_steps.specs.declared.output.Output.{Output}
+use Rattle.fp_steps.specs.declared.output.Output.TheVariants as outputs
+
+-- how many components a step accepted
+abbrev pub components_of : Output → ℕ
+components_of (outputs.Posted answer components) = components
+components_of _ = 0
+
+-- whether an entry was served
+abbrev pub is_gave : Output → Bool
+is_gave (outputs.Gave local position given) = true
+is_gave _ = false
+
+-- what is out to be sent, by the identifier of its dialogue
+abbrev pub local_after : Output → Option ℕ → Option ℕ
+local_after (outputs.Picked local frame) before = Some local
+local_after outputs.Sent before = None
+local_after outputs.Unsent before = None
+local_after _ before = before
+
+-- so behind these outputs, the newest first
+abbrev pub local_out : List Output → Option ℕ
+local_out [] = None
+local_out (output ∷ before) = local_after output (local_out before)
+
+-- whether a frame of a dialogue was sent, and no Abort of the provider
+abbrev pub is_sent : Output → Option ℕ → Bool
+is_sent outputs.Sent out = option_map_or (λ (local : ℕ). not (local == 0)) out false
+is_sent _ out = false
+
+-- how many were, the newest first
+abbrev pub frames_sent : List Output → ℕ
+frames_sent [] = 0
+frames_sent (output ∷ before) = frames_sent before + (if is_sent output (local_out before) then 1 else 0)
+
+-- a number, as far as 64 bits hold it
+abbrev pub capped : ℕ → ℕ
+capped n = min n 18446744073709551615
+
+-- the components that were accepted, the entries that were served and the frames of dialogues that were sent
+abbrev pub totals_of : List Output → Totals
+totals_of list = record {
+  accepted = capped (sum_by components_of list);
+  served = capped (count_by is_gave list);
+  sent = capped (frames_sent (reverse list));
+}
