@@ -26,21 +26,21 @@ use Rattle.fp_row.specs.Row.{is_admitted, is_closed, is_ready, waiting_of}
 use Rattle.fp_service.specs.declared.dialogue.Core.{Core}
 use Rattle.fp_service.specs.Dialogue.{fresh, is_over}
 use Rattle.fp_tids.specs.Identifiers.{identifier}
-use Rattle.fp_ask.specs.Solo.{Played, Talk, World, aborts, continued, discarded, ended, found, jobs_for, left_by, newborn, next_local, opened, refused, serve_all, without}
-use Rattle.fp_ask.specs.Tied.{Fit, GoesOn, IsServed, KeepsEnd, KeepsTalks, Matches, Midway, Rest, Rows, Same, SameCounts, frames_in, is_out, jobs_in, jobs_of, live, talk_of, times, waiting_at}
+use Rattle.fp_ask.specs.Solo.{Outcome, Dialogue, LinkState, aborts, continued, discarded, ended, found, jobs_for, left_by, newborn, next_local, opened, refused, serve_all, without}
+use Rattle.fp_ask.specs.Tied.{Fit, GoesOn, IsServed, KeepsEnd, KeepsDialogues, Matches, Midway, Rest, Rows, Same, SameCounts, frames_in, is_out, jobs_in, jobs_of, live, dialogue_of, times, waiting_at}
 use Rattle.fp_ask.proofs.OneSent.{no_jobs}
 use Rattle.fp_ask.proofs.Resting.{next_is_free, quiet, stands_nowhere}
 use Rattle.fp_ask.proofs.Rows.{ended_gone, live_left, none_waits, out_left, waiting_left}
-use Rattle.fp_ask.proofs.Talks.{by_number, found_others, found_without, once_served, same_talk, serve_none, swapped, times-cons, times_fewer, unit, unit_most}
+use Rattle.fp_ask.proofs.Dialogues.{by_number, found_others, found_without, once_served, same_dialogue, serve_none, swapped, times-cons, times_fewer, unit, unit_most}
 
 -- THE BOOK AFTER IT, READY TO BE SERVED
 
 -- as it is told by the list
-pub record Came (p : Played) (new : Shelf) : Type 0 where
-  pub midway : Midway new (record { talks = p.world.talks; frames = p.frames })
-  pub births : p.world.births ≡ new.births
-  pub entries : p.world.entries ≡ new.entries
-  pub once : (k : ℕ) → times k p.world.talks ≤ 1
+pub record Came (p : Outcome) (new : Shelf) : Type 0 where
+  pub midway : Midway new (record { dialogues = p.link.dialogues; frames = p.frames })
+  pub births : p.link.births ≡ new.births
+  pub entries : p.link.entries ≡ new.entries
+  pub once : (k : ℕ) → times k p.link.dialogues ≤ 1
 
 -- one dialogue may have changed, and no other has anything to be served
 pub record Arrives (s new : Shelf) (d : ℕ) (waiting : List Entry) : Type 0 where
@@ -87,14 +87,14 @@ no_frames : (s new : Shelf) → Rest s → new.outbox ≡ s.outbox → frames_in
 no_frames s new r e = ap frames_in (e ∙ r.outbox)
 
 -- what is served then is served in the list
-midway_of : (s new : Shelf) (d : ℕ) (waiting : List Entry) (talks : List Talk) → Rest s → Arrives s new d waiting → new.outbox ≡ s.outbox → Same talks new.rows → Midway new (serve_all (jobs_for d waiting) talks)
-midway_of s new d waiting talks r a e same =
+midway_of : (s new : Shelf) (d : ℕ) (waiting : List Entry) (dialogues : List Dialogue) → Rest s → Arrives s new d waiting → new.outbox ≡ s.outbox → Same dialogues new.rows → Midway new (serve_all (jobs_for d waiting) dialogues)
+midway_of s new d waiting dialogues r a e same =
     let jobs = jobs_are s new d waiting a in
     record {
-      talks = talks;
+      dialogues = dialogues;
       same = same;
-      talks_end = ap (λ j. (serve_all j talks).talks) jobs;
-      frames_end = ap (λ f. f ++ (serve_all (jobs_of new) talks).frames) (no_frames s new r e) ∙ ap (λ j. (serve_all j talks).frames) jobs;
+      dialogues_end = ap (λ j. (serve_all j dialogues).dialogues) jobs;
+      frames_end = ap (λ f. f ++ (serve_all (jobs_of new) dialogues).frames) (no_frames s new r e) ∙ ap (λ j. (serve_all j dialogues).frames) jobs;
     }
 
 -- a dialogue that waits for nothing isn't ready, and one that does is
@@ -143,49 +143,49 @@ same_identifier : (link serial : ℕ) → link ≡ 0 → identifier link serial 
 same_identifier link serial e = ap (λ l. identifier l serial) e
 
 -- it stands in the list before the others
-newborn_same : (s new : Shelf) (w : World) (peer : Tid) (came : Prepared) (answer : Posted) → Rest s → Matches w s → (o : OpensDialogue s peer came answer new)
-    → Same (newborn w peer (arrival_of came).moment ∷ w.talks) new.rows
+newborn_same : (s new : Shelf) (w : LinkState) (peer : Tid) (came : Prepared) (answer : Posted) → Rest s → Matches w s → (o : OpensDialogue s peer came answer new)
+    → Same (newborn w peer (arrival_of came).moment ∷ w.dialogues) new.rows
 newborn_same s new w peer came answer r m o = λ k.
     let d = identifier s.link (s.given + 1) in
     let moment = (arrival_of came).moment in
-    let talk : Talk = newborn w peer moment in
+    let dialogue : Dialogue = newborn w peer moment in
     let rows : new.rows ≡ fin.insert s.rows d o.after = ap (λ (x : Shelf). x.rows) o.new_is in
     let there = inserted s.rows d (fin.get s.rows d) o.after refl in
     let births : s.births + 1 ≡ w.births + 1 = ap (λ n. n + 1) (sym m.births) in
     let local : d ≡ next_local w = same_identifier s.link (s.given + 1) r.served.fit.link ∙ ap (λ n. identifier 0 (n + 1)) (sym r.served.fit.sound.births ∙ sym m.births) in
     let core : o.after.core ≡ fresh (w.births + 1) moment = o.extends.stay.core ∙ o.opens.core ∙ ap (λ n. fresh n moment) births in
-    let talk_is : talk_of o.after ≡ talk =
-    same_talk (talk_of o.after) talk
+    let dialogue_is : dialogue_of o.after ≡ dialogue =
+    same_dialogue (dialogue_of o.after) dialogue
     (o.extends.same.birth ∙ o.opens.birth_is ∙ births) (o.extends.same.local ∙ o.opens.local_is ∙ local)
     (ap octets_of (o.extends.same.peer ∙ o.opens.peer_is)) core in
-    let lives : live (Some o.after) ≡ Some talk =
-    ap (λ (e : Option Ending). cond (not (is_some e) && not (is_over o.after.core)) (Some (talk_of o.after)) None) (o.extends.ended ∙ o.opens.ended)
-    ∙ ap (λ (c : Core). cond (not (is_over c)) (Some (talk_of o.after)) None) core ∙ ap Some talk_is in
-    by_number k d (λ k. found k (talk ∷ w.talks) ≡ live (fin.get new.rows k))
-    (ap (λ b. cond b (Some talk) (found d w.talks)) (eq-eqb (next_local w) d (sym local)) ∙ sym (ap live (ap (λ m. fin.get m d) rows ∙ there.there) ∙ lives))
-    (λ ne. ap (λ b. cond b (Some talk) (found k w.talks)) (ap (λ n. eqb n k) (sym local) ∙ swapped k d ne) ∙ m.same k
+    let lives : live (Some o.after) ≡ Some dialogue =
+    ap (λ (e : Option Ending). cond (not (is_some e) && not (is_over o.after.core)) (Some (dialogue_of o.after)) None) (o.extends.ended ∙ o.opens.ended)
+    ∙ ap (λ (c : Core). cond (not (is_over c)) (Some (dialogue_of o.after)) None) core ∙ ap Some dialogue_is in
+    by_number k d (λ k. found k (dialogue ∷ w.dialogues) ≡ live (fin.get new.rows k))
+    (ap (λ b. cond b (Some dialogue) (found d w.dialogues)) (eq-eqb (next_local w) d (sym local)) ∙ sym (ap live (ap (λ m. fin.get m d) rows ∙ there.there) ∙ lives))
+    (λ ne. ap (λ b. cond b (Some dialogue) (found k w.dialogues)) (ap (λ n. eqb n k) (sym local) ∙ swapped k d ne) ∙ m.same k
     ∙ ap live (sym (ap (λ m. fin.get m k) rows ∙ there.others k ne)))
 
-newborn_once : (s : Shelf) (w : World) (t : Talk) → Rest s → Matches w s → identifier s.link (s.given + 1) ≡ t.local → (k : ℕ) → times k (t ∷ w.talks) ≤ 1
-newborn_once s w t r m local = λ k. by_number k t.local (λ k. times k (t ∷ w.talks) ≤ 1)
+newborn_once : (s : Shelf) (w : LinkState) (t : Dialogue) → Rest s → Matches w s → identifier s.link (s.given + 1) ≡ t.local → (k : ℕ) → times k (t ∷ w.dialogues) ≤ 1
+newborn_once s w t r m local = λ k. by_number k t.local (λ k. times k (t ∷ w.dialogues) ≤ 1)
     (let d = t.local in
     let free : fin.get s.rows d ≡ None = ap (fin.get s.rows) (sym local) ∙ next_is_free s r.served.fit.sound in
-    omega (arith, times-cons d t w.talks, unit_most (eqb d d), stands_nowhere d w.talks (m.same d ∙ ap live free)))
-    (λ ne. omega (arith, times-cons k t w.talks, ap unit (swapped k t.local ne), m.once k))
+    omega (arith, times-cons d t w.dialogues, unit_most (eqb d d), stands_nowhere d w.dialogues (m.same d ∙ ap live free)))
+    (λ ne. omega (arith, times-cons k t w.dialogues, ap unit (swapped k t.local ne), m.once k))
 
-opens_came : (s new : Shelf) (w : World) (peer : Tid) (came : Prepared) (answer : Posted) → Rest s → Matches w s → CanOpen s came → OpensDialogue s peer came answer new
+opens_came : (s new : Shelf) (w : LinkState) (peer : Tid) (came : Prepared) (answer : Posted) → Rest s → Matches w s → CanOpen s came → OpensDialogue s peer came answer new
     → Came (opened w peer (arrival_of came).moment (entries_in came)) new
 opens_came s new w peer came answer r m can o =
     let d = identifier s.link (s.given + 1) in
-    let talks = newborn w peer (arrival_of came).moment ∷ w.talks in
+    let dialogues = newborn w peer (arrival_of came).moment ∷ w.dialogues in
     let local : d ≡ next_local w = same_identifier s.link (s.given + 1) r.served.fit.link ∙ ap (λ n. identifier 0 (n + 1)) (sym r.served.fit.sound.births ∙ sym m.births) in
-    let midway : Midway new (serve_all (jobs_for d (entries_in came)) talks) =
-    midway_of s new d (entries_in came) talks r (opens_arrives s new peer came answer r can o) (ap (λ (x : Shelf). x.outbox) o.new_is) (newborn_same s new w peer came answer r m o) in
+    let midway : Midway new (serve_all (jobs_for d (entries_in came)) dialogues) =
+    midway_of s new d (entries_in came) dialogues r (opens_arrives s new peer came answer r can o) (ap (λ (x : Shelf). x.outbox) o.new_is) (newborn_same s new w peer came answer r m o) in
     record {
-      midway = subst (λ n. Midway new (serve_all (jobs_for n (entries_in came)) talks)) local midway;
+      midway = subst (λ n. Midway new (serve_all (jobs_for n (entries_in came)) dialogues)) local midway;
       births = ap (λ n. n + 1) m.births ∙ sym (ap (λ (x : Shelf). x.births) o.new_is);
       entries = ap (λ n. n + length (entries_in came)) m.entries ∙ sym (ap (λ (x : Shelf). x.entries) o.new_is);
-      once = once_served (jobs_for (next_local w) (entries_in came)) talks (newborn_once s w (newborn w peer (arrival_of came).moment) r m local);
+      once = once_served (jobs_for (next_local w) (entries_in came)) dialogues (newborn_once s w (newborn w peer (arrival_of came).moment) r m local);
     }
 
 -- A DIALOGUE GOES ON
@@ -216,24 +216,24 @@ extends_arrives s new d came answer r few x =
 -- a dialogue goes on as before where entries came
 pub extended_live : (before after : Row) (entries : List Entry) → Extends before entries after → live (Some after) ≡ live (Some before)
 extended_live before after entries x =
-    ap (λ (e : Option Ending). cond (not (is_some e) && not (is_over after.core)) (Some (talk_of after)) None) x.ended
-    ∙ ap (λ (c : Core). cond (not (is_some before.ended) && not (is_over c)) (Some (talk_of after)) None) x.stay.core
+    ap (λ (e : Option Ending). cond (not (is_some e) && not (is_over after.core)) (Some (dialogue_of after)) None) x.ended
+    ∙ ap (λ (c : Core). cond (not (is_some before.ended) && not (is_over c)) (Some (dialogue_of after)) None) x.stay.core
     ∙ ap (λ t. cond (not (is_some before.ended) && not (is_over before.core)) (Some t) None)
-    (same_talk (talk_of after) (talk_of before) x.same.birth x.same.local (ap octets_of x.same.peer) x.stay.core)
+    (same_dialogue (dialogue_of after) (dialogue_of before) x.same.birth x.same.local (ap octets_of x.same.peer) x.stay.core)
 
-extends_came : (s new : Shelf) (w : World) (d : ℕ) (came : Prepared) (answer : Posted) → Rest s → Matches w s → length (entries_in came) ≤ 17 → ExtendsDialogue s d came answer new
+extends_came : (s new : Shelf) (w : LinkState) (d : ℕ) (came : Prepared) (answer : Posted) → Rest s → Matches w s → length (entries_in came) ≤ 17 → ExtendsDialogue s d came answer new
     → Came (continued w d (entries_in came)) new
 extends_came s new w d came answer r m few x =
     let rows : new.rows ≡ fin.insert s.rows d x.after = ap (λ (x : Shelf). x.rows) x.new_is in
     let there = inserted s.rows d (Some x.before) x.after x.was in
-    let same : Same w.talks new.rows = λ k. by_number k d (λ k. found k w.talks ≡ live (fin.get new.rows k))
+    let same : Same w.dialogues new.rows = λ k. by_number k d (λ k. found k w.dialogues ≡ live (fin.get new.rows k))
     (m.same d ∙ ap live x.was ∙ sym (ap live (ap (λ m. fin.get m d) rows ∙ there.there) ∙ extended_live x.before x.after (entries_in came) x.extends))
     (λ ne. m.same k ∙ ap live (sym (ap (λ m. fin.get m k) rows ∙ there.others k ne))) in
     record {
-      midway = midway_of s new d (entries_in came) w.talks r (extends_arrives s new d came answer r few x) (ap (λ (x : Shelf). x.outbox) x.new_is) same;
+      midway = midway_of s new d (entries_in came) w.dialogues r (extends_arrives s new d came answer r few x) (ap (λ (x : Shelf). x.outbox) x.new_is) same;
       births = m.births ∙ sym (ap (λ (x : Shelf). x.births) x.new_is);
       entries = ap (λ n. n + length (entries_in came)) m.entries ∙ sym (ap (λ (x : Shelf). x.entries) x.new_is);
-      once = once_served (jobs_for d (entries_in came)) w.talks m.once;
+      once = once_served (jobs_for d (entries_in came)) w.dialogues m.once;
     }
 
 -- A DIALOGUE IS ENDED BY ITS PEER
@@ -281,26 +281,26 @@ ends_arrives s new d ending came answer r can x =
     }
 
 -- a dialogue that goes on no longer has left the list
-gone_same : (old new : Rows) (d : ℕ) (talks : List Talk) → Same talks old → live (fin.get new d) ≡ None → ((k : ℕ) → eqb k d ≡ false → fin.get new k ≡ fin.get old k) → Same (without d talks) new
-gone_same old new d talks same none others = λ k. by_number k d (λ k. found k (without d talks) ≡ live (fin.get new k))
-    (found_without d talks ∙ sym none) (λ ne. found_others d k talks ne ∙ same k ∙ ap live (sym (others k ne)))
+gone_same : (old new : Rows) (d : ℕ) (dialogues : List Dialogue) → Same dialogues old → live (fin.get new d) ≡ None → ((k : ℕ) → eqb k d ≡ false → fin.get new k ≡ fin.get old k) → Same (without d dialogues) new
+gone_same old new d dialogues same none others = λ k. by_number k d (λ k. found k (without d dialogues) ≡ live (fin.get new k))
+    (found_without d dialogues ∙ sym none) (λ ne. found_others d k dialogues ne ∙ same k ∙ ap live (sym (others k ne)))
 
-ends_came : (s new : Shelf) (w : World) (d : ℕ) (ending : Ending) (came : Prepared) (answer : Posted) → Rest s → Matches w s → CanEnd s d ending came → EndsDialogue s d ending came answer new
+ends_came : (s new : Shelf) (w : LinkState) (d : ℕ) (ending : Ending) (came : Prepared) (answer : Posted) → Rest s → Matches w s → CanEnd s d ending came → EndsDialogue s d ending came answer new
     → Came (ended w d (entries_in came)) new
 ends_came s new w d ending came answer r m can x =
     let rows : new.rows ≡ keep s.rows d x.after = ap (λ (x : Shelf). x.rows) x.new_is in
     let there = kept s.rows d (Some x.before) x.after x.was in
     let none : live (fin.get new.rows d) ≡ None =
     ap live (ap (λ m. fin.get m d) rows ∙ there.there) ∙ ends_gone ending _ x.extended x.after x.ends in
-    let talks = without d w.talks in
-    let same : Same talks new.rows = gone_same s.rows new.rows d w.talks m.same none (λ k ne. ap (λ m. fin.get m k) rows ∙ there.others k ne) in
+    let dialogues = without d w.dialogues in
+    let same : Same dialogues new.rows = gone_same s.rows new.rows d w.dialogues m.same none (λ k ne. ap (λ m. fin.get m k) rows ∙ there.others k ne) in
     let outbox : new.outbox ≡ s.outbox = ap (λ (x : Shelf). x.outbox) x.new_is ∙ ap (without_frames_of d) r.outbox ∙ sym r.outbox in
     record {
-      midway = subst (Midway new) (serve_none d (waiting_of x.after) talks (found_without d w.talks))
-          (midway_of s new d (waiting_of x.after) talks r (ends_arrives s new d ending came answer r can x) outbox same);
+      midway = subst (Midway new) (serve_none d (waiting_of x.after) dialogues (found_without d w.dialogues))
+          (midway_of s new d (waiting_of x.after) dialogues r (ends_arrives s new d ending came answer r can x) outbox same);
       births = m.births ∙ sym (ap (λ (x : Shelf). x.births) x.new_is);
       entries = ap (λ n. n + length (entries_in came)) m.entries ∙ sym (ap (λ (x : Shelf). x.entries) x.new_is);
-      once = λ k. omega (arith, times_fewer d k w.talks, m.once k);
+      once = λ k. omega (arith, times_fewer d k w.dialogues, m.once k);
     }
 
 -- A MESSAGE IS REFUSED OR DISCARDED
@@ -325,19 +325,19 @@ stays_fit s new r sound a = record {
   room = omega (arith, ap length (no_jobs new a.ready), a.few_frames);
 }
 
-still : (new : Shelf) (talks : List Talk) (frames : List (List ℕ)) → Same talks new.rows → new.ready ≡ [] → frames_in new.outbox ≡ frames → Midway new (record { talks = talks; frames = frames })
-still new talks frames same ready e =
+still : (new : Shelf) (dialogues : List Dialogue) (frames : List (List ℕ)) → Same dialogues new.rows → new.ready ≡ [] → frames_in new.outbox ≡ frames → Midway new (record { dialogues = dialogues; frames = frames })
+still new dialogues frames same ready e =
     let none = no_jobs new ready in
     record {
-      talks = talks;
+      dialogues = dialogues;
       same = same;
-      talks_end = ap (λ j. (serve_all j talks).talks) none;
-      frames_end = ap (λ j. frames_in new.outbox ++ (serve_all j talks).frames) none ∙ append-nil _ ∙ e;
+      dialogues_end = ap (λ j. (serve_all j dialogues).dialogues) none;
+      frames_end = ap (λ j. frames_in new.outbox ++ (serve_all j dialogues).frames) none ∙ append-nil _ ∙ e;
     }
 
 -- the dialogue that is closed leaves the list
 record ClosedAs (s closed : Shelf) (closes : Option ℕ) : Type 0 where
-  pub same : (talks : List Talk) → Same talks s.rows → Same (left_by closes talks) closed.rows
+  pub same : (dialogues : List Dialogue) → Same dialogues s.rows → Same (left_by closes dialogues) closed.rows
   pub outs : (k : ℕ) → is_out (fin.get closed.rows k) ≡ false
   pub ready : closed.ready ≡ []
   pub outbox : closed.outbox ≡ nothing
@@ -348,7 +348,7 @@ record ClosedAs (s closed : Shelf) (closes : Option ℕ) : Type 0 where
 
 none_closed : (s : Shelf) → Rest s → ClosedAs s s None
 none_closed s r = record {
-  same = λ talks same. same;
+  same = λ dialogues same. same;
   outs = r.served.fit.idle;
   ready = r.served.ready;
   outbox = r.outbox;
@@ -367,7 +367,7 @@ closed_as s closed (Some d) r x =
     let now : fin.get closed.rows d ≡ left_of x.after = ap (λ m. fin.get m d) rows ∙ there.there in
     let others : (k : ℕ) → eqb k d ≡ false → fin.get closed.rows k ≡ fin.get s.rows k = λ k ne. ap (λ m. fin.get m k) rows ∙ there.others k ne in
     record {
-      same = λ talks same. gone_same s.rows closed.rows d talks same (ap live now ∙ ends_gone Closed _ x.before x.after x.ends) others;
+      same = λ dialogues same. gone_same s.rows closed.rows d dialogues same (ap live now ∙ ends_gone Closed _ x.before x.after x.ends) others;
       outs = λ k. by_number k d (λ k. is_out (fin.get closed.rows k) ≡ false)
           (ap is_out now ∙ out_left x.after (x.ends.is_out ∙ q.is_out)) (λ ne. ap is_out (others k ne) ∙ r.served.fit.idle k);
       ready = ap (λ (x : Shelf). x.ready) x.new_is ∙ ap (calls.without d) r.served.ready;
@@ -432,9 +432,9 @@ answered_as closed answered closes (Some (peer, cause)) answer outbox e =
       entries = ap (λ (x : Shelf). x.entries) q.new_is;
     }
 
-left_once : (closes : Option ℕ) (talks : List Talk) → ((k : ℕ) → times k talks ≤ 1) → (k : ℕ) → times k (left_by closes talks) ≤ 1
-left_once None talks once k = once k
-left_once (Some d) talks once k = omega (arith, times_fewer d k talks, once k)
+left_once : (closes : Option ℕ) (dialogues : List Dialogue) → ((k : ℕ) → times k dialogues ≤ 1) → (k : ℕ) → times k (left_by closes dialogues) ≤ 1
+left_once None dialogues once k = once k
+left_once (Some d) dialogues once k = omega (arith, times_fewer d k dialogues, once k)
 
 module _ (s new : Shelf) (cause : Option AbortCause) (closes : Option ℕ) (came : Prepared) (answer : Posted) (r : Rest s) (x : Refuses s cause closes came answer new) where
   abbrev pub sender : Option Tid
@@ -456,18 +456,18 @@ module _ (s new : Shelf) (cause : Option AbortCause) (closes : Option ℕ) (came
     up = ap (λ (x : Shelf). x.is_down) x.new_is ∙ answered_by.up ∙ closed_by.up;
   }
 
-  pub refuses_came : (w : World) → Matches w s → Came (refused w cause closes sender) new
+  pub refuses_came : (w : LinkState) → Matches w s → Came (refused w cause closes sender) new
   refuses_came w m =
       let rows : new.rows ≡ x.closed.rows = ap (λ (x : Shelf). x.rows) x.new_is ∙ answered_by.rows in
-      let talks = left_by closes w.talks in
+      let dialogues = left_by closes w.dialogues in
       let frames : frames_in new.outbox ≡ aborts cause sender =
       ap (λ (x : Shelf). frames_in x.outbox) x.new_is ∙ answered_by.frames_are
       ∙ ap (λ (o : Outbox). frames_by (abort_for (length o.aborts) cause sender)) r.outbox ∙ abort_frames cause sender in
       record {
-        midway = still new talks (aborts cause sender) (λ k. closed_by.same w.talks m.same k ∙ ap (λ m. live (fin.get m k)) (sym rows)) refuses_stays.ready frames;
+        midway = still new dialogues (aborts cause sender) (λ k. closed_by.same w.dialogues m.same k ∙ ap (λ m. live (fin.get m k)) (sym rows)) refuses_stays.ready frames;
         births = m.births ∙ sym (ap (λ (x : Shelf). x.births) x.new_is ∙ answered_by.births ∙ closed_by.births);
         entries = m.entries ∙ sym (ap (λ (x : Shelf). x.entries) x.new_is ∙ answered_by.entries ∙ closed_by.entries);
-        once = left_once closes w.talks m.once;
+        once = left_once closes w.dialogues m.once;
       }
 
 discards_stays : (s new : Shelf) (came : Prepared) (answer : Posted) → Rest s → Discards s came answer new → Stays s new
@@ -480,9 +480,9 @@ discards_stays s new came answer r x = record {
   up = ap (λ (x : Shelf). x.is_down) x.new_is;
 }
 
-discards_came : (s new : Shelf) (w : World) (came : Prepared) (answer : Posted) → Rest s → Matches w s → Discards s came answer new → Came (discarded w) new
+discards_came : (s new : Shelf) (w : LinkState) (came : Prepared) (answer : Posted) → Rest s → Matches w s → Discards s came answer new → Came (discarded w) new
 discards_came s new w came answer r m x = record {
-  midway = still new w.talks [] (λ k. m.same k ∙ sym (ap (λ (x : Shelf). live (fin.get x.rows k)) x.new_is)) (discards_stays s new came answer r x).ready
+  midway = still new w.dialogues [] (λ k. m.same k ∙ sym (ap (λ (x : Shelf). live (fin.get x.rows k)) x.new_is)) (discards_stays s new came answer r x).ready
       (ap (λ (x : Shelf). frames_in x.outbox) x.new_is ∙ ap frames_in r.outbox);
   births = m.births ∙ sym (ap (λ (x : Shelf). x.births) x.new_is);
   entries = m.entries ∙ sym (ap (λ (x : Shelf). x.entries) x.new_is);
@@ -492,7 +492,7 @@ discards_came s new w came answer r m x = record {
 -- WHATEVER IS DONE WITH IT
 
 -- what is done with a message, over the list
-abbrev pub done : Verdict → World → Prepared → Played
+abbrev pub done : Verdict → LinkState → Prepared → Outcome
 done Discard w came = discarded w
 done (Refuse cause closes) w came = refused w cause closes (arrival_of came).ids.orig
 done (Open peer) w came = opened w peer (arrival_of came).moment (entries_in came)
@@ -508,7 +508,7 @@ follows_fit (Extend local None) s new came answer r sound can x = arrived_fit s 
 follows_fit (Extend local (Some ending)) s new came answer r sound can x = arrived_fit s new local (waiting_of x.after) r sound (ends_arrives s new local ending came answer r can x)
 
 -- and is told by the list
-pub follows_came : (v : Verdict) (s new : Shelf) (w : World) (came : Prepared) (answer : Posted) → Rest s → Matches w s → Allowed s came v → Follows v s came answer new → Came (done v w came) new
+pub follows_came : (v : Verdict) (s new : Shelf) (w : LinkState) (came : Prepared) (answer : Posted) → Rest s → Matches w s → Allowed s came v → Follows v s came answer new → Came (done v w came) new
 follows_came Discard s new w came answer r m can x = discards_came s new w came answer r m x
 follows_came (Refuse cause closes) s new w came answer r m can x = refuses_came s new cause closes came answer r x w m
 follows_came (Open peer) s new w came answer r m can x = opens_came s new w peer came answer r m can x
@@ -516,19 +516,19 @@ follows_came (Extend local None) s new w came answer r m can x = extends_came s 
 follows_came (Extend local (Some ending)) s new w came answer r m can x = ends_came s new w local ending came answer r m can x
 
 -- all was served, and then all was sent
-pub finished : (came served new : Shelf) (p : Played) (frames : List (List ℕ)) → Came p came → KeepsEnd came served → SameCounts came served → IsServed served → KeepsTalks served new
+pub finished : (came served new : Shelf) (p : Outcome) (frames : List (List ℕ)) → Came p came → KeepsEnd came served → SameCounts came served → IsServed served → KeepsDialogues served new
     → frames ≡ frames_in served.outbox → GoesOn p new frames
 finished came served new p frames c ends counts is keeps sent =
-    let m = ends (record { talks = p.world.talks; frames = p.frames }) c.midway in
+    let m = ends (record { dialogues = p.link.dialogues; frames = p.frames }) c.midway in
     let none = no_jobs served is.ready in
-    let talks_are : m.talks ≡ p.world.talks = sym (ap (λ j. (serve_all j m.talks).talks) none) ∙ m.talks_end in
+    let dialogues_are : m.dialogues ≡ p.link.dialogues = sym (ap (λ j. (serve_all j m.dialogues).dialogues) none) ∙ m.dialogues_end in
     let frames_are : frames_in served.outbox ≡ p.frames =
-    sym (append-nil (frames_in served.outbox)) ∙ ap (λ f. frames_in served.outbox ++ f) (sym (ap (λ j. (serve_all j m.talks).frames) none)) ∙ m.frames_end in
+    sym (append-nil (frames_in served.outbox)) ∙ ap (λ f. frames_in served.outbox ++ f) (sym (ap (λ j. (serve_all j m.dialogues).frames) none)) ∙ m.frames_end in
     record {
       matches = record {
         births = c.births ∙ sym (keeps.counts.births ∙ counts.births);
         entries = c.entries ∙ sym (keeps.counts.entries ∙ counts.entries);
-        same = λ k. ap (found k) (sym talks_are) ∙ m.same k ∙ sym (keeps.lives k);
+        same = λ k. ap (found k) (sym dialogues_are) ∙ m.same k ∙ sym (keeps.lives k);
         once = c.once;
       };
       frames_are = sent ∙ frames_are;

@@ -9,10 +9,10 @@ use Rattle.fp_book.specs.Shelf.{one_if}
 use Rattle.fp_book.specs.Totals.{sum_of}
 use Rattle.fp_row.specs.declared.row.Row.{Row}
 use Rattle.fp_service.specs.Dialogue.{next_due}
-use Rattle.fp_ask.specs.Solo.{Due, Talk, comes_first, due_at, found, placed}
+use Rattle.fp_ask.specs.Solo.{Due, Dialogue, comes_first, due_at, found, placed}
 use Rattle.fp_ask.specs.Tied.{Rows, times}
 use Rattle.fp_ask.proofs.Resting.{not_found}
-use Rattle.fp_ask.proofs.Talks.{by_number, swapped, times-cons, unit}
+use Rattle.fp_ask.proofs.Dialogues.{by_number, swapped, times-cons, unit}
 
 -- the earlier deadline comes first, and the smaller identifier among equals
 abbrev pub Lt : (ℕ → ℕ) → ℕ → ℕ → Type 0
@@ -202,63 +202,63 @@ count_placed k due [] = count-cons k due.local []
 count_placed k due (other ∷ others) = count_by_place (comes_first due other) k due other others (count_placed k due others)
 
 -- what is known of the due dialogues of a list
-pub record InOrder (key : ℕ → ℕ) (moment : ℕ) (talks : List Talk) : Type 0 where
-  pub timed : Timed key (due_at moment talks)
-  pub ascends : Ascends key (locals (due_at moment talks))
-  pub few : (k : ℕ) → count k (locals (due_at moment talks)) ≤ times k talks
-  pub counts : (k : ℕ) (t : Talk) → found k talks ≡ Some t → count k (locals (due_at moment talks)) ≡ one_if (nat_le (next_due t.core) moment)
+pub record InOrder (key : ℕ → ℕ) (moment : ℕ) (dialogues : List Dialogue) : Type 0 where
+  pub timed : Timed key (due_at moment dialogues)
+  pub ascends : Ascends key (locals (due_at moment dialogues))
+  pub few : (k : ℕ) → count k (locals (due_at moment dialogues)) ≤ times k dialogues
+  pub counts : (k : ℕ) (t : Dialogue) → found k dialogues ≡ Some t → count k (locals (due_at moment dialogues)) ≡ one_if (nat_le (next_due t.core) moment)
 
 one_unit : (b : Bool) → one_if b ≡ unit b
 one_unit true = refl
 one_unit false = refl
 
-some_is : {t u : Talk} → Some t ≡ Some u → t ≡ u
+some_is : {t u : Dialogue} → Some t ≡ Some u → t ≡ u
 some_is e = cc
 
-order_by : (b : Bool) (key : ℕ → ℕ) (moment : ℕ) (t : Talk) (talks : List Talk) → nat_le (next_due t.core) moment ≡ b → next_due t.core ≡ key t.local → times t.local talks ≡ 0 → InOrder key moment talks → InOrder key moment (t ∷ talks)
-order_by true key moment t talks e d none o =
+order_by : (b : Bool) (key : ℕ → ℕ) (moment : ℕ) (t : Dialogue) (dialogues : List Dialogue) → nat_le (next_due t.core) moment ≡ b → next_due t.core ≡ key t.local → times t.local dialogues ≡ 0 → InOrder key moment dialogues → InOrder key moment (t ∷ dialogues)
+order_by true key moment t dialogues e d none o =
     let due : Due = record { deadline = next_due t.core; local = t.local } in
-    let dues = due_at moment talks in
-    let is : due_at moment (t ∷ talks) ≡ placed due dues = ap (λ b. cond b (placed due dues) dues) e in
+    let dues = due_at moment dialogues in
+    let is : due_at moment (t ∷ dialogues) ≡ placed due dues = ap (λ b. cond b (placed due dues) dues) e in
     let own : count t.local (locals dues) ≡ 0 = omega (arith, o.few t.local, none) in
-    let counted : (k : ℕ) → count k (locals (due_at moment (t ∷ talks))) ≡ one_if (eqb t.local k) + count k (locals dues) = λ k. ap (λ d. count k (locals d)) is ∙ count_placed k due dues in
+    let counted : (k : ℕ) → count k (locals (due_at moment (t ∷ dialogues))) ≡ one_if (eqb t.local k) + count k (locals dues) = λ k. ap (λ d. count k (locals d)) is ∙ count_placed k due dues in
     record {
       timed = subst (Timed key) (sym is) (timed_placed key due dues d o.timed);
       ascends = subst (λ d. Ascends key (locals d)) (sym is) (placed_ascends key due dues d o.timed own o.ascends);
-      few = λ k. omega (arith, counted k, o.few k, times-cons k t talks, one_unit (eqb t.local k));
+      few = λ k. omega (arith, counted k, o.few k, times-cons k t dialogues, one_unit (eqb t.local k));
       counts = λ k one at. ⊎_elim
-          (λ same. let first : t ≡ one = some_is (ap (λ b. cond b (Some t) (found k talks)) (sym same) ∙ at) in
+          (λ same. let first : t ≡ one = some_is (ap (λ b. cond b (Some t) (found k dialogues)) (sym same) ∙ at) in
           let here : count k (locals dues) ≡ 0 = ap (λ n. count n (locals dues)) (sym (eqb-true t.local k same)) ∙ own in
-          omega (arith, counted k, ap one_if same, here, ap one_if (ap (λ (u : Talk). nat_le (next_due u.core) moment) (sym first) ∙ e)))
-          (λ ne. omega (arith, counted k, ap one_if ne, o.counts k one (ap (λ b. cond b (Some t) (found k talks)) (sym ne) ∙ at)))
+          omega (arith, counted k, ap one_if same, here, ap one_if (ap (λ (u : Dialogue). nat_le (next_due u.core) moment) (sym first) ∙ e)))
+          (λ ne. omega (arith, counted k, ap one_if ne, o.counts k one (ap (λ b. cond b (Some t) (found k dialogues)) (sym ne) ∙ at)))
           (cases_Bool (eqb t.local k));
     }
-order_by false key moment t talks e d none o =
+order_by false key moment t dialogues e d none o =
     let due : Due = record { deadline = next_due t.core; local = t.local } in
-    let dues = due_at moment talks in
-    let is : due_at moment (t ∷ talks) ≡ dues = ap (λ b. cond b (placed due dues) dues) e in
+    let dues = due_at moment dialogues in
+    let is : due_at moment (t ∷ dialogues) ≡ dues = ap (λ b. cond b (placed due dues) dues) e in
     let own : count t.local (locals dues) ≡ 0 = omega (arith, o.few t.local, none) in
     record {
       timed = subst (Timed key) (sym is) o.timed;
       ascends = subst (λ d. Ascends key (locals d)) (sym is) o.ascends;
-      few = λ k. omega (arith, ap (λ d. count k (locals d)) is, o.few k, times-cons k t talks);
+      few = λ k. omega (arith, ap (λ d. count k (locals d)) is, o.few k, times-cons k t dialogues);
       counts = λ k one at. ⊎_elim
-          (λ same. let first : t ≡ one = some_is (ap (λ b. cond b (Some t) (found k talks)) (sym same) ∙ at) in
+          (λ same. let first : t ≡ one = some_is (ap (λ b. cond b (Some t) (found k dialogues)) (sym same) ∙ at) in
           let here : count k (locals dues) ≡ 0 = ap (λ n. count n (locals dues)) (sym (eqb-true t.local k same)) ∙ own in
-          ap (λ d. count k (locals d)) is ∙ here ∙ sym (ap one_if (ap (λ (u : Talk). nat_le (next_due u.core) moment) (sym first) ∙ e)))
-          (λ ne. ap (λ d. count k (locals d)) is ∙ o.counts k one (ap (λ b. cond b (Some t) (found k talks)) (sym ne) ∙ at))
+          ap (λ d. count k (locals d)) is ∙ here ∙ sym (ap one_if (ap (λ (u : Dialogue). nat_le (next_due u.core) moment) (sym first) ∙ e)))
+          (λ ne. ap (λ d. count k (locals d)) is ∙ o.counts k one (ap (λ b. cond b (Some t) (found k dialogues)) (sym ne) ∙ at))
           (cases_Bool (eqb t.local k));
     }
 
 -- the due dialogues of a list stand in order, each that is due once
-pub in_order : (key : ℕ → ℕ) (moment : ℕ) (talks : List Talk) → ((k : ℕ) → times k talks ≤ 1) → ((k : ℕ) (t : Talk) → found k talks ≡ Some t → next_due t.core ≡ key k) → InOrder key moment talks
+pub in_order : (key : ℕ → ℕ) (moment : ℕ) (dialogues : List Dialogue) → ((k : ℕ) → times k dialogues ≤ 1) → ((k : ℕ) (t : Dialogue) → found k dialogues ≡ Some t → next_due t.core ≡ key k) → InOrder key moment dialogues
 in_order key moment [] once keys = record { timed = tt; ascends = tt; few = λ k. omega arith; counts = λ k t e. absurd (cc) }
-in_order key moment (t ∷ talks) once keys =
-    let own : times t.local talks ≡ 0 = omega (arith, once t.local, times-cons t.local t talks, ap unit (eq-eqb t.local t.local refl)) in
-    let rest : (k : ℕ) (u : Talk) → found k talks ≡ Some u → next_due u.core ≡ key k =
-    λ k u at. by_number k t.local (λ k. found k talks ≡ Some u → next_due u.core ≡ key k)
-    (λ at. absurd (let clash : None ≡ Some u = sym (not_found t.local talks own) ∙ at in cc))
-    (λ ne at. keys k u (ap (λ b. cond b (Some t) (found k talks)) (swapped k t.local ne) ∙ at)) at in
-    order_by (nat_le (next_due t.core) moment) key moment t talks refl
-    (keys t.local t (ap (λ b. cond b (Some t) (found t.local talks)) (eq-eqb t.local t.local refl))) own
-    (in_order key moment talks (λ k. omega (arith, once k, times-cons k t talks)) rest)
+in_order key moment (t ∷ dialogues) once keys =
+    let own : times t.local dialogues ≡ 0 = omega (arith, once t.local, times-cons t.local t dialogues, ap unit (eq-eqb t.local t.local refl)) in
+    let rest : (k : ℕ) (u : Dialogue) → found k dialogues ≡ Some u → next_due u.core ≡ key k =
+    λ k u at. by_number k t.local (λ k. found k dialogues ≡ Some u → next_due u.core ≡ key k)
+    (λ at. absurd (let clash : None ≡ Some u = sym (not_found t.local dialogues own) ∙ at in cc))
+    (λ ne at. keys k u (ap (λ b. cond b (Some t) (found k dialogues)) (swapped k t.local ne) ∙ at)) at in
+    order_by (nat_le (next_due t.core) moment) key moment t dialogues refl
+    (keys t.local t (ap (λ b. cond b (Some t) (found t.local dialogues)) (eq-eqb t.local t.local refl))) own
+    (in_order key moment dialogues (λ k. omega (arith, once k, times-cons k t dialogues)) rest)

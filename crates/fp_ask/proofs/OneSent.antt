@@ -18,9 +18,9 @@ use Rattle.fp_row.specs.declared.row.Row.{Row}
 use Rattle.fp_row.specs.Calls.{SendsOne}
 use Rattle.fp_service.specs.declared.dialogue.Core.{Core}
 use Rattle.fp_service.specs.Dialogue.{is_over}
-use Rattle.fp_ask.specs.Tied.{IsServed, KeepsTalks, SameCounts, frames_in, is_out, jobs_in, jobs_of, live, talk_of}
+use Rattle.fp_ask.specs.Tied.{IsServed, KeepsDialogues, SameCounts, frames_in, is_out, jobs_in, jobs_of, live, dialogue_of}
 use Rattle.fp_ask.proofs.Rows.{live_left, out_left}
-use Rattle.fp_ask.proofs.Talks.{by_number, same_talk}
+use Rattle.fp_ask.proofs.Dialogues.{by_number, same_dialogue}
 
 -- nothing is ready, so no entry waits
 pub no_jobs : (s : Shelf) → s.ready ≡ [] → jobs_of s ≡ []
@@ -28,7 +28,7 @@ no_jobs s e = ap (λ q. jobs_in q s.rows) e
 
 pub record OneSent (s new : Shelf) (frame : List ℕ) : Type 0 where
   pub served : IsServed new
-  pub keeps : KeepsTalks s new
+  pub keeps : KeepsDialogues s new
   pub frames : frames_in s.outbox ≡ frame ∷ frames_in new.outbox
 
 -- dialogues that go on as before, and nothing else that counts changed
@@ -88,10 +88,10 @@ sent_abort s mid new frame served p g sound =
 -- a dialogue of which one more frame was sent goes on as it was
 same_live : (before after : Row) → SendsOne before after → live (Some after) ≡ live (Some before)
 same_live before after g =
-    ap (λ (e : Option Ending). cond (not (is_some e) && not (is_over after.core)) (Some (talk_of after)) None) g.ended
-    ∙ ap (λ (c : Core). cond (not (is_some before.ended) && not (is_over c)) (Some (talk_of after)) None) g.core
+    ap (λ (e : Option Ending). cond (not (is_some e) && not (is_over after.core)) (Some (dialogue_of after)) None) g.ended
+    ∙ ap (λ (c : Core). cond (not (is_some before.ended) && not (is_over c)) (Some (dialogue_of after)) None) g.core
     ∙ ap (λ t. cond (not (is_some before.ended) && not (is_over before.core)) (Some t) None)
-    (same_talk (talk_of after) (talk_of before) g.same.birth g.same.local (ap tid.octets_of g.same.peer) g.core)
+    (same_dialogue (dialogue_of after) (dialogue_of before) g.same.birth g.same.local (ap tid.octets_of g.same.peer) g.core)
 
 -- a frame of a dialogue is sent
 sent_frame : (s mid new : Shelf) (w : Waiting) → IsServed s → PicksParcel s (content.Frame w) mid → SendsFrame mid w new → Sound new → OneSent s new w.frame

@@ -28,16 +28,16 @@ use Rattle.fp_service.specs.declared.dialogue.Core.{Core}
 use Rattle.fp_service.specs.declared.request.Request.{Request}
 use Rattle.fp_service.specs.Dialogue.{is_over}
 use Rattle.fp_service.specs.Serve.{next, request_of}
-use Rattle.fp_ask.specs.Solo.{Served, Talk, after, answer_of, found, going_on, jobs_for, serve_all, serve_at, serve_one, without}
-use Rattle.fp_ask.specs.Tied.{Fit, KeepsEnd, Rows, Same, SameCounts, Singles, frames_in, is_out, jobs_in, jobs_of, live, talk_of, waiting_at}
+use Rattle.fp_ask.specs.Solo.{Served, Dialogue, after, answer_of, found, going_on, jobs_for, serve_all, serve_at, serve_one, without}
+use Rattle.fp_ask.specs.Tied.{Fit, KeepsEnd, Rows, Same, SameCounts, Singles, frames_in, is_out, jobs_in, jobs_of, live, dialogue_of, waiting_at}
 use Rattle.fp_ask.proofs.Counting.{sum_zero_at}
 use Rattle.fp_ask.proofs.Rows.{nil_is, ended_gone, going_live, live_left, none_ready, none_waits, out_left, ready_live, waiting_left}
-use Rattle.fp_ask.proofs.Talks.{by_number, found_changed, found_unchanged, same_talk, serve_none}
+use Rattle.fp_ask.proofs.Dialogues.{by_number, found_changed, found_unchanged, same_dialogue, serve_none}
 
 -- what is sent for an entry: its request's frame, unless its dialogue was ended
-abbrev pub frames_by : Option Ending → Talk → Entry → List (List ℕ)
-frames_by None talk entry = answer_of talk (request_of talk.core entry)
-frames_by (Some ending) talk entry = []
+abbrev pub frames_by : Option Ending → Dialogue → Entry → List (List ℕ)
+frames_by None dialogue entry = answer_of dialogue (request_of dialogue.core entry)
+frames_by (Some ending) dialogue entry = []
 
 -- one entry of a dialogue was served
 pub record Turned (s new : Shelf) (d : ℕ) (entry : Entry) (before then : Row) (more : List Entry) (rest : List ℕ) : Type 0 where
@@ -45,7 +45,7 @@ pub record Turned (s new : Shelf) (d : ℕ) (entry : Entry) (before then : Row) 
   pub now : fin.get new.rows d ≡ left_of then
   pub others : (k : ℕ) → eqb k d ≡ false → fin.get new.rows k ≡ fin.get s.rows k
   pub local_is : before.local ≡ d
-  pub talk : talk_of then ≡ after (talk_of before) entry
+  pub dialogue : dialogue_of then ≡ after (dialogue_of before) entry
   pub ended : then.ended ≡ before.ended
   pub going : is_over before.core ≡ false
   pub out : then.is_out ≡ false
@@ -54,7 +54,7 @@ pub record Turned (s new : Shelf) (d : ℕ) (entry : Entry) (before then : Row) 
   pub ready_old : s.ready ≡ d ∷ rest
   pub ready_new : new.ready ≡ rest ++ joins d (is_ready then)
   pub once : count d rest ≡ 0
-  pub frames : frames_in new.outbox ≡ frames_in s.outbox ++ frames_by before.ended (talk_of before) entry
+  pub frames : frames_in new.outbox ≡ frames_in s.outbox ++ frames_by before.ended (dialogue_of before) entry
   pub few : length new.outbox.frames ≤ length s.outbox.frames + 1
   pub none_out : new.outbox.out ≡ s.outbox.out
   pub link : new.link ≡ s.link
@@ -87,35 +87,35 @@ singles_same rows new d (x ∷ xs) others h a =
     (ap (λ r. length (waiting_at r)) (others x two.0) ∙ a.0, singles_same rows new d xs others two.1 a.1)
 
 -- what the list is after the entry
-record Stepped (new : Shelf) (d : ℕ) (entry : Entry) (talks : List Talk) (frames : List (List ℕ)) : Type 0 where
-  pub talks_then : List Talk
-  pub same : Same talks_then new.rows
-  pub serves : serve_one d entry talks ≡ record { talks = talks_then; frames = frames }
+record Stepped (new : Shelf) (d : ℕ) (entry : Entry) (dialogues : List Dialogue) (frames : List (List ℕ)) : Type 0 where
+  pub dialogues_then : List Dialogue
+  pub same : Same dialogues_then new.rows
+  pub serves : serve_one d entry dialogues ≡ record { dialogues = dialogues_then; frames = frames }
 
 module _ (s new : Shelf) (d : ℕ) (entry : Entry) (before then : Row) (more : List Entry) (rest : List ℕ) (t : Turned s new d entry before then more rest) where
   live_then : live (fin.get new.rows d) ≡ live (Some then)
   live_then = ap live t.now ∙ live_left then
 
-  stepped_by : (ended : Option Ending) → before.ended ≡ ended → (talks : List Talk) → Same talks s.rows → Stepped new d entry talks (frames_by ended (talk_of before) entry)
-  stepped_by None e talks same =
-      let one : Talk = after (talk_of before) entry in
-      let there : found d talks ≡ Some (talk_of before) = same d ∙ ap live t.was ∙ going_live before e ∙ ap (λ b. cond b None (Some (talk_of before))) t.going in
-      let own : live (Some then) ≡ cond (is_over one.core) None (Some one) = going_live then (t.ended ∙ e) ∙ ap (λ (t : Talk). cond (is_over t.core) None (Some t)) t.talk in
+  stepped_by : (ended : Option Ending) → before.ended ≡ ended → (dialogues : List Dialogue) → Same dialogues s.rows → Stepped new d entry dialogues (frames_by ended (dialogue_of before) entry)
+  stepped_by None e dialogues same =
+      let one : Dialogue = after (dialogue_of before) entry in
+      let there : found d dialogues ≡ Some (dialogue_of before) = same d ∙ ap live t.was ∙ going_live before e ∙ ap (λ b. cond b None (Some (dialogue_of before))) t.going in
+      let own : live (Some then) ≡ cond (is_over one.core) None (Some one) = going_live then (t.ended ∙ e) ∙ ap (λ (t : Dialogue). cond (is_over t.core) None (Some t)) t.dialogue in
       record {
-        talks_then = going_on one ++ without d talks;
-        same = λ k. by_number k d (λ k. found k (going_on one ++ without d talks) ≡ live (fin.get new.rows k))
-            (found_changed one d talks t.local_is ∙ sym own ∙ sym live_then)
-            (λ ne. found_unchanged one d k talks t.local_is ne ∙ same k ∙ ap live (sym (t.others k ne)));
-        serves = ap (serve_at d entry talks) there;
+        dialogues_then = going_on one ++ without d dialogues;
+        same = λ k. by_number k d (λ k. found k (going_on one ++ without d dialogues) ≡ live (fin.get new.rows k))
+            (found_changed one d dialogues t.local_is ∙ sym own ∙ sym live_then)
+            (λ ne. found_unchanged one d k dialogues t.local_is ne ∙ same k ∙ ap live (sym (t.others k ne)));
+        serves = ap (serve_at d entry dialogues) there;
       }
-  stepped_by (Some ending) e talks same =
-      let there : found d talks ≡ None = same d ∙ ap live t.was ∙ ended_gone before ending e in
+  stepped_by (Some ending) e dialogues same =
+      let there : found d dialogues ≡ None = same d ∙ ap live t.was ∙ ended_gone before ending e in
       record {
-        talks_then = talks;
-        same = λ k. by_number k d (λ k. found k talks ≡ live (fin.get new.rows k))
+        dialogues_then = dialogues;
+        same = λ k. by_number k d (λ k. found k dialogues ≡ live (fin.get new.rows k))
             (there ∙ sym (live_then ∙ ended_gone then ending (t.ended ∙ e)))
             (λ ne. same k ∙ ap live (sym (t.others k ne)));
-        serves = ap (serve_at d entry talks) there;
+        serves = ap (serve_at d entry dialogues) there;
       }
 
   -- the jobs before
@@ -131,7 +131,7 @@ module _ (s new : Shelf) (d : ℕ) (entry : Entry) (before then : Row) (more : L
 record Left (s new : Shelf) (d : ℕ) (then : Row) (more : List Entry) (rest : List ℕ) : Type 0 where
   pub orderly : (length new.ready ≤ 1) ⊎ Singles new.ready new.rows
   pub fewer : length (jobs_of new) ≤ length (jobs_for d more ++ jobs_in rest s.rows)
-  pub serves : (talks : List Talk) → found d talks ≡ live (Some then) → serve_all (jobs_of new) talks ≡ serve_all (jobs_for d more ++ jobs_in rest s.rows) talks
+  pub serves : (dialogues : List Dialogue) → found d dialogues ≡ live (Some then) → serve_all (jobs_of new) dialogues ≡ serve_all (jobs_for d more ++ jobs_in rest s.rows) dialogues
 
 no_rest : (d : ℕ) (rest : List ℕ) → length (d ∷ rest) ≤ 1 → rest ≡ []
 no_rest d [] h = refl
@@ -139,7 +139,7 @@ no_rest d (x ∷ xs) h = absurd (omega (arith, h))
 
 -- a dialogue that is over is in no list
 over_gone : (row : Row) → is_over row.core ≡ true → live (Some row) ≡ None
-over_gone row e = ap (λ b. cond b (Some (talk_of row)) None) (and_right (not (is_some row.ended)) (not (is_over row.core)) (ap not e))
+over_gone row e = ap (λ b. cond b (Some (dialogue_of row)) None) (and_right (not (is_some row.ended)) (not (is_over row.core)) (ap not e))
 
 waits_by : (then : Row) (more : List Entry) → waiting_of then ≡ cond (is_over then.core) [] more → is_over then.core ≡ false → waiting_of then ≡ more
 waits_by then more w live = w ∙ ap (λ b. cond b [] more) live
@@ -155,7 +155,7 @@ module _ (s new : Shelf) (d : ℕ) (entry : Entry) (before then : Row) (more : L
       record {
         orderly = inl (omega (arith, ap length queue));
         fewer = omega (arith, ap length jobs);
-        serves = λ talks h. ap (λ j. serve_all j talks) jobs;
+        serves = λ dialogues h. ap (λ j. serve_all j dialogues) jobs;
       }
   left_alone none false e =
       let queue : new.ready ≡ [] = t.ready_new ∙ ap (λ r. r ++ joins d (is_ready then)) none ∙ ap (joins d) e in
@@ -164,12 +164,12 @@ module _ (s new : Shelf) (d : ℕ) (entry : Entry) (before then : Row) (more : L
       record {
         orderly = inl (omega (arith, ap length queue));
         fewer = omega (arith, ap length jobs);
-        serves = λ talks h.
-            ap (λ j. serve_all j talks) jobs
-            ∙ sym (ap (λ j. serve_all j talks) alone
+        serves = λ dialogues h.
+            ap (λ j. serve_all j dialogues) jobs
+            ∙ sym (ap (λ j. serve_all j dialogues) alone
             ∙ ⊎_elim
-            (λ over. serve_none d more talks (h ∙ over_gone then over))
-            (λ going. ap (λ w. serve_all (jobs_for d w) talks) (sym (waits_by then more t.waits_then going) ∙ none_waits then t.out e))
+            (λ over. serve_none d more dialogues (h ∙ over_gone then over))
+            (λ going. ap (λ w. serve_all (jobs_for d w) dialogues) (sym (waits_by then more t.waits_then going) ∙ none_waits then t.out e))
             (cases_Bool (is_over then.core)));
       }
 
@@ -190,7 +190,7 @@ module _ (s new : Shelf) (d : ℕ) (entry : Entry) (before then : Row) (more : L
       record {
         orderly = inr (subst (λ q. Singles q new.rows) (sym queue) (singles_same s.rows new.rows d rest t.others t.once a.1));
         fewer = omega (arith, ap length jobs);
-        serves = λ talks h. ap (λ j. serve_all j talks) jobs;
+        serves = λ dialogues h. ap (λ j. serve_all j dialogues) jobs;
       }
 
   left_to_do : Fit s → Left s new d then more rest
@@ -218,19 +218,19 @@ module _ (s new : Shelf) (d : ℕ) (entry : Entry) (before then : Row) (more : L
   ends_then f end m =
       let l = left_to_do f in
       let todo = jobs_for d more ++ jobs_in rest s.rows in
-      let own = frames_by before.ended (talk_of before) entry in
-      let step = stepped_by s new d entry before then more rest t before.ended refl m.talks m.same in
-      let talks = step.talks_then in
-      let first : serve_all (jobs_of s) m.talks ≡ record { talks = (serve_all todo talks).talks; frames = own ++ (serve_all todo talks).frames } =
-      ap (λ j. serve_all j m.talks) (jobs_before s new d entry before then more rest t)
-      ∙ ap (λ (v : Served). record { talks = (serve_all todo v.talks).talks; frames = v.frames ++ (serve_all todo v.talks).frames }) step.serves in
-      let serves : serve_all (jobs_of new) talks ≡ serve_all todo talks = l.serves talks (step.same d ∙ live_then s new d entry before then more rest t) in
+      let own = frames_by before.ended (dialogue_of before) entry in
+      let step = stepped_by s new d entry before then more rest t before.ended refl m.dialogues m.same in
+      let dialogues = step.dialogues_then in
+      let first : serve_all (jobs_of s) m.dialogues ≡ record { dialogues = (serve_all todo dialogues).dialogues; frames = own ++ (serve_all todo dialogues).frames } =
+      ap (λ j. serve_all j m.dialogues) (jobs_before s new d entry before then more rest t)
+      ∙ ap (λ (v : Served). record { dialogues = (serve_all todo v.dialogues).dialogues; frames = v.frames ++ (serve_all todo v.dialogues).frames }) step.serves in
+      let serves : serve_all (jobs_of new) dialogues ≡ serve_all todo dialogues = l.serves dialogues (step.same d ∙ live_then s new d entry before then more rest t) in
       record {
-        talks = talks;
+        dialogues = dialogues;
         same = step.same;
-        talks_end = ap (λ (v : Served). v.talks) serves ∙ sym (ap (λ (v : Served). v.talks) first) ∙ m.talks_end;
+        dialogues_end = ap (λ (v : Served). v.dialogues) serves ∙ sym (ap (λ (v : Served). v.dialogues) first) ∙ m.dialogues_end;
         frames_end =
-            ap (λ x. x ++ (serve_all (jobs_of new) talks).frames) t.frames ∙ append_assoc (frames_in s.outbox) own _
+            ap (λ x. x ++ (serve_all (jobs_of new) dialogues).frames) t.frames ∙ append_assoc (frames_in s.outbox) own _
             ∙ ap (λ (v : Served). frames_in s.outbox ++ (own ++ v.frames)) serves
             ∙ sym (ap (λ (v : Served). frames_in s.outbox ++ v.frames) first) ∙ m.frames_end;
       }
@@ -258,13 +258,13 @@ few_waiting local None (Some frame) = omega arith
 few_waiting local (Some ending) None = omega arith
 few_waiting local (Some ending) (Some frame) = omega arith
 
-asked_frames : (talk : Talk) (o : Option Request) → option_to_list (option_map (λ request. frame_of request talk.local talk.peer) o) ≡ answer_of talk o
-asked_frames talk None = refl
-asked_frames talk (Some request) = refl
+asked_frames : (dialogue : Dialogue) (o : Option Request) → option_to_list (option_map (λ request. frame_of request dialogue.local dialogue.peer) o) ≡ answer_of dialogue o
+asked_frames dialogue None = refl
+asked_frames dialogue (Some request) = refl
 
-ended_frames : (ended : Option Ending) (talk : Talk) (entry : Entry) → cond (is_some ended) [] (answer_of talk (request_of talk.core entry)) ≡ frames_by ended talk entry
-ended_frames None talk entry = refl
-ended_frames (Some ending) talk entry = refl
+ended_frames : (ended : Option Ending) (dialogue : Dialogue) (entry : Entry) → cond (is_some ended) [] (answer_of dialogue (request_of dialogue.core entry)) ≡ frames_by ended dialogue entry
+ended_frames None dialogue entry = refl
+ended_frames (Some ending) dialogue entry = refl
 
 -- a turn was taken, served and given back
 pub taken_and_given : (s mid new : Shelf) (done : Done) (given : Given) → Fit s → Sound mid → Sound new → TakesTurn s done.turn mid → GivesDone mid done given new → OneServed s new
@@ -286,7 +286,7 @@ taken_and_given s mid new done given f sound_mid sound t g =
     let was_local : t.before.local ≡ d = sym t.takes.same.local ∙ local_is in
     let was_core : turn.before ≡ t.before.core = sym core_is ∙ t.takes.stay.core in
     let was_peer : octets_of turn.peer ≡ octets_of t.before.peer = ap octets_of (sym peer_is ∙ t.takes.same.peer) in
-    let before = talk_of t.before in
+    let before = dialogue_of t.before in
     let asked_is : g.asked ≡ requested_of t.before.ended done.frame = gives.requested_is ∙ ap (λ o. requested_of o done.frame) t.takes.ended in
     let frame_is : option_to_list done.frame ≡ answer_of before (request_of before.core turn.entry) =
     ap option_to_list (done.frame_is
@@ -314,7 +314,7 @@ taken_and_given s mid new done given f sound_mid sound t g =
       now = ap (λ m. fin.get m d) new_rows ∙ gave.there;
       others = λ k ne. ap (λ m. fin.get m k) new_rows ∙ gave.others k ne ∙ ap (λ m. fin.get m k) mid_rows ∙ took.others k ne;
       local_is = was_local;
-      talk = same_talk (talk_of g.after) (after before turn.entry)
+      dialogue = same_dialogue (dialogue_of g.after) (after before turn.entry)
           (gives.same.birth ∙ t.takes.same.birth) (gives.same.local ∙ t.takes.same.local) (ap octets_of (gives.same.peer ∙ t.takes.same.peer))
           (gives.core ∙ done.after_is ∙ ap (λ (c : Core). next c turn.entry) was_core);
       ended = gives.ended ∙ t.takes.ended;

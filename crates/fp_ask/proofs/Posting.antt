@@ -1,11 +1,12 @@
 -- What is done with a message, by the book and by the list.
-use Rattle.std.proofs.Common.{◌≡◌, ℕ, Bool, true, false, cond, ◌||◌, nat_lt, Option, Some, None, [], length, refl, sym, ◌∙◌, ap, subst, ⊎_elim, zero-add}
+use Rattle.std.proofs.Common.{◌≡◌, ℕ, Bool, true, false, cond, ◌||◌, ◌+◌, ◌≤◌, nat_lt, Option, Some, None, [], length, refl, sym, ◌∙◌, ap, subst, ⊎_elim, zero-add, arith}
 use Rattle.std.specs.FinMap as fin
-use Rattle.std.proofs.lemmas.Bool.{false≢true}
+use Rattle.std.proofs.lemmas.Bool.{false≢true, le-ltb, ltb-false}
 use Rattle.fp_book.specs.declared.answers.Posted.{Posted}
 use Rattle.fp_book.specs.declared.verdict.Verdict.{Verdict}
 use Rattle.fp_book.specs.declared.verdict.Verdict.TheVariants.{Discard, Refuse, Open, Extend}
 use Rattle.fp_book.specs.Calls.{Answers, ClosesOne, Follows, Posts, abort_for, posted_line}
+use Rattle.fp_book.specs.Lines.{IsAsRead, ReadMessagesHaveFewEntries}
 use Rattle.fp_book.specs.Log.{logged}
 use Rattle.fp_book.specs.Shelf.{Shelf, Sound}
 use Rattle.fp_book.specs.Verdict as book
@@ -22,44 +23,60 @@ use Rattle.fp_q773.specs.declared.provider_abort.AbortCause.{AbortCause}
 use Rattle.fp_q773.specs.declared.provider_abort.AbortCause.TheVariants as cause
 use Rattle.fp_q773.specs.declared.tid.Tid.{Tid}
 use Rattle.fp_row.specs.declared.ending.Ending.TheVariants.{ByPeer}
-use Rattle.fp_ask.specs.Solo.{World, begun, came as came_of, is_no_abort, is_too_much, misread, no_dialogue_left, opened, post, refused, too_many_entries}
-use Rattle.fp_ask.specs.Tied.{Fit, Matches, Rest, is_lost, tells_lost}
+use Rattle.fp_ask.specs.Solo.{LinkState, begun, came as came_of, is_read, is_too_much, misread, no_dialogue_left, opened, post, refused, too_many, too_many_entries, is_full}
+use Rattle.fp_ask.specs.Tied.{Fit, IsOfFrame, Matches, Rest, is_lost, tells_lost}
 use Rattle.fp_ask.proofs.Arriving.{Came, done, follows_came, follows_fit}
 use Rattle.fp_ask.proofs.Resting.{dialogue_test, full_test, named_test, place_test}
 
-by_test : (a b : Bool) (x y : Verdict) (w : World) (came : Prepared) → a ≡ b → cond a (done x w came) (done y w came) ≡ done (cond b x y) w came
+by_test : (a b : Bool) (x y : Verdict) (w : LinkState) (came : Prepared) → a ≡ b → cond a (done x w came) (done y w came) ≡ done (cond b x y) w came
 by_test a true x y w came e = ap (λ t. cond t (done x w came) (done y w came)) e
 by_test a false x y w came e = ap (λ t. cond t (done x w came) (done y w came)) e
 
-module _ (s : Shelf) (w : World) (r : Rest s) (m : Matches w s) (arrival : Arrival) (incoming : Incoming) where
-  open_test : (book.too_many incoming || (no_dialogue_left w || too_many_entries incoming)) ≡ (book.too_many incoming || (book.no_dialogue_left s || book.no_place_left None (place_count incoming.entries)))
+-- of a message that was read its elements alone decide whether it has too many
+few_by : (b : Bool) (elements entries : ℕ) → nat_lt 16 elements ≡ b → entries ≤ elements + 1 → b ≡ (b || nat_lt 17 entries)
+few_by true elements entries e few = refl
+few_by false elements entries e few = sym (le-ltb 17 entries (let most = ltb-false 16 elements e in omega (arith, few, most)))
+
+few_enough : (elements entries : ℕ) → entries ≤ elements + 1 → nat_lt 16 elements ≡ (nat_lt 16 elements || nat_lt 17 entries)
+few_enough elements entries few = few_by (nat_lt 16 elements) elements entries refl few
+
+module _ (s : Shelf) (w : LinkState) (r : Rest s) (m : Matches w s) (arrival : Arrival) (incoming : Incoming) (known : IsAsRead arrival incoming) where
+  many_test : too_many incoming ≡ book.too_many incoming
+  many_test = few_enough incoming.elements (length incoming.entries) known.few
+
+  open_test : (too_many incoming || (no_dialogue_left w || too_many_entries incoming)) ≡ (book.too_many incoming || (book.no_dialogue_left s || book.no_place_left None (place_count incoming.entries)))
   open_test =
-      ap (λ b. book.too_many incoming || (b || too_many_entries incoming)) (dialogue_test s w r m)
+      ap (λ b. b || (no_dialogue_left w || too_many_entries incoming)) many_test
+      ∙ ap (λ b. book.too_many incoming || (b || too_many_entries incoming)) (dialogue_test s w r m)
       ∙ ap (λ n. book.too_many incoming || (book.no_dialogue_left s || nat_lt 64 n)) (sym (zero-add (place_count incoming.entries)))
 
   begun_is : (o : Option Tid) → arrival.ids.orig ≡ o → begun w o arrival.moment incoming ≡ done (book.begin_of s o incoming) w (Message arrival incoming)
   begun_is None e = refl
   begun_is (Some peer) e =
-      ap (λ o. cond (book.too_many incoming || (no_dialogue_left w || too_many_entries incoming)) (refused w (Some cause.ResourceLimitation) None o) (opened w peer arrival.moment incoming.entries)) (sym e)
+      ap (λ o. cond (too_many incoming || (no_dialogue_left w || too_many_entries incoming)) (refused w (Some cause.ResourceLimitation) None o) (opened w peer arrival.moment incoming.entries)) (sym e)
       ∙ by_test _ _ (Refuse (Some cause.ResourceLimitation) None) (Open peer) w (Message arrival incoming) open_test
 
   more_test : (local : ℕ) → is_too_much w incoming ≡ (book.too_many incoming || (book.no_place_left (fin.get s.rows local) (place_count incoming.entries) || book.is_full s))
   more_test local =
-      ap (λ b. book.too_many incoming || (too_many_entries incoming || b)) (full_test s w m)
+      ap (λ b. b || (too_many_entries incoming || is_full w)) many_test
+      ∙ ap (λ b. book.too_many incoming || (too_many_entries incoming || b)) (full_test s w m)
       ∙ ap (λ b. book.too_many incoming || (b || book.is_full s)) (sym (place_test s r local (place_count incoming.entries)))
 
-  message_is : (kind : Kind) (dialogue : Option ℕ) → came_of w arrival.ids arrival.moment incoming kind dialogue ≡ done (book.message_of s arrival.ids incoming kind dialogue) w (Message arrival incoming)
-  message_is Unidirectional dialogue = refl
-  message_is Begin dialogue = begun_is arrival.ids.orig refl
-  message_is Continue None = refl
-  message_is Continue (Some local) = by_test _ _ (Refuse (Some cause.ResourceLimitation) (Some local)) (Extend local None) w (Message arrival incoming) (more_test local)
-  message_is End None = refl
-  message_is End (Some local) = by_test _ _ (Refuse (Some cause.ResourceLimitation) (Some local)) (Extend local (Some ByPeer)) w (Message arrival incoming) (more_test local)
-  message_is Abort None = refl
-  message_is Abort (Some local) = by_test (is_no_abort incoming) (is_no_abort incoming) (Refuse None (Some local)) (Extend local (Some ByPeer)) w (Message arrival incoming) refl
-  message_is Unknown dialogue = refl
+  one_entry : arrival.ids.kind ≡ Abort → false ≡ nat_lt 1 (length incoming.entries)
+  one_entry is = ap (nat_lt 1) (sym (known.aborts is))
 
-misread_is : (w : World) (arrival : Arrival) (came : Prepared) → arrival_of came ≡ arrival → (kind : Kind) (dialogue : Option ℕ) → misread w arrival.ids kind dialogue ≡ done (book.refused_of kind dialogue) w came
+  message_is : (kind : Kind) (dialogue : Option ℕ) → arrival.ids.kind ≡ kind → came_of w arrival.ids arrival.moment incoming kind dialogue ≡ done (book.message_of s arrival.ids incoming kind dialogue) w (Message arrival incoming)
+  message_is Unidirectional dialogue is = refl
+  message_is Begin dialogue is = begun_is arrival.ids.orig refl
+  message_is Continue None is = refl
+  message_is Continue (Some local) is = by_test _ _ (Refuse (Some cause.ResourceLimitation) (Some local)) (Extend local None) w (Message arrival incoming) (more_test local)
+  message_is End None is = refl
+  message_is End (Some local) is = by_test _ _ (Refuse (Some cause.ResourceLimitation) (Some local)) (Extend local (Some ByPeer)) w (Message arrival incoming) (more_test local)
+  message_is Abort None is = refl
+  message_is Abort (Some local) is = by_test false (nat_lt 1 (length incoming.entries)) (Refuse None (Some local)) (Extend local (Some ByPeer)) w (Message arrival incoming) (one_entry is)
+  message_is Unknown dialogue is = refl
+
+misread_is : (w : LinkState) (arrival : Arrival) (came : Prepared) → arrival_of came ≡ arrival → (kind : Kind) (dialogue : Option ℕ) → misread w arrival.ids kind dialogue ≡ done (book.refused_of kind dialogue) w came
 misread_is w arrival came e Unidirectional dialogue = refl
 misread_is w arrival came e Begin dialogue = ap (λ (a : Arrival). refused w (Some cause.BadlyFormattedTransactionPortion) dialogue a.ids.orig) (sym e)
 misread_is w arrival came e End dialogue = ap (λ (a : Arrival). refused w (Some cause.BadlyFormattedTransactionPortion) dialogue a.ids.orig) (sym e)
@@ -68,25 +85,22 @@ misread_is w arrival came e Abort dialogue = ap (λ (a : Arrival). refused w (So
 misread_is w arrival came e Unknown dialogue = ap (λ (a : Arrival). refused w (Some cause.UnrecognizedMessageType) dialogue a.ids.orig) (sym e)
 
 -- the message was read, or refused
-abbrev pub is_read : Prepared → Bool
-is_read (Message arrival incoming) = true
-is_read (Refused arrival fault) = true
-is_read (Lost arrival) = false
 
 up_verdict : (s : Shelf) (came : Prepared) → s.is_down ≡ false → book.verdict s came ≡ book.arrived s came
 up_verdict s came up = ap (λ b. cond b Discard (book.arrived s came)) up
 
 -- the list does with a message what the book does
-pub post_is : (s : Shelf) (w : World) (came : Prepared) → Rest s → Matches w s → is_read came ≡ true → post w came ≡ done (book.verdict s came) w came
-post_is s w (Message arrival incoming) r m is =
+pub post_is : (s : Shelf) (w : LinkState) (came : Prepared) → ReadMessagesHaveFewEntries → IsOfFrame came → Rest s → Matches w s → is_read came ≡ true → post w came ≡ done (book.verdict s came) w came
+post_is s w (Message arrival incoming) law of r m is =
     ap (came_of w arrival.ids arrival.moment incoming arrival.ids.kind) (named_test s w m arrival.ids)
-    ∙ message_is s w r m arrival incoming arrival.ids.kind (book.named s arrival.ids)
+    ∙ message_is s w r m arrival incoming (law of.contents of.contexts of.octets of.moment arrival incoming of.prepared)
+    arrival.ids.kind (book.named s arrival.ids) refl
     ∙ ap (λ v. done v w (Message arrival incoming)) (sym (up_verdict s (Message arrival incoming) r.served.fit.up))
-post_is s w (Refused arrival fault) r m is =
+post_is s w (Refused arrival fault) law of r m is =
     ap (misread w arrival.ids arrival.ids.kind) (named_test s w m arrival.ids)
     ∙ misread_is w arrival (Refused arrival fault) refl arrival.ids.kind (book.named s arrival.ids)
     ∙ ap (λ v. done v w (Refused arrival fault)) (sym (up_verdict s (Refused arrival fault) r.served.fit.up))
-post_is s w (Lost arrival) r m is = absurd (false≢true is)
+post_is s w (Lost arrival) law of r m is = absurd (false≢true is)
 
 -- WANT OF MEMORY IS TOLD BY THE LOG
 
@@ -134,6 +148,7 @@ pub posted_fit : (s new : Shelf) (came : Prepared) (answer : Posted) → Rest s 
 posted_fit s new came answer r sound d = follows_fit (book.verdict s came) s new came answer r sound (verdict_allowed s came) d.follows
 
 -- and is told by the list
-pub posted_came : (s new : Shelf) (w : World) (came : Prepared) (answer : Posted) → Rest s → Matches w s → Done s new came answer → Came (post w came) new
-posted_came s new w came answer r m d =
-    subst (λ p. Came p new) (sym (post_is s w came r m d.read)) (follows_came (book.verdict s came) s new w came answer r m (verdict_allowed s came) d.follows)
+pub posted_came : (s new : Shelf) (w : LinkState) (came : Prepared) (answer : Posted) → ReadMessagesHaveFewEntries → IsOfFrame came → Rest s → Matches w s → Done s new came answer
+    → Came (post w came) new
+posted_came s new w came answer law of r m d =
+    subst (λ p. Came p new) (sym (post_is s w came law of r m d.read)) (follows_came (book.verdict s came) s new w came answer r m (verdict_allowed s came) d.follows)

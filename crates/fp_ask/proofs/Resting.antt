@@ -19,10 +19,10 @@ use Rattle.fp_row.specs.Row.{frames_of, is_admitted, is_closed, is_ready, kept_o
 use Rattle.fp_row.proofs.Keeping.{queued_within, sent_within}
 use Rattle.fp_service.specs.Dialogue.{is_over}
 use Rattle.fp_tids.specs.Identifiers.{identifier}
-use Rattle.fp_ask.specs.Solo.{Talk, World, found, going, is_full, named, no_dialogue_left}
-use Rattle.fp_ask.specs.Tied.{Matches, Rest, Rows, Same, is_out, live, talk_of, times}
+use Rattle.fp_ask.specs.Solo.{Dialogue, LinkState, found, going, is_full, named, no_dialogue_left}
+use Rattle.fp_ask.specs.Tied.{Matches, Rest, Rows, Same, is_out, live, dialogue_of, times}
 use Rattle.fp_ask.proofs.Rows.{none_waits}
-use Rattle.fp_ask.proofs.Talks.{by_number, swapped, times-cons, unit}
+use Rattle.fp_ask.proofs.Dialogues.{by_number, swapped, times-cons, unit}
 
 not_one : (b : Bool) → 0 ≡ cond {A = ℕ} b 1 0 → b ≡ false
 not_one true h = absurd (omega (arith, h))
@@ -109,94 +109,94 @@ place_test s r d places =
     ap (λ n. nat_lt 64 (n + places)) (places_none s r d (fin.get s.rows d) refl) ∙ ap (nat_lt 64) (zero-add places)
 
 -- a dialogue that stands in no list isn't found
-none_found : (b : Bool) (t : Talk) (d : ℕ) (rest : Option Talk) → eqb t.local d ≡ b → unit b ≡ 0 → rest ≡ None → cond b (Some t) rest ≡ None
+none_found : (b : Bool) (t : Dialogue) (d : ℕ) (rest : Option Dialogue) → eqb t.local d ≡ b → unit b ≡ 0 → rest ≡ None → cond b (Some t) rest ≡ None
 none_found true t d rest e n h = absurd (omega (arith, n))
 none_found false t d rest e n h = h
 
-pub not_found : (d : ℕ) (talks : List Talk) → times d talks ≡ 0 → found d talks ≡ None
+pub not_found : (d : ℕ) (dialogues : List Dialogue) → times d dialogues ≡ 0 → found d dialogues ≡ None
 not_found d [] h = refl
-not_found d (t ∷ talks) h =
-    let parts = times-cons d t talks in
-    none_found (eqb t.local d) t d (found d talks) refl (omega (arith, h, parts)) (not_found d talks (omega (arith, h, parts)))
+not_found d (t ∷ dialogues) h =
+    let parts = times-cons d t dialogues in
+    none_found (eqb t.local d) t d (found d dialogues) refl (omega (arith, h, parts)) (not_found d dialogues (omega (arith, h, parts)))
 
-found_first : (t : Talk) (talks : List Talk) → found t.local (t ∷ talks) ≡ Some t
-found_first t talks = ap (λ b. cond b (Some t) (found t.local talks)) (eq-eqb t.local t.local refl)
+found_first : (t : Dialogue) (dialogues : List Dialogue) → found t.local (t ∷ dialogues) ≡ Some t
+found_first t dialogues = ap (λ b. cond b (Some t) (found t.local dialogues)) (eq-eqb t.local t.local refl)
 
-live_some : (o : Option Row) (t : Talk) → live o ≡ Some t → (row : Row) × (o ≡ Some row)
+live_some : (o : Option Row) (t : Dialogue) → live o ≡ Some t → (row : Row) × (o ≡ Some row)
 live_some None t e = absurd (cc)
 live_some (Some row) t e = (row, refl)
 
 live_none : (o : Option Row) → ((row : Row) → o ≡ Some row → is_admitted row ≡ true) → live o ≡ None → o ≡ None
 live_none None h e = refl
-live_none (Some row) h e = absurd (let is : live (Some row) ≡ Some (talk_of row) = ap (λ b. cond b (Some (talk_of row)) None) (h row refl) in let clash : None ≡ Some (talk_of row) = sym e ∙ is in cc)
+live_none (Some row) h e = absurd (let is : live (Some row) ≡ Some (dialogue_of row) = ap (λ b. cond b (Some (dialogue_of row)) None) (h row refl) in let clash : None ≡ Some (dialogue_of row) = sym e ∙ is in cc)
 
 abbrev AllGoOn : Rows → Type 0
 AllGoOn rows = (d : ℕ) (row : Row) → fin.get rows d ≡ Some row → is_admitted row ≡ true
 
 -- a list and a map of the same dialogues are of one size
-same_size : (talks : List Talk) (rows : Rows) → Same talks rows → AllGoOn rows → ((d : ℕ) → times d talks ≤ 1) → length talks ≡ fin.len rows
+same_size : (dialogues : List Dialogue) (rows : Rows) → Same dialogues rows → AllGoOn rows → ((d : ℕ) → times d dialogues ≤ 1) → length dialogues ≡ fin.len rows
 same_size [] rows same all once =
     sym (len-sum rows ∙ sum-none (λ _. 1) rows (λ d. live_none (fin.get rows d) (all d) (sym (same d))))
-same_size (t ∷ talks) rows same all once =
+same_size (t ∷ dialogues) rows same all once =
     let d = t.local in
-    let there = live_some (fin.get rows d) t (sym (same d) ∙ found_first t talks) in
+    let there = live_some (fin.get rows d) t (sym (same d) ∙ found_first t dialogues) in
     let gone = removed rows d (Some there.0) there.1 in
     let rest = fin.remove rows d in
-    let own : times d talks ≡ 0 = omega (arith, once d, times-cons d t talks, ap unit (eq-eqb d d refl)) in
-    let fewer : (k : ℕ) → times k talks ≤ 1 = λ k. omega (arith, once k, times-cons k t talks) in
-    let same_rest : Same talks rest = λ k. by_number k d (λ k. found k talks ≡ live (fin.get rest k))
-    (not_found d talks own ∙ sym (ap live gone.there))
-    (λ ne. sym (ap (λ b. cond b (Some t) (found k talks)) (swapped k d ne)) ∙ same k ∙ ap live (sym (gone.others k ne))) in
+    let own : times d dialogues ≡ 0 = omega (arith, once d, times-cons d t dialogues, ap unit (eq-eqb d d refl)) in
+    let fewer : (k : ℕ) → times k dialogues ≤ 1 = λ k. omega (arith, once k, times-cons k t dialogues) in
+    let same_rest : Same dialogues rest = λ k. by_number k d (λ k. found k dialogues ≡ live (fin.get rest k))
+    (not_found d dialogues own ∙ sym (ap live gone.there))
+    (λ ne. sym (ap (λ b. cond b (Some t) (found k dialogues)) (swapped k d ne)) ∙ same k ∙ ap live (sym (gone.others k ne))) in
     let all_rest : AllGoOn rest = λ k row was. by_number k d (λ k. fin.get rest k ≡ Some row → is_admitted row ≡ true)
     (λ was. absurd (let clash : None ≡ Some row = sym gone.there ∙ was in cc)) (λ ne was. all k row (sym (gone.others k ne) ∙ was)) was in
     let fewer_rows = gone.sums (λ _. 1) in
-    let size : length talks ≡ fin.len rest = same_size talks rest same_rest all_rest fewer in
+    let size : length dialogues ≡ fin.len rest = same_size dialogues rest same_rest all_rest fewer in
     omega (arith, size, fewer_rows, len-sum rows, len-sum rest)
 
 -- as many dialogues go on as are held
-pub size_is : (s : Shelf) (w : World) → Rest s → Matches w s → length w.talks ≡ fin.len s.rows
-size_is s w r m = same_size w.talks s.rows m.same (λ d row was. (quiet s r d row was).admitted) m.once
+pub size_is : (s : Shelf) (w : LinkState) → Rest s → Matches w s → length w.dialogues ≡ fin.len s.rows
+size_is s w r m = same_size w.dialogues s.rows m.same (λ d row was. (quiet s r d row was).admitted) m.once
 
 -- the link has accepted all that it accepts
-pub full_test : (s : Shelf) (w : World) → Matches w s → is_full w ≡ book.is_full s
+pub full_test : (s : Shelf) (w : LinkState) → Matches w s → is_full w ≡ book.is_full s
 full_test s w m = ap (λ n. nat_le (2 ^ 63) n) m.entries
 
 -- no further dialogue
-pub dialogue_test : (s : Shelf) (w : World) → Rest s → Matches w s → no_dialogue_left w ≡ book.no_dialogue_left s
+pub dialogue_test : (s : Shelf) (w : LinkState) → Rest s → Matches w s → no_dialogue_left w ≡ book.no_dialogue_left s
 dialogue_test s w r m =
     ap (λ n. nat_le 4096 n || (nat_eq (w.births + 1) (2 ^ 29) || is_full w)) (size_is s w r m)
     ∙ ap (λ n. nat_le 4096 (fin.len s.rows) || (nat_eq (n + 1) (2 ^ 29) || is_full w)) (m.births ∙ r.served.fit.sound.births)
     ∙ ap (λ b. nat_le 4096 (fin.len s.rows) || (nat_eq (s.given + 1) (2 ^ 29) || b)) (full_test s w m)
 
-some_by : (b : Bool) (t : Talk) → is_some (cond b (Some t) None) ≡ b
+some_by : (b : Bool) (t : Dialogue) → is_some (cond b (Some t) None) ≡ b
 some_by true t = refl
 some_by false t = refl
 
 some_live : (o : Option Row) → is_some (live o) ≡ option_map_or is_admitted o false
 some_live None = refl
-some_live (Some row) = some_by (is_admitted row) (talk_of row)
+some_live (Some row) = some_by (is_admitted row) (dialogue_of row)
 
-going_test : (s : Shelf) (w : World) → Matches w s → (d : ℕ) → going w d ≡ book.admitted s.rows d
+going_test : (s : Shelf) (w : LinkState) → Matches w s → (d : ℕ) → going w d ≡ book.admitted s.rows d
 going_test s w m d = ap (λ b. cond b (Some d) None) (ap is_some (m.same d) ∙ some_live (fin.get s.rows d))
 
-named_by : (s : Shelf) (w : World) → Matches w s → (o : Option ℕ) → option_and_then (going w) o ≡ option_and_then (book.admitted s.rows) o
+named_by : (s : Shelf) (w : LinkState) → Matches w s → (o : Option ℕ) → option_and_then (going w) o ≡ option_and_then (book.admitted s.rows) o
 named_by s w m None = refl
 named_by s w m (Some d) = going_test s w m d
 
 -- the dialogue that a message names
-pub named_test : (s : Shelf) (w : World) → Matches w s → (ids : Ids) → named w ids ≡ book.named s ids
+pub named_test : (s : Shelf) (w : LinkState) → Matches w s → (ids : Ids) → named w ids ≡ book.named s ids
 named_test s w m ids = named_by s w m (option_and_then (λ tid. book.number_of (octets_of tid)) ids.dest)
 
 -- one that isn't found stands nowhere
-stands_by : (b : Bool) (t : Talk) (rest : Option Talk) → cond b (Some t) rest ≡ None → (b ≡ false) × (rest ≡ None)
+stands_by : (b : Bool) (t : Dialogue) (rest : Option Dialogue) → cond b (Some t) rest ≡ None → (b ≡ false) × (rest ≡ None)
 stands_by true t rest e = absurd (cc)
 stands_by false t rest e = (refl, e)
 
-pub stands_nowhere : (d : ℕ) (talks : List Talk) → found d talks ≡ None → times d talks ≡ 0
+pub stands_nowhere : (d : ℕ) (dialogues : List Dialogue) → found d dialogues ≡ None → times d dialogues ≡ 0
 stands_nowhere d [] h = refl
-stands_nowhere d (t ∷ talks) h =
-    let parts = stands_by (eqb t.local d) t (found d talks) h in
-    omega (arith, times-cons d t talks, ap unit parts.0, stands_nowhere d talks parts.1)
+stands_nowhere d (t ∷ dialogues) h =
+    let parts = stands_by (eqb t.local d) t (found d dialogues) h in
+    omega (arith, times-cons d t dialogues, ap unit parts.0, stands_nowhere d dialogues parts.1)
 
 -- no dialogue has the identifier of the next one
 next_free : (s : Shelf) (o : Option Row) → Sound s → fin.get s.rows (identifier s.link (s.given + 1)) ≡ o → o ≡ None

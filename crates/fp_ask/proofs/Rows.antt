@@ -8,8 +8,8 @@ use Rattle.fp_row.specs.declared.ending.Ending.{Ending}
 use Rattle.fp_row.specs.declared.row.Row.{Row}
 use Rattle.fp_row.specs.Row.{is_closed, is_ready, waiting_of, waits}
 use Rattle.fp_service.specs.Dialogue.{is_over}
-use Rattle.fp_ask.specs.Solo.{Talk}
-use Rattle.fp_ask.specs.Tied.{is_out, live, talk_of, waiting_at}
+use Rattle.fp_ask.specs.Solo.{Dialogue}
+use Rattle.fp_ask.specs.Tied.{is_out, live, dialogue_of, waiting_at}
 
 -- a list without an element
 pub nil_is : {A : Type 0} (xs : List A) → length xs ≡ 0 → xs ≡ []
@@ -61,7 +61,7 @@ both_by false waits o w = w
 -- what is left of a dialogue is as it was: whether it goes on,
 pub live_left : (row : Row) → live (left_of row) ≡ live (Some row)
 live_left row = by_held row (λ o. live o ≡ live (Some row)) (λ h. refl)
-    (λ h. sym (ap (λ b. cond b (Some (talk_of row)) None) (not_held row h).admitted))
+    (λ h. sym (ap (λ b. cond b (Some (dialogue_of row)) None) (not_held row h).admitted))
 
 -- what waits,
 pub waiting_left : (row : Row) → waiting_at (left_of row) ≡ waiting_of row
@@ -74,14 +74,14 @@ out_left row o = by_held row (λ o. is_out o ≡ false) (λ h. o) (λ h. refl)
 
 -- a dialogue that was ended from outside doesn't go on
 pub ended_gone : (row : Row) (ending : Ending) → row.ended ≡ Some ending → live (Some row) ≡ None
-ended_gone row ending e = ap (λ (o : Option Ending). cond (not (is_some o) && not (is_over row.core)) (Some (talk_of row)) None) e
+ended_gone row ending e = ap (λ (o : Option Ending). cond (not (is_some o) && not (is_over row.core)) (Some (dialogue_of row)) None) e
 
-flipped : (b : Bool) (t : Talk) → cond (not b) (Some t) None ≡ cond b None (Some t)
+flipped : (b : Bool) (t : Dialogue) → cond (not b) (Some t) None ≡ cond b None (Some t)
 flipped true t = refl
 flipped false t = refl
 
 -- another goes on unless it is over
-pub going_live : (row : Row) → row.ended ≡ None → live (Some row) ≡ cond (is_over row.core) None (Some (talk_of row))
+pub going_live : (row : Row) → row.ended ≡ None → live (Some row) ≡ cond (is_over row.core) None (Some (dialogue_of row))
 going_live row e =
-    ap (λ (o : Option Ending). cond (not (is_some o) && not (is_over row.core)) (Some (talk_of row)) None) e
-    ∙ flipped (is_over row.core) (talk_of row)
+    ap (λ (o : Option Ending). cond (not (is_some o) && not (is_over row.core)) (Some (dialogue_of row)) None) e
+    ∙ flipped (is_over row.core) (dialogue_of row)

@@ -22,14 +22,14 @@ use Rattle.fp_entry.specs.Entries.{entry_at, is_clock}
 use Rattle.fp_row.specs.declared.row.Row.{Row}
 use Rattle.fp_row.specs.Row.{deadline_of, has_clock, is_due, is_ready}
 use Rattle.fp_service.specs.Dialogue.{next_due}
-use Rattle.fp_ask.specs.Solo.{Due, Job, Talk, World, accepted, clocks, discarded, due_at, found, jobs_for, serve_all, tick}
-use Rattle.fp_ask.specs.Tied.{Fit, Matches, Midway, Rest, Rows, Singles, frames_in, is_out, jobs_in, jobs_of, live, talk_of, waiting_at}
+use Rattle.fp_ask.specs.Solo.{Due, Job, Dialogue, LinkState, accepted, clocks, discarded, due_at, found, jobs_for, serve_all, tick}
+use Rattle.fp_ask.specs.Tied.{Fit, Matches, Midway, Rest, Rows, Singles, frames_in, is_out, jobs_in, jobs_of, live, dialogue_of, waiting_at}
 use Rattle.fp_ask.proofs.Arriving.{Came, extended_live}
 use Rattle.fp_ask.proofs.Counting.{sum_zero_at}
 use Rattle.fp_ask.proofs.DueOrder.{Above, Ascends, Each, InOrder, Lt, all_are, in_order, locals, same_list}
 use Rattle.fp_ask.proofs.Resting.{Quiet, full_test, quiet, stands_nowhere}
 use Rattle.fp_ask.proofs.Rows.{nil_is}
-use Rattle.fp_ask.proofs.Talks.{once_served}
+use Rattle.fp_ask.proofs.Dialogues.{once_served}
 
 abbrev clock : ℕ → Entry
 clock moment = entry_at moment Clock
@@ -216,39 +216,39 @@ module _ (s new : Shelf) (moment added wanting : ℕ) (r : Rest s) (t : Ticks s 
   entries_are = ap (λ (x : Shelf). x.entries) t.new_is ∙ ap (λ n. s.entries + n) (t.added_is ∙ sym (length-map t.due (λ (d : book.Due). d.1)))
 
   -- the dialogues that were due, each with a Clock
-  midway_of : (w : World) → Matches w s → (xs : List ℕ) → xs ≡ dues → Midway new (serve_all (clock_jobs moment xs) w.talks)
+  midway_of : (w : LinkState) → Matches w s → (xs : List ℕ) → xs ≡ dues → Midway new (serve_all (clock_jobs moment xs) w.dialogues)
   midway_of w m xs e =
       let jobs : jobs_of new ≡ clock_jobs moment xs = jobs_are ∙ ap (clock_jobs moment) (sym e) in
       record {
-        talks = w.talks;
+        dialogues = w.dialogues;
         same = λ k. m.same k ∙ sym (at k).lives;
-        talks_end = ap (λ j. (serve_all j w.talks).talks) jobs;
-        frames_end = ap (λ o. frames_in o ++ (serve_all (jobs_of new) w.talks).frames) outbox_is ∙ ap (λ j. (serve_all j w.talks).frames) jobs;
+        dialogues_end = ap (λ j. (serve_all j w.dialogues).dialogues) jobs;
+        frames_end = ap (λ o. frames_in o ++ (serve_all (jobs_of new) w.dialogues).frames) outbox_is ∙ ap (λ j. (serve_all j w.dialogues).frames) jobs;
       }
 
   -- the deadline of a dialogue of the list
-  key_of : (w : World) → Matches w s → (k : ℕ) (talk : Talk) (o : Option Row) → fin.get s.rows k ≡ o → found k w.talks ≡ Some talk → next_due talk.core ≡ amount (λ (row : Row). next_due row.core) o
-  key_of w m k talk None was at = absurd (let clash : None ≡ Some talk = sym (m.same k ∙ ap live was) ∙ at in cc)
-  key_of w m k talk (Some row) was at =
+  key_of : (w : LinkState) → Matches w s → (k : ℕ) (dialogue : Dialogue) (o : Option Row) → fin.get s.rows k ≡ o → found k w.dialogues ≡ Some dialogue → next_due dialogue.core ≡ amount (λ (row : Row). next_due row.core) o
+  key_of w m k dialogue None was at = absurd (let clash : None ≡ Some dialogue = sym (m.same k ∙ ap live was) ∙ at in cc)
+  key_of w m k dialogue (Some row) was at =
       let q = quiet s r k row was in
-      let same : Some talk ≡ Some (talk_of row) = sym at ∙ m.same k ∙ ap live was ∙ ap (λ b. cond b (Some (talk_of row)) None) q.admitted in
-      let one : talk ≡ talk_of row = cc in
-      ap (λ (u : Talk). next_due u.core) one
+      let same : Some dialogue ≡ Some (dialogue_of row) = sym at ∙ m.same k ∙ ap live was ∙ ap (λ b. cond b (Some (dialogue_of row)) None) q.admitted in
+      let one : dialogue ≡ dialogue_of row = cc in
+      ap (λ (u : Dialogue). next_due u.core) one
 
-  order : (w : World) → Matches w s → InOrder key moment w.talks
-  order w m = in_order key moment w.talks m.once (λ k talk at. key_of w m k talk (fin.get s.rows k) refl at)
+  order : (w : LinkState) → Matches w s → InOrder key moment w.dialogues
+  order w m = in_order key moment w.dialogues m.once (λ k dialogue at. key_of w m k dialogue (fin.get s.rows k) refl at)
 
   -- the list has the same dialogues that are due
-  count_is : (w : World) → Matches w s → verdicts.is_full s ≡ false → (k : ℕ) (o : Option Row) → fin.get s.rows k ≡ o → count k (locals (due_at moment w.talks)) ≡ amount weight o
-  count_is w m full k None was = omega (arith, (order w m).few k, stands_nowhere k w.talks (m.same k ∙ ap live was))
+  count_is : (w : LinkState) → Matches w s → verdicts.is_full s ≡ false → (k : ℕ) (o : Option Row) → fin.get s.rows k ≡ o → count k (locals (due_at moment w.dialogues)) ≡ amount weight o
+  count_is w m full k None was = omega (arith, (order w m).few k, stands_nowhere k w.dialogues (m.same k ∙ ap live was))
   count_is w m full k (Some row) was =
       let q = quiet s r k row was in
-      let there : found k w.talks ≡ Some (talk_of row) = m.same k ∙ ap live was ∙ ap (λ b. cond b (Some (talk_of row)) None) q.admitted in
-      (order w m).counts k (talk_of row) there ∙ flag_is (nat_le (next_due row.core) moment)
+      let there : found k w.dialogues ≡ Some (dialogue_of row) = m.same k ∙ ap live was ∙ ap (λ b. cond b (Some (dialogue_of row)) None) q.admitted in
+      (order w m).counts k (dialogue_of row) there ∙ flag_is (nat_le (next_due row.core) moment)
       ∙ sym (ap (λ b. cond {A = ℕ} (not b && is_due row moment) 1 0) full ∙ ap (λ b. cond {A = ℕ} b 1 0) (quiet_due row moment q))
 
-  same_dues : (w : World) → Matches w s → verdicts.is_full s ≡ false → locals (due_at moment w.talks) ≡ dues
-  same_dues w m full = same_list key (locals (due_at moment w.talks)) dues (order w m).ascends ascends (λ k. count_is w m full k (fin.get s.rows k) refl ∙ sym (counts k))
+  same_dues : (w : LinkState) → Matches w s → verdicts.is_full s ≡ false → locals (due_at moment w.dialogues) ≡ dues
+  same_dues w m full = same_list key (locals (due_at moment w.dialogues)) dues (order w m).ascends ascends (λ k. count_is w m full k (fin.get s.rows k) refl ∙ sym (counts k))
 
   -- no dialogue is due once the link is full
   none_due : verdicts.is_full s ≡ true → dues ≡ []
@@ -256,8 +256,8 @@ module _ (s new : Shelf) (moment added wanting : ℕ) (r : Rest s) (t : Ticks s 
       let zero : sum_of weight s.rows ≡ 0 = sum_zero_at weight s.rows (λ k row was. ap (λ b. cond {A = ℕ} (not b && is_due row moment) 1 0) full) in
       nil_is dues (as_many ∙ zero)
 
-  came_by : (w : World) → Matches w s → (b : Bool) → verdicts.is_full s ≡ b
-      → Came (cond b (discarded w) (accepted w w.births (length (due_at moment w.talks)) (serve_all (clocks moment (due_at moment w.talks)) w.talks))) new
+  came_by : (w : LinkState) → Matches w s → (b : Bool) → verdicts.is_full s ≡ b
+      → Came (cond b (discarded w) (accepted w w.births (length (due_at moment w.dialogues)) (serve_all (clocks moment (due_at moment w.dialogues)) w.dialogues))) new
   came_by w m true full =
       let none = none_due full in
       record {
@@ -268,15 +268,15 @@ module _ (s new : Shelf) (moment added wanting : ℕ) (r : Rest s) (t : Ticks s 
       }
   came_by w m false full =
       let same = same_dues w m full in
-      let jobs : clock_jobs moment (locals (due_at moment w.talks)) ≡ clocks moment (due_at moment w.talks) = sym (jobs_of_dues moment (due_at moment w.talks)) in
+      let jobs : clock_jobs moment (locals (due_at moment w.dialogues)) ≡ clocks moment (due_at moment w.dialogues) = sym (jobs_of_dues moment (due_at moment w.dialogues)) in
       record {
-        midway = subst (λ j. Midway new (serve_all j w.talks)) jobs (midway_of w m (locals (due_at moment w.talks)) same);
+        midway = subst (λ j. Midway new (serve_all j w.dialogues)) jobs (midway_of w m (locals (due_at moment w.dialogues)) same);
         births = m.births ∙ sym (ap (λ (x : Shelf). x.births) t.new_is);
-        entries = omega (arith, m.entries, entries_are, ap length same, length-map (due_at moment w.talks) (λ (due : Due). due.local));
-        once = once_served (clocks moment (due_at moment w.talks)) w.talks m.once;
+        entries = omega (arith, m.entries, entries_are, ap length same, length-map (due_at moment w.dialogues) (λ (due : Due). due.local));
+        once = once_served (clocks moment (due_at moment w.dialogues)) w.dialogues m.once;
       }
 
-  pub ticks_came : (w : World) → Matches w s → Came (tick w moment) new
+  pub ticks_came : (w : LinkState) → Matches w s → Came (tick w moment) new
   ticks_came w m =
-      subst (λ b. Came (cond b (discarded w) (accepted w w.births (length (due_at moment w.talks)) (serve_all (clocks moment (due_at moment w.talks)) w.talks))) new)
+      subst (λ b. Came (cond b (discarded w) (accepted w w.births (length (due_at moment w.dialogues)) (serve_all (clocks moment (due_at moment w.dialogues)) w.dialogues))) new)
       (sym (full_test s w m)) (came_by w m (verdicts.is_full s) refl)

@@ -1,10 +1,10 @@
 -- What is sent for messages and for moments, one after another, told over a plain list of dialogues. What one of them
 -- brings is served and answered before the next one comes.
-use Rattle.std.specs.Prelude.{ℕ, Bool, not, ◌+◌, ◌^◌, ◌==◌, ◌&&◌, ◌||◌, List, [], ◌∷◌, ◌++◌, Option, Some, None, is_some, length, map, nat_eq, nat_le, nat_lt, if◌then◌else◌}
+use Rattle.std.specs.Prelude.{ℕ, Bool, true, false, not, ◌+◌, ◌^◌, ◌==◌, ◌&&◌, ◌||◌, List, [], ◌∷◌, ◌++◌, Option, Some, None, is_some, length, map, nat_eq, nat_le, nat_lt, if◌then◌else◌}
 use Rattle.std.specs.List.{filter, find}
 use Rattle.std.specs.Option.{option_and_then}
 use Rattle.fp_ber.specs.Canon.{canon}
-use Rattle.fp_book.specs.Verdict.{number_of, too_many}
+use Rattle.fp_book.specs.Verdict.{number_of}
 use Rattle.fp_entry.specs.declared.entry.Entry.{Entry}
 use Rattle.fp_entry.specs.declared.entry.EntryKind.TheVariants.{Clock}
 use Rattle.fp_entry.specs.declared.incoming.Incoming.{Incoming}
@@ -31,60 +31,60 @@ use Rattle.fp_tids.specs.Identifiers.{identifier}
 
 -- a dialogue: its number among those that were opened, the identifiers by which this end and its peer know it, and what
 -- the service logic knows of it
-pub record Talk : Type 0 where
+pub record Dialogue : Type 0 where
   pub birth : ℕ
   pub local : ℕ
   pub peer : List ℕ
   pub core : Core
 
 -- how many dialogues were opened, how many entries were accepted, and the dialogues that go on
-pub record World : Type 0 where
+pub record LinkState : Type 0 where
   pub births : ℕ
   pub entries : ℕ
-  pub talks : List Talk
+  pub dialogues : List Dialogue
 
 -- no dialogue was opened yet
-abbrev pub at_first : World
-at_first = record { births = 0; entries = 0; talks = [] }
+abbrev pub at_first : LinkState
+at_first = record { births = 0; entries = 0; dialogues = [] }
 
 -- the dialogue that this end knows by an identifier
-abbrev pub found : ℕ → List Talk → Option Talk
-found local talks = find (λ (talk : Talk). talk.local == local) talks
+abbrev pub found : ℕ → List Dialogue → Option Dialogue
+found local dialogues = find (λ (dialogue : Dialogue). dialogue.local == local) dialogues
 
 -- the others
-abbrev pub without : ℕ → List Talk → List Talk
-without local talks = filter (λ (talk : Talk). not (talk.local == local)) talks
+abbrev pub without : ℕ → List Dialogue → List Dialogue
+without local dialogues = filter (λ (dialogue : Dialogue). not (dialogue.local == local)) dialogues
 
 -- SERVING
 
 -- the dialogues that go on then, and the frames that are sent, each with its head
 pub record Served : Type 0 where
-  pub talks : List Talk
+  pub dialogues : List Dialogue
   pub frames : List (List ℕ)
 
 -- the frame of a request, under the identifiers of its dialogue
-abbrev pub answer_of : Talk → Option Request → List (List ℕ)
-answer_of talk None = []
-answer_of talk (Some request) = frame_of request talk.local talk.peer ∷ []
+abbrev pub answer_of : Dialogue → Option Request → List (List ℕ)
+answer_of dialogue None = []
+answer_of dialogue (Some request) = frame_of request dialogue.local dialogue.peer ∷ []
 
 -- the dialogue after an entry
-abbrev pub after : Talk → Entry → Talk
-after talk entry = record talk { core = next talk.core entry }
+abbrev pub after : Dialogue → Entry → Dialogue
+after dialogue entry = record dialogue { core = next dialogue.core entry }
 
 -- a dialogue goes on until its core is over
-abbrev pub going_on : Talk → List Talk
-going_on talk = if is_over talk.core then [] else talk ∷ []
+abbrev pub going_on : Dialogue → List Dialogue
+going_on dialogue = if is_over dialogue.core then [] else dialogue ∷ []
 
 -- one entry goes through the service step; nothing comes of an entry of a dialogue that doesn't go on
-abbrev pub serve_at : ℕ → Entry → List Talk → Option Talk → Served
-serve_at local entry talks None = record { talks = talks; frames = [] }
-serve_at local entry talks (Some talk) = record {
-  talks = going_on (after talk entry) ++ without local talks;
-  frames = answer_of talk (request_of talk.core entry);
+abbrev pub serve_at : ℕ → Entry → List Dialogue → Option Dialogue → Served
+serve_at local entry dialogues None = record { dialogues = dialogues; frames = [] }
+serve_at local entry dialogues (Some dialogue) = record {
+  dialogues = going_on (after dialogue entry) ++ without local dialogues;
+  frames = answer_of dialogue (request_of dialogue.core entry);
 }
 
-abbrev pub serve_one : ℕ → Entry → List Talk → Served
-serve_one local entry talks = serve_at local entry talks (found local talks)
+abbrev pub serve_one : ℕ → Entry → List Dialogue → Served
+serve_one local entry dialogues = serve_at local entry dialogues (found local dialogues)
 
 -- an entry, and the dialogue whose it is
 pub record Job : Type 0 where
@@ -92,11 +92,11 @@ pub record Job : Type 0 where
   pub entry : Entry
 
 -- one entry after another
-abbrev pub serve_all : List Job → List Talk → Served
-serve_all [] talks = record { talks = talks; frames = [] }
-serve_all (job ∷ jobs) talks = record {
-  talks = (serve_all jobs (serve_one job.local job.entry talks).talks).talks;
-  frames = (serve_one job.local job.entry talks).frames ++ (serve_all jobs (serve_one job.local job.entry talks).talks).frames;
+abbrev pub serve_all : List Job → List Dialogue → Served
+serve_all [] dialogues = record { dialogues = dialogues; frames = [] }
+serve_all (job ∷ jobs) dialogues = record {
+  dialogues = (serve_all jobs (serve_one job.local job.entry dialogues).dialogues).dialogues;
+  frames = (serve_one job.local job.entry dialogues).frames ++ (serve_all jobs (serve_one job.local job.entry dialogues).dialogues).frames;
 }
 
 -- the entries of one dialogue
@@ -106,13 +106,13 @@ jobs_for local entries = map (λ entry. record { local = local; entry = entry })
 -- WHAT COMES OF A MESSAGE
 
 -- what is so then, and the frames that are sent
-pub record Played : Type 0 where
-  pub world : World
+pub record Outcome : Type 0 where
+  pub link : LinkState
   pub frames : List (List ℕ)
 
--- the message is discarded
-abbrev pub discarded : World → Played
-discarded w = record { world = w; frames = [] }
+-- nothing comes of it
+abbrev pub discarded : LinkState → Outcome
+discarded w = record { link = w; frames = [] }
 
 -- the frame of the provider's Abort, where a cause is named and the message told its sender's identifier
 abbrev pub aborts : Option AbortCause → Option Tid → List (List ℕ)
@@ -121,30 +121,30 @@ aborts (Some cause) None = []
 aborts (Some cause) (Some sender) = framed (canon (provider_abort (octets_of sender) (cause_code cause))) ∷ []
 
 -- a dialogue leaves the list
-abbrev pub left_by : Option ℕ → List Talk → List Talk
-left_by None talks = talks
-left_by (Some local) talks = without local talks
+abbrev pub left_by : Option ℕ → List Dialogue → List Dialogue
+left_by None dialogues = dialogues
+left_by (Some local) dialogues = without local dialogues
 
 -- the message is refused: the dialogue that is closed for it leaves the list
-abbrev pub refused : World → Option AbortCause → Option ℕ → Option Tid → Played
+abbrev pub refused : LinkState → Option AbortCause → Option ℕ → Option Tid → Outcome
 refused w cause closes sender = record {
-  world = record w { talks = left_by closes w.talks };
+  link = record w { dialogues = left_by closes w.dialogues };
   frames = aborts cause sender;
 }
 
 -- so many entries more were accepted, and these were served
-abbrev pub accepted : World → ℕ → ℕ → Served → Played
+abbrev pub accepted : LinkState → ℕ → ℕ → Served → Outcome
 accepted w births entries served = record {
-  world = record { births = births; entries = w.entries + entries; talks = served.talks };
+  link = record { births = births; entries = w.entries + entries; dialogues = served.dialogues };
   frames = served.frames;
 }
 
 -- the identifier of the next dialogue
-abbrev pub next_local : World → ℕ
+abbrev pub next_local : LinkState → ℕ
 next_local w = identifier 0 (w.births + 1)
 
 -- the next dialogue, as its Begin finds it
-abbrev pub newborn : World → Tid → ℕ → Talk
+abbrev pub newborn : LinkState → Tid → ℕ → Dialogue
 newborn w sender moment = record {
   birth = w.births + 1;
   local = next_local w;
@@ -153,41 +153,46 @@ newborn w sender moment = record {
 }
 
 -- a dialogue is opened
-abbrev pub opened : World → Tid → ℕ → List Entry → Played
+abbrev pub opened : LinkState → Tid → ℕ → List Entry → Outcome
 opened w sender moment entries =
-    accepted w (w.births + 1) (length entries) (serve_all (jobs_for (next_local w) entries) (newborn w sender moment ∷ w.talks))
+    accepted w (w.births + 1) (length entries) (serve_all (jobs_for (next_local w) entries) (newborn w sender moment ∷ w.dialogues))
 
 -- a dialogue goes on
-abbrev pub continued : World → ℕ → List Entry → Played
-continued w local entries = accepted w w.births (length entries) (serve_all (jobs_for local entries) w.talks)
+abbrev pub continued : LinkState → ℕ → List Entry → Outcome
+continued w local entries = accepted w w.births (length entries) (serve_all (jobs_for local entries) w.dialogues)
 
 -- a dialogue is ended by its peer: it leaves the list, and nothing is sent
-abbrev pub ended : World → ℕ → List Entry → Played
-ended w local entries = accepted w w.births (length entries) (record { talks = without local w.talks; frames = [] })
+abbrev pub ended : LinkState → ℕ → List Entry → Outcome
+ended w local entries = accepted w w.births (length entries) (record { dialogues = without local w.dialogues; frames = [] })
 
 -- WHICH MESSAGES ARE REFUSED
 
--- the dialogue that a destination identifier names: its four octets are this end's identifier
-abbrev pub going : World → ℕ → Option ℕ
-going w local = if is_some (found local w.talks) then Some local else None
+-- the dialogue that this end knows by an identifier, if it goes on
+abbrev pub going : LinkState → ℕ → Option ℕ
+going w local = if is_some (found local w.dialogues) then Some local else None
 
-abbrev pub named : World → Ids → Option ℕ
+-- the dialogue that a destination identifier names: its four octets are this end's identifier
+abbrev pub named : LinkState → Ids → Option ℕ
 named w ids = option_and_then (going w) (option_and_then (λ tid. number_of (octets_of tid)) ids.dest)
 
--- 2^63 entries were accepted
-abbrev pub is_full : World → Bool
+-- 2^63 entries were accepted, or more
+abbrev pub is_full : LinkState → Bool
 is_full w = nat_le (2 ^ 63) w.entries
 
 -- 4,096 dialogues go on, or no serial is left, or no entry may be accepted
-abbrev pub no_dialogue_left : World → Bool
-no_dialogue_left w = nat_le 4096 (length w.talks) || (nat_eq (w.births + 1) (2 ^ 29) || is_full w)
+abbrev pub no_dialogue_left : LinkState → Bool
+no_dialogue_left w = nat_le 4096 (length w.dialogues) || (nat_eq (w.births + 1) (2 ^ 29) || is_full w)
 
 -- more than 64 entries that take a place
 abbrev pub too_many_entries : Incoming → Bool
 too_many_entries incoming = nat_lt 64 (place_count incoming.entries)
 
+-- more than 16 elements in the component portion
+abbrev pub too_many : Incoming → Bool
+too_many incoming = nat_lt 16 incoming.elements
+
 -- a Begin
-abbrev pub begun : World → Option Tid → ℕ → Incoming → Played
+abbrev pub begun : LinkState → Option Tid → ℕ → Incoming → Outcome
 begun w None moment incoming = discarded w
 begun w (Some sender) moment incoming =
     if too_many incoming || (no_dialogue_left w || too_many_entries incoming)
@@ -195,15 +200,11 @@ begun w (Some sender) moment incoming =
     else opened w sender moment incoming.entries
 
 -- a Continue or an End of a dialogue that goes on is refused
-abbrev pub is_too_much : World → Incoming → Bool
+abbrev pub is_too_much : LinkState → Incoming → Bool
 is_too_much w incoming = too_many incoming || (too_many_entries incoming || is_full w)
 
--- an Abort brings one entry
-abbrev pub is_no_abort : Incoming → Bool
-is_no_abort incoming = nat_lt 1 (length incoming.entries)
-
 -- a readable message, of a kind, that names a dialogue that goes on, or none
-abbrev pub came : World → Ids → ℕ → Incoming → Kind → Option ℕ → Played
+abbrev pub came : LinkState → Ids → ℕ → Incoming → Kind → Option ℕ → Outcome
 came w ids moment incoming Unidirectional dialogue = discarded w
 came w ids moment incoming Begin dialogue = begun w ids.orig moment incoming
 came w ids moment incoming Continue None = refused w (Some cause.UnrecognizedTransactionIdentifier) None ids.orig
@@ -215,12 +216,11 @@ came w ids moment incoming End (Some local) =
     if is_too_much w incoming then refused w (Some cause.ResourceLimitation) (Some local) ids.orig
     else ended w local incoming.entries
 came w ids moment incoming Abort None = discarded w
-came w ids moment incoming Abort (Some local) =
-    if is_no_abort incoming then refused w None (Some local) ids.orig else ended w local incoming.entries
+came w ids moment incoming Abort (Some local) = ended w local incoming.entries
 came w ids moment incoming Unknown dialogue = discarded w
 
 -- octets that are no message that is taken, of a kind, that name a dialogue that goes on, or none
-abbrev pub misread : World → Ids → Kind → Option ℕ → Played
+abbrev pub misread : LinkState → Ids → Kind → Option ℕ → Outcome
 misread w ids Unidirectional dialogue = discarded w
 misread w ids Begin dialogue = refused w (Some cause.BadlyFormattedTransactionPortion) dialogue ids.orig
 misread w ids End dialogue = refused w (Some cause.BadlyFormattedTransactionPortion) dialogue ids.orig
@@ -228,8 +228,14 @@ misread w ids Continue dialogue = refused w (Some cause.BadlyFormattedTransactio
 misread w ids Abort dialogue = refused w (Some cause.BadlyFormattedTransactionPortion) dialogue ids.orig
 misread w ids Unknown dialogue = refused w (Some cause.UnrecognizedMessageType) dialogue ids.orig
 
--- what comes of a message; nothing is told of one for which memory was wanting
-abbrev pub post : World → Prepared → Played
+-- whether memory was there to read the message
+abbrev pub is_read : Prepared → Bool
+is_read (Message arrival incoming) = true
+is_read (Refused arrival fault) = true
+is_read (Lost arrival) = false
+
+-- What comes of a message that was read from a frame, or refused. Of one for which memory was wanting no clause asks.
+abbrev pub post : LinkState → Prepared → Outcome
 post w (Message arrival incoming) = came w arrival.ids arrival.moment incoming arrival.ids.kind (named w arrival.ids)
 post w (Refused arrival fault) = misread w arrival.ids arrival.ids.kind (named w arrival.ids)
 post w (Lost arrival) = discarded w
@@ -251,19 +257,19 @@ placed due [] = due ∷ []
 placed due (other ∷ others) = if comes_first due other then due ∷ other ∷ others else (other ∷ placed due others)
 
 -- the dialogues that are due at a moment, in order
-abbrev pub due_at : ℕ → List Talk → List Due
+abbrev pub due_at : ℕ → List Dialogue → List Due
 due_at moment [] = []
-due_at moment (talk ∷ talks) =
-    if nat_le (next_due talk.core) moment
-    then placed (record { deadline = next_due talk.core; local = talk.local }) (due_at moment talks)
-    else due_at moment talks
+due_at moment (dialogue ∷ dialogues) =
+    if nat_le (next_due dialogue.core) moment
+    then placed (record { deadline = next_due dialogue.core; local = dialogue.local }) (due_at moment dialogues)
+    else due_at moment dialogues
 
 -- each of them gets one Clock
 abbrev pub clocks : ℕ → List Due → List Job
 clocks moment dues = map (λ (due : Due). record { local = due.local; entry = entry_at moment Clock }) dues
 
 -- what comes of a moment
-abbrev pub tick : World → ℕ → Played
+abbrev pub tick : LinkState → ℕ → Outcome
 tick w moment =
     if is_full w then discarded w
-    else accepted w w.births (length (due_at moment w.talks)) (serve_all (clocks moment (due_at moment w.talks)) w.talks)
+    else accepted w w.births (length (due_at moment w.dialogues)) (serve_all (clocks moment (due_at moment w.dialogues)) w.dialogues)

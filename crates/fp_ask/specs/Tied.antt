@@ -9,23 +9,26 @@ use Rattle.fp_book.specs.declared.parcel.Waiting.{Waiting}
 use Rattle.fp_book.specs.Outbox.{Outbox, nothing}
 use Rattle.fp_book.specs.Shelf.{Shelf, Sound}
 use Rattle.fp_entry.specs.declared.entry.Entry.{Entry}
+use Rattle.fp_entry.specs.declared.prepared.Prepared.{Prepared}
+use Rattle.fp_entry.specs.Prepared.{IsPrepared}
 use Rattle.fp_q773.specs.Tid.{octets_of}
+use Rattle.fp_records.specs.Table.{Contents}
 use Rattle.fp_reply.specs.ProviderAbort.{frame_octets}
 use Rattle.fp_row.specs.declared.row.Row.{Row}
 use Rattle.fp_row.specs.Row.{is_admitted, waiting_of}
-use Rattle.fp_ask.specs.Solo.{Job, Played, Served, Talk, World, found, jobs_for, serve_all}
+use Rattle.fp_ask.specs.Solo.{Job, Outcome, Served, Dialogue, LinkState, found, jobs_for, serve_all}
 
 abbrev pub Rows : Type 0
 Rows = FinMap nat_cmp Row
 
 -- a dialogue as the plain list has it
-abbrev pub talk_of : Row → Talk
-talk_of row = record { birth = row.birth; local = row.local; peer = octets_of row.peer; core = row.core }
+abbrev pub dialogue_of : Row → Dialogue
+dialogue_of row = record { birth = row.birth; local = row.local; peer = octets_of row.peer; core = row.core }
 
 -- the list has those that are admitted
-abbrev pub live : Option Row → Option Talk
+abbrev pub live : Option Row → Option Dialogue
 live None = None
-live (Some row) = if is_admitted row then Some (talk_of row) else None
+live (Some row) = if is_admitted row then Some (dialogue_of row) else None
 
 -- whether a turn is out
 abbrev pub is_out : Option Row → Bool
@@ -75,26 +78,26 @@ pub record Rest (s : Shelf) : Type 0 where
   pub outbox : s.outbox ≡ nothing
 
 -- the list has the dialogues that are admitted, and no others
-abbrev pub Same : List Talk → Rows → Type 0
-Same talks rows = (local : ℕ) → found local talks ≡ live (get rows local)
+abbrev pub Same : List Dialogue → Rows → Type 0
+Same dialogues rows = (local : ℕ) → found local dialogues ≡ live (get rows local)
 
 -- how often a dialogue stands in the list
-abbrev pub times : ℕ → List Talk → ℕ
-times local talks = count_by (λ (talk : Talk). talk.local == local) talks
+abbrev pub times : ℕ → List Dialogue → ℕ
+times local dialogues = count_by (λ (dialogue : Dialogue). dialogue.local == local) dialogues
 
 -- the plain list tells of this book
-pub record Matches (w : World) (s : Shelf) : Type 0 where
+pub record Matches (w : LinkState) (s : Shelf) : Type 0 where
   pub births : w.births ≡ s.births
   pub entries : w.entries ≡ s.entries
-  pub same : Same w.talks s.rows
-  pub once : (local : ℕ) → times local w.talks ≤ 1
+  pub same : Same w.dialogues s.rows
+  pub once : (local : ℕ) → times local w.dialogues ≤ 1
 
 -- to serve what waits ends with this list, after these frames
 pub record Midway (s : Shelf) (served : Served) : Type 0 where
-  pub talks : List Talk
-  pub same : Same talks s.rows
-  pub talks_end : (serve_all (jobs_of s) talks).talks ≡ served.talks
-  pub frames_end : frames_in s.outbox ++ (serve_all (jobs_of s) talks).frames ≡ served.frames
+  pub dialogues : List Dialogue
+  pub same : Same dialogues s.rows
+  pub dialogues_end : (serve_all (jobs_of s) dialogues).dialogues ≡ served.dialogues
+  pub frames_end : frames_in s.outbox ++ (serve_all (jobs_of s) dialogues).frames ≡ served.frames
 
 -- what was counted is as it was
 pub record SameCounts (old new : Shelf) : Type 0 where
@@ -106,16 +109,24 @@ abbrev pub KeepsEnd : Shelf → Shelf → Type 0
 KeepsEnd old new = (served : Served) → Midway old served → Midway new served
 
 -- a book went on as the plain list does, and these frames were sent
-pub record GoesOn (p : Played) (new : Shelf) (frames : List (List ℕ)) : Type 0 where
-  pub matches : Matches p.world new
+pub record GoesOn (p : Outcome) (new : Shelf) (frames : List (List ℕ)) : Type 0 where
+  pub matches : Matches p.link new
   pub frames_are : frames ≡ p.frames
 
 -- whatever list tells of the book before
-abbrev pub Follows : (World → Played) → Shelf → Shelf → List (List ℕ) → Type 0
-Follows play old new frames = (w : World) → Matches w old → GoesOn (play w) new frames
+abbrev pub Follows : (LinkState → Outcome) → Shelf → Shelf → List (List ℕ) → Type 0
+Follows play old new frames = (w : LinkState) → Matches w old → GoesOn (play w) new frames
+
+-- a message that was read from a frame, by some records and names
+pub record IsOfFrame (came : Prepared) : Type 0 where
+  pub contents : Contents
+  pub contexts : List (List ℕ)
+  pub octets : List ℕ
+  pub moment : ℕ
+  pub prepared : IsPrepared contents contexts octets moment came
 
 -- the dialogues are as they were, but for what was sent
-pub record KeepsTalks (old new : Shelf) : Type 0 where
+pub record KeepsDialogues (old new : Shelf) : Type 0 where
   pub lives : (local : ℕ) → live (get new.rows local) ≡ live (get old.rows local)
   pub counts : SameCounts old new
 

@@ -1,7 +1,7 @@
 //! A book, driven until nothing waits.
 
 ghost use Rattle.std.specs.Prelude.{◌≡◌, [], ◌∷◌, ◌++◌, IfOk, OnOk};
-ghost use Rattle.fp_ask.specs.Tied.{Fit, IsServed, KeepsEnd, Rest, SameCounts, KeepsTalks, frames_in};
+ghost use Rattle.fp_ask.specs.Tied.{Fit, IsServed, KeepsEnd, Rest, SameCounts, KeepsDialogues, frames_in};
 
 use crate::SentFrame;
 use fp_book::{Book, Picked, Taken};
@@ -49,7 +49,7 @@ pub(crate) fn send_waiting(alloc: Global, book: &mut Book) -> Result<Vec<SentFra
     requires served { IsServed book.old }
     ensures rest { OnOk result (Rest book.new) }
     ensures frames { IfOk result (λ frames. frames.items ≡ frames_in book.old.outbox) }
-    ensures keeps { OnOk result (KeepsTalks book.old book.new) }
+    ensures keeps { OnOk result (KeepsDialogues book.old book.new) }
 {
     let mut frames = Vec::new(alloc);
     loop {

@@ -1,6 +1,6 @@
 //! Frames that were sent.
 
-ghost use Rattle.std.specs.Prelude.{◌≡◌, IfOk};
+ghost use Rattle.std.specs.Prelude.{◌≡◌, IfOk, drop};
 
 use std::alloc::{AllocError, Global};
 use std::marker::Model;
@@ -27,6 +27,14 @@ impl SentFrame {
         let mut copy = Vec::new(alloc);
         copy.extend_from_slice(octets)?;
         Ok(SentFrame { octets: copy })
+    }
+
+    /// The message, the octets behind the head.
+    pub fn message(&self) -> &[u8]
+        ensures { result.now ≡ drop 4 self.now }
+    {
+        let octets = self.octets.as_slice();
+        &octets[octets.len().min(4)..]
     }
 
     /// The octets, the head first.

@@ -1,26 +1,42 @@
 //! Messages and moments, one after another.
 
-ghost use Rattle.std.specs.Prelude.{◌≡◌, ◌<◌, IfOk, OnOk, vec_capacity};
-ghost use Rattle.fp_ask.specs.Solo.{at_first, post, tick};
-ghost use Rattle.fp_ask.specs.Tied.{Follows, Matches, Rest};
+ghost use Rattle.std.specs.Prelude.{◌≡◌, true, IfOk, OnOk};
+ghost use Rattle.fp_ask.specs.Solo.{at_first, is_read, post, tick};
+ghost use Rattle.fp_ask.specs.Tied.{Follows, IsOfFrame, Matches, Rest};
 
 use crate::SentFrame;
 use crate::engine::{send_waiting, serve_waiting};
 use crate::log::{clear_log, is_lost};
-use fp_book::{Book, Line};
+use fp_book::{Book, Line, read_messages_have_few_entries};
 use fp_digits::Moment;
 use fp_entry::Prepared;
 use std::alloc::{AllocError, Global};
+use std::marker::Model;
 
 /// A link to which messages and moments come one after another: what one of them brings is served and sent before the
-/// next one comes.
+/// next one comes. Contracts see it as its book.
 #[derive(Debug, Drop)]
 pub struct Session {
-    pub(crate) book: Book,
+    book: Book,
     // Room for lines of the book's log.
-    pub(crate) lines: Vec<Line>,
+    lines: Vec<Line>,
+}
 
-    pub ghost room: { 0 < vec_capacity lines },
+impl Model for Session {
+    ghost use Rattle.std.specs.Prelude.{◌<◌, vec_capacity};
+    ghost use Rattle.std.specs.Coded.{codes, coded_ℕ};
+    ghost use Rattle.std.specs.Ordering.{nat_cmp};
+    ghost use Rattle.std.specs.FinMap as map;
+    ghost use Rattle.fp_book.specs.Shelf.{Shelf};
+    ghost use Rattle.fp_row.specs.contracts.row.Row as row_type;
+
+    ghost Value = { Shelf };
+
+    ghost coded = { Prim.hlevel (codes, map.code {R = nat_cmp} coded_ℕ row_type.the_row.coded) };
+
+    ghost view = { λ session. session.book };
+
+    ghost invariant = { λ session. 0 < vec_capacity session.lines };
 }
 
 impl Session {
@@ -29,8 +45,8 @@ impl Session {
 
     /// A session to which nothing came yet.
     pub fn new(alloc: Global) -> Result<Session, AllocError>
-        ensures rest { IfOk result (λ session. Rest session.book) }
-        ensures matches { IfOk result (λ session. Matches at_first session.book) }
+        ensures rest { IfOk result Rest }
+        ensures matches { IfOk result (Matches at_first) }
     {
         Ok(Session {
             book: Book::new(alloc, 0)?,
@@ -41,10 +57,13 @@ impl Session {
     /// Takes a message, and answers the frames that are sent for it. Where memory is wanting, also where it was wanting
     /// to read the message, nothing is said of the session from then on.
     pub fn post(&mut self, alloc: Global, came: Prepared) -> Result<Vec<SentFrame>, AllocError>
-        requires rest { Rest self.old.book }
-        ensures rest { OnOk result (Rest self.new.book) }
-        ensures follows { IfOk result (λ frames. Follows (λ w. post w came) self.old.book self.new.book frames.items) }
+        requires rest { Rest self.old }
+        ensures rest { OnOk result (Rest self.new) }
+        ensures read { OnOk result (is_read came ≡ true) }
+        ensures follows { IfOk result (λ frames. IsOfFrame came
+            → Follows (λ w. post w came) self.old self.new frames.items) }
     {
+        read_messages_have_few_entries();
         clear_log(&mut self.book, &mut self.lines);
         let _ = self.book.post(alloc, came);
         if is_lost(&mut self.book, &mut self.lines) {
@@ -57,9 +76,9 @@ impl Session {
     /// Time goes by: answers the frames that are sent for it. Where memory is wanting, nothing is said of the session
     /// from then on.
     pub fn tick(&mut self, alloc: Global, moment: Moment) -> Result<Vec<SentFrame>, AllocError>
-        requires rest { Rest self.old.book }
-        ensures rest { OnOk result (Rest self.new.book) }
-        ensures follows { IfOk result (λ frames. Follows (λ w. tick w moment) self.old.book self.new.book frames.items) }
+        requires rest { Rest self.old }
+        ensures rest { OnOk result (Rest self.new) }
+        ensures follows { IfOk result (λ frames. Follows (λ w. tick w moment) self.old self.new frames.items) }
     {
         let ticked = self.book.tick(moment);
         if ticked.wanting > 0 {

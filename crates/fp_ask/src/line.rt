@@ -1,0 +1,63 @@
+//! What one line of the input says.
+
+ghost use Rattle.std.specs.Prelude.{◌≡◌, IfOk, IfSome, length, option_map};
+ghost use Rattle.fp_frames.specs.Frame.{IsMessageLength};
+ghost use Rattle.fp_ask.specs.Line.{line_in, input_of, wait_in};
+
+use bytes::Bytes;
+use fp_frames::Frame;
+use hex::FromHexError;
+use std::alloc::{AllocError, Global};
+
+/// What a line says.
+#[derive(Debug, Drop)]
+pub(crate) enum Line {
+    /// A message comes.
+    Message(Frame),
+    /// So many milliseconds go by.
+    Wait(u64),
+}
+
+/// The most characters of a line: two for each octet of the longest message.
+pub(crate) const MOST: usize = 8192;
+
+/// The most digits of a wait.
+const MOST_WAIT_DIGITS: usize = 13;
+
+/// What a line says, or `None` where it says nothing that is taken.
+///
+/// `text` is the line without its line feed. It is a message where it is the hexadecimal text of 1 to 4,096 octets, in
+/// digits of either case, and a wait where it is `+` and 1 to 13 decimal digits.
+pub(crate) fn line_of(alloc: Global, text: &[u8]) -> Result<Option<Line>, AllocError>
+    ensures { IfOk result (λ line. option_map input_of line ≡ line_in text.now) }
+{
+    if let [b'+', digits @ ..] = text {
+        return Ok(milliseconds_in(digits).map(Line::Wait));
+    }
+    match hex::decode(alloc, text) {
+        Ok(octets) => match Bytes::from_vec(octets) {
+            Ok(message) => Ok(Frame::new(message).map(Line::Message)),
+            Err(_) => Err(AllocError),
+        },
+        Err(FromHexError::OutOfMemory) => Err(AllocError),
+        Err(_) => Ok(None),
+    }
+}
+
+/// The number that 1 to 13 decimal digits write.
+#[tactic(auto, using(crate::proofs::Waits::waits))]
+fn milliseconds_in(digits: &[u8]) -> Option<u64>
+    ensures { result ≡ wait_in digits.now }
+{
+    if digits.is_empty() || digits.len() > MOST_WAIT_DIGITS {
+        return None;
+    }
+    let mut milliseconds = 0;
+    for digit in digits {
+        if !digit.is_ascii_digit() {
+            return None;
+        }
+        milliseconds = 10 * milliseconds + u64::from(*digit - b'0');
+    }
+    Some(milliseconds)
+}
