@@ -8,6 +8,13 @@
 //! | `full ROOM scp ..` | the same where standard output takes so many octets, one at a time |
 //! | `unflushed ROOM scp ..` | the same, and it can't be flushed |
 //! | `mute CASE` | one of these where standard error takes nothing |
+//! | `paced scp ..` | the run, and how many lines were written and flushed before each line, and at last the end, was read |
+//! | `failing reads scp ..` | runs whose first, second, .. read of an octet fails: how many don't end well, and the one that does |
+//! | `failing writes scp ..` | the same with the writes of an octet each |
+//! | `fronts FIRST LAST scp ..` | runs with the first FIRST, .., LAST octets of the message: how many there are, and what each gives |
+//!
+//! Each run of `failing` but the last must end with status 1, what it wrote must be a front of what the last one writes,
+//! and its line on standard error must name the device that failed. Else the first is told for which that isn't so.
 //!
 //! Each `|` begins a line of the input. The words up to the next one are the line, without the spaces between them,
 //! and a line feed follows. `SP` is a space, `CR` a carriage return, `6*8192` so many times the digit, and `CUT` at the
@@ -16,8 +23,9 @@
 //! OUTPUT and ERRORS are `-` where nothing was written. Else they are the lines, with ` | ` between them, and with
 //! ` CUT` behind a last line that has no line feed.
 
-use scp::program::program;
+use scp::program;
 use std::alloc::Global;
+use std::cell::Cell;
 use std::io;
 use std::io::{ErrorKind, Read, Write};
 use std::rt::Files;
@@ -100,6 +108,76 @@ impl Write for Sink {
     }
 }
 
+/// A reader of one octet a time, of which the read behind so many fails.
+#[derive(Drop)]
+struct Failing<'a> {
+    octets: &'a [u8],
+    reads: u64,
+}
+
+impl Read for Failing<'_> {
+    fn read(&mut self, buf: &mut [u8]) -> io::Result<usize> {
+        if self.reads == 0 {
+            return Err(io::Error::from(ErrorKind::Other));
+        }
+        self.reads -= 1;
+        match (self.octets, buf) {
+            ([first, rest @ ..], [place, ..]) => {
+                *place = *first;
+                self.octets = rest;
+                Ok(1)
+            }
+            _ => Ok(0),
+        }
+    }
+}
+
+/// A reader of one octet a time that notes, before each line and at the end, how many lines were written and flushed.
+#[derive(Drop)]
+struct Paced<'a> {
+    octets: &'a [u8],
+    is_at_line: bool,
+    flushed: &'a Cell<usize>,
+    notes: Vec<usize>,
+}
+
+impl Read for Paced<'_> {
+    fn read(&mut self, buf: &mut [u8]) -> io::Result<usize> {
+        if self.is_at_line || self.octets.is_empty() {
+            self.notes.push(self.flushed.get())?;
+        }
+        match (self.octets, buf) {
+            ([first, rest @ ..], [place, ..]) => {
+                self.is_at_line = *first == b'\n';
+                *place = *first;
+                self.octets = rest;
+                Ok(1)
+            }
+            _ => Ok(0),
+        }
+    }
+}
+
+/// A writer that tells how many lines were written and flushed.
+#[derive(Drop)]
+struct Shown<'a> {
+    octets: Vec<u8>,
+    flushed: &'a Cell<usize>,
+}
+
+impl Write for Shown<'_> {
+    fn write(&mut self, buf: &[u8]) -> io::Result<usize> {
+        self.octets.extend_from_slice(buf)?;
+        Ok(buf.len())
+    }
+
+    fn flush(&mut self) -> io::Result<()> {
+        let lines = self.octets.iter().filter(|octet| **octet == b'\n').count();
+        self.flushed.set(lines);
+        Ok(())
+    }
+}
+
 /// The words of the command line, behind the name of the program: those in front of the first bar.
 fn words_of(alloc: Global, parts: &[&str]) -> anyhow::Result<Vec<String>> {
     let mut words = Vec::new(alloc);
@@ -174,6 +252,48 @@ fn lines_of(alloc: Global, octets: &[u8]) -> anyhow::Result<String> {
     Ok(lines)
 }
 
+/// What a run came to.
+#[derive(Drop)]
+struct Outcome {
+    status: u8,
+    output: Vec<u8>,
+    errors: Vec<u8>,
+}
+
+impl Outcome {
+    /// The status and what was written.
+    fn text(&self, alloc: Global) -> anyhow::Result<String> {
+        let output = lines_of(alloc, self.output.as_slice())?;
+        let errors = lines_of(alloc, self.errors.as_slice())?;
+        Ok(format!(in alloc; "{}, {output}, {errors}", self.status)?)
+    }
+
+    /// Whether a front of what a whole run writes was written, and this line told of the fault.
+    fn is_front_of(&self, whole: &Outcome, fault: &str) -> bool {
+        self.status == 1
+            && whole.output.as_slice().starts_with(self.output.as_slice())
+            && self.errors.as_slice() == fault.as_bytes()
+    }
+}
+
+/// A run.
+fn ended_run<H: Files + AllocGlobal, R: Read + Drop>(
+    rt: &H,
+    words: &[String],
+    input: R,
+    output: Sink,
+    errors: Sink,
+) -> Outcome {
+    let mut output = output;
+    let mut errors = errors;
+    let status = program(rt, words, input, &mut output, &mut errors);
+    Outcome {
+        status,
+        output: output.octets,
+        errors: errors.octets,
+    }
+}
+
 /// What a run comes to.
 fn run<H: Files + AllocGlobal, R: Read + Drop>(
     rt: &H,
@@ -182,14 +302,8 @@ fn run<H: Files + AllocGlobal, R: Read + Drop>(
     output: Sink,
     errors: Sink,
 ) -> anyhow::Result<String> {
-    let alloc = rt.alloc();
-    let words = words_of(alloc, parts)?;
-    let mut output = output;
-    let mut errors = errors;
-    let status = program(rt, words.as_slice(), input, &mut output, &mut errors);
-    let output = lines_of(alloc, output.octets.as_slice())?;
-    let errors = lines_of(alloc, errors.octets.as_slice())?;
-    Ok(format!(in alloc; "{status}, {output}, {errors}")?)
+    let words = words_of(rt.alloc(), parts)?;
+    ended_run(rt, words.as_slice(), input, output, errors).text(rt.alloc())
 }
 
 /// What a run from an input that works comes to.
@@ -218,6 +332,132 @@ fn run_torn<H: Files + AllocGlobal>(
     run(rt, parts, torn, output, errors)
 }
 
+/// What a run comes to whose lines are read one at a time, and what was flushed before each of them.
+fn run_paced<H: Files + AllocGlobal>(rt: &H, parts: &[&str]) -> anyhow::Result<String> {
+    let alloc = rt.alloc();
+    let words = words_of(alloc, parts)?;
+    let input = input_of(alloc, parts)?;
+    let flushed = Cell::new(0);
+    let mut paced = Paced {
+        octets: input.as_slice(),
+        is_at_line: true,
+        flushed: &flushed,
+        notes: Vec::new(alloc),
+    };
+    let mut output = Shown {
+        octets: Vec::new(alloc),
+        flushed: &flushed,
+    };
+    let mut errors = Sink::with_room(alloc, usize::MAX);
+    let status = program(rt, words.as_slice(), &mut paced, &mut output, &mut errors);
+    let outcome = Outcome {
+        status,
+        output: output.octets,
+        errors: errors.octets,
+    };
+    let mut text = outcome.text(alloc)?;
+    text.push(',')?;
+    for count in &paced.notes {
+        write!(text, " {count}")?;
+    }
+    Ok(text)
+}
+
+/// A run whose read behind so many fails, over an output that takes so many octets.
+fn failing_run<H: Files + AllocGlobal>(
+    rt: &H,
+    words: &[String],
+    octets: &[u8],
+    reads: u64,
+    room: usize,
+) -> Outcome {
+    let alloc = rt.alloc();
+    ended_run(
+        rt,
+        words,
+        Failing { octets, reads },
+        Sink::with_room(alloc, room),
+        Sink::with_room(alloc, usize::MAX),
+    )
+}
+
+/// How many runs end early whose first, second, .. read fails, and what the run comes to that doesn't.
+fn failing_reads<H: Files + AllocGlobal>(rt: &H, parts: &[&str]) -> anyhow::Result<String> {
+    let alloc = rt.alloc();
+    let words = words_of(alloc, parts)?;
+    let input = input_of(alloc, parts)?;
+    let whole = failing_run(rt, words.as_slice(), input.as_slice(), u64::MAX, usize::MAX);
+    for reads in 0..u64::MAX {
+        let outcome = failing_run(rt, words.as_slice(), input.as_slice(), reads, usize::MAX);
+        if !outcome.is_front_of(&whole, "input: cannot be read\n") {
+            return Ok(format!(in alloc; "{reads}, then {}", outcome.text(alloc)?)?);
+        }
+    }
+    anyhow::bail!("no end of reads")
+}
+
+/// How many runs end early whose first, second, .. write fails, and what the run comes to that doesn't.
+fn failing_writes<H: Files + AllocGlobal>(rt: &H, parts: &[&str]) -> anyhow::Result<String> {
+    let alloc = rt.alloc();
+    let words = words_of(alloc, parts)?;
+    let input = input_of(alloc, parts)?;
+    let whole = failing_run(rt, words.as_slice(), input.as_slice(), u64::MAX, usize::MAX);
+    for room in 0..usize::MAX {
+        let outcome = failing_run(rt, words.as_slice(), input.as_slice(), u64::MAX, room);
+        if !outcome.is_front_of(&whole, "output: cannot be written\n") {
+            return Ok(format!(in alloc; "{room}, then {}", outcome.text(alloc)?)?);
+        }
+    }
+    anyhow::bail!("no end of writes")
+}
+
+/// The first octets of a message, as a line of an input.
+fn front_of(alloc: Global, line: &[u8], octets: usize) -> anyhow::Result<Vec<u8>> {
+    let Some(digits) = line.get(..octets.saturating_mul(2)) else {
+        anyhow::bail!("no such front");
+    };
+    let mut front = Vec::new(alloc);
+    front.extend_from_slice(digits)?;
+    front.push(b'\n')?;
+    Ok(front)
+}
+
+/// What the run with the first octets of the message comes to.
+fn run_front<H: Files + AllocGlobal>(
+    rt: &H,
+    parts: &[&str],
+    line: &[u8],
+    octets: usize,
+) -> anyhow::Result<String> {
+    let alloc = rt.alloc();
+    let front = front_of(alloc, line, octets)?;
+    let output = Sink::with_room(alloc, usize::MAX);
+    let errors = Sink::with_room(alloc, usize::MAX);
+    run(rt, parts, front.as_slice(), output, errors)
+}
+
+/// How many fronts of the message there are from so many octets to so many, and what each run comes to; the first that
+/// comes to something else than the one before.
+fn run_fronts<H: Files + AllocGlobal>(
+    rt: &H,
+    parts: &[&str],
+    first: usize,
+    last: usize,
+) -> anyhow::Result<String> {
+    let alloc = rt.alloc();
+    let line = input_of(alloc, parts)?;
+    let wanted = run_front(rt, parts, line.as_slice(), first)?;
+    let mut count: u64 = 0;
+    for octets in first..=last {
+        let text = run_front(rt, parts, line.as_slice(), octets)?;
+        if text.as_str() != wanted.as_str() {
+            return Ok(format!(in alloc; "{octets} octets: {text}")?);
+        }
+        count = count.saturating_add(1);
+    }
+    Ok(format!(in alloc; "{count} times {wanted}")?)
+}
+
 /// What a case gives where standard error takes what `errors` does.
 fn case_to<H: Files + AllocGlobal>(
     rt: &H,
@@ -241,11 +481,28 @@ fn case_to<H: Files + AllocGlobal>(
     Ok(Some(text))
 }
 
+/// What a case of many runs gives, or of one whose lines are read one at a time.
+fn many<H: Files + AllocGlobal>(rt: &H, words: &[&str]) -> anyhow::Result<Option<String>> {
+    let text = match words {
+        ["paced", "scp", parts @ ..] => run_paced(rt, parts)?,
+        ["failing", "reads", "scp", parts @ ..] => failing_reads(rt, parts)?,
+        ["failing", "writes", "scp", parts @ ..] => failing_writes(rt, parts)?,
+        ["fronts", first, last, "scp", parts @ ..] => {
+            run_fronts(rt, parts, first.parse()?, last.parse()?)?
+        }
+        _ => return Ok(None),
+    };
+    Ok(Some(text))
+}
+
 /// What a case of this module gives.
 pub(crate) fn case<H: Files + AllocGlobal>(
     rt: &H,
     words: &[&str],
 ) -> anyhow::Result<Option<String>> {
+    if let Some(text) = many(rt, words)? {
+        return Ok(Some(text));
+    }
     match words {
         ["mute", words @ ..] => case_to(rt, words, Sink::with_room(rt.alloc(), 0)),
         _ => case_to(rt, words, Sink::with_room(rt.alloc(), usize::MAX)),

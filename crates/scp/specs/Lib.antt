@@ -1,7 +1,3 @@
-pub mod Answer
+pub mod Contexts
 pub mod Counts
-pub mod Input
 pub mod Instant
-pub mod Line
-pub mod Plain
-pub mod Served

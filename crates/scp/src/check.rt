@@ -3,9 +3,10 @@
 ghost use Rattle.std.specs.Prelude.{◌≡◌, ◌⊎◌, IfErr, IfOk, OnOk, string_bytes};
 ghost use Rattle.std.specs.Io.KnownBytes.{Appends};
 ghost use Rattle.scp.specs.Counts.{counts_line};
+ghost use Rattle.fp_ask.specs.declared.fault.AskFault.TheVariants.{Memory, WriteFault};
 
-use crate::fault::AskFault;
 use crate::output::write_text;
+use fp_ask::AskFault;
 use fp_records::Table;
 use std::alloc::{AllocError, Global};
 use std::io::Write;
@@ -13,7 +14,7 @@ use std::io::Write;
 /// Writes how many numbers and how many rules a table has: `numbers N rules M` and a line feed.
 pub fn check<W: Write>(alloc: Global, table: &Table, output: &mut W) -> Result<(), AskFault>
     ensures written { OnOk result (Appends (W.contents output.old) (W.contents output.new) (counts_line table.now)) }
-    ensures fault { IfErr result (λ fault. (fault ≡ AskFault.WriteFault) ⊎ (fault ≡ AskFault.Memory)) }
+    ensures fault { IfErr result (λ fault. (fault ≡ WriteFault) ⊎ (fault ≡ Memory)) }
 {
     let text = text_of(alloc, table)?;
     write_text(text.as_str(), output)

@@ -24,6 +24,8 @@ pub enum Asked<'a> {
         records: &'a str,
         /// The text of the moment, which has not been read.
         moment: &'a str,
+        /// The text of the list of application contexts, which has not been read, where there is one.
+        contexts: Option<&'a str>,
     },
     /// This text, which tells how to use the program.
     Help(String),
@@ -55,7 +57,12 @@ pub fn asked_by<'a>(alloc: Global, words: &'a [String]) -> Result<Asked<'a>, All
         return Ok(Asked::Check { records });
     }
     let moment = chosen.get_str("MOMENT").unwrap_or("");
-    Ok(Asked::Ask { records, moment })
+    let contexts = chosen.get_str("contexts");
+    Ok(Asked::Ask {
+        records,
+        moment,
+        contexts,
+    })
 }
 
 /// The text of what clap answers in place of matches.
@@ -71,6 +78,20 @@ fn told_by<'a>(alloc: Global, error: &Error) -> Result<Asked<'a>, AllocError> {
     }
 }
 
+/// What to type, told behind the help of the program and of its subcommands.
+const CHECK_EXAMPLE: &str = "Example:
+  scp check examples/freephone.csv";
+
+const ASK_EXAMPLE: &str = "Example:
+  scp ask examples/freephone.csv 2024-05-06T12:00:00Z < examples/calls.txt
+
+Each line of standard input is a TCAP message in hexadecimal digits, or +N: N milliseconds go by.
+Each message that is sent is a line of standard output, written before the next line is read.";
+
+const EXAMPLES: &str = "Examples:
+  scp check examples/freephone.csv
+  scp ask examples/freephone.csv 2024-05-06T12:00:00Z < examples/calls.txt";
+
 /// The argument that names the file of the records.
 fn records<'a>(alloc: Global) -> Arg<'a> {
     Arg::new(alloc, "RECORDS")
@@ -78,29 +99,40 @@ fn records<'a>(alloc: Global) -> Arg<'a> {
         .help("The file of the number translation records")
 }
 
-/// The command line that there is.
-fn command<'a>(alloc: Global) -> Result<Command<'a>, AllocError> {
-    let check = Command::new(alloc, CHECK)
+/// The subcommand that counts.
+fn check_command<'a>(alloc: Global) -> Result<Command<'a>, AllocError> {
+    Command::new(alloc, CHECK)
         .about("Reads a file of records and tells how many numbers and rules it has")
-        .arg(records(alloc))?;
-    let moment = Arg::new(alloc, "MOMENT").required(true).help(
-        "The instant at which the messages come, as 2024-05-06T12:00:00Z",
-    );
+        .after_help(CHECK_EXAMPLE)
+        .arg(records(alloc))
+}
+
+/// The subcommand that answers.
+fn ask_command<'a>(alloc: Global) -> Result<Command<'a>, AllocError> {
+    let moment = Arg::new(alloc, "MOMENT")
+        .required(true)
+        .help("The instant of the first line, as 2024-05-06T12:00:00Z");
     let contexts = Arg::new(alloc, "contexts")
         .long("contexts")
         .value_name("LIST")
-        .help("Application contexts, which have no effect yet");
-    let ask = Command::new(alloc, "ask")
+        .help("The application contexts that are accepted, as 2A0304,2A0305 [default: none]");
+    Command::new(alloc, "ask")
         .about("Answers the TCAP messages of standard input, one line of hexadecimal text each")
+        .after_help(ASK_EXAMPLE)
         .arg(records(alloc))?
         .arg(moment)?
-        .arg(contexts)?;
+        .arg(contexts)
+}
+
+/// The command line that there is.
+fn command<'a>(alloc: Global) -> Result<Command<'a>, AllocError> {
     Command::new(alloc, PROGRAM)
         .bin_name(PROGRAM)?
         .about("A service control point for freephone numbers")
+        .after_help(EXAMPLES)
         .subcommand_required(true)
-        .subcommand(check)?
-        .subcommand(ask)
+        .subcommand(check_command(alloc)?)?
+        .subcommand(ask_command(alloc)?)
 }
 
 /// The moment that a text names: milliseconds since 1970-01-01T00:00:00Z, parts of a millisecond

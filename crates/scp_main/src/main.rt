@@ -4,7 +4,7 @@
 //! This is the outermost layer. It alone asks the system for words, files and input.
 #![tactic(auto)]
 
-use scp::program::{program, refuse_words};
+use scp::{program, refuse_words};
 use std::process::ExitCode;
 use std::rt::Env;
 use std::{env, io};

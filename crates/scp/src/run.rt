@@ -1,0 +1,174 @@
+//! One run of the program, from its words to its status.
+
+ghost use Rattle.std.specs.Prelude.{◌≡◌, ◌≤◌, is_ok, if◌then◌else◌, IfErr, IfSome, OnOk};
+ghost use Rattle.std.specs.Io.KnownBytes.{IsAtEnd};
+ghost use Rattle.fp_ask.specs.Asked.{AnswersAll, CountsReads, CountsWrites, Reads, Stops};
+
+use crate::check::check;
+use crate::command::{Asked, asked_by, moment_of};
+use crate::contexts::contexts_in;
+use crate::fault::RunFault;
+use crate::output::write_text;
+use fp_apdu::Name;
+use fp_ask::{AskFault, ask};
+use fp_digits::Moment;
+use fp_records::Table;
+use fp_streams::Counted;
+use std::alloc::{AllocError, Global};
+use std::io::{ErrorKind, Read, Write};
+use std::rt::Files;
+use std::{fs, io};
+
+/// How many reads of the input a run may make: 2^40.
+const TURNS: u64 = 1_099_511_627_776;
+
+/// Runs the program with these words, of which the first names it, and returns its status.
+///
+/// 0: all was answered, or help was asked for and written to `output`. 2: the words were refused,
+/// and a text on `errors` says why. 1: one line on `errors` names the fault. Faults are found in
+/// this order: the words, the moment, the application contexts, the records, then those of the lines. What cannot be
+/// written to `errors` is left out, and the status stays.
+pub fn program<H, R, W, E>(rt: &H, words: &[String], input: R, output: &mut W, errors: &mut E) -> u8
+where
+    H: Files + AllocGlobal,
+    R: Read + Drop,
+    W: Write,
+    E: Write,
+    ensures { result ≤ 2 }
+{
+    let outcome = match asked_by(rt.alloc(), words) {
+        Ok(Asked::Check { records }) => check_file(rt, records, output),
+        Ok(
+            Asked::Ask {
+                records,
+                moment,
+                contexts,
+            },
+        ) => answer_file(rt, records, moment, contexts, input, output),
+        Ok(Asked::Help(text)) => show(text.as_str(), output),
+        Ok(Asked::Refused(text)) => {
+            let _ = errors.write_all(text.as_bytes());
+            return 2;
+        }
+        Err(_) => Err(RunFault::Ask(AskFault::Memory)),
+    };
+    status_of(outcome, errors)
+}
+
+/// Says on `errors` why the words could not be had, and returns the status.
+pub fn refuse_words<E: Write>(error: &io::Error, errors: &mut E) -> u8
+    ensures least { 1 ≤ result }
+    ensures most { result ≤ 2 }
+{
+    if error.kind() == ErrorKind::OutOfMemory {
+        return status_of(Err(RunFault::Ask(AskFault::Memory)), errors);
+    }
+    let _ = errors.write_all(b"error: invalid UTF-8 was detected in one or more arguments\n");
+    2
+}
+
+/// 0, or 1 behind the line of the fault.
+fn status_of<E: Write>(outcome: Result<(), RunFault>, errors: &mut E) -> u8
+    ensures { result ≡ (if is_ok outcome then 0 else 1) }
+{
+    match outcome {
+        Ok(()) => 0,
+        Err(fault) => {
+            let _ = writeln!(errors, "{fault}");
+            1
+        }
+    }
+}
+
+/// Writes a text of help.
+fn show<W: Write>(text: &str, output: &mut W) -> Result<(), RunFault> {
+    write_text(text, output)?;
+    Ok(())
+}
+
+/// Tells what the records of a file hold.
+fn check_file<H: Files + AllocGlobal, W: Write>(
+    rt: &H,
+    records: &str,
+    output: &mut W,
+) -> Result<(), RunFault> {
+    let table = table_in(rt, records)?;
+    check(rt.alloc(), &table, output)?;
+    Ok(())
+}
+
+/// Answers the lines of the input from the records of a file.
+fn answer_file<H, R, W>(
+    rt: &H,
+    records: &str,
+    moment: &str,
+    contexts: Option<&str>,
+    input: R,
+    output: &mut W,
+) -> Result<(), RunFault>
+where
+    H: Files + AllocGlobal,
+    R: Read + Drop,
+    W: Write,
+{
+    let Some(moment) = moment_of(moment) else {
+        return Err(RunFault::NoMoment);
+    };
+    let Some(contexts) = accepted(rt.alloc(), contexts)? else {
+        return Err(RunFault::NoContexts);
+    };
+    let table = table_in(rt, records)?;
+    let mut reader = Counted::new(input);
+    let mut writer = Counted::new(output);
+    answer_lines(
+        rt.alloc(),
+        &table,
+        contexts.as_slice(),
+        moment,
+        &mut reader,
+        &mut writer,
+    )?;
+    Ok(())
+}
+
+/// The application contexts that are accepted: those of the list, or none where there is no list. `None` where it is no
+/// list of names.
+fn accepted(alloc: Global, contexts: Option<&str>) -> Result<Option<Vec<Name>>, AllocError> {
+    match contexts {
+        Some(text) => contexts_in(alloc, text),
+        None => Ok(Some(Vec::new(alloc))),
+    }
+}
+
+/// The table in a file.
+fn table_in<H: Files + AllocGlobal>(rt: &H, path: &str) -> Result<Table, RunFault> {
+    match fs::read(rt, path) {
+        Ok(text) => Ok(Table::read(rt.alloc(), text.as_slice())?),
+        Err(error) if error.kind() == ErrorKind::OutOfMemory => {
+            Err(RunFault::Ask(AskFault::Memory))
+        }
+        Err(_) => Err(RunFault::UnreadableRecords),
+    }
+}
+
+/// Answers the lines of the input, and says of readers and writers whose octets are known what [`ask`] says.
+fn answer_lines<R: Read, W: Write>(
+    alloc: Global,
+    table: &Table,
+    contexts: &[Name],
+    moment: Moment,
+    reader: &mut Counted<R>,
+    writer: &mut Counted<W>,
+) -> Result<(), AskFault>
+    ensures end { OnOk result (IsAtEnd (R.remaining reader.new.device)) }
+    ensures answered { OnOk result (IfSome (R.remaining reader.old.device)
+        (AnswersAll table.now contexts.now moment TURNS (W.contents writer.old.device) (W.contents writer.new.device))) }
+    ensures stopped { IfErr result (Stops table.now contexts.now moment TURNS
+        (R.remaining reader.old.device) (R.remaining reader.new.device)
+        (W.contents writer.old.device) (W.contents writer.new.device)) }
+    ensures within { Reads TURNS (R.remaining reader.old.device) (R.remaining reader.new.device) }
+    ensures reads { CountsReads result reader.old.failed reader.new.failed }
+    ensures writes { CountsWrites result writer.old.failed writer.new.failed }
+{
+    ask(alloc, table, contexts, moment, TURNS, reader, writer)
+}
