@@ -41,7 +41,7 @@
 mod lines;
 mod loops;
 mod sending;
-mod texts;
+pub(crate) mod texts;
 mod turns;
 
 use crate::messages::{frame_of, prepared};

@@ -1,7 +1,8 @@
 //! Worked cases of dialogues and their turns, one a line: `SCRIPT => WANTED`. A case that begins with `rows ` is about
 //! dialogues by their identifiers, one with `log ` about a log, one with `ready ` about the order in which dialogues
-//! are served, one with `outbox ` about what waits to be sent, and one with `book ` about all dialogues of a link.
-//! Their steps are those of `rows.rt`, `log.rt`, `ready.rt`, `outbox.rt` and `book.rt`.
+//! are served, one with `outbox ` about what waits to be sent, one with `book ` about all dialogues of a link, and one
+//! with `run ` or `random ` about whole runs of a link. Their steps are those of `rows.rt`, `log.rt`, `ready.rt`,
+//! `outbox.rt`, `book.rt` and `runs.rt`.
 //!
 //! Standard input is text for a telecom engineer to read. An empty line or one that begins with `#` is a comment, and
 //! each other line is a case: what is done, step by step, and behind ` => ` what each step must answer, worked out by
@@ -38,6 +39,7 @@ mod outbox;
 mod parcels;
 mod ready;
 mod rows;
+mod runs;
 mod scene;
 mod texts;
 mod token;
@@ -61,6 +63,8 @@ fn answers(alloc: Global, table: &Table, script: &str) -> anyhow::Result<String>
         Some(("ready", steps)) => ready::answers(alloc, steps),
         Some(("outbox", steps)) => outbox::answers(alloc, steps),
         Some(("book", steps)) => book::answers(alloc, table, steps),
+        Some(("run", steps)) => runs::answers(alloc, table, steps),
+        Some(("random", numbers)) => runs::random(alloc, table, numbers),
         _ => scene::answers(alloc, table, script),
     }
 }

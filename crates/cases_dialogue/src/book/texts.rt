@@ -4,7 +4,7 @@ use fp_book::{Given, Posted, Ticked, Totals};
 use std::alloc::Global;
 
 /// What became of a message, in one letter.
-pub(super) fn letter_of(posted: Posted) -> &'static str {
+pub(crate) fn letter_of(posted: Posted) -> &'static str {
     match posted {
         Posted::Opened(_) => "O",
         Posted::Accepted(_) => "A",
@@ -15,7 +15,7 @@ pub(super) fn letter_of(posted: Posted) -> &'static str {
 }
 
 /// What became of a message.
-pub(super) fn posted_text(alloc: Global, posted: Posted) -> anyhow::Result<String> {
+pub(crate) fn posted_text(alloc: Global, posted: Posted) -> anyhow::Result<String> {
     let letter = letter_of(posted);
     let text = match posted {
         Posted::Opened(local) => format!(in alloc; "{letter}{local:08X}")?,
@@ -27,7 +27,7 @@ pub(super) fn posted_text(alloc: Global, posted: Posted) -> anyhow::Result<Strin
 }
 
 /// What became of a request.
-pub(super) fn given_text(given: Given) -> &'static str {
+pub(crate) fn given_text(given: Given) -> &'static str {
     match given {
         Given::Silent => "S",
         Given::Queued => "Q",
@@ -36,12 +36,12 @@ pub(super) fn given_text(given: Given) -> &'static str {
 }
 
 /// How many dialogues were given a Clock, and how many were left.
-pub(super) fn ticked_text(alloc: Global, ticked: Ticked) -> anyhow::Result<String> {
+pub(crate) fn ticked_text(alloc: Global, ticked: Ticked) -> anyhow::Result<String> {
     Ok(format!(in alloc; "{} {}", ticked.added, ticked.wanting)?)
 }
 
 /// What was counted.
-pub(super) fn totals_text(alloc: Global, totals: Totals) -> anyhow::Result<String> {
+pub(crate) fn totals_text(alloc: Global, totals: Totals) -> anyhow::Result<String> {
     Ok(format!(in alloc;
         "accepted {} served {} sent {}",
         totals.accepted, totals.served, totals.sent
