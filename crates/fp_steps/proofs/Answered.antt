@@ -33,7 +33,8 @@ use Rattle.fp_steps.specs.Sending.{out}
 use Rattle.fp_steps.specs.Tied.{IsTied, Tied, TiedAt, handed, story}
 use Rattle.fp_steps.specs.Turns.{turn_out}
 use Rattle.fp_steps.specs.Waiting.{how_many}
-use Rattle.fp_steps.proofs.Births.{AreBorn, how_many_is, sum_births, sum_to, sum_to_same}
+use Rattle.fp_steps.proofs.Births.{AreBorn, how_many_is, sum_births, sum_to_same}
+use Rattle.fp_steps.specs.Totals.{sum_to}
 use Rattle.fp_steps.proofs.Dialogues.{named_of, tied_of}
 use Rattle.fp_steps.proofs.Served.{IsTurn, turn_is}
 use Rattle.fp_steps.proofs.Stories.{core_tied, length-numbers}

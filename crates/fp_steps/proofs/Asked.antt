@@ -33,7 +33,8 @@ use Rattle.fp_steps.specs.Tied.{AbortsTied, IsTied, Tied, TiedAt, handed, story}
 use Rattle.fp_steps.specs.Turns.{is_ready, turn_out}
 use Rattle.fp_steps.specs.Waiting.{Accepted, aborts_waiting, how_many, places, waiting}
 use Rattle.fp_steps.proofs.Answered.{born}
-use Rattle.fp_steps.proofs.Births.{how_many_is, sum_births, sum_to, sum_to_same}
+use Rattle.fp_steps.proofs.Births.{how_many_is, sum_births, sum_to_same}
+use Rattle.fp_steps.specs.Totals.{sum_to}
 use Rattle.fp_book.specs.Outbox.{Outbox}
 use Rattle.fp_steps.proofs.Dialogues.{apart, tied_of}
 use Rattle.fp_steps.proofs.Lining.{First, first_of}

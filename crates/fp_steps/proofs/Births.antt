@@ -7,12 +7,8 @@ use Rattle.fp_book.proofs.Sums.{Rows, amount, get-removed, sum-none, sum-remove}
 use Rattle.fp_book.specs.Totals.{sum_of}
 use Rattle.fp_row.specs.declared.row.Row.{Row}
 use Rattle.fp_tids.specs.Identifiers.{identifier}
+use Rattle.fp_steps.specs.Totals.{sum_to}
 use Rattle.fp_steps.specs.Waiting.{how_many}
-
--- over the births 1 to n
-abbrev pub sum_to : ℕ → (ℕ → ℕ) → ℕ
-sum_to zero g = 0
-sum_to (suc n) g = sum_to n g + g (suc n)
 
 pub sum_to_same : (n : ℕ) (f g : ℕ → ℕ) → ((d : ℕ) → 0 < d → d ≤ n → f d ≡ g d) → sum_to n f ≡ sum_to n g
 sum_to_same zero f g same = refl

@@ -82,7 +82,7 @@ others_told h step came count components b dest d ne =
     (unended (ending_by (Accepted count) (Some came)) (names_taker h came d) (ending h d) (ap (λ b. b && admits h d) (is_other (destination h (Some came)) d b dest ne)))
     refl
 
-dest_of : (h : List Event) (old : Shelf) (came : Prepared) (local : ℕ) (before : Row) → Tied h old → Sound old → named_in old (arrival_of came).ids ≡ Some local → map.get old.rows local ≡ Some before
+pub dest_of : (h : List Event) (old : Shelf) (came : Prepared) (local : ℕ) (before : Row) → Tied h old → Sound old → named_in old (arrival_of came).ids ≡ Some local → map.get old.rows local ≡ Some before
     → destination h (Some came) ≡ Some before.birth
 dest_of h old came local before t k names was = ap (option_and_then (named h)) (names_by old (number_in came) local names).number ∙ named_of h old local before t k was
 

@@ -28,7 +28,8 @@ use Rattle.fp_steps.specs.Turns.{turn_out, waits}
 use Rattle.fp_steps.specs.Waiting.{Accepted, frame_is_out, has_frame, held, how_many, is_held, waiting}
 use Rattle.fp_steps.proofs.Answered.{born}
 use Rattle.fp_steps.proofs.Asked.{none_at}
-use Rattle.fp_steps.proofs.Births.{how_many_is, sum_births, sum_to, sum_to_same}
+use Rattle.fp_steps.proofs.Births.{how_many_is, sum_births, sum_to_same}
+use Rattle.fp_steps.specs.Totals.{sum_to}
 use Rattle.fp_steps.proofs.Dialogues.{apart, named_of}
 use Rattle.fp_steps.proofs.Parcels.{none_named}
 use Rattle.fp_steps.proofs.Refused.{admits_is}

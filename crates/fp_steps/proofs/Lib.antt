@@ -1,3 +1,4 @@
+mod Added
 mod Alike
 mod Answered
 mod Answering

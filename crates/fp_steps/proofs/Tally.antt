@@ -24,10 +24,10 @@ so_many_none = record { accepted_is = refl; served_is = refl; sent_is = refl; ou
 one_by : (b : Bool) (n m : ℕ) → n ≡ cond {A = ℕ} b 1 0 → m + n ≡ m + cond {A = ℕ} b 1 0
 one_by b n m e = ap (λ x. m + x) e
 
-newest : (list : List Output) (output : Output) → reverse (list ++ output ∷ []) ≡ output ∷ reverse list
+pub newest : (list : List Output) (output : Output) → reverse (list ++ output ∷ []) ≡ output ∷ reverse list
 newest list output = reverse-append list (output ∷ [])
 
-sum_one : (f : Output → ℕ) (list : List Output) (output : Output) → sum_by f (list ++ output ∷ []) ≡ sum_by f list + f output
+pub sum_one : (f : Output → ℕ) (list : List Output) (output : Output) → sum_by f (list ++ output ∷ []) ≡ sum_by f list + f output
 sum_one f list output = let all : sum_by f (list ++ output ∷ []) ≡ sum_by f list + sum_by f (output ∷ []) = sum_by-append f list (output ∷ []) in let one : sum_by f (output ∷ []) ≡ f output = omega arith in omega (arith, all, one)
 
 -- one output more

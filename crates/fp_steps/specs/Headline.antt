@@ -11,6 +11,7 @@ use Rattle.fp_steps.specs.declared.output.Output.{Output}
 use Rattle.fp_steps.specs.declared.step.Step.{Step}
 use Rattle.fp_records.specs.Table.{Contents}
 use Rattle.fp_steps.specs.Sending.{aborts, aborts_sent, asked, queued, sent}
+use Rattle.fp_steps.specs.Totals.{AddUp}
 
 -- 0, 1, 2 and so on, so many
 abbrev pub numbers : ℕ → List ℕ
@@ -38,7 +39,7 @@ pub record Headline (h : List Event) : Type 0 where
   pub aborts_first : IsPrefix (aborts_sent h) (aborts h)
 
 -- these are outputs of these steps on a link; at each moment of their history all of this holds, and each output is the
--- answer at its moment
+-- answer at its moment; and the totals of the outputs are sums over the dialogues of this history
 abbrev pub Runs : Contents → List (List ℕ) → ℕ → List Step → List Output → Type 0
 Runs contents contexts link steps outputs =
-    (h : List Event) × Tells contents contexts steps outputs h × AtEachMoment Headline h × AllAnswered link h
+    (h : List Event) × Tells contents contexts steps outputs h × AtEachMoment Headline h × AllAnswered link h × AddUp outputs h

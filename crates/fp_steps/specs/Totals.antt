@@ -1,10 +1,15 @@
--- The totals of a run, from its outputs alone.
-use Rattle.std.specs.Prelude.{ℕ, ◌+◌, ◌==◌, Bool, true, false, not, List, [], ◌∷◌, Option, Some, None, count_by, min, reverse, if◌then◌else◌}
+-- The totals of a run, from its outputs alone; and the sums over its dialogues, which they are.
+use Rattle.std.specs.Prelude.{◌≡◌, ℕ, ◌+◌, ◌==◌, Bool, true, false, not, List, [], ◌∷◌, Option, Some, None, count_by, length, min, reverse, zero, suc, if◌then◌else◌}
 use Rattle.std.specs.List.{sum_by}
 use Rattle.std.specs.Option.{option_map_or}
 use Rattle.fp_book.specs.declared.totals.Totals.{Totals}
 use Rattle.fp_steps.specs.declared.output.Output.{Output}
 use Rattle.fp_steps.specs.declared.output.Output.TheVariants as outputs
+use Rattle.fp_entry.specs.Entries.{component_count}
+use Rattle.fp_steps.specs.Accepted.{accepted, positions}
+use Rattle.fp_steps.specs.Births.{births}
+use Rattle.fp_steps.specs.History.{Event}
+use Rattle.fp_steps.specs.Sending.{sent}
 
 -- how many components a step accepted
 abbrev pub components_of : Output → ℕ
@@ -49,3 +54,25 @@ totals_of list = record {
   served = capped (count_by is_gave list);
   sent = capped (frames_sent (reverse list));
 }
+
+-- a number of each of the births 1 to n, added up
+abbrev pub sum_to : ℕ → (ℕ → ℕ) → ℕ
+sum_to zero of = 0
+sum_to (suc n) of = sum_to n of + of (suc n)
+
+-- over all dialogues: how many of the entries that each accepted come from components, how many of them were served,
+-- and how many frames were sent for it
+abbrev pub all_components : List Event → ℕ
+all_components h = sum_to (births h) (λ d. component_count (accepted h d))
+
+abbrev pub all_served : List Event → ℕ
+all_served h = sum_to (births h) (λ d. length (positions h d))
+
+abbrev pub all_sent : List Event → ℕ
+all_sent h = sum_to (births h) (λ d. length (sent h d))
+
+-- the totals of these outputs are those of their history
+pub record AddUp (outputs : List Output) (h : List Event) : Type 0 where
+  pub accepted : sum_by components_of outputs ≡ all_components h
+  pub served : count_by is_gave outputs ≡ all_served h
+  pub sent : frames_sent (reverse outputs) ≡ all_sent h
