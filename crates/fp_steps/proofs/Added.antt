@@ -1,6 +1,7 @@
 -- Each step adds to the sums over all dialogues what its output tells.
-use Rattle.std.proofs.Common.{◌≡◌, ℕ, ◌<◌, ◌≤◌, ◌+◌, Bool, true, false, cond, eqb, not, Option, Some, None, List, [], ◌∷◌, ◌++◌, length, refl, sym, ◌∙◌, ap, subst, arith, zero, suc, ⊎_elim, add-one, append-nil, length-append}
-use Rattle.std.specs.Prelude.{option_map}
+use Rattle.std.proofs.Common.{◌≡◌, ℕ, ◌<◌, ◌≤◌, ◌+◌, Bool, true, false, cond, eqb, not, Option, Some, None, List, [], ◌∷◌, ◌++◌, length, refl, sym, ◌∙◌, ap, subst, arith, zero, suc, ⊎_elim, add-one, length-append}
+use Rattle.std.specs.Prelude.{count_by, option_map, reverse}
+use Rattle.std.specs.List.{sum_by}
 use Rattle.std.proofs.lemmas.Bool.{cases_Bool, eqb-false, eqb-true, ne_eqb}
 use Rattle.std.proofs.lemmas.Bool.Decides.{leb_tells}
 use Rattle.std.proofs.lemmas.List.Sums.{sum_by-append}
@@ -14,7 +15,7 @@ use Rattle.fp_book.specs.declared.verdict.Verdict.{Verdict}
 use Rattle.fp_book.specs.declared.verdict.Verdict.TheVariants.{Discard, Refuse, Open, Extend}
 use Rattle.fp_book.specs.Calls.{Follows, GivesDone, Sends, abort_for, entries_in}
 use Rattle.fp_book.specs.Shelf.{Shelf, Sound}
-use Rattle.fp_book.specs.Verdict.{named as named_in, verdict}
+use Rattle.fp_book.specs.Verdict.{verdict}
 use Rattle.fp_entry.specs.declared.entry.Entry.{Entry}
 use Rattle.fp_entry.specs.declared.entry.EntryKind.TheVariants.{Clock}
 use Rattle.fp_entry.specs.declared.prepared.Prepared.{Prepared}
@@ -24,20 +25,20 @@ use Rattle.fp_entry.specs.Prepared.{arrival_of, components_of as components_came
 use Rattle.fp_q773.specs.declared.provider_abort.AbortCause.{AbortCause}
 use Rattle.fp_q773.specs.declared.tid.Tid.{Tid}
 use Rattle.fp_row.specs.declared.done.Done.{Done}
-use Rattle.fp_row.specs.declared.row.Row.{Row}
 use Rattle.fp_tids.specs.Identifiers.{identifier}
 use Rattle.fp_steps.specs.declared.output.Output.{Output}
 use Rattle.fp_steps.specs.declared.output.Output.TheVariants as outputs
 use Rattle.fp_steps.specs.declared.step.Step.{Step}
 use Rattle.fp_steps.specs.declared.step.Step.TheVariants as steps
-use Rattle.fp_steps.specs.Accepted.{accepted, accepted_in, course, position_in, positions}
+use Rattle.fp_steps.specs.Accepted.{accepted, accepted_in, course, position_in, positions, served}
 use Rattle.fp_steps.specs.Births.{births, destination, for_one, named}
+use Rattle.fp_steps.specs.Headline.{Headline}
 use Rattle.fp_steps.specs.History.{Event}
 use Rattle.fp_steps.specs.Lines.{answer_by, components_in}
-use Rattle.fp_steps.specs.Makes.{Drained, MakesOf, components_by}
+use Rattle.fp_steps.specs.Makes.{Drained, MakesOf}
 use Rattle.fp_steps.specs.Sending.{Handed, frame_for, out, out_after, sent, sent_in}
 use Rattle.fp_steps.specs.Tied.{Story, Tied, handed, story, untold}
-use Rattle.fp_steps.specs.Totals.{all_components, all_sent, all_served, components_of, is_gave, is_sent, local_after, sum_to}
+use Rattle.fp_steps.specs.Totals.{AddUp, all_components, all_sent, components_of, frames_sent, is_gave, is_sent, local_after, local_out, sum_to}
 use Rattle.fp_steps.proofs.Births.{sum_to_same}
 use Rattle.fp_steps.proofs.Cases.{Cases, by_made}
 use Rattle.fp_steps.proofs.Dialogues.{named_of}
@@ -48,6 +49,7 @@ use Rattle.fp_steps.proofs.Nexts.{Tied-drained}
 use Rattle.fp_steps.proofs.Parcels.{frame_local, none_named}
 use Rattle.fp_steps.proofs.Refused.{posts}
 use Rattle.fp_steps.proofs.Stories.{for_other, for_own}
+use Rattle.fp_steps.proofs.Tally.{newest, sum_one as one_more}
 use Rattle.fp_steps.proofs.Verdicts.{answer_is}
 
 -- SUMS
@@ -122,10 +124,14 @@ sent_stay n h e none = sum_to_same n (sent_at (e ∷ h)) (sent_at h) (λ d from 
 abbrev pub local_in : Option Handed → Option ℕ
 local_in o = option_map (λ (handed : Handed). handed.local) o
 
+-- the places that were served, of all dialogues
+abbrev pub all_places : List Event → ℕ
+all_places h = sum_to (births h) (served_at h)
+
 -- an event adds what its output tells
 pub record Adds (h : List Event) (e : Event) : Type 0 where
   pub accepted : all_components (e ∷ h) ≡ all_components h + components_of e.output
-  pub served : all_served (e ∷ h) ≡ all_served h + cond {A = ℕ} (is_gave e.output) 1 0
+  pub served : all_places (e ∷ h) ≡ all_places h + cond {A = ℕ} (is_gave e.output) 1 0
   pub sent : all_sent (e ∷ h) ≡ all_sent h + cond {A = ℕ} (is_sent e.output (local_in (out h))) 1 0
 
 plus_none : (m n k : ℕ) → m ≡ n → k ≡ 0 → m ≡ n + k
@@ -305,7 +311,7 @@ adds_drained h e old new anew t g =
     by_made (AddsBy h e.came) e.step e.came e.output before g.after (adds h e.came before g.after anew (Tied-drained h old g.before t) g.sound) g.makes
 
 -- what is out, as the outputs tell it
-pub local_more : (output : Output) (o : Option Handed) (before : Option ℕ) → before ≡ local_in o → local_after output before ≡ local_in (out_after output o)
+local_more : (output : Output) (o : Option Handed) (before : Option ℕ) → before ≡ local_in o → local_after output before ≡ local_in (out_after output o)
 local_more (outputs.Posted answer components) o before is = is
 local_more (outputs.Ticked added wanting) o before is = is
 local_more (outputs.Took local position) o before is = is
@@ -318,3 +324,36 @@ local_more outputs.Sent o before is = refl
 local_more outputs.Unsent o before is = refl
 local_more outputs.Down o before is = is
 local_more outputs.Nothing o before is = is
+
+-- the sums of these outputs, so far
+pub record Counted (outputs : List Output) (h : List Event) : Type 0 where
+  pub accepted : sum_by components_of outputs ≡ all_components h
+  pub served : count_by is_gave outputs ≡ all_places h
+  pub sent : frames_sent (reverse outputs) ≡ all_sent h
+  -- what is out, as the outputs tell it
+  pub local : local_out (reverse outputs) ≡ local_in (out h)
+
+pub counted_none : Counted [] []
+counted_none = record { accepted = refl; served = refl; sent = refl; local = refl }
+
+pub counted_more : (outputs : List Output) (h : List Event) (e : Event) → Counted outputs h → Adds h e → Counted (outputs ++ e.output ∷ []) (e ∷ h)
+counted_more outputs h e k g =
+    let output = e.output in
+    let gave : Output → ℕ = λ o. one_if (is_gave o) in
+    let accepted : sum_by components_of (outputs ++ output ∷ []) ≡ sum_by components_of outputs + components_of output = one_more components_of outputs output in
+    let served : count_by is_gave (outputs ++ output ∷ []) ≡ count_by is_gave outputs + gave output = one_more gave outputs output in
+    let sent : frames_sent (reverse (outputs ++ output ∷ [])) ≡ frames_sent (reverse outputs) + one_if (is_sent output (local_out (reverse outputs))) = ap frames_sent (newest outputs output) in
+    record {
+      accepted = accepted ∙ ap (λ n. n + components_of output) k.accepted ∙ sym g.accepted;
+      served = served ∙ ap (λ n. n + gave output) k.served ∙ sym g.served;
+      sent = sent ∙ ap (λ n. n + one_if (is_sent output (local_out (reverse outputs)))) k.sent ∙ ap (λ o. all_sent h + one_if (is_sent output o)) k.local ∙ sym g.sent;
+      local = ap local_out (newest outputs output) ∙ local_more output (out h) (local_out (reverse outputs)) k.local;
+    }
+
+-- each place that was served holds an entry
+pub add_up : (outputs : List Output) (h : List Event) → Counted outputs h → Headline h → AddUp outputs h
+add_up outputs h k l = record {
+  accepted = k.accepted;
+  served = k.served ∙ sum_to_same (births h) (served_at h) (λ d. length (served h d)) (λ d from to. sym (l.each_there d));
+  sent = k.sent;
+}

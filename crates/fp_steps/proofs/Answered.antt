@@ -1,5 +1,5 @@
 -- Each output is the answer that its history tells.
-use Rattle.std.proofs.Common.{◌≡◌, ℕ, ◌≤◌, ◌+◌, Bool, true, false, cond, not, ◌&&◌, Option, Some, None, List, length, is_some, refl, sym, ◌∙◌, ap, subst, arith}
+use Rattle.std.proofs.Common.{◌≡◌, ℕ, ◌≤◌, ◌+◌, Bool, true, false, cond, Option, Some, None, List, length, is_some, refl, sym, ◌∙◌, ap, subst, arith}
 use Rattle.std.specs.Prelude.{option_map, slice_get}
 use Rattle.std.specs.Option.{option_and_then}
 use Rattle.std.specs.FinMap as map
@@ -24,7 +24,7 @@ use Rattle.fp_service.specs.Serve.{request_of}
 use Rattle.fp_tids.specs.Identifiers.{identifier}
 use Rattle.fp_steps.specs.declared.output.Output.{Output}
 use Rattle.fp_steps.specs.declared.output.Output.TheVariants as outputs
-use Rattle.fp_steps.specs.Accepted.{accepted, core_of, ending, is_due, is_ended, is_full, positions}
+use Rattle.fp_steps.specs.Accepted.{accepted, core_of, ending, is_due, is_ended, positions}
 use Rattle.fp_steps.specs.Answers.{gave, given_for, if_out, next_request, put_back, ticked}
 use Rattle.fp_steps.specs.Births.{births, named}
 use Rattle.fp_steps.specs.History.{Event}
@@ -219,14 +219,14 @@ pub ticked_is : (h : List Event) (old new : Shelf) (moment added wanting : ℕ) 
 ticked_is h old new moment added wanting t k none g =
     let f : Row → ℕ = λ row. cond {A = ℕ} (due_at old moment row) 1 0 in
     let all : sum_of f old.rows ≡ sum_to (births h) (λ d. amount f (map.get old.rows (identifier old.link d))) = sum_births f old.link (births h) old.rows (born h old t k) in
-    let due : sum_to (births h) (λ d. amount f (map.get old.rows (identifier old.link d))) ≡ how_many (births h) (λ d. not (is_full h) && is_due h moment d) =
-    sum_to_same (births h) (λ d. amount f (map.get old.rows (identifier old.link d))) (λ d. cond {A = ℕ} (not (is_full h) && is_due h moment d) 1 0)
+    let due : sum_to (births h) (λ d. amount f (map.get old.rows (identifier old.link d))) ≡ how_many (births h) (is_due h moment) =
+    sum_to_same (births h) (λ d. amount f (map.get old.rows (identifier old.link d))) (λ d. cond {A = ℕ} (is_due h moment d) 1 0)
     (λ d first last. due_at_is h old moment d (map.get old.rows (identifier old.link d)) t k refl (t.rows d))
-    ∙ sym (how_many_is (births h) (λ d. not (is_full h) && is_due h moment d))
+    ∙ sym (how_many_is (births h) (is_due h moment))
     in
     let count : added + wanting ≡ sum_of f old.rows = g.wanting_is in
-    let is : added ≡ how_many (births h) (λ d. not (is_full h) && is_due h moment d) = omega (arith, count, none, all, due) in
-    ap (λ n. outputs.Ticked n wanting) is ∙ ap (λ n. outputs.Ticked (how_many (births h) (λ d. not (is_full h) && is_due h moment d)) n) none
+    let is : added ≡ how_many (births h) (is_due h moment) = omega (arith, count, none, all, due) in
+    ap (λ n. outputs.Ticked n wanting) is ∙ ap (λ n. outputs.Ticked (how_many (births h) (is_due h moment)) n) none
 
 pub answer_tick : (h : List Event) (moment : ℕ) (output : Output) (old new : Shelf) → Tied h old → Sound old → TicksTo moment output old new → output ≡ ticked h moment
 answer_tick h moment (outputs.Posted answer components) old new t k g = absurd g

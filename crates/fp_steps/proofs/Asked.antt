@@ -31,7 +31,7 @@ use Rattle.fp_steps.specs.Makes.{PicksTo, TakesTo}
 use Rattle.fp_steps.specs.Sending.{Handed, abort_out, aborts, aborts_sent, out}
 use Rattle.fp_steps.specs.Tied.{AbortsTied, IsTied, Tied, TiedAt, handed, story}
 use Rattle.fp_steps.specs.Turns.{is_ready, turn_out}
-use Rattle.fp_steps.specs.Waiting.{Accepted, aborts_waiting, how_many, places, waiting}
+use Rattle.fp_steps.specs.Waiting.{QueuedFrame, aborts_waiting, how_many, places, waiting}
 use Rattle.fp_steps.proofs.Answered.{born}
 use Rattle.fp_steps.proofs.Births.{how_many_is, sum_births, sum_to_same}
 use Rattle.fp_steps.specs.Totals.{sum_to}
@@ -139,7 +139,7 @@ aborts_by h s false t k is =
 pub aborts_wait : (h : List Event) (s : Shelf) → Tied h s → Sound s → Lined h s → aborts_waiting h ≡ map_list frame_octets s.outbox.aborts
 aborts_wait h s t k l = ap (λ b. cond b [] (drop (length (aborts_sent h ++ abort_out (out h))) (aborts h))) l.down ∙ aborts_by h s s.is_down t k refl
 
-none_waits : (link : ℕ) (xs : List Accepted) → map_list (as_waiting link) xs ≡ [] → xs ≡ []
+none_waits : (link : ℕ) (xs : List QueuedFrame) → map_list (as_waiting link) xs ≡ [] → xs ≡ []
 none_waits link [] e = refl
 none_waits link (x ∷ xs) e = absurd (let clash : as_waiting link x ∷ map_list (as_waiting link) xs ≡ [] = e in cc)
 

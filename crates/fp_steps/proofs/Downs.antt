@@ -43,7 +43,7 @@ abbrev pub closed_if : Bool → Option Ending → Option Ending
 closed_if b before = cond b (Some Closed) before
 
 straight_ended : (d : ℕ) (t : Story) (x : Option Ending) → IsStraight d t → IsStraight d (with_end t x)
-straight_ended d t x s = record { served_first = s.served_first; sent_first = s.sent_first; each_once = s.each_once; sent_queued = s.sent_queued; queued_first = s.queued_first }
+straight_ended d t x s = record { served_first = s.served_first; sent_first = s.sent_first; each_once = s.each_once; each_there = s.each_there; sent_queued = s.sent_queued; queued_first = s.queued_first }
 
 -- what is gone stays so
 pub gone_ended : (n d : ℕ) (t : Story) (b : Bool) → IsGone n d t → IsGone n d (with_end t (closed_if b t.ended))

@@ -5,23 +5,23 @@ use Rattle.std.specs.Prelude.{⊤, filter, nat_le}
 use Rattle.std.proofs.lemmas.Bool.{and_right, cases_Bool, eqb-true, eq-eqb, lt-leb}
 use Rattle.std.proofs.lemmas.Bool.Decides.{leb_tells}
 use Rattle.fp_book.proofs.Queue.{eqb_swap}
-use Rattle.fp_steps.specs.Waiting.{Accepted}
+use Rattle.fp_steps.specs.Waiting.{QueuedFrame}
 
 -- one more of a dialogue
 abbrev pub bump : ℕ → (ℕ → ℕ) → ℕ → ℕ
 bump d f c = cond (eqb c d) (suc (f c)) (f c)
 
 -- the places of each dialogue's frames are one behind the other, from these on
-abbrev pub Numbered : (ℕ → ℕ) → List Accepted → Type 0
+abbrev pub Numbered : (ℕ → ℕ) → List QueuedFrame → Type 0
 Numbered f [] = ⊤
 Numbered f (a ∷ xs) = (a.place ≡ f a.dialogue) × Numbered (bump a.dialogue f) xs
 
 -- how many are of a dialogue
-abbrev pub n_of : ℕ → List Accepted → ℕ
+abbrev pub n_of : ℕ → List QueuedFrame → ℕ
 n_of d [] = 0
 n_of d (a ∷ xs) = cond (eqb a.dialogue d) (suc (n_of d xs)) (n_of d xs)
 
-pub n_of-snoc : (d : ℕ) (xs : List Accepted) (a : Accepted) → n_of d (xs ++ a ∷ []) ≡ n_of d xs + cond {A = ℕ} (eqb a.dialogue d) 1 0
+pub n_of-snoc : (d : ℕ) (xs : List QueuedFrame) (a : QueuedFrame) → n_of d (xs ++ a ∷ []) ≡ n_of d xs + cond {A = ℕ} (eqb a.dialogue d) 1 0
 n_of-snoc d [] a = ⊎_elim (λ e. ap (λ b. cond {A = ℕ} b 1 0) e ∙ sym (ap (λ b. 0 + cond {A = ℕ} b 1 0) e)) (λ e. ap (λ b. cond {A = ℕ} b 1 0) e ∙ sym (ap (λ b. 0 + cond {A = ℕ} b 1 0) e)) (cases_Bool (eqb a.dialogue d))
 n_of-snoc d (b ∷ xs) a =
     ⊎_elim
@@ -48,7 +48,7 @@ bump_more d c f = ⊎_elim (λ e. omega (arith, bump_own d c f e)) (λ e. omega 
 eqb_turn : (a b : ℕ) → eqb a b ≡ true → eqb b a ≡ true
 eqb_turn a b e = eq-eqb b a (sym (eqb-true a b e))
 
-pub numbered-snoc : (f : ℕ → ℕ) (xs : List Accepted) (a : Accepted) → Numbered f xs → a.place ≡ f a.dialogue + n_of a.dialogue xs → Numbered f (xs ++ a ∷ [])
+pub numbered-snoc : (f : ℕ → ℕ) (xs : List QueuedFrame) (a : QueuedFrame) → Numbered f xs → a.place ≡ f a.dialogue + n_of a.dialogue xs → Numbered f (xs ++ a ∷ [])
 numbered-snoc f [] a n is = (is ∙ add-zero (f a.dialogue), tt)
 numbered-snoc f (b ∷ xs) a n is = (
   n.0,
@@ -64,7 +64,7 @@ numbered-snoc f (b ∷ xs) a n is = (
 )
 
 -- a frame waits where its dialogue's go out, and so many of them were picked at most
-abbrev pub waits_by : (ℕ → Bool) → (ℕ → ℕ) → Accepted → Bool
+abbrev pub waits_by : (ℕ → Bool) → (ℕ → ℕ) → QueuedFrame → Bool
 waits_by sends k a = sends a.dialogue && nat_le (k a.dialogue) a.place
 
 at_most : (a b : ℕ) → a ≤ b → nat_le a b ≡ true
@@ -80,12 +80,12 @@ right_of : (a b : Bool) → (a && b) ≡ true → b ≡ true
 right_of true b e = e
 right_of false b e = absurd (cc)
 
-filter_both : (p q : Accepted → Bool) (a : Accepted) (xs : List Accepted) (b : Bool) → p a ≡ b → q a ≡ b → filter p xs ≡ filter q xs → filter p (a ∷ xs) ≡ filter q (a ∷ xs)
+filter_both : (p q : QueuedFrame → Bool) (a : QueuedFrame) (xs : List QueuedFrame) (b : Bool) → p a ≡ b → q a ≡ b → filter p xs ≡ filter q xs → filter p (a ∷ xs) ≡ filter q (a ∷ xs)
 filter_both p q a xs b x y e =
     ap (λ b. cond b (a ∷ filter p xs) (filter p xs)) (x ∙ sym y) ∙ ap (λ r. cond (q a) (a ∷ r) r) e
 
 -- none of a dialogue's later frames is affected where one more of it was picked
-pub stay_all : (sends : ℕ → Bool) (k : ℕ → ℕ) (d : ℕ) (g : ℕ → ℕ) (xs : List Accepted) → Numbered g xs → k d < g d → filter (waits_by sends (bump d k)) xs ≡ filter (waits_by sends k) xs
+pub stay_all : (sends : ℕ → Bool) (k : ℕ → ℕ) (d : ℕ) (g : ℕ → ℕ) (xs : List QueuedFrame) → Numbered g xs → k d < g d → filter (waits_by sends (bump d k)) xs ≡ filter (waits_by sends k) xs
 stay_all sends k d g [] n lt = refl
 stay_all sends k d g (a ∷ xs) n lt =
     let c = a.dialogue in
@@ -104,19 +104,19 @@ stay_all sends k d g (a ∷ xs) n lt =
     (cases_Bool (eqb c d))
 
 -- what becomes of those that wait where the oldest is picked
-pub record Goes (sends : ℕ → Bool) (k f : ℕ → ℕ) (xs : List Accepted) (first : Accepted) (rest : List Accepted) : Type 0 where
+pub record Goes (sends : ℕ → Bool) (k f : ℕ → ℕ) (xs : List QueuedFrame) (first : QueuedFrame) (rest : List QueuedFrame) : Type 0 where
   pub left : filter (waits_by sends (bump first.dialogue k)) xs ≡ rest
   pub place : first.place ≡ k first.dialogue
   pub within : k first.dialogue < f first.dialogue + n_of first.dialogue xs
 
-the_first : (a b : Accepted) (xs bs : List Accepted) → a ∷ xs ≡ b ∷ bs → (a ≡ b) × (xs ≡ bs)
+the_first : (a b : QueuedFrame) (xs bs : List QueuedFrame) → a ∷ xs ≡ b ∷ bs → (a ≡ b) × (xs ≡ bs)
 the_first a b xs bs e = ((let x : a ≡ b = cc in x), (let y : xs ≡ bs = cc in y))
 
 left_of : (a b : Bool) → (a && b) ≡ true → a ≡ true
 left_of true b e = refl
 left_of false b e = absurd (cc)
 
-first_here : (sends : ℕ → Bool) (k f : ℕ → ℕ) (a : Accepted) (xs : List Accepted) → Numbered f (a ∷ xs) → (sends a.dialogue ≡ true → f a.dialogue ≤ k a.dialogue) → waits_by sends k a ≡ true
+first_here : (sends : ℕ → Bool) (k f : ℕ → ℕ) (a : QueuedFrame) (xs : List QueuedFrame) → Numbered f (a ∷ xs) → (sends a.dialogue ≡ true → f a.dialogue ≤ k a.dialogue) → waits_by sends k a ≡ true
     → Goes sends k f (a ∷ xs) a (filter (waits_by sends k) xs)
 first_here sends k f a xs n few w =
     let d = a.dialogue in
@@ -136,7 +136,7 @@ first_here sends k f a xs n few w =
       within = omega (arith, le, place, count);
     }
 
-still_few : (sends : ℕ → Bool) (k f : ℕ → ℕ) (a : Accepted) → a.place ≡ f a.dialogue → ((c : ℕ) → sends c ≡ true → f c ≤ k c) → waits_by sends k a ≡ false
+still_few : (sends : ℕ → Bool) (k f : ℕ → ℕ) (a : QueuedFrame) → a.place ≡ f a.dialogue → ((c : ℕ) → sends c ≡ true → f c ≤ k c) → waits_by sends k a ≡ false
     → (c : ℕ) → sends c ≡ true → bump a.dialogue f c ≤ k c
 still_few sends k f a place few w c alive =
     let le : f c ≤ k c = few c alive in
@@ -151,7 +151,7 @@ still_few sends k f a place few w c alive =
     (λ e. omega (arith, bump_other a.dialogue c f e, le))
     (cases_Bool (eqb c a.dialogue))
 
-stays_gone : (sends : ℕ → Bool) (k : ℕ → ℕ) (d : ℕ) (a : Accepted) → waits_by sends k a ≡ false → waits_by sends (bump d k) a ≡ false
+stays_gone : (sends : ℕ → Bool) (k : ℕ → ℕ) (d : ℕ) (a : QueuedFrame) → waits_by sends k a ≡ false → waits_by sends (bump d k) a ≡ false
 stays_gone sends k d a w =
     let c = a.dialogue in
     ⊎_elim
@@ -161,7 +161,7 @@ stays_gone sends k d a w =
     (λ dead. ap (λ b. b && nat_le (bump d k c) a.place) dead)
     (cases_Bool (sends c))
 
-n_of_more : (d : ℕ) (f : ℕ → ℕ) (a : Accepted) (xs : List Accepted) → bump a.dialogue f d + n_of d xs ≡ f d + n_of d (a ∷ xs)
+n_of_more : (d : ℕ) (f : ℕ → ℕ) (a : QueuedFrame) (xs : List QueuedFrame) → bump a.dialogue f d + n_of d xs ≡ f d + n_of d (a ∷ xs)
 n_of_more d f a xs =
     ⊎_elim
     (λ e.
@@ -172,7 +172,7 @@ n_of_more d f a xs =
     omega (arith, r, bump_other a.dialogue d f (eqb_swap a.dialogue d e)))
     (cases_Bool (eqb a.dialogue d))
 
-pub first_goes : (sends : ℕ → Bool) (k f : ℕ → ℕ) (xs : List Accepted) (first : Accepted) (rest : List Accepted) → Numbered f xs → ((c : ℕ) → sends c ≡ true → f c ≤ k c) → filter (waits_by sends k) xs ≡ first ∷ rest
+pub first_goes : (sends : ℕ → Bool) (k f : ℕ → ℕ) (xs : List QueuedFrame) (first : QueuedFrame) (rest : List QueuedFrame) → Numbered f xs → ((c : ℕ) → sends c ≡ true → f c ≤ k c) → filter (waits_by sends k) xs ≡ first ∷ rest
     → Goes sends k f xs first rest
 first_goes sends k f [] first rest n few is = absurd (let clash : [] ≡ first ∷ rest = is in cc)
 first_goes sends k f (a ∷ xs) first rest n few is =
@@ -193,11 +193,11 @@ first_goes sends k f (a ∷ xs) first rest n few is =
     (cases_Bool (waits_by sends k a))
 
 -- those that go out by the same tests are the same
-pub filter_same : (p q : Accepted → Bool) (xs : List Accepted) → ((a : Accepted) → p a ≡ q a) → filter p xs ≡ filter q xs
+pub filter_same : (p q : QueuedFrame → Bool) (xs : List QueuedFrame) → ((a : QueuedFrame) → p a ≡ q a) → filter p xs ≡ filter q xs
 filter_same p q [] same = refl
 filter_same p q (a ∷ xs) same = filter_both p q a xs (q a) (same a) refl (filter_same p q xs same)
 
 -- none goes out where none is to
-pub filter_none : (p : Accepted → Bool) (xs : List Accepted) → ((a : Accepted) → p a ≡ false) → filter p xs ≡ []
+pub filter_none : (p : QueuedFrame → Bool) (xs : List QueuedFrame) → ((a : QueuedFrame) → p a ≡ false) → filter p xs ≡ []
 filter_none p [] none = refl
 filter_none p (a ∷ xs) none = ap (λ b. cond b (a ∷ filter p xs) (filter p xs)) (none a) ∙ filter_none p xs none

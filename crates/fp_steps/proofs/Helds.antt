@@ -25,7 +25,7 @@ use Rattle.fp_steps.specs.Lined.{Lined, as_waiting}
 use Rattle.fp_steps.specs.Sending.{Handed}
 use Rattle.fp_steps.specs.Tied.{Tied, TiedAt, handed, story}
 use Rattle.fp_steps.specs.Turns.{turn_out, waits}
-use Rattle.fp_steps.specs.Waiting.{Accepted, frame_is_out, has_frame, held, how_many, is_held, waiting}
+use Rattle.fp_steps.specs.Waiting.{QueuedFrame, frame_is_out, has_frame, held, how_many, is_held, waiting}
 use Rattle.fp_steps.proofs.Answered.{born}
 use Rattle.fp_steps.proofs.Asked.{none_at}
 use Rattle.fp_steps.proofs.Births.{how_many_is, sum_births, sum_to_same}
@@ -37,16 +37,16 @@ use Rattle.fp_steps.proofs.Stories.{is_other, is_own, waits_tied}
 
 -- a frame of a dialogue is among those
 
-abbrev any_of : ℕ → List Accepted → Bool
-any_of d xs = list_any (λ (a : Accepted). eqb a.dialogue d) xs
+abbrev any_of : ℕ → List QueuedFrame → Bool
+any_of d xs = list_any (λ (a : QueuedFrame). eqb a.dialogue d) xs
 
-own_first : (link d : ℕ) (a : Accepted) (rest : List Waiting) → eqb a.dialogue d ≡ true → frames_for (identifier link d) (as_waiting link a ∷ rest) ≡ a.frame ∷ frames_for (identifier link d) rest
+own_first : (link d : ℕ) (a : QueuedFrame) (rest : List Waiting) → eqb a.dialogue d ≡ true → frames_for (identifier link d) (as_waiting link a ∷ rest) ≡ a.frame ∷ frames_for (identifier link d) rest
 own_first link d a rest e = first_own (identifier link d) (as_waiting link a) rest (ap (identifier link) (eqb-true a.dialogue d e))
 
-other_first : (link d : ℕ) (a : Accepted) (rest : List Waiting) → eqb a.dialogue d ≡ false → frames_for (identifier link d) (as_waiting link a ∷ rest) ≡ frames_for (identifier link d) rest
+other_first : (link d : ℕ) (a : QueuedFrame) (rest : List Waiting) → eqb a.dialogue d ≡ false → frames_for (identifier link d) (as_waiting link a ∷ rest) ≡ frames_for (identifier link d) rest
 other_first link d a rest e = ap (λ b. cond b (a.frame ∷ []) [] ++ frames_for (identifier link d) rest) (apart link a.dialogue d e)
 
-none_any : (link d : ℕ) (xs : List Accepted) → frames_for (identifier link d) (map_list (as_waiting link) xs) ≡ [] → any_of d xs ≡ false
+none_any : (link d : ℕ) (xs : List QueuedFrame) → frames_for (identifier link d) (map_list (as_waiting link) xs) ≡ [] → any_of d xs ≡ false
 none_any link d [] e = refl
 none_any link d (a ∷ xs) e =
     ⊎_elim
@@ -54,7 +54,7 @@ none_any link d (a ∷ xs) e =
     (λ other. ap (λ b. b || any_of d xs) other ∙ none_any link d xs (sym (other_first link d a (map_list (as_waiting link) xs) other) ∙ e))
     (cases_Bool (eqb a.dialogue d))
 
-any_none : (link d : ℕ) (xs : List Accepted) → any_of d xs ≡ false → frames_for (identifier link d) (map_list (as_waiting link) xs) ≡ []
+any_none : (link d : ℕ) (xs : List QueuedFrame) → any_of d xs ≡ false → frames_for (identifier link d) (map_list (as_waiting link) xs) ≡ []
 any_none link d [] e = refl
 any_none link d (a ∷ xs) e =
     let parts : (eqb a.dialogue d ≡ false) × (any_of d xs ≡ false) = or_parts (eqb a.dialogue d) (any_of d xs) e in

@@ -13,7 +13,7 @@ use Rattle.fp_book.specs.Verdict.{verdict}
 use Rattle.fp_entry.specs.declared.prepared.Prepared.{Prepared}
 use Rattle.fp_entry.specs.declared.prepared.Prepared.TheVariants as prepared
 use Rattle.fp_steps.specs.declared.output.Output.TheVariants as outputs
-use Rattle.fp_steps.specs.History.{is_lost}
+use Rattle.fp_book.specs.Lines.{is_lost}
 use Rattle.fp_steps.specs.Makes.{Drained, Posts, TakesLine, components_by, components_if, is_lost_step, tells_lost}
 
 -- one was taken

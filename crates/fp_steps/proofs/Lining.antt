@@ -37,7 +37,7 @@ use Rattle.fp_steps.specs.History.{Event}
 use Rattle.fp_steps.specs.Lined.{ByAge, Lined, Sorted, as_waiting}
 use Rattle.fp_steps.specs.Sending.{queued, queued_in}
 use Rattle.fp_steps.specs.Tied.{IsTied, Tied, story}
-use Rattle.fp_steps.specs.Waiting.{Accepted, frames, frames_by, is_down, is_sending, is_waiting, picked, waiting}
+use Rattle.fp_steps.specs.Waiting.{QueuedFrame, frames, frames_by, is_down, is_sending, is_waiting, picked, waiting}
 use Rattle.fp_steps.proofs.Dialogues.{named_of, tied_of}
 use Rattle.fp_steps.proofs.Frames.{Goes, bump, filter_none, filter_same, first_goes, n_of, waits_by}
 use Rattle.fp_steps.proofs.Numbers.{counted, made_of, numbered, zero_of}
@@ -244,14 +244,14 @@ moves_unsent h step came old new parcel l u =
 -- a parcel is handed out
 
 -- the first that waits
-pub record First (link : ℕ) (xs : List Accepted) (w : Waiting) (rest : List Waiting) : Type 0 where
-  pub first : Accepted
-  pub others : List Accepted
+pub record First (link : ℕ) (xs : List QueuedFrame) (w : Waiting) (rest : List Waiting) : Type 0 where
+  pub first : QueuedFrame
+  pub others : List QueuedFrame
   pub is : xs ≡ first ∷ others
   pub first_is : as_waiting link first ≡ w
   pub others_are : map_list (as_waiting link) others ≡ rest
 
-pub first_of : (link : ℕ) (xs : List Accepted) (w : Waiting) (rest : List Waiting) → map_list (as_waiting link) xs ≡ w ∷ rest → First link xs w rest
+pub first_of : (link : ℕ) (xs : List QueuedFrame) (w : Waiting) (rest : List Waiting) → map_list (as_waiting link) xs ≡ w ∷ rest → First link xs w rest
 first_of link [] w rest e = absurd (let clash : [] ≡ w ∷ rest = e in cc)
 first_of link (x ∷ xs) w rest e = record { first = x; others = xs; is = refl; first_is = (let f : as_waiting link x ∷ map_list (as_waiting link) xs ≡ w ∷ rest = e in cc); others_are = (let f : as_waiting link x ∷ map_list (as_waiting link) xs ≡ w ∷ rest = e in cc) }
 

@@ -301,6 +301,7 @@ straight_none d = record {
   served_first = (_, refl);
   sent_first = (_, refl);
   each_once = refl;
+  each_there = refl;
   sent_queued = ([], refl);
   queued_first = (_, refl);
 }
@@ -340,5 +341,6 @@ headline law h s t = record {
   apart = λ c d b g at_c at_d same.
       let one : identifier s.link c ≡ identifier s.link d = sym (t.begins c b at_c) ∙ same ∙ t.begins d g at_d in
       omega (arith, one);
+  each_there = λ d. (straight_at law (births h) d (story h d) (map.get s.rows (identifier s.link d)) (t.rows d)).each_there;
   aborts_first = let a : AbortsTied h s = t.aborts_are in (abort_out (out h) ++ a.rest, a.all);
 }

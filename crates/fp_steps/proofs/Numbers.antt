@@ -10,19 +10,19 @@ use Rattle.fp_steps.specs.declared.output.Output.TheVariants as outputs
 use Rattle.fp_steps.specs.Births.{for_one, named}
 use Rattle.fp_steps.specs.History.{Event}
 use Rattle.fp_steps.specs.Sending.{frame_at, if_queued, queued, queued_in}
-use Rattle.fp_steps.specs.Waiting.{Accepted, frames, frames_after, frames_by}
+use Rattle.fp_steps.specs.Waiting.{QueuedFrame, frames, frames_after, frames_by}
 use Rattle.fp_steps.proofs.Frames.{Numbered, n_of, numbered-snoc}
 use Rattle.fp_steps.proofs.Served.{none_queued}
 use Rattle.fp_steps.proofs.Stories.{for_other}
 
 -- a frame that is accepted for sending now
-abbrev pub made_of : List Event → ℕ → List ℕ → Accepted
+abbrev pub made_of : List Event → ℕ → List ℕ → QueuedFrame
 made_of h d frame = record { dialogue = d; place = length (queued h d); frame = frame }
 
 abbrev pub zero_of : ℕ → ℕ
 zero_of d = 0
 
-n_of-append : (d : ℕ) (xs ys : List Accepted) → n_of d (xs ++ ys) ≡ n_of d xs + n_of d ys
+n_of-append : (d : ℕ) (xs ys : List QueuedFrame) → n_of d (xs ++ ys) ≡ n_of d xs + n_of d ys
 n_of-append d [] ys = let e : n_of d ys ≡ 0 + n_of d ys = omega arith in e
 n_of-append d (x ∷ xs) ys =
     let rest : n_of d (xs ++ ys) ≡ n_of d xs + n_of d ys = n_of-append d xs ys in
@@ -78,7 +78,7 @@ one_queued Queued None d q = omega arith
 one_queued Queued (Some c) d None = most_by (eqb d c) [] (omega arith)
 one_queued Queued (Some c) d (Some frame) = most_by (eqb d c) (frame ∷ []) (omega arith)
 
-numbered_more : (h : List Event) (d : ℕ) (fs : List Accepted) (xs : List (List ℕ)) → length xs ≤ 1 → Numbered zero_of fs → n_of d fs ≡ length (queued h d) → Numbered zero_of (fs ++ map (made_of h d) xs)
+numbered_more : (h : List Event) (d : ℕ) (fs : List QueuedFrame) (xs : List (List ℕ)) → length xs ≤ 1 → Numbered zero_of fs → n_of d fs ≡ length (queued h d) → Numbered zero_of (fs ++ map (made_of h d) xs)
 numbered_more h d fs [] few n same = subst (Numbered zero_of) (sym (append-nil fs)) n
 numbered_more h d fs (x ∷ []) few n same = numbered-snoc zero_of fs (made_of h d x) n (let e : n_of d fs ≡ length (queued h d) = same in omega (arith, e))
 numbered_more h d fs (x ∷ y ∷ xs) few n same = absurd (omega (arith, few))

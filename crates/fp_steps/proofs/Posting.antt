@@ -27,7 +27,7 @@ use Rattle.fp_steps.specs.Accepted.{ending, ending_at, ending_by, is_ending}
 use Rattle.fp_steps.specs.History.{Event}
 use Rattle.fp_steps.specs.Lined.{Lined, as_waiting}
 use Rattle.fp_steps.specs.Tied.{Tied}
-use Rattle.fp_steps.specs.Waiting.{Accepted, frames, is_down, is_sending, is_waiting, picked, waiting}
+use Rattle.fp_steps.specs.Waiting.{QueuedFrame, frames, is_down, is_sending, is_waiting, picked, waiting}
 use Rattle.fp_steps.proofs.Dialogues.{apart}
 use Rattle.fp_steps.proofs.Frames.{filter_same, waits_by}
 use Rattle.fp_steps.proofs.Grown.{unended}
@@ -51,7 +51,7 @@ still_none false b c e = refl
 still_none true true c e = e
 still_none true false c e = refl
 
-drops_by : (link b : ℕ) (sends : ℕ → Bool) (k : ℕ → ℕ) (a : Accepted) (rest then : List Accepted) (x y : Bool) → waits_by sends k a ≡ x → eqb a.dialogue b ≡ y
+drops_by : (link b : ℕ) (sends : ℕ → Bool) (k : ℕ → ℕ) (a : QueuedFrame) (rest then : List QueuedFrame) (x y : Bool) → waits_by sends k a ≡ x → eqb a.dialogue b ≡ y
     → map_list (as_waiting link) then ≡ filter (is_of_other (identifier link b)) (map_list (as_waiting link) rest)
     → map_list (as_waiting link) (cond ((sends a.dialogue && not (eqb a.dialogue b)) && nat_le (k a.dialogue) a.place) (a ∷ then) then)
     ≡ filter (is_of_other (identifier link b)) (map_list (as_waiting link) (cond (waits_by sends k a) (a ∷ rest) rest))
@@ -73,7 +73,7 @@ drops_by link b sends k a rest then true false w is same =
     ∙ sym (ap (λ x. filter (is_of_other (identifier link b)) (map_list (as_waiting link) (cond x (a ∷ rest) rest))) w
     ∙ ap (λ z. cond (not z) (as_waiting link a ∷ filter (is_of_other (identifier link b)) (map_list (as_waiting link) rest)) (filter (is_of_other (identifier link b)) (map_list (as_waiting link) rest))) place)
 
-drops_one : (link b : ℕ) (sends : ℕ → Bool) (k : ℕ → ℕ) (fs : List Accepted)
+drops_one : (link b : ℕ) (sends : ℕ → Bool) (k : ℕ → ℕ) (fs : List QueuedFrame)
     → map_list (as_waiting link) (filter (waits_by (λ c. sends c && not (eqb c b)) k) fs) ≡ filter (is_of_other (identifier link b)) (map_list (as_waiting link) (filter (waits_by sends k) fs))
 drops_one link b sends k [] = refl
 drops_one link b sends k (a ∷ fs) =

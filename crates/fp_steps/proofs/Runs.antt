@@ -1,7 +1,6 @@
 -- A run so far.
-use Rattle.std.proofs.Common.{◌≡◌, ℕ, ◌<◌, ◌+◌, cond, Option, List, [], ◌∷◌, ◌++◌, length, take, slice_index_or, refl, sym, ◌∙◌, ap, subst}
-use Rattle.std.specs.Prelude.{count_by, map, reverse}
-use Rattle.std.specs.List.{sum_by}
+use Rattle.std.proofs.Common.{◌≡◌, ℕ, ◌<◌, ◌+◌, Option, List, [], ◌∷◌, ◌++◌, length, take, slice_index_or, refl, sym, ◌∙◌, ap, subst}
+use Rattle.std.specs.Prelude.{map}
 use Rattle.std.proofs.lemmas.Grind.{reverse_onto}
 use Rattle.std.proofs.lemmas.List.{take_more}
 use Rattle.fp_book.specs.Shelf.{Shelf, Sound}
@@ -23,10 +22,16 @@ use Rattle.fp_book.specs.Lines.{SevenLinesDecide}
 use Rattle.fp_steps.proofs.Posted.{decided}
 use Rattle.fp_steps.proofs.Answering.{answer_drained, link_drained}
 use Rattle.fp_steps.specs.Answers.{AllAnswered}
-use Rattle.fp_steps.specs.Sending.{out}
-use Rattle.fp_steps.specs.Totals.{AddUp, all_components, all_sent, all_served, components_of, frames_sent, is_gave, is_sent, local_out}
-use Rattle.fp_steps.proofs.Added.{Adds, adds_drained, local_in, local_more}
-use Rattle.fp_steps.proofs.Tally.{newest, sum_one}
+use Rattle.fp_steps.specs.Laws.{HeadlineHolds}
+use Rattle.fp_steps.proofs.Added.{Counted, add_up, adds_drained, counted_more, counted_none}
+
+-- what holds at each moment holds at the last
+at_the_end : (h : List Event) → AtEachMoment Headline h → Headline h
+at_the_end [] k = k
+at_the_end (e ∷ h) k = k.0
+
+pub headline_holds : HeadlineHolds
+headline_holds contents contexts link steps outputs r = at_the_end r.0 r.2
 
 -- what a run has done so far
 pub record SoFar (contents : Contents) (contexts : List (List ℕ)) (steps : List Step) (outputs : List Output) (book : Shelf) : Type 0 where
@@ -36,23 +41,7 @@ pub record SoFar (contents : Contents) (contexts : List (List ℕ)) (steps : Lis
   pub lined : Lined history book
   pub moments : AtEachMoment Headline history
   pub answered : AllAnswered book.link history
-  pub adds : AddUp outputs history
-  -- what is out, as the outputs tell it
-  pub local : local_out (reverse outputs) ≡ local_in (out history)
-
--- the totals, one output more
-adds_more : (outputs : List Output) (output : Output) (h : List Event) (e : Event) → AddUp outputs h → local_out (reverse outputs) ≡ local_in (out h) → e.output ≡ output → Adds h e → AddUp (outputs ++ output ∷ []) (e ∷ h)
-adds_more outputs output h e k local is g =
-    let gave : Output → ℕ = λ o. cond {A = ℕ} (is_gave o) 1 0 in
-    let accepted : sum_by components_of (outputs ++ output ∷ []) ≡ sum_by components_of outputs + components_of output = sum_one components_of outputs output in
-    let served : count_by is_gave (outputs ++ output ∷ []) ≡ count_by is_gave outputs + gave output = sum_one gave outputs output in
-    let sent : frames_sent (reverse (outputs ++ output ∷ [])) ≡ frames_sent (reverse outputs) + cond {A = ℕ} (is_sent output (local_out (reverse outputs))) 1 0 = ap frames_sent (newest outputs output) in
-    record {
-      accepted = accepted ∙ ap (λ n. n + components_of output) k.accepted ∙ sym (g.accepted ∙ ap (λ o. all_components h + components_of o) is);
-      served = served ∙ ap (λ n. n + gave output) k.served ∙ sym (g.served ∙ ap (λ o. all_served h + gave o) is);
-      sent = sent ∙ ap (λ n. n + cond {A = ℕ} (is_sent output (local_out (reverse outputs))) 1 0) k.sent
-          ∙ ap (λ o. all_sent h + cond {A = ℕ} (is_sent output o) 1 0) local ∙ sym (g.sent ∙ ap (λ o. all_sent h + cond {A = ℕ} (is_sent o (local_in (out h))) 1 0) is);
-    }
+  pub counted : Counted outputs history
 
 -- one step more
 pub SoFar-more : RowsKeepTheirOrder → SevenLinesDecide → (contents : Contents) (contexts : List (List ℕ)) (steps : List Step) (outputs : List Output) (old new : Shelf) (step : Step) (output : Output)
@@ -75,8 +64,7 @@ SoFar-more law seven contents contexts steps outputs old new step output f (came
       lined = Lined-makes h e old new (came_anew contents contexts step came is) f.tied f.lined makes tied sound;
       moments = (headline law (e ∷ h) new tied, f.moments);
       answered = subst (λ n. AllAnswered n (e ∷ h)) (sym link) (answer_drained law h step came output old new f.tied f.lined (decided seven contents contexts step came is) makes, f.answered);
-      adds = adds_more outputs output h e f.adds f.local refl (adds_drained h e old new (came_anew contents contexts step came is) f.tied makes);
-      local = ap local_out (newest outputs output) ∙ local_more output (out h) (local_out (reverse outputs)) f.local;
+      counted = counted_more outputs h e f.counted (adds_drained h e old new (came_anew contents contexts step came is) f.tied makes);
     }
 
 pub SoFar-none : RowsKeepTheirOrder → (contents : Contents) (contexts : List (List ℕ)) (book : Shelf) → Tied [] book → Lined [] book → SoFar contents contexts [] [] book
@@ -87,8 +75,7 @@ SoFar-none law contents contexts book t l = record {
   lined = l;
   moments = headline law [] book t;
   answered = tt;
-  adds = record { accepted = refl; served = refl; sent = refl };
-  local = refl;
+  counted = counted_none;
 }
 
 -- the loop over the steps
@@ -121,4 +108,4 @@ pub Going-all : (contents : Contents) (contexts : List (List ℕ)) (steps : List
     → Runs contents contexts link steps outputs
 Going-all contents contexts steps i link outputs book turns parcel f all same =
     let g : SoFar contents contexts steps outputs book = subst (λ ss. SoFar contents contexts ss outputs book) all f.so_far in
-    (g.history, g.tells, g.moments, subst (λ n. AllAnswered n g.history) same g.answered, g.adds)
+    (g.history, g.tells, g.moments, subst (λ n. AllAnswered n g.history) same g.answered, add_up outputs g.history g.counted (at_the_end g.history g.moments))

@@ -4,7 +4,7 @@ use Rattle.std.specs.Prelude.{option_to_list, slice_get, nat_lt, nat_le}
 use Rattle.std.specs.Option.{option_map_or}
 use mathlib.Core.List.{IsPrefix}
 use Rattle.std.proofs.lemmas.List.Concat.{flat_map-append}
-use Rattle.std.proofs.lemmas.List.{take_more}
+use Rattle.std.proofs.lemmas.List.{length-take-le, take_more}
 use Rattle.std.proofs.lemmas.Option.{get_or_from_slice_get}
 use Rattle.fp_row.proofs.Fronts.{slice_get_some}
 use Rattle.std.proofs.lemmas.Bool.{and_right, eq-eqb}
@@ -136,6 +136,7 @@ straight_tied law d t row k =
       served_first = subst (λ c. IsPrefix (served_in t) (cut c t.accepts)) (sym (start_tied d t row k)) served_cut;
       sent_first = subst (λ xs. IsPrefix t.sends xs) (sym asked) sends;
       each_once = k.serves ∙ ap numbers (sym (ap length k.serves ∙ length-numbers row.served));
+      each_there = ap length (served_tied d t row k) ∙ length-take-le row.served row.accepted row.served_within ∙ sym (ap length k.serves ∙ length-numbers row.served);
       sent_queued = subst (λ xs. IsPrefix t.sends xs) (sym k.queues) sent_in_queue;
       queued_first = subst (λ xs. IsPrefix t.queues xs) (sym asked) queues;
     }

@@ -26,7 +26,7 @@ use Rattle.fp_service.specs.Dialogue.{is_over, next_due}
 use Rattle.fp_tids.specs.Identifiers.{identifier}
 use Rattle.fp_steps.specs.declared.output.Output.TheVariants as outputs
 use Rattle.fp_steps.specs.declared.step.Step.TheVariants as steps
-use Rattle.fp_steps.specs.Accepted.{accepted, admits_on, core_on, course, ending, has_clock_on, is_due_on, is_full, positions}
+use Rattle.fp_steps.specs.Accepted.{accepted, admits_on, core_on, course, ending, has_clock_on, is_full, positions}
 use Rattle.fp_steps.specs.Births.{births}
 use Rattle.fp_steps.specs.History.{Event}
 use Rattle.fp_steps.specs.Sending.{queued, sent}
@@ -131,7 +131,11 @@ due_of true true n moment = refl
 due_of true false n moment = refl
 due_of false b n moment = refl
 
-due_tied : (h : List Event) (moment d : ℕ) (row : Row) → 0 < d → d ≤ births h → IsTied d (story h d) row → is_due_on h moment d (course h d) ≡ row_is_due row moment
+-- where the link isn't full
+abbrev is_next : List Event → ℕ → ℕ → Bool
+is_next h moment d = (admits_on h d (course h d) && not (has_clock_on h d (accepted h d))) && nat_le (next_due (core_on h d (accepted h d))) moment
+
+due_tied : (h : List Event) (moment d : ℕ) (row : Row) → 0 < d → d ≤ births h → IsTied d (story h d) row → is_next h moment d ≡ row_is_due row moment
 due_tied h moment d row first last k =
     let admits : admits_on h d (course h d) ≡ is_admitted row = ap (λ b. b && (not (is_some (ending h d)) && not (is_over (core_in d (story h d))))) (born_at d (births h) first last) ∙ live_tied d (story h d) row k in
     let count : length (positions h d) ≡ row.served = ap length k.serves ∙ length-numbers row.served in
@@ -146,7 +150,7 @@ due_tied h moment d row first last k =
 
 -- the story of a dialogue at a tick
 abbrev pub clock_in : List Event → ℕ → ℕ → Bool
-clock_in h moment d = not (is_full h) && is_due_on h moment d (course h d)
+clock_in h moment d = not (is_full h) && is_next h moment d
 
 tick_told : (h : List Event) (came : Option Prepared) (moment added wanting d : ℕ) (x : Bool) → clock_in h moment d ≡ x
     → (x ≡ true → story (record { step = steps.Tick moment; came = came; output = outputs.Ticked added wanting } ∷ h) d ≡ with_more (story h d) (entry_at moment Clock ∷ []))
@@ -182,7 +186,7 @@ clock_birth true moment (Some before) row c = (before, (refl, c.same.birth))
 gone_due : (h : List Event) (moment d : ℕ) → admits_on h d (course h d) ≡ false → clock_in h moment d ≡ false
 gone_due h moment d none =
     let a : (admits_on h d (course h d) && not (has_clock_on h d (accepted h d))) ≡ false = and_left _ _ none in
-    and_right (not (is_full h)) (is_due_on h moment d (course h d)) (and_left _ _ a)
+    and_right (not (is_full h)) (is_next h moment d) (and_left _ _ a)
 
 ticked_at : (h : List Event) (came : Option Prepared) (old new : Shelf) (moment added wanting : ℕ) → wanting ≡ 0 → Tied h old → Sound old → (g : Ticks old moment added wanting new) → (d : ℕ) (o : Option Row)
     → map.get old.rows (identifier old.link d) ≡ o → TiedAt (births h) d (story h d) o
@@ -200,7 +204,7 @@ ticked_at h came old new moment added wanting nothing t k g d (Some row) was tie
     let first : 0 < d = let f : 0 < row.birth = own.born.0 in omega (arith, f, birth) in
     let last : d ≤ births h = let f : row.birth ≤ old.births = own.born.1 in let all : births h ≡ old.births = t.births_are in omega (arith, f, birth, all) in
     let is : clock_in h moment d ≡ among l g.due =
-    ap (λ n. not (nat_le (2 ^ 63) n) && is_due_on h moment d (course h d)) t.entries_are
+    ap (λ n. not (nat_le (2 ^ 63) n) && is_next h moment d) t.entries_are
     ∙ ap (λ b. not (book_is_full old) && b) (due_tied h moment d row first last tied)
     ∙ sym (all_due old new moment added wanting nothing g l row was)
     in
@@ -251,4 +255,4 @@ due_at_is h s moment d (Some row) t k was tied =
     let first : 0 < d = let f : 0 < row.birth = own.born.0 in omega (arith, f, birth) in
     let last : d ≤ births h = let f : row.birth ≤ s.births = own.born.1 in let all : births h ≡ s.births = t.births_are in omega (arith, f, birth, all) in
     ap (λ b. cond {A = ℕ} b 1 0)
-    (sym (ap (λ n. not (nat_le (2 ^ 63) n) && is_due_on h moment d (course h d)) t.entries_are ∙ ap (λ b. not (book_is_full s) && b) (due_tied h moment d row first last tied)))
+    (sym (ap (λ n. not (nat_le (2 ^ 63) n) && is_next h moment d) t.entries_are ∙ ap (λ b. not (book_is_full s) && b) (due_tied h moment d row first last tied)))

@@ -26,7 +26,7 @@ use Rattle.fp_steps.specs.Accepted.{accepted, admits, entry_count}
 use Rattle.fp_steps.specs.Births.{births, named}
 use Rattle.fp_steps.specs.History.{Event}
 use Rattle.fp_steps.specs.Lined.{Lined}
-use Rattle.fp_steps.specs.Lines.{answer_by, answer_to, answers_by, begun, first_answer, refused, taker_of, taking, unserved}
+use Rattle.fp_steps.specs.Lines.{answer_by, answer_to, answers_by, begun, first_answer, refused, addressee, taking, unserved}
 use Rattle.fp_steps.specs.Tied.{IsTied, Tied, TiedAt, story}
 use Rattle.fp_steps.specs.Waiting.{aborts_waiting, held, is_down}
 use Rattle.fp_steps.proofs.Asked.{aborts_wait}
@@ -151,13 +151,13 @@ asks_some h s kind local d row false is was k = record {
       ∙ sym (ap (λ b. unserved h (cond b None (Some d))) is ∙ ap (λ n. drop n (accepted h d)) (ap length k.serves ∙ length-numbers row.served) ∙ ap (drop row.served) k.accepts);
 }
 
-asks : (h : List Event) (s : Shelf) (came : Prepared) → Tied h s → Sound s → Asks h s (arrival_of came).ids.kind (named_in s (arrival_of came).ids) (taker_of h came)
+asks : (h : List Event) (s : Shelf) (came : Prepared) → Tied h s → Sound s → Asks h s (arrival_of came).ids.kind (named_in s (arrival_of came).ids) (addressee h came)
 asks h s came t k =
     let kind = (arrival_of came).ids.kind in
     ⊎_elim
-    (λ none. subst (λ o. Asks h s kind o (taker_of h came)) (sym none.0) (subst (λ p. Asks h s kind None p) (sym none.1) (asks_none h s kind (is_begin kind) refl)))
+    (λ none. subst (λ o. Asks h s kind o (addressee h came)) (sym none.0) (subst (λ p. Asks h s kind None p) (sym none.1) (asks_none h s kind (is_begin kind) refl)))
     (λ both.
-    subst (λ o. Asks h s kind o (taker_of h came)) (sym both.is)
+    subst (λ o. Asks h s kind o (addressee h came)) (sym both.is)
     (subst (λ p. Asks h s kind (Some both.local) p) (sym both.also) (asks_some h s kind both.local both.birth both.row (is_begin kind) refl both.was both.tied)))
     (named_both h s (number_in came) t k)
 
@@ -169,7 +169,7 @@ answered_so h s came t k l many seven =
     let waiting = length s.outbox.aborts in
     let next = identifier s.link (s.given + 1) in
     let o = named_in s (arrival_of came).ids in
-    let p = taker_of h came in
+    let p = addressee h came in
     let a : Asks h s kind o p = asks h s came t k in
     let aborts : waiting ≡ length (aborts_waiting h) = sym (length-map s.outbox.aborts frame_octets) ∙ ap length (sym (aborts_wait h s t k l)) in
     let given : s.given ≡ births h = sym (t.births_are ∙ k.births) in

@@ -74,32 +74,6 @@ admits_on h d c = (nat_lt 0 d && nat_le d (births h)) && (not (is_some c.ending)
 abbrev pub has_clock_on : List Event → ℕ → List Entry → Bool
 has_clock_on h d entries = nat_lt 0 (count_by (λ (entry : Entry). is_clock entry.kind) (drop (length (positions h d)) entries))
 
--- whether it is given a Clock at a moment
-abbrev pub is_due_on : List Event → ℕ → ℕ → Course → Bool
-is_due_on h moment d c = (admits_on h d c && not (has_clock_on h d c.accepts)) && nat_le (next_due (core_on h d c.accepts)) moment
-
--- how a message ends the dialogue that it names, while that takes messages: refused, it closes it; accepted, an End or
--- an Abort is its peer's end
-abbrev pub ending_by : Posted → Option Prepared → Option Ending
-ending_by (Opened local) came = None
-ending_by (Accepted count) came = if ends_peer came then Some ByPeer else None
-ending_by (Aborted cause) came = Some Closed
-ending_by Ended came = Some Closed
-ending_by Discarded came = None
-
--- a message ends the dialogue that it names only while that takes messages
-abbrev pub ending_at : Option Ending → Bool → Option Ending → Option Ending
-ending_at None takes before = before
-ending_at (Some ending) takes before = if takes then Some ending else before
-
--- how a dialogue was ended from outside, after an event: the end of the link closes all that were opened
-abbrev pub ending_in : Output → Option Prepared → List Event → ℕ → Course → Option Ending
-ending_in (outputs.Posted answer components) came h d c =
-    ending_at (ending_by answer came) (is_one (destination h came) d && admits_on h d c) c.ending
-ending_in outputs.Unsent came h d c = if nat_le d (births h) then Some Closed else c.ending
-ending_in outputs.Down came h d c = if nat_le d (births h) then Some Closed else c.ending
-ending_in _ came h d c = c.ending
-
 -- how many entries the link accepted at an event
 abbrev pub entries_by : Posted → List Entry → ℕ
 entries_by (Opened local) entries = length entries
@@ -126,23 +100,50 @@ entry_count (e ∷ h) = entry_count h + entry_count_in e.output e.came
 abbrev pub is_full : List Event → Bool
 is_full h = nat_le (2 ^ 63) (entry_count h)
 
--- the dialogue that takes the entries of a message
-abbrev pub taker : Posted → Option Prepared → List Event → Option ℕ
-taker (Opened local) came h = Some (births h + 1)
-taker (Accepted count) came h = destination h came
-taker (Aborted cause) came h = None
-taker Ended came h = None
-taker Discarded came h = None
+-- whether the dialogue of this course is given a Clock at a moment; none is, once the link has accepted 2^63 entries
+abbrev pub is_due_on : List Event → ℕ → ℕ → Course → Bool
+is_due_on h moment d c = not (is_full h) && ((admits_on h d c && not (has_clock_on h d c.accepts)) && nat_le (next_due (core_on h d c.accepts)) moment)
+
+-- how a message ends the dialogue that it names, while that takes messages: refused, it closes it; accepted, an End or
+-- an Abort is its peer's end. One that is Discarded closes none: where a refusal closes a dialogue and no Abort of the
+-- provider is sent, the answer is Ended; and no dialogue takes messages once the link is down.
+abbrev pub ending_by : Posted → Option Prepared → Option Ending
+ending_by (Opened local) came = None
+ending_by (Accepted count) came = if ends_peer came then Some ByPeer else None
+ending_by (Aborted cause) came = Some Closed
+ending_by Ended came = Some Closed
+ending_by Discarded came = None
+
+-- a message ends the dialogue that it names only while that takes messages
+abbrev pub ending_at : Option Ending → Bool → Option Ending → Option Ending
+ending_at None takes before = before
+ending_at (Some ending) takes before = if takes then Some ending else before
+
+-- how a dialogue was ended from outside, after an event: the end of the link closes all that were opened
+abbrev pub ending_in : Output → Option Prepared → List Event → ℕ → Course → Option Ending
+ending_in (outputs.Posted answer components) came h d c =
+    ending_at (ending_by answer came) (is_one (destination h came) d && admits_on h d c) c.ending
+ending_in outputs.Unsent came h d c = if nat_le d (births h) then Some Closed else c.ending
+ending_in outputs.Down came h d c = if nat_le d (births h) then Some Closed else c.ending
+ending_in _ came h d c = c.ending
+
+-- the dialogue that receives the entries of a message, by its answer
+abbrev pub receiver : Posted → Option Prepared → List Event → Option ℕ
+receiver (Opened local) came h = Some (births h + 1)
+receiver (Accepted count) came h = destination h came
+receiver (Aborted cause) came h = None
+receiver Ended came h = None
+receiver Discarded came h = None
 
 -- a Clock, where the dialogue is due at the moment of a tick
-abbrev pub clock_at : Step → Bool → (ℕ → Bool) → List Entry
-clock_at (steps.Tick moment) full is_due = if not full && is_due moment then entry_at moment Clock ∷ [] else []
-clock_at _ full is_due = []
+abbrev pub clock_at : Step → (ℕ → Bool) → List Entry
+clock_at (steps.Tick moment) is_due = if is_due moment then entry_at moment Clock ∷ [] else []
+clock_at _ is_due = []
 
 -- what a dialogue of this course accepts at an event
 abbrev pub accepted_in : Event → List Event → ℕ → Course → Output → List Entry
-accepted_in e h d c (outputs.Posted answer components) = for_one (taker answer e.came h) d (entries_came e.came)
-accepted_in e h d c (outputs.Ticked added wanting) = clock_at e.step (is_full h) (λ moment. is_due_on h moment d c)
+accepted_in e h d c (outputs.Posted answer components) = for_one (receiver answer e.came h) d (entries_came e.came)
+accepted_in e h d c (outputs.Ticked added wanting) = clock_at e.step (λ moment. is_due_on h moment d c)
 accepted_in e h d c _ = []
 
 -- the course of a dialogue

@@ -1,5 +1,5 @@
 -- What each step of a run is answered, from what its history tells before it.
-use Rattle.std.specs.Prelude.{◌≡◌, ◌≤◌, ◌<◌, ℕ, ◌==◌, ◌&&◌, Bool, true, false, not, List, [], ◌∷◌, Option, Some, None, length, is_some, slice_get, ⊤, if◌then◌else◌}
+use Rattle.std.specs.Prelude.{◌≡◌, ◌≤◌, ◌<◌, ℕ, ◌==◌, Bool, true, false, List, [], ◌∷◌, Option, Some, None, length, is_some, slice_get, ⊤, if◌then◌else◌}
 use Rattle.std.specs.Option.{option_and_then}
 use Rattle.fp_book.specs.declared.answers.Given.{Given}
 use Rattle.fp_book.specs.declared.answers.Given.TheVariants.{Silent, Queued, Dropped}
@@ -11,13 +11,13 @@ use Rattle.fp_steps.specs.declared.output.Output.{Output}
 use Rattle.fp_steps.specs.declared.output.Output.TheVariants as outputs
 use Rattle.fp_steps.specs.declared.step.Step.{Step}
 use Rattle.fp_steps.specs.declared.step.Step.TheVariants as steps
-use Rattle.fp_steps.specs.Accepted.{accepted, core_of, is_due, is_ended, is_full, positions}
+use Rattle.fp_steps.specs.Accepted.{accepted, core_of, is_due, is_ended, positions}
 use Rattle.fp_steps.specs.Births.{births, named}
 use Rattle.fp_steps.specs.History.{Event}
 use Rattle.fp_steps.specs.Lines.{answer_to, components_in}
 use Rattle.fp_steps.specs.Sending.{Handed, out}
 use Rattle.fp_steps.specs.Turns.{IsReadyBefore, is_ready, turn_out}
-use Rattle.fp_steps.specs.Waiting.{Accepted, aborts_waiting, how_many, places, waiting}
+use Rattle.fp_steps.specs.Waiting.{QueuedFrame, aborts_waiting, how_many, places, waiting}
 
 -- POST, LOST
 
@@ -59,10 +59,9 @@ if_out (Some handed) output = output
 
 -- TICK
 
--- each dialogue that is due is given a Clock, and memory was wanting for none; none is due once the link has accepted
--- 2^63 entries
+-- each dialogue that is due is given a Clock, and memory was wanting for none
 abbrev pub ticked : List Event → ℕ → Output
-ticked h moment = outputs.Ticked (how_many (births h) (λ d. not (is_full h) && is_due h moment d)) 0
+ticked h moment = outputs.Ticked (how_many (births h) (is_due h moment)) 0
 
 -- TAKE
 
@@ -85,7 +84,7 @@ IsTaken link h _ = ⊥
 -- PICK
 
 -- the oldest Abort of the provider; or, where none waits, the oldest frame
-abbrev pub IsNext : ℕ → List (List ℕ) → List Accepted → ℕ → List ℕ → Type 0
+abbrev pub IsNext : ℕ → List (List ℕ) → List QueuedFrame → ℕ → List ℕ → Type 0
 IsNext link (abort ∷ aborts) frames local octets = (local ≡ 0) × (octets ≡ abort)
 IsNext link [] (first ∷ frames) local octets = (local ≡ identifier link first.dialogue) × (octets ≡ first.frame)
 IsNext link [] [] local octets = ⊥

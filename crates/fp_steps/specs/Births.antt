@@ -69,11 +69,12 @@ abbrev pub destination : List Event → Option Prepared → Option ℕ
 destination h None = None
 destination h (Some came) = option_and_then (named h) (option_and_then (λ tid. number_of (octets_of tid)) (arrival_of came).ids.dest)
 
--- what an optional dialogue has to do with one
+-- a list, if the dialogue of an event is this one; else nothing
 abbrev pub for_one : {X : Type 0} → Option ℕ → ℕ → List X → List X
 for_one None d list = []
 for_one (Some other) d list = if d == other then list else []
 
+-- whether it is this one
 abbrev pub is_one : Option ℕ → ℕ → Bool
 is_one None d = false
 is_one (Some other) d = d == other

@@ -33,6 +33,8 @@ pub record InOrder (h : List Event) (d : ℕ) : Type 0 where
 -- what holds of all of a link
 pub record Headline (h : List Event) : Type 0 where
   pub dialogues : (d : ℕ) → InOrder h d
+  -- in each place that was served stands an entry that was accepted
+  pub each_there : (d : ℕ) → length (served h d) ≡ length (positions h d)
   -- no two have one local transaction identifier
   pub apart : (c d : ℕ) (b g : Beginning) → beginning h c ≡ Some b → beginning h d ≡ Some g → b.local ≡ g.local → c ≡ d
   -- the Aborts of the provider that were sent are a front of those that were answered

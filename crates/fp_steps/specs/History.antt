@@ -1,11 +1,11 @@
 -- What a run tells: its steps, what their messages were prepared to, and what was answered. A history holds them, the
 -- newest first.
-use Rattle.std.specs.Prelude.{◌≡◌, ℕ, Bool, true, false, List, [], ◌∷◌, Option, Some, None, map, reverse, ⊤}
+use Rattle.std.specs.Prelude.{◌≡◌, ℕ, false, List, [], ◌∷◌, Option, Some, None, map, reverse, ⊤}
 use Rattle.std.specs.List.{AllByRecursion}
 use Rattle.fp_entry.specs.declared.prepared.Prepared.{Prepared}
-use Rattle.fp_entry.specs.declared.prepared.Prepared.TheVariants as prepared
 use Rattle.fp_entry.specs.Prepared.{IsLost, IsPrepared}
 use Rattle.fp_records.specs.Table.{Contents}
+use Rattle.fp_book.specs.Lines.{is_lost}
 use Rattle.fp_steps.specs.declared.output.Output.{Output}
 use Rattle.fp_steps.specs.declared.step.Step.{Step}
 use Rattle.fp_steps.specs.declared.step.Step.TheVariants.{Post, Lost, Tick, Take, Give, PutBack, Pick, Sent, Unsent, Down}
@@ -15,12 +15,6 @@ pub record Event : Type 0 where
   pub step : Step
   pub came : Option Prepared
   pub output : Output
-
--- memory for reading it was wanting
-abbrev pub is_lost : Prepared → Bool
-is_lost (prepared.Message arrival incoming) = false
-is_lost (prepared.Refused arrival fault) = false
-is_lost (prepared.Lost arrival) = true
 
 -- no message comes
 abbrev pub IsNone : Option Prepared → Type 0

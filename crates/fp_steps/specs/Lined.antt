@@ -7,10 +7,10 @@ use Rattle.fp_tids.specs.Identifiers.{identifier}
 use Rattle.fp_steps.specs.History.{Event}
 use Rattle.fp_steps.specs.Sending.{queued}
 use Rattle.fp_steps.specs.Turns.{IsReadyBefore}
-use Rattle.fp_steps.specs.Waiting.{Accepted, is_down, picked, waiting}
+use Rattle.fp_steps.specs.Waiting.{QueuedFrame, is_down, picked, waiting}
 
 -- a frame, as it waits in a book
-abbrev pub as_waiting : ℕ → Accepted → Waiting
+abbrev pub as_waiting : ℕ → QueuedFrame → Waiting
 as_waiting link a = record { local = identifier link a.dialogue; frame = a.frame }
 
 -- each stands before those behind it

@@ -83,9 +83,9 @@ answers_by down waiting names_none begins_anew unserved entries held opened begu
 abbrev pub taking : List Event → ℕ → Option ℕ
 taking h d = if admits h d then Some d else None
 
--- the dialogue that a message names
-abbrev pub taker_of : List Event → Prepared → Option ℕ
-taker_of h came = option_and_then (taking h) (destination h (Some came))
+-- the dialogue that a message names by its destination, if that takes messages
+abbrev pub addressee : List Event → Prepared → Option ℕ
+addressee h came = option_and_then (taking h) (destination h (Some came))
 
 -- the entries of a dialogue that were accepted and not yet served
 abbrev pub unserved : List Event → Option ℕ → List Entry
@@ -100,8 +100,8 @@ begun link h came = option_map_or (λ (peer : Tid). answers.Opened (identifier l
 abbrev pub answer_to : ℕ → List Event → Prepared → Posted
 answer_to link h came =
     first_answer
-    (answers_by (is_down h) (length (aborts_waiting h)) (is_none (taker_of h came)) (is_none (going_on (arrival_of came).ids.kind (taker_of h came)))
-    (unserved h (going_on (arrival_of came).ids.kind (taker_of h came))) (entry_count h) (held h) (births h) (begun link h came) came (arrival_of came).ids.kind)
+    (answers_by (is_down h) (length (aborts_waiting h)) (is_none (addressee h came)) (is_none (going_on (arrival_of came).ids.kind (addressee h came)))
+    (unserved h (going_on (arrival_of came).ids.kind (addressee h came))) (entry_count h) (held h) (births h) (begun link h came) came (arrival_of came).ids.kind)
 
 -- how many components are accepted
 abbrev pub components_in : Posted → Prepared → ℕ

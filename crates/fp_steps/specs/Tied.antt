@@ -62,6 +62,7 @@ pub record IsStraight (d : ℕ) (t : Story) : Type 0 where
   pub served_first : IsPrefix (served_in t) (cut (start_in d t) t.accepts)
   pub sent_first : IsPrefix t.sends (asked_in d t)
   pub each_once : t.places ≡ numbers (length t.places)
+  pub each_there : length (served_in t) ≡ length t.places
   pub sent_queued : IsPrefix t.sends t.queues
   pub queued_first : IsPrefix t.queues (asked_in d t)
 

@@ -6,7 +6,7 @@ use Rattle.fp_book.specs.declared.totals.Totals.{Totals}
 use Rattle.fp_steps.specs.declared.output.Output.{Output}
 use Rattle.fp_steps.specs.declared.output.Output.TheVariants as outputs
 use Rattle.fp_entry.specs.Entries.{component_count}
-use Rattle.fp_steps.specs.Accepted.{accepted, positions}
+use Rattle.fp_steps.specs.Accepted.{accepted, served}
 use Rattle.fp_steps.specs.Births.{births}
 use Rattle.fp_steps.specs.History.{Event}
 use Rattle.fp_steps.specs.Sending.{sent}
@@ -66,7 +66,7 @@ abbrev pub all_components : List Event → ℕ
 all_components h = sum_to (births h) (λ d. component_count (accepted h d))
 
 abbrev pub all_served : List Event → ℕ
-all_served h = sum_to (births h) (λ d. length (positions h d))
+all_served h = sum_to (births h) (λ d. length (served h d))
 
 abbrev pub all_sent : List Event → ℕ
 all_sent h = sum_to (births h) (λ d. length (sent h d))

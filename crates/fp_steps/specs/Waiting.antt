@@ -10,7 +10,7 @@ use Rattle.fp_steps.specs.History.{Event}
 use Rattle.fp_steps.specs.Sending.{Handed, abort_out, aborts, aborts_sent, out, queued, queued_in}
 use Rattle.fp_steps.specs.Turns.{turn_out, waits}
 
--- whether it is down after an event
+-- whether the link is down after an event, by its answer
 abbrev pub down_after : Output → Bool → Bool
 down_after outputs.Down before = true
 down_after outputs.Unsent before = true
@@ -22,23 +22,23 @@ is_down [] = false
 is_down (e ∷ h) = down_after e.output (is_down h)
 
 -- a frame of a dialogue: the one in this place among those of it that were accepted for sending
-pub record Accepted : Type 0 where
+pub record QueuedFrame : Type 0 where
   pub dialogue : ℕ
   pub place : ℕ
   pub frame : List ℕ
 
 -- those that are accepted for sending by an answer, of the dialogue that it names
-abbrev pub frames_by : Option ℕ → Output → List Event → List Accepted
+abbrev pub frames_by : Option ℕ → Output → List Event → List QueuedFrame
 frames_by None output h = []
 frames_by (Some d) output h = map (λ frame. record { dialogue = d; place = length (queued h d); frame = frame }) (queued_in output h d)
 
 -- all of them after an event
-abbrev pub frames_after : Output → List Event → List Accepted → List Accepted
+abbrev pub frames_after : Output → List Event → List QueuedFrame → List QueuedFrame
 frames_after (outputs.Gave local position given) h before = before ++ frames_by (named h local) (outputs.Gave local position given) h
 frames_after _ h before = before
 
 -- the frames that were accepted for sending, of all dialogues, in order
-abbrev pub frames : List Event → List Accepted
+abbrev pub frames : List Event → List QueuedFrame
 frames [] = []
 frames (e ∷ h) = frames_after e.output h (frames h)
 
@@ -57,11 +57,11 @@ abbrev pub is_sending : List Event → ℕ → Bool
 is_sending h d = not (is_down h || is_ended h d)
 
 -- a frame waits to be sent if it wasn't picked, and its dialogue's frames go out
-abbrev pub is_waiting : List Event → Accepted → Bool
+abbrev pub is_waiting : List Event → QueuedFrame → Bool
 is_waiting h a = is_sending h a.dialogue && nat_le (picked h a.dialogue) a.place
 
 -- the frames that wait, the oldest first
-abbrev pub waiting : List Event → List Accepted
+abbrev pub waiting : List Event → List QueuedFrame
 waiting h = filter (is_waiting h) (frames h)
 
 -- the Aborts of the provider that wait, the oldest first: those that weren't sent and aren't out to be sent, and none where
@@ -76,7 +76,7 @@ how_many (suc n) is = how_many n is + (if is (suc n) then 1 else 0)
 
 -- whether a frame of a dialogue waits
 abbrev pub has_frame : List Event → ℕ → Bool
-has_frame h d = list_any (λ (a : Accepted). a.dialogue == d) (waiting h)
+has_frame h d = list_any (λ (a : QueuedFrame). a.dialogue == d) (waiting h)
 
 -- whether one of it is out to be sent
 abbrev pub frame_is_out : List Event → ℕ → Bool

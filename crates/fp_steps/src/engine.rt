@@ -7,7 +7,7 @@ ghost use Rattle.fp_row.specs.declared.turn.Turn.{Turn};
 ghost use Rattle.fp_steps.specs.Makes.{Drained, GivesTo, Posts, PicksTo, PutsBackTo, SendsTo, StepsTo, TakesLine};
 ghost use Rattle.fp_steps.specs.Makes.{TakesTo, TicksTo, UnsendsTo, is_lost_step, tells_lost};
 ghost use Rattle.fp_steps.specs.Headline.{Runs};
-ghost use Rattle.fp_steps.specs.History.{is_lost};
+ghost use Rattle.fp_book.specs.Lines.{is_lost};
 ghost use Rattle.fp_steps.specs.Lined.{Lined};
 ghost use Rattle.fp_steps.specs.Tied.{Tied};
 ghost use Rattle.fp_steps.specs.Tokens.{Holds};
@@ -365,6 +365,9 @@ impl Engine {
 /// first line that fits it. A tick counts the dialogues that are due. A turn is handed out for the dialogue that has
 /// been ready longest, unless none is ready or all places are held; it is given or put back while it is out. The oldest
 /// Abort of the provider is sent next, or, where none waits, the oldest frame, while nothing else is out to be sent.
+///
+/// The totals of the outputs are sums over the dialogues: of the entries that each accepted and that come from
+/// components, of those that were served, and of the frames that were sent for it.
 pub fn run(
     alloc: Global,
     table: &Table,

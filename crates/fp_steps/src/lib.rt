@@ -9,8 +9,8 @@
 //!
 //! Each output is the answer that the history before its step tells (`specs/Answers.antt`): by the lines for messages
 //! (`specs/Lines.antt`), by the turns that are out and the dialogues that are ready (`specs/Turns.antt`), and by what
-//! waits to be sent and how much is held (`specs/Waiting.antt`). There is no queue, no turn and no row in these.
-//! [`totals`] counts outputs alone (`specs/Totals.antt`).
+//! waits to be sent and how much is held (`specs/Waiting.antt`). There is no queue, no token and no row in these.
+//! [`totals`] counts outputs alone, and a run's are sums over the dialogues of its history (`specs/Totals.antt`).
 //!
 //! How the book stands to the history is said by `specs/Tied.antt`: each dialogue that is held has what the history
 //! tells of its birth; by `specs/Lined.antt`: what waits stands in the order that it tells; and by `specs/Tokens.antt`:
@@ -26,6 +26,6 @@ mod step;
 
 pub use counting::totals;
 pub use engine::run;
-pub use laws::equal_dialogues_send_the_same;
+pub use laws::{equal_dialogues_send_the_same, headline_holds_at_the_end};
 pub use output::Output;
 pub use step::Step;

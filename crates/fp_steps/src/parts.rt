@@ -4,7 +4,7 @@ ghost use Rattle.std.specs.Prelude.{◌≡◌, ◌==◌, IfOk};
 ghost use Rattle.std.specs.List.{position};
 ghost use Rattle.fp_row.specs.declared.turn.Turn.{Turn};
 ghost use Rattle.fp_steps.specs.Makes.{components_if};
-ghost use Rattle.fp_steps.specs.History.{is_lost};
+ghost use Rattle.fp_book.specs.Lines.{is_lost};
 
 use fp_book::Posted;
 use fp_entry::Prepared;

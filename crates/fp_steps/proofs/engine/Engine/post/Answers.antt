@@ -4,7 +4,7 @@ use Rattle.fp_steps.specs.Tokens.{Holds}
 use Rattle.fp_steps.proofs.Holds.{Untouched, follows_untouched, holds_untouched, untouched_log, untouched_then}
 use Rattle.fp_book.specs.Calls.{Posts as BookPosts}
 use Rattle.fp_book.specs.Shelf.{Shelf, Sound}
-use Rattle.fp_steps.specs.History.{is_lost}
+use Rattle.fp_book.specs.Lines.{is_lost}
 use Rattle.fp_steps.specs.Makes.{components_by, tells_lost}
 use Rattle.fp_steps.proofs.Lines.{components_are, left_is, posted, posted_by}
 use Rattle.fp_steps.proofs.engine.Engine.post.Goals as goal
