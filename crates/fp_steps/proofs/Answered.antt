@@ -1,5 +1,5 @@
 -- Each output is the answer that its history tells.
-use Rattle.std.proofs.Common.{◌≡◌, ℕ, ◌≤◌, ◌+◌, Bool, true, false, cond, Option, Some, None, List, length, is_some, refl, sym, ◌∙◌, ap, subst, arith}
+use Rattle.std.proofs.Common.{◌≡◌, ℕ, ◌≤◌, ◌+◌, Bool, true, false, cond, not, ◌||◌, Option, Some, None, List, length, is_some, refl, sym, ◌∙◌, ap, subst, arith}
 use Rattle.std.specs.Prelude.{option_map, slice_get}
 use Rattle.std.specs.Option.{option_and_then}
 use Rattle.std.specs.FinMap as map
@@ -14,6 +14,7 @@ use Rattle.fp_q773.specs.Tid.{octets_of}
 use Rattle.fp_reply.specs.Reply.{frame_of}
 use Rattle.fp_row.specs.declared.done.Done.{Done}
 use Rattle.fp_row.specs.declared.ending.Ending.{Ending}
+use Rattle.fp_row.specs.declared.ending.Ending.TheVariants.{Closed}
 use Rattle.fp_row.specs.declared.row.Row.{Row}
 use Rattle.fp_row.specs.declared.turn.Turn.{Turn}
 use Rattle.fp_row.specs.Calls.{requested_of}
@@ -32,7 +33,8 @@ use Rattle.fp_steps.specs.Makes.{GivesTo, GoesDownTo, PutsBackTo, SendsTo, Ticks
 use Rattle.fp_steps.specs.Sending.{out}
 use Rattle.fp_steps.specs.Tied.{IsTied, Tied, TiedAt, handed, story}
 use Rattle.fp_steps.specs.Turns.{turn_out}
-use Rattle.fp_steps.specs.Waiting.{how_many}
+use Rattle.fp_steps.specs.Lined.{Lined}
+use Rattle.fp_steps.specs.Waiting.{how_many, is_sending}
 use Rattle.fp_steps.proofs.Births.{AreBorn, how_many_is, sum_births, sum_to_same}
 use Rattle.fp_steps.specs.Totals.{sum_to}
 use Rattle.fp_steps.proofs.Dialogues.{named_of, tied_of}
@@ -63,9 +65,9 @@ one_out h s local row t was out = (tied_of h s local row t was).outs ∙ out
 gave_none : RowsKeepTheirOrder → (h : List Event) (s : Shelf) (local : ℕ) (o : Option ℕ) → Tied h s → named h local ≡ o → turn_of (map.get s.rows local) ≡ None → outputs.Nothing ≡ gave h local o
 gave_none law h s local None t name none = refl
 gave_none law h s local (Some d) t name none =
-    sym (ap (λ b. cond b (outputs.Gave local (length (positions h d)) (given_for (is_ended h d) (next_request h d))) outputs.Nothing) (none_out law h s local d t name none))
+    sym (ap (λ b. cond b (outputs.Gave local (length (positions h d)) (given_for (is_sending h d) (next_request h d))) outputs.Nothing) (none_out law h s local d t name none))
 
-given_by : (ended : Option Ending) (request : Option Request) (frame : Request → List ℕ) → given_of (requested_of ended (option_map frame request)) ≡ given_for (is_some ended) request
+given_by : (ended : Option Ending) (request : Option Request) (frame : Request → List ℕ) → given_of (requested_of ended (option_map frame request)) ≡ given_for (not (is_some ended)) request
 given_by None None frame = refl
 given_by None (Some request) frame = refl
 given_by (Some ending) None frame = refl
@@ -84,47 +86,53 @@ requested_at h row turn d k is =
     in
     ap (option_and_then (request_of (core_of h d))) at ∙ ap (λ c. request_of c turn.entry) (core_tied d (story h d) row k ∙ is.core_is)
 
-gave_done : (h : List Event) (old new : Shelf) (done : Done) (given : Given) → Tied h old → Sound old → GivesDone old done given new
+-- the end of the link closes all dialogues
+sends_by : (down : Bool) (ended : Option Ending) → (down ≡ true → ended ≡ Some Closed) → not (down || is_some ended) ≡ not (is_some ended)
+sends_by true ended closed = sym (ap (λ o. not (is_some o)) (closed refl))
+sends_by false ended closed = refl
+
+gave_done : (h : List Event) (old new : Shelf) (done : Done) (given : Given) → Tied h old → Sound old → Lined h old → GivesDone old done given new
     → outputs.Gave done.turn.local done.turn.position given ≡ gave h done.turn.local (named h done.turn.local)
-gave_done h old new done given t k g =
+gave_done h old new done given t k line g =
     let l = done.turn.local in
     let b = g.before.birth in
     let tied : IsTied b (story h b) g.before = tied_of h old l g.before t g.was in
     let is : IsTurn g.before done.turn = turn_is g.before done.turn g.gives.was_out in
     let place : length (positions h b) ≡ done.turn.position = ap length tied.serves ∙ length-numbers g.before.served ∙ is.position_is in
     let frame : Request → List ℕ = λ request. frame_of request l (octets_of done.turn.peer) in
-    let given_is : given_for (is_ended h b) (next_request h b) ≡ given =
-    ap (λ o. given_for (is_ended h b) o) (requested_at h g.before done.turn b tied is)
-    ∙ ap (λ e. given_for (is_some e) (request_of done.turn.before done.turn.entry)) tied.ends
+    let given_is : given_for (is_sending h b) (next_request h b) ≡ given =
+    ap (λ o. given_for (is_sending h b) o) (requested_at h g.before done.turn b tied is)
+    ∙ ap (λ x. given_for x (request_of done.turn.before done.turn.entry))
+    (ap (λ x. not (x || is_ended h b)) line.down ∙ ap (λ o. not (old.is_down || is_some o)) tied.ends ∙ sends_by old.is_down g.before.ended (k.own l g.before g.was).closed)
     ∙ sym (given_by g.before.ended (request_of done.turn.before done.turn.entry) frame)
     ∙ ap (λ f. given_of (requested_of g.before.ended f)) (sym done.frame_is)
     ∙ sym (g.given_is ∙ ap given_of g.gives.requested_is)
     in
     let there : turn_out h b ≡ true = one_out h old l g.before t g.was (out_by g.before.is_out _ done.turn g.gives.was_out) in
     sym (ap (gave h l) (named_of h old l g.before t k g.was)
-    ∙ ap (λ x. cond x (outputs.Gave l (length (positions h b)) (given_for (is_ended h b) (next_request h b))) outputs.Nothing) there
-    ∙ ap (λ n. outputs.Gave l n (given_for (is_ended h b) (next_request h b))) place
+    ∙ ap (λ x. cond x (outputs.Gave l (length (positions h b)) (given_for (is_sending h b) (next_request h b))) outputs.Nothing) there
+    ∙ ap (λ n. outputs.Gave l n (given_for (is_sending h b) (next_request h b))) place
     ∙ ap (λ x. outputs.Gave l done.turn.position x) given_is)
 
-gave_to : (h : List Event) (old new : Shelf) (local l position : ℕ) (given : Given) → Tied h old → Sound old → l ≡ local
+gave_to : (h : List Event) (old new : Shelf) (local l position : ℕ) (given : Given) → Tied h old → Sound old → Lined h old → l ≡ local
     → (done : Done) × (done.turn.local ≡ local) × (done.turn.position ≡ position) × GivesDone old done given new → outputs.Gave l position given ≡ gave h local (named h local)
-gave_to h old new local l position given t k is g =
+gave_to h old new local l position given t k line is g =
     ap (λ n. outputs.Gave n position given) is ∙ ap (λ n. outputs.Gave local n given) (sym g.2)
-    ∙ subst (λ n. outputs.Gave n g.0.turn.position given ≡ gave h n (named h n)) g.1 (gave_done h old new g.0 given t k g.3)
+    ∙ subst (λ n. outputs.Gave n g.0.turn.position given ≡ gave h n (named h n)) g.1 (gave_done h old new g.0 given t k line g.3)
 
-pub answer_give : RowsKeepTheirOrder → (h : List Event) (local : ℕ) (output : Output) (old new : Shelf) → Tied h old → Sound old → GivesTo local output old new → output ≡ gave h local (named h local)
-answer_give law h local (outputs.Posted answer components) old new t k g = absurd g
-answer_give law h local (outputs.Ticked added wanting) old new t k g = absurd g
-answer_give law h local (outputs.Took l position) old new t k g = absurd g
-answer_give law h local outputs.NoRoom old new t k g = absurd g
-answer_give law h local (outputs.Gave l position given) old new t k g = gave_to h old new local l position given t k g.0 g.1
-answer_give law h local outputs.WentBack old new t k g = absurd g
-answer_give law h local (outputs.Picked l frame) old new t k g = absurd g
-answer_give law h local outputs.Busy old new t k g = absurd g
-answer_give law h local outputs.Sent old new t k g = absurd g
-answer_give law h local outputs.Unsent old new t k g = absurd g
-answer_give law h local outputs.Down old new t k g = absurd g
-answer_give law h local outputs.Nothing old new t k g = gave_none law h old local (named h local) t refl g.0
+pub answer_give : RowsKeepTheirOrder → (h : List Event) (local : ℕ) (output : Output) (old new : Shelf) → Tied h old → Sound old → Lined h old → GivesTo local output old new → output ≡ gave h local (named h local)
+answer_give law h local (outputs.Posted answer components) old new t k line g = absurd g
+answer_give law h local (outputs.Ticked added wanting) old new t k line g = absurd g
+answer_give law h local (outputs.Took l position) old new t k line g = absurd g
+answer_give law h local outputs.NoRoom old new t k line g = absurd g
+answer_give law h local (outputs.Gave l position given) old new t k line g = gave_to h old new local l position given t k line g.0 g.1
+answer_give law h local outputs.WentBack old new t k line g = absurd g
+answer_give law h local (outputs.Picked l frame) old new t k line g = absurd g
+answer_give law h local outputs.Busy old new t k line g = absurd g
+answer_give law h local outputs.Sent old new t k line g = absurd g
+answer_give law h local outputs.Unsent old new t k line g = absurd g
+answer_give law h local outputs.Down old new t k line g = absurd g
+answer_give law h local outputs.Nothing old new t k line g = gave_none law h old local (named h local) t refl g.0
 
 -- PUT BACK
 

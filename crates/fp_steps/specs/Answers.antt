@@ -11,13 +11,13 @@ use Rattle.fp_steps.specs.declared.output.Output.{Output}
 use Rattle.fp_steps.specs.declared.output.Output.TheVariants as outputs
 use Rattle.fp_steps.specs.declared.step.Step.{Step}
 use Rattle.fp_steps.specs.declared.step.Step.TheVariants as steps
-use Rattle.fp_steps.specs.Accepted.{accepted, core_of, is_due, is_ended, positions}
+use Rattle.fp_steps.specs.Accepted.{accepted, core_of, is_due, positions}
 use Rattle.fp_steps.specs.Births.{births, named}
 use Rattle.fp_steps.specs.History.{Event}
 use Rattle.fp_steps.specs.Lines.{answer_to, components_in}
 use Rattle.fp_steps.specs.Sending.{Handed, out}
 use Rattle.fp_steps.specs.Turns.{IsReadyBefore, is_ready, turn_out}
-use Rattle.fp_steps.specs.Waiting.{QueuedFrame, aborts_waiting, how_many, places, waiting}
+use Rattle.fp_steps.specs.Waiting.{QueuedFrame, aborts_waiting, how_many, is_sending, places, waiting}
 
 -- POST, LOST
 
@@ -32,16 +32,16 @@ IsPosted link h (Some came) output = output ≡ outputs.Posted (answer_to link h
 abbrev pub next_request : List Event → ℕ → Option Request
 next_request h d = option_and_then (request_of (core_of h d)) (slice_get (accepted h d) (length (positions h d)))
 
--- a request is accepted for sending where nothing ended its dialogue from outside; the end of the link ends all
+-- a request is accepted for sending where its dialogue's frames go out: the link is up, and nothing ended it from outside
 abbrev pub given_for : Bool → Option Request → Given
-given_for is_ended None = Silent
-given_for is_ended (Some request) = if is_ended then Dropped else Queued
+given_for sends None = Silent
+given_for sends (Some request) = if sends then Queued else Dropped
 
 -- the turn of this dialogue is served, if it is out
 abbrev pub gave : List Event → ℕ → Option ℕ → Output
 gave h local None = outputs.Nothing
 gave h local (Some d) =
-    if turn_out h d then outputs.Gave local (length (positions h d)) (given_for (is_ended h d) (next_request h d)) else outputs.Nothing
+    if turn_out h d then outputs.Gave local (length (positions h d)) (given_for (is_sending h d) (next_request h d)) else outputs.Nothing
 
 -- PUT BACK
 

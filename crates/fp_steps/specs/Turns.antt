@@ -11,8 +11,7 @@ use Rattle.fp_steps.specs.Accepted.{accepted, core_of, ending, positions}
 use Rattle.fp_steps.specs.Births.{is_one, named}
 use Rattle.fp_steps.specs.History.{Event}
 
--- whether a turn of a dialogue is out after one goes back that wasn't served: that of the dialogue that the step names
--- isn't
+-- whether a turn of a dialogue is out after one was put back: no more, where the step names that dialogue
 abbrev pub put_back_after : Step → List Event → ℕ → Bool → Bool
 put_back_after (steps.PutBack local) h d before = if is_one (named h local) d then false else before
 put_back_after _ h d before = before
