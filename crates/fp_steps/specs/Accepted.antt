@@ -102,7 +102,9 @@ is_full h = nat_le (2 ^ 63) (entry_count h)
 
 -- whether the dialogue of this course is given a Clock at a moment; none is, once the link has accepted 2^63 entries
 abbrev pub is_due_on : List Event → ℕ → ℕ → Course → Bool
-is_due_on h moment d c = not (is_full h) && ((admits_on h d c && not (has_clock_on h d c.accepts)) && nat_le (next_due (core_on h d c.accepts)) moment)
+is_due_on h moment d c =
+    not (is_full h)
+    && ((admits_on h d c && not (has_clock_on h d c.accepts)) && nat_le (next_due (core_on h d c.accepts)) moment)
 
 -- how a message ends the dialogue that it names, while that takes messages: refused, it closes it; accepted, an End or
 -- an Abort is its peer's end. One that is Discarded closes none: where a refusal closes a dialogue and no Abort of the

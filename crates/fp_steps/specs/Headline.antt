@@ -44,4 +44,5 @@ pub record Headline (h : List Event) : Type 0 where
 -- answer at its moment; and the totals of the outputs are sums over the dialogues of this history
 abbrev pub Runs : Contents → List (List ℕ) → ℕ → List Step → List Output → Type 0
 Runs contents contexts link steps outputs =
-    (h : List Event) × Tells contents contexts steps outputs h × AtEachMoment Headline h × AllAnswered link h × AddUp outputs h
+    (h : List Event) × Tells contents contexts steps outputs h × AtEachMoment Headline h × AllAnswered link h
+    × AddUp outputs h

@@ -20,5 +20,5 @@ SentAlike =
 -- What holds at each moment of a run holds of its whole history.
 abbrev pub HeadlineHolds : Type 0
 HeadlineHolds =
-    (contents : Contents) (contexts : List (List ℕ)) (link : ℕ) (steps : List Step) (outputs : List Output) (run : Runs contents contexts link steps outputs)
-    → Headline run.0
+    (contents : Contents) (contexts : List (List ℕ)) (link : ℕ) (steps : List Step) (outputs : List Output)
+    → (run : Runs contents contexts link steps outputs) → Headline run.0
