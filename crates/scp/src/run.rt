@@ -162,7 +162,8 @@ fn answer_lines<R: Read, W: Write>(
 ) -> Result<(), AskFault>
     ensures end { OnOk result (IsAtEnd (R.remaining reader.new.device)) }
     ensures answered { OnOk result (IfSome (R.remaining reader.old.device)
-        (AnswersAll table.now contexts.now moment TURNS (W.contents writer.old.device) (W.contents writer.new.device))) }
+        (AnswersAll table.now contexts.now moment TURNS
+        (W.contents writer.old.device) (W.contents writer.new.device))) }
     ensures stopped { IfErr result (Stops table.now contexts.now moment TURNS
         (R.remaining reader.old.device) (R.remaining reader.new.device)
         (W.contents writer.old.device) (W.contents writer.new.device)) }
