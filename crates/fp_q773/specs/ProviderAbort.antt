@@ -3,15 +3,16 @@ use Rattle.std.specs.Prelude.{ℕ, List, [], ◌∷◌}
 use Rattle.fp_ber.specs.declared.element.Class.TheVariants.{Application}
 use Rattle.fp_ber.specs.Tree.{Tree, primitive, constructed, none, more}
 use Rattle.fp_q773.specs.declared.provider_abort.AbortCause.{AbortCause}
-use Rattle.fp_q773.specs.declared.provider_abort.AbortCause.TheVariants.{UnrecognizedMessageType, UnrecognizedTransactionIdentifier, BadlyFormattedTransactionPortion, ResourceLimitation}
+use Rattle.fp_q773.specs.declared.provider_abort.AbortCause.TheVariants.{UnrecognizedMessageType, UnrecognizedTransactionIdentifier, BadlyFormattedTransactionPortion, IncorrectTransactionPortion, ResourceLimitation}
 use Rattle.fp_q773.specs.declared.provider_abort.AbortOctets.{AbortOctets}
 use Rattle.fp_q773.specs.declared.provider_abort.AbortOctets.TheVariants.{Eight, Nine, Ten, Eleven}
 
--- the value of a cause; 3, an incorrect transaction portion, is never written
+-- the value of a cause
 abbrev pub cause_code : AbortCause → ℕ
 cause_code UnrecognizedMessageType = 0
 cause_code UnrecognizedTransactionIdentifier = 1
 cause_code BadlyFormattedTransactionPortion = 2
+cause_code IncorrectTransactionPortion = 3
 cause_code ResourceLimitation = 4
 
 -- the octets that were written

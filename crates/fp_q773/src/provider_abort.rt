@@ -15,7 +15,7 @@ const DESTINATION: u8 = 0x49;
 /// The tag of a cause.
 const CAUSE: u8 = 0x4A;
 
-/// Why the provider cuts off a dialogue. An incorrect transaction portion, 3, is never written.
+/// Why the provider cuts off a dialogue. Nothing here names an incorrect transaction portion, but a log may tell of it.
 #[derive(Clone, Copy, Debug, PartialEq, Eq)]
 pub enum AbortCause {
     /// The tag is that of no message.
@@ -24,12 +24,14 @@ pub enum AbortCause {
     UnrecognizedTransactionIdentifier,
     /// The transaction portion isn't encoded as it should be.
     BadlyFormattedTransactionPortion,
+    /// The transaction portion isn't the one that is due.
+    IncorrectTransactionPortion,
     /// There is no room for the dialogue.
     ResourceLimitation,
 }
 
 impl AbortCause {
-    /// The cause of this value; `None` for a value that is never written.
+    /// The cause of this value; `None` for a value above 4.
     pub fn from_code(code: u8) -> Option<AbortCause>
         ensures value { IfSome result (λ cause. cause_code cause ≡ code) }
         ensures only { (cause : AbortCause) → cause_code cause ≡ code → result ≡ Some cause }
@@ -38,6 +40,7 @@ impl AbortCause {
             0 => Some(AbortCause::UnrecognizedMessageType),
             1 => Some(AbortCause::UnrecognizedTransactionIdentifier),
             2 => Some(AbortCause::BadlyFormattedTransactionPortion),
+            3 => Some(AbortCause::IncorrectTransactionPortion),
             4 => Some(AbortCause::ResourceLimitation),
             _ => None,
         }
@@ -51,6 +54,7 @@ impl AbortCause {
             AbortCause::UnrecognizedMessageType => 0,
             AbortCause::UnrecognizedTransactionIdentifier => 1,
             AbortCause::BadlyFormattedTransactionPortion => 2,
+            AbortCause::IncorrectTransactionPortion => 3,
             AbortCause::ResourceLimitation => 4,
         }
     }
