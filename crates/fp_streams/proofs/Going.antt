@@ -4,7 +4,7 @@ use Rattle.std.specs.Prelude.{IsFalse, IsTrue}
 use Rattle.std.specs.Io.KnownBytes.{Consumes, IsAtEnd, Keeps}
 use Rattle.std.proofs.KnownBytes.{Consumes-kept, Consumes-nil, Consumes-trans}
 use Rattle.std.proofs.lemmas.List.Elements.{All-append, All-cons, All-head, All-nil, All-tail}
-use Rattle.fp_streams.specs.Held.{end_turns, fault_turns, GivesLine, Held, HoldsAll, IsBegun, LinesFaultSays, Reads}
+use Rattle.fp_streams.specs.Held.{EndsLine, end_turns, fault_turns, GivesLine, Held, HoldsAll, IsBegun, LinesFaultSays, Reads}
 use Rattle.fp_streams.specs.Line.{BeginsLong, IsOneLine, lines_of}
 use Rattle.fp_streams.specs.Moved.{Grows, MovesLine, MoveStops}
 use Rattle.fp_streams.specs.declared.fault.LinesFault.{LinesFault}
@@ -121,6 +121,7 @@ handed_out had left before after old new begun buffer line rest ended most turns
           (λ ends. not_ended new.ended (IsAtEnd left) goes_on ends);
       gives = record {
         before_end = goes.before_end;
+        ends = subst (λ b. EndsLine b (old.octets ++ goes.read) line new.octets) (sym goes_on) (joined ∙ ap (λ l. line ++ 10 ∷ l) (sym octets_is));
         short = let n = grows.short in let m = goes.same in omega (arith, n, m);
         fewer =
             let all = ap length joined in
@@ -146,6 +147,7 @@ handed_last had left before after old new begun buffer ended most turns goes emp
       reads = reads_of had left before after old new begun buffer ended most turns 1 _ goes (one_end_turn old.ended new.ended goes.before_end ended_is) most_is turns_is (λ _. end);
       gives = record {
         before_end = goes.before_end;
+        ends = subst (λ b. EndsLine b (old.octets ++ goes.read) begun new.octets) (sym ended_is) (joined, octets_is);
         short = let n = goes.short in let m = goes.same in omega (arith, n, m);
         fewer =
             let all = ap length joined in

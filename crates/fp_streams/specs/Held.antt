@@ -46,10 +46,16 @@ fault_turns TooLong = 0
 fault_turns TurnLimit = 0
 fault_turns Memory = 0
 
+-- a line feed ended the first line of these octets, and the rest stands behind that; or their end did
+abbrev pub EndsLine : Bool → List ℕ → List ℕ → List ℕ → Type 0
+EndsLine false octets line rest = octets ≡ line ++ 10 ∷ rest
+EndsLine true octets line rest = (octets ≡ line) × (rest ≡ [])
+
 -- the end wasn't read before; whatever may still come, the lines are this one and then those of what is held, which are
 -- fewer octets
 pub record HandsOut (old new : Held) (read line : List ℕ) : Type 0 where
   pub before_end : IsFalse old.ended
+  pub ends : EndsLine new.ended (old.octets ++ read) line new.octets
   pub short : length line ≤ old.most
   pub fewer : length new.octets < length old.octets + length read
   pub lines : (rest : List ℕ) → MayCome new rest

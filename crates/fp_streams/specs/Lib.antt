@@ -1,4 +1,5 @@
 pub mod Device
+pub mod Grows
 pub mod Held
 pub mod Line
 pub mod Moved

@@ -59,6 +59,14 @@ impl Lines {
         }
     }
 
+    /// Whether the end of the input was read. Then the line that was handed out last had no line feed, if that was by the
+    /// call before.
+    pub fn is_at_end(&self) -> bool
+        ensures { result ≡ self.now.ended }
+    {
+        self.ended
+    }
+
     /// The next line without its line feed, or `None` at the end of the input, behind which nothing is read.
     ///
     /// It reads only where the next line isn't held yet. A line is too long as soon as `most` octets of it and one more

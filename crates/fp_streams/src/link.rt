@@ -4,6 +4,7 @@ ghost use Rattle.std.specs.Prelude.{ℕ, List, Option, None};
 ghost use Rattle.std.specs.Io.{ReadsAtMost, WritesAtMost};
 ghost use Rattle.std.specs.Io.KnownBytes.{Keeps, ReadConsumes, WriteAppends};
 ghost use Rattle.fp_streams.specs.Device.{CountsFailure, WritesSome};
+ghost use Rattle.fp_streams.specs.Grows.{TellsPiece};
 
 use crate::DeviceFault;
 
@@ -11,6 +12,9 @@ use crate::DeviceFault;
 pub trait LinkRead {
     // The octets that reads will give from here on, where they are known.
     ghost remaining: { Self → Option (List ℕ) } = { λ _. None };
+
+    // What each read gave, in their order, where that is known.
+    ghost pieces: { Self → Option (List (List ℕ)) } = { λ _. None };
 
     // How often the device has failed, as far as the count goes.
     ghost failures: { Self → ℕ };
@@ -20,6 +24,7 @@ pub trait LinkRead {
     fn read(&mut self, octets: &mut [u8]) -> Result<usize, DeviceFault>
         ensures bound { ReadsAtMost result octets.new }
         ensures octets { ReadConsumes (remaining self.old) (remaining self.new) result octets.new }
+        ensures piece { TellsPiece (pieces self.old) (pieces self.new) result octets.new }
         ensures failure { CountsFailure result (failures self.old) (failures self.new) };
 }
 

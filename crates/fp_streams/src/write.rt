@@ -3,7 +3,7 @@
 ghost use Rattle.std.specs.Io.KnownBytes.{Appends};
 ghost use Rattle.std.specs.Prelude.{OnErr, OnOk};
 ghost use Rattle.fp_streams.specs.Device.{CountsFailure};
-ghost use Rattle.fp_streams.specs.Write.{AppendsFront};
+ghost use Rattle.fp_streams.specs.Write.{AppendsFront, AppendsPart};
 
 use crate::{LinkWrite, WriteFault};
 
@@ -11,6 +11,7 @@ use crate::{LinkWrite, WriteFault};
 pub fn write_all<W: LinkWrite>(writer: &mut W, octets: &[u8]) -> Result<(), WriteFault>
     ensures written { OnOk result (Appends (W.contents writer.old) (W.contents writer.new) octets.now) }
     ensures front { OnErr result (AppendsFront (W.contents writer.old) (W.contents writer.new) octets.now) }
+    ensures part { OnErr result (AppendsPart (W.contents writer.old) (W.contents writer.new) octets.now) }
     ensures failure { CountsFailure result (W.failures writer.old) (W.failures writer.new) }
 {
     let mut at = 0;

@@ -15,6 +15,20 @@ returns-in_default-clause-front g c =
       whole = take-append-drop at octets;
     }
 
+pub returns-in_default-clause-part : goal.returns-in_default-clause-part
+returns-in_default-clause-part g c =
+    let at = c.loop-at.at in
+    let octets = c.args.octets.now in
+    let left = length-drop at octets in
+    let more = c.loop-at-test.true in
+    record {
+      front = take at octets;
+      rest = drop at octets;
+      wrote = Appends-kept _ _ _ (take at octets) c.loop-at.invariant.wrote c.in_default.ensures.octets;
+      whole = take-append-drop at octets;
+      missing = omega (arith, left, more);
+    }
+
 pub loop-at-preserved : goal.loop-at-preserved
 loop-at-preserved g c =
     let at = c.loop-at.at in
