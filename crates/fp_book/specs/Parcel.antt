@@ -3,6 +3,7 @@ use Rattle.std.specs.Prelude.{ℕ, List, Option, Some, None}
 use Rattle.fp_reply.specs.ProviderAbort.{frame_octets}
 use Rattle.fp_book.specs.declared.parcel.Content.{Content}
 use Rattle.fp_book.specs.declared.parcel.Content.TheVariants as contents
+use Rattle.fp_book.specs.declared.parcel.Parcel.{Parcel}
 
 -- the dialogue whose frame it is
 abbrev pub dialogue_of : Content → Option ℕ
@@ -18,3 +19,10 @@ local_of (contents.Frame waiting) = waiting.local
 abbrev pub octets_of : Content → List ℕ
 octets_of (contents.Abort frame) = frame_octets frame
 octets_of (contents.Frame waiting) = waiting.frame
+
+-- of a parcel its local transaction identifier, 0 for an Abort of the provider, and its octets
+abbrev pub local_in : Parcel → ℕ
+local_in parcel = local_of parcel.content
+
+abbrev pub octets_in : Parcel → List ℕ
+octets_in parcel = octets_of parcel.content

@@ -105,6 +105,14 @@ impl Book {
         self.totals
     }
 
+    /// Whether the link is down. Takes no memory.
+    pub fn is_down(&self) -> bool
+        ensures value { result ≡ self.now.is_down }
+        ensures sound { Sound self.now }
+    {
+        self.is_down
+    }
+
     /// Moves the oldest lines of the log behind `lines`, as many as `lines` has room for, and changes nothing else.
     /// Takes no memory.
     pub fn drain(&mut self, lines: &mut Vec<Line>)

@@ -16,6 +16,7 @@
 //! | [`Book::pick`] | the link may send | [`Picked`]: the parcel that is sent next, or why none |
 //! | [`Book::sent`], [`Book::unsent`] | the parcel went out, or didn't | |
 //! | [`Book::down`] | the link is gone | |
+//! | [`Book::is_down`] | | whether it went down |
 //! | [`Book::drain`] | room for lines | the oldest lines of the log |
 //! | [`Book::totals`] | | [`Totals`]: components accepted, entries served, frames sent |
 //!
