@@ -1,0 +1,4 @@
+pub mod Going
+pub mod HandedOn
+pub mod Sent
+pub mod Told

@@ -1,0 +1,3 @@
+pub mod Calls
+pub mod Receiving
+pub mod Sending

@@ -1,0 +1,76 @@
+-- What the loop that reads a link makes of what it reads, and why it went no further.
+use Rattle.std.specs.Prelude.{◌≡◌, ◌≢◌, ℕ, ◌<◌, ◌≤◌, ◌⊎◌, List, [], ◌∷◌, ◌++◌, Option, Result, Ok, Err, length}
+use Rattle.std.specs.List.{All, flat_map}
+use Rattle.std.specs.Io.KnownBytes.{Consumes, IsAtEnd}
+use Rattle.fp_frames.specs.declared.fault.FrameFault.{FrameFault}
+use Rattle.fp_frames.specs.declared.fault.FrameFault.TheVariants as faults
+use Rattle.fp_frames.specs.Stream.{Frames, IsBad, IsIncomplete}
+use Rattle.fp_streams.specs.Grows.{Grows}
+use Rattle.fp_linkio.specs.declared.ended.Ended.{Ended}
+use Rattle.fp_linkio.specs.declared.ended.Ended.TheVariants.{EndOfInput, BadFrame, ReadFault, WriteFault, TurnLimit, Memory}
+
+-- what reads gave, one after another
+abbrev pub joined : List (List ℕ) → List ℕ
+joined pieces = flat_map (λ (piece : List ℕ). piece) pieces
+
+-- a read gave an octet, and 65,536 at most
+abbrev pub IsPiece : List ℕ → Type 0
+IsPiece piece = (0 < length piece) × (length piece ≤ 65536)
+
+-- the last read gave none, and the input is at its end
+pub record IsEnd (turns count : ℕ) (left : Option (List ℕ)) (last : List (List ℕ)) : Type 0 where
+  pub end : IsAtEnd left
+  pub nothing : last ≡ [] ∷ []
+  pub within : count < turns
+
+-- why it went no further: after so many reads of which each gave octets, the last one besides, and with this rest behind
+-- the frames that were handed on
+abbrev pub ReceiveEnds : Ended → ℕ → ℕ → Option (List ℕ) → List (List ℕ) → List ℕ → Type 0
+-- the input is at its end, and nothing is left of it
+ReceiveEnds EndOfInput turns count left last rest = IsEnd turns count left last × (rest ≡ [])
+-- a length stands next that no frame has; or the input is at its end, inside a frame
+ReceiveEnds BadFrame turns count left last rest =
+    (IsBad rest × (last ≡ []) × (count ≤ turns)) ⊎ (IsEnd turns count left last × IsIncomplete rest × (0 < length rest))
+-- no whole frame is left, and one more read was made, which failed
+ReceiveEnds ReadFault turns count left last rest = IsIncomplete rest × (last ≡ []) × (count < turns)
+ReceiveEnds WriteFault turns count left last rest = ⊥
+-- no whole frame is left, and all reads were made
+ReceiveEnds TurnLimit turns count left last rest = IsIncomplete rest × (last ≡ []) × (count ≡ turns)
+-- whole frames may be left
+ReceiveEnds Memory turns count left last rest = (last ≡ []) × (count ≤ turns)
+
+-- Pieces were read, and perhaps the end of the input. The messages that were handed on are those of the frames at the
+-- front of what was read, in their order.
+pub record Receives (turns : ℕ) (had left : Option (List ℕ)) (before after old new : Option (List (List ℕ))) (ended : Ended) : Type 0 where
+  pub pieces : List (List ℕ)
+  pub sizes : All IsPiece pieces
+  pub last : List (List ℕ)
+  pub read : Grows before after (pieces ++ last)
+  pub consumed : Consumes had left (joined pieces)
+  pub messages : List (List ℕ)
+  pub handed_on : Grows old new messages
+  pub rest : List ℕ
+  pub frames : Frames (joined pieces) messages rest
+  pub end : ReceiveEnds ended turns (length pieces) left last rest
+
+-- the failures of the reader: it failed where that is told, and not elsewhere
+abbrev pub ReaderFailed : Ended → ℕ → ℕ → Type 0
+ReaderFailed EndOfInput old new = new ≡ old
+ReaderFailed BadFrame old new = new ≡ old
+ReaderFailed ReadFault old new = new ≢ old
+ReaderFailed WriteFault old new = ⊥
+ReaderFailed TurnLimit old new = new ≡ old
+ReaderFailed Memory old new = new ≡ old
+
+-- why no more frames were handed on: none is whole; or a length stands next that no frame has; or memory was wanting
+abbrev pub HandingEnds : {A : Type 0} → Result A FrameFault → List ℕ → Type 0
+HandingEnds (Ok done) rest = IsIncomplete rest
+HandingEnds (Err faults.BadFrameLength) rest = IsBad rest
+HandingEnds (Err faults.Memory) rest = Unit {0}
+
+-- the frames at the front of these octets were handed on, in their order, and the rest is left
+pub record HandsOn {A : Type 0} (old new : Option (List (List ℕ))) (octets rest : List ℕ) (result : Result A FrameFault) : Type 0 where
+  pub messages : List (List ℕ)
+  pub handed_on : Grows old new messages
+  pub frames : Frames octets messages rest
+  pub end : HandingEnds result rest

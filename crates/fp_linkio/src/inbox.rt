@@ -1,0 +1,16 @@
+//! Who takes the frames of a link.
+
+ghost use Rattle.std.specs.Prelude.{ℕ, List, [], ◌∷◌, Option, None};
+ghost use Rattle.fp_streams.specs.Grows.{Grows};
+
+use fp_frames::Frame;
+
+/// Who takes the frames of a link, in their order.
+pub trait Inbox {
+    // The messages that were handed on, in their order, where they are told.
+    ghost messages: { Self → Option (List (List ℕ)) } = { λ _. None };
+
+    /// Takes the next frame.
+    fn frame(&mut self, frame: Frame)
+        ensures { Grows (messages self.old) (messages self.new) (frame ∷ []) };
+}
