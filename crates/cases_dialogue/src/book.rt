@@ -34,6 +34,7 @@
 //! | `abandon turn NAME` | nobody serves the turn: `abandoned` |
 //! | `abandon parcel NAME` | nobody reports the parcel: `abandoned` |
 //! | `down` | the link goes down: `down` |
+//! | `is-down` | whether it is down: `yes` or `no` |
 //! | `totals` | what was counted |
 //! | `lines ROOM` | the oldest lines of the log, into room for so many, with ` | ` between them, or `no line` |
 //! | `drain ROOM` | the same: how many there are, the first and the last |
@@ -104,6 +105,7 @@ fn own_step(
             book.down();
             word(alloc, "down")
         }
+        ["is-down"] => word(alloc, if book.is_down() { "yes" } else { "no" }),
         ["totals"] => totals_text(alloc, book.totals()),
         ["lines", room] => lines::all(alloc, book, room.parse()?),
         ["drain", room] => lines::ends(alloc, book, room.parse()?),

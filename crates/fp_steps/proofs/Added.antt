@@ -217,7 +217,7 @@ sent_adds h step came old new (contents.Frame w) t k g =
 
 -- MESSAGES
 
-components_are : (came : Prepared) → components_came came ≡ component_count (entries_in came)
+pub components_are : (came : Prepared) → components_came came ≡ component_count (entries_in came)
 components_are (prepared.Message arrival incoming) = refl
 components_are (prepared.Refused arrival fault) = refl
 components_are (prepared.Lost arrival) = refl
@@ -311,7 +311,7 @@ adds_drained h e old new anew t g =
     by_made (AddsBy h e.came) e.step e.came e.output before g.after (adds h e.came before g.after anew (Tied-drained h old g.before t) g.sound) g.makes
 
 -- what is out, as the outputs tell it
-local_more : (output : Output) (o : Option Handed) (before : Option ℕ) → before ≡ local_in o → local_after output before ≡ local_in (out_after output o)
+pub local_more : (output : Output) (o : Option Handed) (before : Option ℕ) → before ≡ local_in o → local_after output before ≡ local_in (out_after output o)
 local_more (outputs.Posted answer components) o before is = is
 local_more (outputs.Ticked added wanting) o before is = is
 local_more (outputs.Took local position) o before is = is

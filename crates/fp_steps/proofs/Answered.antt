@@ -161,7 +161,7 @@ answer_put_back law h local outputs.Nothing old new t k g = back_none law h old 
 
 -- SENT, UNSENT
 
-sent_out : (old : Shelf) (content : Content) (new : Shelf) → Sends old content new → old.outbox.out ≡ Some content
+pub sent_out : (old : Shelf) (content : Content) (new : Shelf) → Sends old content new → old.outbox.out ≡ Some content
 sent_out old (contents.Abort frame) new g = g.was_out
 sent_out old (contents.Frame w) new g = g.was_out
 

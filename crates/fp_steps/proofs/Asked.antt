@@ -164,7 +164,7 @@ answer_pick h (outputs.Gave lo position given) old new t k l g = absurd g
 answer_pick h outputs.WentBack old new t k l g = absurd g
 answer_pick h (outputs.Picked local frame) old new t k l g = (
   t.is_out ∙ ap (option_map handed) g.3.none_out,
-  subst (λ n. IsNext old.link (aborts_waiting h) (waiting h) n frame.items) g.1 (subst (IsNext old.link (aborts_waiting h) (waiting h) (local_of g.0)) g.2 (next_is h old new g.0 t k l g.3)),
+  subst (λ n. IsNext old.link (aborts_waiting h) (waiting h) n frame) g.1 (subst (IsNext old.link (aborts_waiting h) (waiting h) (local_of g.0)) g.2 (next_is h old new g.0 t k l g.3)),
 )
 answer_pick h outputs.Busy old new t k l g = ap is_some t.is_out ∙ some_handed old.outbox.out g.0
 answer_pick h outputs.Sent old new t k l g = absurd g

@@ -1,7 +1,6 @@
 -- What is made of a book, by cases: each step with the answers that it may have.
-use Rattle.std.proofs.Common.{◌≡◌, ◌≢◌, ℕ, ◌≤◌, Option, Some, None, [], refl, sym, subst}
+use Rattle.std.proofs.Common.{◌≡◌, ◌≢◌, ℕ, ◌≤◌, Option, Some, None, List, [], refl, sym, subst}
 use Rattle.std.specs.Prelude.{IsSome}
-use Rattle.std.specs.Global.{Vec}
 use Rattle.std.specs.FinMap as map
 use Rattle.fp_book.specs.declared.answers.Given.{Given}
 use Rattle.fp_book.specs.declared.answers.Posted.{Posted}
@@ -32,7 +31,7 @@ pub record Cases (P : Step → Output → Type 0) (came : Option Prepared) (old 
   pub none_given : (local : ℕ) → turn_of (map.get old.rows local) ≡ None → new ≡ old → P (steps.Give local) outputs.Nothing
   pub went_back : (turn : Turn) → PutsTurnBack old turn new → P (steps.PutBack turn.local) outputs.WentBack
   pub none_back : (local : ℕ) → turn_of (map.get old.rows local) ≡ None → new ≡ old → P (steps.PutBack local) outputs.Nothing
-  pub picked : (content : Content) (frame : Vec ℕ) → octets_of content ≡ frame.items → PicksParcel old content new → P steps.Pick (outputs.Picked (local_of content) frame)
+  pub picked : (content : Content) (frame : List ℕ) → octets_of content ≡ frame → PicksParcel old content new → P steps.Pick (outputs.Picked (local_of content) frame)
   pub busy : IsSome old.outbox.out → new ≡ old → P steps.Pick outputs.Busy
   pub none_picked : old.outbox ≡ nothing → new ≡ old → P steps.Pick outputs.Nothing
   pub sent : (content : Content) → Sends old content new → P steps.Sent outputs.Sent

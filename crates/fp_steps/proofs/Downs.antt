@@ -52,12 +52,14 @@ gone_ended n d t true g = record {
   admitted = and_right (nat_lt 0 d && nat_le d n) false refl;
   waits = refl;
   outs = g.outs;
+  all_sent = λ live. absurd (cc);
 }
 gone_ended n d t false g = record {
   straight = straight_ended d t t.ended g.straight;
   admitted = g.admitted;
   waits = g.waits;
   outs = g.outs;
+  all_sent = g.all_sent;
 }
 
 -- who is closed stays so

@@ -191,6 +191,7 @@ at_more d n t None ne k = record {
   admitted = ap (λ b. (nat_lt 0 d && b) && (not (is_some t.ended) && not (is_over (core_in d t)))) (le_more d n ne) ∙ k.admitted;
   waits = k.waits;
   outs = k.outs;
+  all_sent = k.all_sent;
 }
 
 none_taken : (xs : List (List ℕ)) (n : ℕ) → n ≡ 0 → take n xs ≡ []

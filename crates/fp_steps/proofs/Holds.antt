@@ -1,5 +1,5 @@
 -- The tokens that a run keeps are those that its book handed out.
-use Rattle.std.proofs.Common.{◌≡◌, ℕ, ◌<◌, ◌≤◌, ◌+◌, Bool, true, false, not, ◌&&◌, cond, eqb, nat_lt, Option, Some, None, List, [], ◌∷◌, ◌++◌, length, take, drop, slice_index_or, refl, sym, ◌∙◌, ap, subst, arith, suc, ⊎_elim, append-nil, add-one}
+use Rattle.std.proofs.Common.{◌≡◌, ℕ, ◌<◌, ◌≤◌, ◌+◌, Bool, true, false, not, ◌&&◌, cond, eqb, nat_lt, Option, Some, None, List, [], ◌∷◌, ◌++◌, length, take, drop, slice_index_or, refl, sym, ◌∙◌, ap, subst, arith, suc, ⊎_elim, append-nil, add-one, inl, inr}
 use Rattle.std.specs.Prelude.{filter, option_to_list, option_map, remove, slice_get}
 use Rattle.std.specs.List.{position, position_or_len}
 use Rattle.std.specs.FinMap as map
@@ -20,8 +20,10 @@ use Rattle.fp_book.specs.declared.verdict.Verdict.{Verdict}
 use Rattle.fp_book.specs.declared.verdict.Verdict.TheVariants.{Discard, Refuse, Open, Extend}
 use Rattle.std.specs.Ordering.{nat_cmp}
 use Rattle.fp_row.specs.declared.ending.Ending.{Ending}
-use Rattle.fp_book.specs.Calls.{Answers, ClocksAt, ClosesAt, ClosesOne, EndsDialogue, ExtendsDialogue, Follows, GivesDone, GoesDown, IsOut, OpensDialogue, PicksParcel, PutsTurnBack, Refuses, Sends, TakesTurn, Ticks, Unsends, abort_for, turn_of}
+use Rattle.fp_book.specs.Calls.{Answers, ClocksAt, ClosesAt, ClosesOne, EndsDialogue, ExtendsDialogue, Follows, GivesDone, GoesDown, IsOut, OpensDialogue, PicksParcel, Posts, PutsTurnBack, Refuses, Sends, TakesTurn, Ticks, Unsends, abort_for, turn_of}
 use Rattle.fp_book.specs.Shelf.{IsOwn, Shelf, Sound, keep}
+use Rattle.fp_book.specs.Verdict.{verdict}
+use Rattle.fp_entry.specs.declared.prepared.Prepared.TheVariants.{Lost}
 use Rattle.fp_entry.specs.declared.prepared.Prepared.{Prepared}
 use Rattle.fp_entry.specs.Prepared.{arrival_of}
 use Rattle.fp_q773.specs.declared.provider_abort.AbortCause.{AbortCause}
@@ -141,6 +143,10 @@ follows_untouched (Refuse cause closes) old new came answer k g = refuses_untouc
 follows_untouched (Open peer) old new came answer k g = opens_untouched old new peer came answer k g
 follows_untouched (Extend local None) old new came answer k g = extends_untouched old new local came answer g
 follows_untouched (Extend local (Some ending)) old new came answer k g = ends_untouched old new local ending came answer g
+
+pub posts_untouched : (old new : Shelf) (came : Prepared) (answer : Posted) → Sound old → Posts old came answer new → Untouched old new
+posts_untouched old new came answer k (inl g) = follows_untouched (verdict old came) old new came answer k g
+posts_untouched old new came answer k (inr g) = follows_untouched (verdict old (Lost (arrival_of came))) old new (Lost (arrival_of came)) answer k g.1
 
 -- a tick
 

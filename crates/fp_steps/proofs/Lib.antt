@@ -1,4 +1,5 @@
 mod Added
+mod Afterwards
 mod Alike
 mod Answered
 mod Answering
@@ -15,14 +16,20 @@ mod Found
 mod Frames
 mod Helds
 mod Holds
+mod Idle
 mod Grown
 mod Lines
 mod Lining
+mod LogCounts
+mod Logs
 mod Made
+mod Names
 mod Nexts
 mod Numbers
+mod OneAnswer
 mod Order
 mod Parcels
+mod Places
 mod Posted
 mod Posting
 mod Queue
@@ -31,6 +38,8 @@ mod Runs
 mod Served
 mod Stories
 mod Tally
+mod Tellings
 mod Ticked
+mod Totalled
 mod Verdicts
 mod Waits

@@ -1,7 +1,6 @@
 -- Each step keeps what waits in a book as its history tells.
 use Rattle.std.proofs.Common.{◌≡◌, ℕ, ◌<◌, ◌≤◌, ◌+◌, Bool, true, false, cond, eqb, not, ◌&&◌, ◌||◌, Option, Some, None, List, [], ◌∷◌, ◌++◌, length, is_some, refl, sym, ◌∙◌, ap, subst, arith, suc, length-append, ⊎_elim}
 use Rattle.std.specs.Prelude.{filter, map as map_list, nat_le}
-use Rattle.std.specs.Global.{Vec}
 use Rattle.std.proofs.lemmas.Bool.{cases_Bool, eqb-true}
 use Rattle.std.proofs.lemmas.List.{map-append}
 use Rattle.std.proofs.lemmas.List.Elements.{filter-append}
@@ -276,7 +275,7 @@ few_after h d c le lt =
     omega (arith, b, le, length-append (queued h c) []))
     (cases_Bool (eqb c d))
 
-pub moves_picked : (h : List Event) (step : Step) (came : Option Prepared) (old new : Shelf) (content : Content) (frame : Vec ℕ) → Lined h old → Tied h old → Sound old → PicksParcel old content new
+pub moves_picked : (h : List Event) (step : Step) (came : Option Prepared) (old new : Shelf) (content : Content) (frame : List ℕ) → Lined h old → Tied h old → Sound old → PicksParcel old content new
     → Moves h (event step came (outputs.Picked (local_of content) frame)) old new
 moves_picked h step came old new (contents.Abort abort) frame l t k g =
     let e = event step came (outputs.Picked 0 frame) in

@@ -273,7 +273,7 @@ lost_arrival octets moment (prepared.Lost arrival) is = is
 
 pub came_anew : (contents : Contents) (contexts : List (List ℕ)) (step : Step) (came : Option Prepared) → IsCame contents contexts step came → (p : Prepared) → came ≡ Some p → BeginsAnew (arrival_of p).ids
 came_anew contents contexts (steps.Post frame moment) (Some came) is p same = subst (λ (q : Prepared). BeginsAnew (arrival_of q).ids) (the_prepared came p same) (anew frame moment (arrival_of came) is.0.is_arrival)
-came_anew contents contexts (steps.Lost frame moment) (Some came) is p same = subst (λ (q : Prepared). BeginsAnew (arrival_of q).ids) (the_prepared came p same) (anew frame moment (arrival_of came) (lost_arrival frame moment came is))
+came_anew contents contexts (steps.Lost frame moment) (Some came) is p same = subst (λ (q : Prepared). BeginsAnew (arrival_of q).ids) (the_prepared came p same) (anew frame moment (arrival_of came) (lost_arrival frame moment came is.0))
 came_anew contents contexts (steps.Tick moment) (Some came) is p same = absurd is
 came_anew contents contexts steps.Take (Some came) is p same = absurd is
 came_anew contents contexts (steps.Give local) (Some came) is p same = absurd is
@@ -317,7 +317,7 @@ pub Tied-none : (link : ℕ) → Tied [] (empty_shelf link)
 Tied-none link = record {
   births_are = refl;
   entries_are = refl;
-  rows = λ d. subst (TiedAt 0 d untold) (sym (none_there link (identifier link d))) (record { straight = straight_none d; admitted = admits_none d; waits = refl; outs = refl });
+  rows = λ d. subst (TiedAt 0 d untold) (sym (none_there link (identifier link d))) (record { straight = straight_none d; admitted = admits_none d; waits = refl; outs = refl; all_sent = λ live. refl });
   own = λ local row was. absurd (let clash : None ≡ Some row = sym (none_there link local) ∙ was in cc);
   names = λ local d is. absurd (cc);
   are_named = λ d first last. absurd (omega (arith, first, last));

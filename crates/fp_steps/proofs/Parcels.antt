@@ -3,7 +3,6 @@ use Rattle.std.proofs.Common.{◌≡◌, ℕ, ◌<◌, ◌≤◌, false, cond, e
 use Rattle.std.specs.Prelude.{map as map_list, option_map}
 use Rattle.std.proofs.lemmas.Bool.{cases_Bool, ne_eqb}
 use Rattle.std.specs.FinMap as map
-use Rattle.std.specs.Global.{Vec}
 use Rattle.fp_book.proofs.Turns.{frames_at}
 use Rattle.fp_book.proofs.Unsent.{first_own}
 use Rattle.fp_book.proofs.Sums.{OneChanges, kept, left_of}
@@ -108,7 +107,7 @@ aborts_picked h e old (contents.Frame w) rest t k none next all sent_all is new 
     }
 
 -- what is sent next is handed out
-pub Tied-picks : (h : List Event) (step : Step) (came : Option Prepared) (old new : Shelf) (content : Content) (local : ℕ) (frame : Vec ℕ) → Tied h old → Sound old → local_of content ≡ local → octets_of content ≡ frame.items → PicksParcel old content new
+pub Tied-picks : (h : List Event) (step : Step) (came : Option Prepared) (old new : Shelf) (content : Content) (local : ℕ) (frame : List ℕ) → Tied h old → Sound old → local_of content ≡ local → octets_of content ≡ frame → PicksParcel old content new
     → Tied (record { step = step; came = came; output = outputs.Picked local frame } ∷ h) new
 Tied-picks h step came old new content local frame t k local_is octets_are g =
     let e : Event = record { step = step; came = came; output = outputs.Picked local frame } in
@@ -118,7 +117,7 @@ Tied-picks h step came old new content local frame t k local_is octets_are g =
     } in
     let quiet : (d : ℕ) → story (e ∷ h) d ≡ story h d = λ d. stays e h d refl refl refl refl refl refl refl in
     let make : ℕ → List ℕ → Option Handed = λ l xs. Some (record { local = l; octets = xs }) in
-    let is : out (e ∷ h) ≡ Some (handed content) = ap (λ l. make l frame.items) (sym local_is) ∙ ap (λ xs. make (local_of content) xs) (sym octets_are) in
+    let is : out (e ∷ h) ≡ Some (handed content) = ap (λ l. make l frame) (sym local_is) ∙ ap (λ xs. make (local_of content) xs) (sym octets_are) in
     let next : Next h e old then =
     record {
       link_is = refl;

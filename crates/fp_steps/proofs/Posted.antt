@@ -35,7 +35,7 @@ the_prepared p q e = cc
 decided_as : (p : Prepared) → ((s : Shelf) → verdict s p ≡ first_that_fits (seven_lines s p)) → Decided (Some p)
 decided_as p all s q same = subst (λ q. verdict s q ≡ first_that_fits (seven_lines s q)) (the_prepared p q same) (all s)
 
-lost_prepared : (contents : Contents) (contexts : List (List ℕ)) (octets : List ℕ) (moment : ℕ) (p : Prepared) → IsLost octets moment p → IsPrepared contents contexts octets moment p
+pub lost_prepared : (contents : Contents) (contexts : List (List ℕ)) (octets : List ℕ) (moment : ℕ) (p : Prepared) → IsLost octets moment p → IsPrepared contents contexts octets moment p
 lost_prepared contents contexts octets moment (prepared.Message arrival incoming) is = absurd is
 lost_prepared contents contexts octets moment (prepared.Refused arrival fault) is = absurd is
 lost_prepared contents contexts octets moment (prepared.Lost arrival) is = record { is_arrival = is; is_reading = tt }
@@ -46,7 +46,7 @@ none_decided s p same = absurd (cc)
 pub decided : SevenLinesDecide → (contents : Contents) (contexts : List (List ℕ)) (step : Step) (came : Option Prepared) → IsCame contents contexts step came → Decided came
 decided seven contents contexts step None is = none_decided
 decided seven contents contexts (steps.Post frame moment) (Some p) is = decided_as p (λ s. seven contents contexts frame moment s p is.0)
-decided seven contents contexts (steps.Lost frame moment) (Some p) is = decided_as p (λ s. seven contents contexts frame moment s p (lost_prepared contents contexts frame moment p is))
+decided seven contents contexts (steps.Lost frame moment) (Some p) is = decided_as p (λ s. seven contents contexts frame moment s p (lost_prepared contents contexts frame moment p is.0))
 decided seven contents contexts (steps.Tick moment) (Some p) is = absurd is
 decided seven contents contexts steps.Take (Some p) is = absurd is
 decided seven contents contexts (steps.Give local) (Some p) is = absurd is

@@ -161,6 +161,9 @@ gone_tied law births d t row k none = record {
   admitted = and_right (nat_lt 0 d && nat_le d births) _ (live_tied d t row k ∙ none.admitted);
   waits = waits_tied d t row k ∙ none.waits;
   outs = k.outs ∙ none.is_out;
+  all_sent = λ live.
+      let same : row.sent ≡ row.kept = omega (arith, none.sent, row.sent_within) in
+      k.sends ∙ ap (λ n. take n (frames_of row)) same ∙ (law row).all_kept (sym k.ends ∙ live) ∙ sym (asked_tied d t row k);
 }
 
 -- it began as it did

@@ -92,7 +92,7 @@ IsNext link [] [] local octets = ⊥
 -- that one is handed out; or something is out to be sent already; or nothing waits
 abbrev pub IsPicked : ℕ → List Event → Output → Type 0
 IsPicked link h outputs.Busy = is_some (out h) ≡ true
-IsPicked link h (outputs.Picked local frame) = (out h ≡ None) × IsNext link (aborts_waiting h) (waiting h) local frame.items
+IsPicked link h (outputs.Picked local frame) = (out h ≡ None) × IsNext link (aborts_waiting h) (waiting h) local frame
 IsPicked link h outputs.Nothing = (out h ≡ None) × (aborts_waiting h ≡ []) × (waiting h ≡ [])
 IsPicked link h _ = ⊥
 

@@ -7,9 +7,11 @@ use Rattle.fp_steps.specs.Accepted.{accepted, positions, served, start}
 use Rattle.fp_steps.specs.Answers.{AllAnswered}
 use Rattle.fp_steps.specs.Births.{Beginning, beginning}
 use Rattle.fp_steps.specs.History.{AtEachMoment, Event, Tells}
+use Rattle.fp_steps.specs.Idle.{IdleIsDone}
 use Rattle.fp_steps.specs.declared.output.Output.{Output}
 use Rattle.fp_steps.specs.declared.step.Step.{Step}
 use Rattle.fp_records.specs.Table.{Contents}
+use Rattle.fp_steps.specs.Retold.{LogIsRetold}
 use Rattle.fp_steps.specs.Sending.{aborts, aborts_sent, asked, queued, sent}
 use Rattle.fp_steps.specs.Totals.{AddUp}
 
@@ -41,8 +43,9 @@ pub record Headline (h : List Event) : Type 0 where
   pub aborts_first : IsPrefix (aborts_sent h) (aborts h)
 
 -- these are outputs of these steps on a link; at each moment of their history all of this holds, and each output is the
--- answer at its moment; and the totals of the outputs are sums over the dialogues of this history
+-- answer at its moment; the totals of the outputs are sums over the dialogues of this history; at each moment at which
+-- the link is idle nothing is left to do; and the lines of its log are retold by a history with these totals
 abbrev pub Runs : Contents → List (List ℕ) → ℕ → List Step → List Output → Type 0
 Runs contents contexts link steps outputs =
     (h : List Event) × Tells contents contexts steps outputs h × AtEachMoment Headline h × AllAnswered link h
-    × AddUp outputs h
+    × AddUp outputs h × AtEachMoment (IdleIsDone link) h × LogIsRetold contents contexts link h

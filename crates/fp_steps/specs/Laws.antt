@@ -1,12 +1,18 @@
 -- What holds of all runs, and of all histories of runs.
-use Rattle.std.specs.Prelude.{◌≡◌, ℕ, List, ◌⊎◌}
+use Rattle.std.specs.Prelude.{◌≡◌, ℕ, List, Option, ◌⊎◌}
 use mathlib.Core.List.{IsPrefix}
+use Rattle.fp_book.specs.declared.line.LoggedStep.{LoggedStep}
+use Rattle.fp_entry.specs.declared.prepared.Prepared.{Prepared}
 use Rattle.fp_steps.specs.Accepted.{accepted}
+use Rattle.fp_steps.specs.Answers.{IsAnswer}
 use Rattle.fp_steps.specs.Births.{beginning}
 use Rattle.fp_records.specs.Table.{Contents}
+use Rattle.fp_steps.specs.Counted.{totals_in}
 use Rattle.fp_steps.specs.Headline.{Headline, InOrder, Runs}
-use Rattle.fp_steps.specs.History.{Event}
+use Rattle.fp_steps.specs.History.{Event, IsCame, outputs_of}
+use Rattle.fp_steps.specs.Retold.{Retells}
 use Rattle.fp_steps.specs.Sending.{sent}
+use Rattle.fp_steps.specs.Totals.{totals_of}
 use Rattle.fp_steps.specs.declared.output.Output.{Output}
 use Rattle.fp_steps.specs.declared.step.Step.{Step}
 
@@ -22,3 +28,21 @@ abbrev pub HeadlineHolds : Type 0
 HeadlineHolds =
     (contents : Contents) (contexts : List (List ℕ)) (link : ℕ) (steps : List Step) (outputs : List Output)
     → (run : Runs contents contexts link steps outputs) → Headline run.0
+
+-- A step has one answer behind a history, by what its message is prepared to, which is one thing.
+abbrev pub AnswersAreOne : Type 0
+AnswersAreOne =
+    (contents : Contents) (contexts : List (List ℕ)) (link : ℕ) (h : List Event) (step : Step) (came other : Option Prepared) (x y : Output)
+    → IsCame contents contexts step came → IsCame contents contexts step other → IsAnswer link h step came x → IsAnswer link h step other y → x ≡ y
+
+-- The lines of a log are retold by one history.
+abbrev pub LinesAreRetoldOnce : Type 0
+LinesAreRetoldOnce =
+    (contents : Contents) (contexts : List (List ℕ)) (link : ℕ) (lines : List LoggedStep) (g h : List Event)
+    → Retells contents contexts link lines g → Retells contents contexts link lines h → g ≡ h
+
+-- The totals of a history that retells lines are what can be counted in those.
+abbrev pub RetoldLinesAreCounted : Type 0
+RetoldLinesAreCounted =
+    (contents : Contents) (contexts : List (List ℕ)) (link : ℕ) (lines : List LoggedStep) (h : List Event)
+    → Retells contents contexts link lines h → totals_of (outputs_of h) ≡ totals_in lines h

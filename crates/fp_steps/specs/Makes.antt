@@ -7,7 +7,7 @@ use Rattle.fp_book.specs.declared.line.LoggedStep.{LoggedStep}
 use Rattle.fp_book.specs.declared.line.LoggedStep.TheVariants as line
 use Rattle.fp_book.specs.declared.parcel.Content.{Content}
 use Rattle.fp_book.specs.declared.parcel.Parcel.{Parcel}
-use Rattle.fp_book.specs.Calls.{Follows, GivesDone, GoesDown, PicksParcel, PutsTurnBack, Sends, TakesTurn, Ticks, Unsends, turn_of}
+use Rattle.fp_book.specs.Calls.{Follows, GivesDone, GoesDown, PicksParcel, Posts as BookPosts, PutsTurnBack, Sends, TakesTurn, Ticks, Unsends, turn_of}
 use Rattle.fp_book.specs.Outbox.{nothing}
 use Rattle.fp_book.specs.Parcel.{local_of, octets_of}
 use Rattle.fp_book.specs.Shelf.{Shelf, Sound, places_held}
@@ -62,7 +62,7 @@ PutsBackTo local _ old new = ⊥
 
 abbrev pub PicksTo : Output → Shelf → Shelf → Type 0
 PicksTo (outputs.Picked local frame) old new =
-    (picked : Content) × (local_of picked ≡ local) × (octets_of picked ≡ frame.items) × PicksParcel old picked new
+    (picked : Content) × (local_of picked ≡ local) × (octets_of picked ≡ frame) × PicksParcel old picked new
 PicksTo outputs.Busy old new = IsSome old.outbox.out × (new ≡ old)
 PicksTo outputs.Nothing old new = (old.outbox ≡ nothing) × (new ≡ old)
 PicksTo _ old new = ⊥
@@ -106,9 +106,28 @@ pub record Drained (does : Shelf → Shelf → Type 0) (old new : Shelf) : Type 
 abbrev pub Makes : Shelf → Event → Shelf → Type 0
 Makes old e new = Drained (MakesOf e.step e.came e.output) old new
 
--- a step is made, by these records and names
-abbrev pub StepsTo : Contents → List (List ℕ) → Shelf → Step → Output → Shelf → Type 0
-StepsTo contents contexts old step output new = (came : Option Prepared) × IsCame contents contexts step came × Drained (MakesOf step came output) old new
+-- a message is posted, and memory may be wanting for it
+abbrev pub TriesPost : Option Prepared → Output → Shelf → Shelf → Type 0
+TriesPost None output old new = ⊥
+TriesPost (Some came) (outputs.Posted answer components) old new = (components ≡ components_by answer came) × BookPosts old came answer new
+TriesPost (Some came) _ old new = ⊥
+
+-- a step is made, but memory may be wanting for a message
+abbrev pub Tries : Step → Option Prepared → Output → Shelf → Shelf → Type 0
+Tries (steps.Post frame moment) came output old new = TriesPost came output old new
+Tries (steps.Lost frame moment) came output old new = TriesPost came output old new
+Tries (steps.Tick moment) came output old new = TicksTo moment output old new
+Tries steps.Take came output old new = TakesTo output old new
+Tries (steps.Give local) came output old new = GivesTo local output old new
+Tries (steps.PutBack local) came output old new = PutsBackTo local output old new
+Tries steps.Pick came output old new = PicksTo output old new
+Tries steps.Sent came output old new = SendsTo output old new
+Tries steps.Unsent came output old new = UnsendsTo output old new
+Tries steps.Down came output old new = GoesDownTo output old new
+
+-- so by these records and names
+abbrev pub TriesTo : Contents → List (List ℕ) → Shelf → Step → Output → Shelf → Type 0
+TriesTo contents contexts old step output new = (came : Option Prepared) × IsCame contents contexts step came × Tries step came output old new
 
 -- the components that are accepted, if any are
 abbrev pub components_if : Posted → ℕ → ℕ
@@ -132,3 +151,23 @@ abbrev pub tells_lost : Option Line → Bool
 tells_lost None = false
 tells_lost (Some (lines.Head links)) = false
 tells_lost (Some (lines.Step link step)) = is_lost_step step
+
+-- whether a line tells that memory was wanting for a message that had been read
+abbrev pub is_wanting : Step → Option Line → Bool
+is_wanting (steps.Post frame moment) taken = tells_lost taken
+is_wanting _ taken = false
+
+-- the step that a line tells
+abbrev pub step_in : Option Line → Option LoggedStep
+step_in None = None
+step_in (Some (lines.Head links)) = None
+step_in (Some (lines.Step link step)) = Some step
+
+-- what a log tells by this line; of a tick by its answer
+abbrev pub tick_or : Step → ℕ → ℕ → Option Line → Option LoggedStep
+tick_or (steps.Tick moment) added wanting taken = Some (line.Tick moment added wanting)
+tick_or _ added wanting taken = step_in taken
+
+abbrev pub told_by : Step → Output → Option Line → Option LoggedStep
+told_by step (outputs.Ticked added wanting) taken = tick_or step added wanting taken
+told_by step _ taken = step_in taken

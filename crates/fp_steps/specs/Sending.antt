@@ -53,7 +53,7 @@ pub record Handed : Type 0 where
   pub octets : List ℕ
 
 abbrev pub out_after : Output → Option Handed → Option Handed
-out_after (outputs.Picked local frame) before = Some (record { local = local; octets = frame.items })
+out_after (outputs.Picked local frame) before = Some (record { local = local; octets = frame })
 out_after outputs.Sent before = None
 out_after outputs.Unsent before = None
 out_after _ before = before

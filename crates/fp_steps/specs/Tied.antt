@@ -95,6 +95,8 @@ pub record IsGone (births : ℕ) (d : ℕ) (t : Story) : Type 0 where
   pub admitted : admits_in births d t ≡ false
   pub waits : waits_in d t ≡ false
   pub outs : t.out ≡ false
+  -- all that it requested was sent, where nothing ended it from outside
+  pub all_sent : t.ended ≡ None → t.sends ≡ asked_in d t
 
 abbrev pub TiedAt : ℕ → ℕ → Story → Option Row → Type 0
 TiedAt births d t None = IsGone births d t

@@ -1,9 +1,11 @@
 -- How the tokens that a run keeps stand to its book.
-use Rattle.std.specs.Prelude.{◌≡◌, ℕ, ◌==◌, List, Option, Some, None, filter, option_to_list}
+use Rattle.std.specs.Prelude.{◌≡◌, ℕ, ◌==◌, List, [], Option, Some, None, filter, option_to_list, vec_capacity}
+use Rattle.std.specs.Global.{Vec}
 use Rattle.std.specs.FinMap.{get}
+use Rattle.fp_book.specs.declared.line.Line.{Line}
 use Rattle.fp_book.specs.declared.parcel.Parcel.{Parcel}
 use Rattle.fp_book.specs.Calls.{IsOut, turn_of}
-use Rattle.fp_book.specs.Shelf.{Shelf}
+use Rattle.fp_book.specs.Shelf.{Shelf, Sound}
 use Rattle.fp_row.specs.declared.turn.Turn.{Turn}
 
 -- the turns of one dialogue
@@ -19,3 +21,14 @@ ParcelIs (Some parcel) s = IsOut s parcel
 pub record Holds (turns : List Turn) (parcel : Option Parcel) (s : Shelf) : Type 0 where
   pub turns_are : (local : ℕ) → turns_at local turns ≡ option_to_list (turn_of (get s.rows local))
   pub parcel_is : ParcelIs parcel s
+
+-- a place for one line of a log, with none in it
+pub record IsPlace (lines : Vec Line) : Type 0 where
+  pub none : lines.items ≡ []
+  pub room : vec_capacity lines ≡ 1
+
+-- what each run keeps
+pub record IsKept (turns : List Turn) (parcel : Option Parcel) (book : Shelf) (lines : Vec Line) : Type 0 where
+  pub sound : Sound book
+  pub holds : Holds turns parcel book
+  pub place : IsPlace lines

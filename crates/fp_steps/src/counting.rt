@@ -38,7 +38,7 @@ fn is_sent(output: &Output, out: Option<u32>) -> bool
 }
 
 /// What is out to be sent after an output, by the identifier of its dialogue, where this was before it.
-fn local_after(output: &Output, before: Option<u32>) -> Option<u32>
+pub(crate) fn local_after(output: &Output, before: Option<u32>) -> Option<u32>
     ensures { result ≡ local_after output.now before }
 {
     match output {

@@ -1,6 +1,8 @@
 //! What holds of all runs.
 
-ghost use Rattle.fp_steps.specs.Laws.{HeadlineHolds, SentAlike};
+ghost use Rattle.fp_steps.specs.Laws.{AnswersAreOne, HeadlineHolds, LinesAreRetoldOnce, RetoldLinesAreCounted, SentAlike};
+
+use fp_entry::prepared_is_one;
 
 /// Where a dialogue has the same birth in two runs, began so with the same identifiers and at the same moment, and
 /// accepted the same entries, what was sent for it in one of them is a front of what was sent in the other, in whatever
@@ -13,4 +15,24 @@ pub fn equal_dialogues_send_the_same()
 /// order, and [`equal_dialogues_send_the_same`] compares them.
 pub fn headline_holds_at_the_end()
     ensures { HeadlineHolds }
+{}
+
+/// Behind a history a step has one answer, and so one telling.
+pub fn answers_are_one()
+    ensures { AnswersAreOne }
+{
+    prepared_is_one();
+}
+
+/// Histories that retell the same lines of a log, by the same records and names, are one.
+pub fn lines_are_retold_once()
+    ensures { LinesAreRetoldOnce }
+{
+    prepared_is_one();
+}
+
+/// The totals of a history that retells the lines of a log are what can be counted in those: the components of the
+/// messages that were accepted, the turns that were given back, and the frames of dialogues that were sent.
+pub fn retold_lines_are_counted()
+    ensures { RetoldLinesAreCounted }
 {}

@@ -10,6 +10,11 @@
 //! Each output is the answer that the history before its step tells (`specs/Answers.antt`): by the lines for messages
 //! (`specs/Lines.antt`), by the turns that are out and the dialogues that are ready (`specs/Turns.antt`), and by what
 //! waits to be sent and how much is held (`specs/Waiting.antt`). There is no queue, no token and no row in these.
+//! Where a link is idle nothing is left to do (`specs/Idle.antt`).
+//! A [`LinkRun`] is such a run made step by step, for who doesn't know all steps at once; each of its clauses speaks of
+//! every history that leads to it (`specs/After.antt`). [`lines_of`] gives the log of a run, whose lines tell its steps
+//! (`specs/Told.antt`), and a history retells them (`specs/Retold.antt`).
+//!
 //! [`totals`] counts outputs alone, and a run's are sums over the dialogues of its history (`specs/Totals.antt`).
 //!
 //! How the book stands to the history is said by `specs/Tied.antt`: each dialogue that is held has what the history
@@ -20,12 +25,23 @@
 mod counting;
 mod engine;
 mod laws;
+mod link_run;
+mod log;
 mod output;
 mod parts;
 mod step;
+mod stepped;
+mod telling;
+mod whole_run;
 
 pub use counting::totals;
-pub use engine::run;
-pub use laws::{equal_dialogues_send_the_same, headline_holds_at_the_end};
+pub use laws::{
+    answers_are_one, equal_dialogues_send_the_same, headline_holds_at_the_end,
+    lines_are_retold_once, retold_lines_are_counted,
+};
+pub use link_run::LinkRun;
+pub use log::lines_of;
 pub use output::Output;
 pub use step::Step;
+pub use stepped::Stepped;
+pub use whole_run::run;

@@ -1,5 +1,6 @@
 //! Outputs of a run.
 
+use bytes::Bytes;
 use fp_book::{Given, Posted};
 
 /// What a step answers.
@@ -44,7 +45,7 @@ pub enum Output {
         /// The local transaction identifier of its dialogue, 0 for an Abort of the provider.
         local: u32,
         /// The frame that is to be sent, its head included.
-        frame: Vec<u8>,
+        frame: Bytes,
     },
     /// A parcel is out already.
     Busy,

@@ -2,7 +2,7 @@ use Rattle.std.proofs.lemmas.Bool.{false≢true}
 use Rattle.std.proofs.Common.{◌≡◌, eqb, slice_index_or, refl, sym, ◌∙◌, ap, subst}
 use Rattle.std.specs.List.{position}
 use Rattle.fp_steps.specs.Tokens.{Holds}
-use Rattle.fp_steps.proofs.Holds.{At, here_at, holds_gives, no_stranger, none_kept}
+use Rattle.fp_steps.proofs.Holds.{At, here_at, holds_gives, holds_puts_back, no_stranger, none_kept}
 use Rattle.fp_row.specs.declared.turn.Turn.{Turn}
 use Rattle.fp_steps.proofs.Found.{found}
 use Rattle.fp_steps.proofs.engine.Engine.give.Goals as goal
@@ -45,3 +45,20 @@ returns-in-Err-give-clause-holds c =
     here_at c.args.self.now.turns.items c.deref.result.now c.args.local c.in-Some.index c.remove.result c.index_of.result c.deref.ensures.value c.index_of.ensures c.in-Some.is c.remove.ensures.value
     in
     absurd (false≢true (c.in-Err-give.ensures.known.1 (no_stranger c.args.self.now.turns.items c.args.self.now.parcel c.args.self.now.book c.args.local c.in-Some.index c.remove.result c.in-Ok.done.turn c.requires.holds here c.in-Ok.ensures.turn)))
+
+pub give_up-requires : goal.give_up-requires
+give_up-requires c =
+    let here : At c.args.self.now.turns.items c.args.local c.in-Some.index c.remove.result =
+    here_at c.args.self.now.turns.items c.deref.result.now c.args.local c.in-Some.index c.remove.result c.index_of.result c.deref.ensures.value c.index_of.ensures c.in-Some.is c.remove.ensures.value
+    in
+    no_stranger c.args.self.now.turns.items c.args.self.now.parcel c.args.self.now.book c.args.local c.in-Some.index c.remove.result c.in-Err.turn c.requires.holds here c.in-Err.ensures.same
+
+pub returns-in-Err-clause-holds : goal.returns-in-Err-clause-holds
+returns-in-Err-clause-holds c =
+    let here : At c.args.self.now.turns.items c.args.local c.in-Some.index c.remove.result =
+    here_at c.args.self.now.turns.items c.deref.result.now c.args.local c.in-Some.index c.remove.result c.index_of.result c.deref.ensures.value c.index_of.ensures c.in-Some.is c.remove.ensures.value
+    in
+    let local : c.in-Err.turn.local ≡ c.args.local = ap (λ (t : Turn). t.local) c.in-Err.ensures.same ∙ here.local_is in
+    subst (λ ts. Holds ts c.args.self.now.parcel c.give_up.new.book) (sym c.remove.ensures.items)
+    (holds_puts_back c.args.self.now.turns.items c.args.self.now.parcel c.args.self.now.book c.give_up.new.book c.in-Err.turn c.in-Some.index c.remove.result c.requires.holds
+    (subst (λ l. At c.args.self.now.turns.items l c.in-Some.index c.remove.result) (sym local) here) c.give_up.ensures.puts)

@@ -1,0 +1,225 @@
+-- What a step makes of a history that leads to its book.
+use Rattle.std.proofs.Common.{◌≡◌, ℕ, Bool, true, false, cond, Option, Some, None, List, [], ◌∷◌, ◌++◌, length, refl, sym, ◌∙◌, ap, subst}
+use Rattle.std.specs.Prelude.{map as map_list, option_to_list, reverse}
+use Rattle.std.proofs.lemmas.Grind.{reverse_onto}
+use Rattle.std.proofs.lemmas.List.{reverse-reverse}
+use Rattle.fp_book.specs.declared.line.Line.{Line}
+use Rattle.fp_book.specs.declared.line.LoggedStep.{LoggedStep}
+use Rattle.fp_book.specs.Lines.{SevenLinesDecide}
+use Rattle.fp_book.specs.Shelf.{Shelf, Sound, empty_shelf}
+use Rattle.fp_records.specs.Table.{Contents}
+use Rattle.fp_row.specs.Laws.{RowsKeepTheirOrder}
+use Rattle.fp_entry.specs.declared.prepared.Prepared.{Prepared}
+use Rattle.fp_steps.specs.declared.output.Output.{Output}
+use Rattle.fp_steps.specs.declared.step.Step.{Step}
+use Rattle.fp_steps.specs.Accepted.{positions, served}
+use Rattle.fp_steps.specs.After.{AreCounted, Follows, IsAfter, LeadsTo}
+use Rattle.fp_steps.specs.Answers.{AllAnswered, IsAnswer}
+use Rattle.fp_steps.specs.Births.{births}
+use Rattle.fp_steps.specs.Headline.{Headline}
+use Rattle.fp_steps.specs.History.{AtEachMoment, Event, IsCame, outputs_of}
+use Rattle.fp_steps.specs.Lined.{Lined}
+use Rattle.fp_steps.specs.Makes.{Drained, MakesOf, TakesLine, TriesTo, is_wanting, told_by}
+use Rattle.fp_steps.specs.Retold.{Retells}
+use Rattle.fp_steps.specs.Sending.{out}
+use Rattle.fp_steps.specs.Tied.{Tied}
+use Rattle.fp_steps.specs.Totals.{AddUp, local_out}
+use Rattle.fp_steps.proofs.Added.{Counted, add_up, adds_drained, counted_more, counted_none, local_in, local_more}
+use Rattle.fp_steps.proofs.Answering.{answer_drained, link_drained}
+use Rattle.fp_steps.proofs.Births.{sum_to_same}
+use Rattle.fp_steps.proofs.Idle.{idle_is_done, idle_none}
+use Rattle.fp_steps.proofs.Lines.{left_is}
+use Rattle.fp_steps.proofs.Made.{Tied-makes, Tied-none, came_anew, headline}
+use Rattle.fp_steps.proofs.Nexts.{Tied-drained}
+use Rattle.fp_steps.proofs.Posted.{decided}
+use Rattle.fp_steps.proofs.Tellings.{line_is, line_step, made, unwritten_is}
+use Rattle.fp_steps.proofs.Totalled.{counted_next}
+use Rattle.fp_steps.proofs.Waits.{Lined-drained, Lined-makes, Lined-none}
+use Rattle.fp_steps.specs.Told.{is_written, lines_told, logged, told, written}
+
+-- what holds at each moment holds at the last
+pub at_the_end : (h : List Event) → AtEachMoment Headline h → Headline h
+at_the_end [] k = k
+at_the_end (e ∷ h) k = k.0
+
+-- the outputs in order, with one more
+pub outputs_more : (h : List Event) (e : Event) → outputs_of (e ∷ h) ≡ outputs_of h ++ e.output ∷ []
+outputs_more h e = reverse_onto (map_list (λ (e : Event). e.output) h) e.output []
+
+-- what is out, as the outputs tell it
+pub locals : (h : List Event) → local_out (map_list (λ (e : Event). e.output) h) ≡ local_in (out h)
+locals [] = refl
+locals (e ∷ h) = local_more e.output (out h) (local_out (map_list (λ (e : Event). e.output) h)) (locals h)
+
+local_is : (h : List Event) → local_out (reverse (outputs_of h)) ≡ local_in (out h)
+local_is h = ap local_out (reverse-reverse (map_list (λ (e : Event). e.output) h)) ∙ locals h
+
+counted_of : (h : List Event) → AddUp (outputs_of h) h → Headline h → Counted (outputs_of h) h
+counted_of h k l = record {
+  accepted = k.accepted;
+  served = k.served ∙ sum_to_same (births h) (λ d. length (served h d)) (λ d. length (positions h d)) (λ d from to. l.each_there d);
+  sent = k.sent;
+  local = local_is h;
+}
+
+-- what was made of the book, behind a line that was taken
+drained : (contents : Contents) (contexts : List (List ℕ)) (step : Step) (came : Option Prepared) (output : Output) (old mid new : Shelf) (taken : Option Line) → Sound (record old { log = [] }) → MakesOf step came output (record old { log = [] }) mid
+    → TakesLine mid taken new → Drained (MakesOf step came output) old new
+drained contents contexts step came output old mid new taken sound makes takes = record {
+  before = [];
+  sound = sound;
+  after = mid;
+  makes = makes;
+  left = new.log;
+  new_is = left_is mid taken new takes;
+}
+
+-- a step behind a history that leads to the book
+record Next (contents : Contents) (contexts : List (List ℕ)) (h : List Event) (step : Step) (came : Option Prepared) (output : Output) (line : Option LoggedStep) (new : Shelf) : Type 0 where
+  answer : IsAnswer new.link h step came output
+  line_is : line ≡ told h step output
+  leads : LeadsTo contents contexts (record { step = step; came = came; output = output } ∷ h) new
+
+-- all that is known of a step
+record Made (contents : Contents) (contexts : List (List ℕ)) (step : Step) (came : Option Prepared) (output : Output) (old mid new : Shelf) (taken : Option Line) : Type 0 where
+  sound : Sound (record old { log = [] })
+  is_came : IsCame contents contexts step came
+  makes : MakesOf step came output (record old { log = [] }) mid
+  takes : TakesLine mid taken new
+  then : Sound new
+
+drained_by : (contents : Contents) (contexts : List (List ℕ)) (step : Step) (came : Option Prepared) (output : Output) (old mid new : Shelf) (taken : Option Line) → Made contents contexts step came output old mid new taken → Drained (MakesOf step came output) old new
+drained_by contents contexts step came output old mid new taken m = drained contents contexts step came output old mid new taken m.sound m.makes m.takes
+
+next : RowsKeepTheirOrder → SevenLinesDecide → (contents : Contents) (contexts : List (List ℕ)) (step : Step) (came : Option Prepared) (output : Output) (old mid new : Shelf) (taken : Option Line) → Made contents contexts step came output old mid new taken
+    → (h : List Event) → LeadsTo contents contexts h old → Next contents contexts h step came output (told_by step output taken) new
+next law seven contents contexts step came output old mid new taken m h f =
+    let e : Event = record { step = step; came = came; output = output } in
+    let is = m.is_came in
+    let makes_all : Drained (MakesOf step came output) old new = drained_by contents contexts step came output old mid new taken m in
+    let tied : Tied (e ∷ h) new = Tied-makes law contents contexts h e old new f.tied is makes_all in
+    let link : new.link ≡ old.link = link_drained step came output old new makes_all in
+    let answer : IsAnswer new.link h step came output =
+    subst (λ n. IsAnswer n h step came output) (sym link) (answer_drained law h step came output old new f.tied f.lined (decided seven contents contexts step came is) makes_all)
+    in
+    let all : outputs_of (e ∷ h) ≡ outputs_of h ++ output ∷ [] = outputs_more h e in
+    let first : Headline (e ∷ h) = headline law (e ∷ h) new tied in
+    let lined : Lined (e ∷ h) new = Lined-makes h e old new (came_anew contents contexts step came is) f.tied f.lined makes_all tied m.then in
+    record {
+      answer = answer;
+      line_is = line_is contents contexts h step came output (record old { log = [] }) mid new taken (Tied-drained h old [] f.tied) m.sound refl is m.makes m.takes;
+      leads = record {
+        messages = (is, f.messages);
+        answers = (answer, subst (λ n. AllAnswered n h) (sym link) f.answers);
+        moments = (first, f.moments);
+        idle = λ n. (idle_is_done law (e ∷ h) new n tied lined m.then first, f.idle n);
+        adds_up = subst (λ os. AddUp os (e ∷ h)) (sym all)
+            (add_up (outputs_of h ++ output ∷ []) (e ∷ h)
+            (counted_more (outputs_of h) h e (counted_of h f.adds_up (at_the_end h f.moments)) (adds_drained h e old new (came_anew contents contexts step came is) f.tied makes_all)) first);
+        counted = subst (λ os. AreCounted os new.totals) (sym all) (counted_next (outputs_of h) h e old new f.tied (local_is h) makes_all f.counted);
+        tied = tied;
+        lined = lined;
+      };
+    }
+
+-- a history that leads to a book leads to it whatever is in its log
+leads_drained : (contents : Contents) (contexts : List (List ℕ)) (h : List Event) (old new : Shelf) → new ≡ record old { log = new.log } → LeadsTo contents contexts h old → LeadsTo contents contexts h new
+leads_drained contents contexts h old new same f =
+    subst (LeadsTo contents contexts h) (sym same) (record {
+      messages = f.messages;
+      answers = f.answers;
+      moments = f.moments;
+      idle = f.idle;
+      adds_up = f.adds_up;
+      counted = f.counted;
+      tied = Tied-drained h old new.log f.tied;
+      lined = Lined-drained h old new.log f.lined;
+    })
+
+-- WHAT IS RETOLD
+
+-- a history that retells the lines of a log, and leads to the book
+record Retelling (contents : Contents) (contexts : List (List ℕ)) (lines : List LoggedStep) (book : Shelf) : Type 0 where
+  retold : List Event
+  leads : LeadsTo contents contexts retold book
+  retells : Retells contents contexts book.link lines retold
+
+written_if : (step line : LoggedStep) (b : Bool) → cond b (Some step) None ≡ Some line → Some step ≡ Some line
+written_if step line true e = e
+written_if step line false e = absurd (cc)
+
+the_written : (o : Option LoggedStep) (line : LoggedStep) → written o ≡ Some line → o ≡ Some line
+the_written None line e = absurd (cc)
+the_written (Some step) line e = written_if step line (is_written step) e
+
+-- with the line of one step more, if it is written
+retold_by : RowsKeepTheirOrder → SevenLinesDecide → (contents : Contents) (contexts : List (List ℕ)) (step : Step) (came : Option Prepared) (output : Output) (old mid new : Shelf) (taken : Option Line) → Made contents contexts step came output old mid new taken
+    → (lines : List LoggedStep) (o : Option LoggedStep) → Retelling contents contexts lines old → written (told_by step output taken) ≡ o → Retelling contents contexts (option_to_list o ++ lines) new
+retold_by law seven contents contexts step came output old mid new taken m lines None k is =
+    let same : new ≡ record old { log = new.log } = unwritten_is step came output (record old { log = [] }) mid new taken refl m.makes m.takes is in
+    let link : new.link ≡ old.link = ap (λ (s : Shelf). s.link) same in
+    record { retold = k.retold; leads = leads_drained contents contexts k.retold old new same k.leads; retells = subst (λ n. Retells contents contexts n lines k.retold) (sym link) k.retells }
+retold_by law seven contents contexts step came output old mid new taken m lines (Some line) k is =
+    let n : Next contents contexts k.retold step came output (told_by step output taken) new = next law seven contents contexts step came output old mid new taken m k.retold k.leads in
+    let link : new.link ≡ old.link = link_drained step came output old new (drained_by contents contexts step came output old mid new taken m) in
+    let tells : told k.retold step output ≡ Some line = sym n.line_is ∙ the_written (told_by step output taken) line is in
+    record {
+      retold = record { step = step; came = came; output = output } ∷ k.retold;
+      leads = n.leads;
+      retells = (
+        record { step = line_step k.retold step came output (record old { log = [] }) mid m.makes line tells; came = m.is_came; answer = n.answer; tells = tells },
+        subst (λ n. Retells contents contexts n lines k.retold) (sym link) k.retells,
+      );
+    }
+
+-- EACH STEP
+
+-- a step follows the history
+pub followed : RowsKeepTheirOrder → SevenLinesDecide → (contents : Contents) (contexts : List (List ℕ)) (step : Step) (output : Output) (old mid new : Shelf) (taken : Option Line) → Sound (record old { log = [] })
+    → TriesTo contents contexts (record old { log = [] }) step output mid → TakesLine mid taken new → is_wanting step taken ≡ false → Sound new
+    → (h : List Event) → IsAfter contents contexts h old → Follows contents contexts h step (record { output = output; line = told_by step output taken }) new
+followed law seven contents contexts step output old mid new taken sound (came, is, tries) takes none then h f =
+    let makes : MakesOf step came output (record old { log = [] }) mid = made contents contexts step came output old mid new taken is tries takes none in
+    let m : Made contents contexts step came output old mid new taken = record { sound = sound; is_came = is; makes = makes; takes = takes; then = then } in
+    let n : Next contents contexts h step came output (told_by step output taken) new = next law seven contents contexts step came output old mid new taken m h f.leads in
+    let k : Retelling contents contexts (lines_told h) old = record { retold = f.retold; leads = f.retold_leads; retells = f.retells } in
+    let r : Retelling contents contexts (option_to_list (logged h step output) ++ lines_told h) new =
+    retold_by law seven contents contexts step came output old mid new taken m (lines_told h) (logged h step output) k (ap written n.line_is)
+    in
+    record {
+      came = came;
+      is_came = is;
+      answer = n.answer;
+      line = n.line_is;
+      after = record { leads = n.leads; retold = r.retold; retold_leads = r.leads; retells = r.retells };
+    }
+
+-- on the same link
+pub followed_link : (contents : Contents) (contexts : List (List ℕ)) (step : Step) (output : Output) (old mid new : Shelf) (taken : Option Line) → Sound (record old { log = [] }) → TriesTo contents contexts (record old { log = [] }) step output mid
+    → TakesLine mid taken new → is_wanting step taken ≡ false → new.link ≡ old.link
+followed_link contents contexts step output old mid new taken sound (came, is, tries) takes none =
+    link_drained step came output old new (drained contents contexts step came output old mid new taken sound (made contents contexts step came output old mid new taken is tries takes none) takes)
+
+-- what isn't written changes nothing
+pub followed_unwritten : (contents : Contents) (contexts : List (List ℕ)) (step : Step) (output : Output) (old mid new : Shelf) (taken : Option Line) → TriesTo contents contexts (record old { log = [] }) step output mid → TakesLine mid taken new
+    → is_wanting step taken ≡ false → written (told_by step output taken) ≡ None → new ≡ record old { log = new.log }
+followed_unwritten contents contexts step output old mid new taken (came, is, tries) takes none un =
+    unwritten_is step came output (record old { log = [] }) mid new taken refl (made contents contexts step came output old mid new taken is tries takes none) takes un
+
+-- the history of a link on which nothing came yet
+pub after_none : RowsKeepTheirOrder → (contents : Contents) (contexts : List (List ℕ)) (link : ℕ) → IsAfter contents contexts [] (empty_shelf link)
+after_none law contents contexts link =
+    let first : Headline [] = headline law [] (empty_shelf link) (Tied-none link) in
+    let leads : LeadsTo contents contexts [] (empty_shelf link) =
+    record {
+      messages = tt;
+      answers = tt;
+      moments = first;
+      idle = λ n. idle_none n;
+      adds_up = add_up [] [] counted_none first;
+      counted = record { accepted = refl; served = refl; sent = refl };
+      tied = Tied-none link;
+      lined = Lined-none link;
+    }
+    in
+    record { leads = leads; retold = []; retold_leads = leads; retells = tt }

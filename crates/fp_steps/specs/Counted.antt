@@ -1,0 +1,47 @@
+-- What can be counted in the lines of a log.
+use Rattle.std.specs.Prelude.{ℕ, ◌+◌, ◌==◌, Bool, true, false, not, List, [], ◌∷◌, Option, count_by}
+use Rattle.std.specs.Option.{option_map_or}
+use Rattle.fp_book.specs.declared.answers.Posted.{Posted}
+use Rattle.fp_book.specs.declared.answers.Posted.TheVariants.{Opened, Accepted, Aborted, Ended, Discarded}
+use Rattle.fp_book.specs.declared.line.LoggedStep.{LoggedStep}
+use Rattle.fp_book.specs.declared.line.LoggedStep.TheVariants as line
+use Rattle.fp_book.specs.declared.totals.Totals.{Totals}
+use Rattle.fp_entry.specs.declared.prepared.Prepared.{Prepared}
+use Rattle.fp_entry.specs.Prepared.{components_of}
+use Rattle.fp_steps.specs.History.{Event}
+use Rattle.fp_steps.specs.Totals.{capped}
+
+-- a turn that was given back, served
+abbrev pub is_give : LoggedStep → Bool
+is_give (line.Give local position given) = true
+is_give _ = false
+
+-- a frame of a dialogue that was sent, and no Abort of the provider
+abbrev pub is_sent_frame : LoggedStep → Bool
+is_sent_frame (line.Sent local) = not (local == 0)
+is_sent_frame _ = false
+
+-- the components of a message that was accepted
+abbrev pub accepted_by : Posted → Option Prepared → ℕ
+accepted_by (Opened local) came = option_map_or components_of came 0
+accepted_by (Accepted count) came = option_map_or components_of came 0
+accepted_by (Aborted cause) came = 0
+accepted_by Ended came = 0
+accepted_by Discarded came = 0
+
+abbrev pub accepted_in : LoggedStep → Option Prepared → ℕ
+accepted_in (line.Post moment message answer) came = accepted_by answer came
+accepted_in _ came = 0
+
+-- of all messages of these lines, as a history has what each was prepared to
+abbrev pub accepted_along : List LoggedStep → List Event → ℕ
+accepted_along [] h = 0
+accepted_along (line ∷ lines) [] = 0
+accepted_along (line ∷ lines) (e ∷ h) = accepted_along lines h + accepted_in line e.came
+
+abbrev pub totals_in : List LoggedStep → List Event → Totals
+totals_in lines h = record {
+  accepted = capped (accepted_along lines h);
+  served = capped (count_by is_give lines);
+  sent = capped (count_by is_sent_frame lines);
+}

@@ -1,0 +1,68 @@
+-- What the log of a run tells of each step, from what its history tells before it.
+use Rattle.std.specs.Prelude.{ℕ, ◌+◌, Bool, true, not, List, [], ◌∷◌, ◌++◌, Option, Some, None, length, map, nat_eq, option_map, option_to_list, reverse, if◌then◌else◌}
+use Rattle.std.specs.Option.{option_and_then}
+use Rattle.fp_book.specs.declared.answers.Posted.{Posted}
+use Rattle.fp_book.specs.declared.line.Line.{Line}
+use Rattle.fp_book.specs.declared.line.Line.TheVariants as lines
+use Rattle.fp_book.specs.declared.line.LoggedStep.{LoggedStep}
+use Rattle.fp_book.specs.declared.line.LoggedStep.TheVariants as line
+use Rattle.fp_steps.specs.declared.output.Output.{Output}
+use Rattle.fp_steps.specs.declared.output.Output.TheVariants as outputs
+use Rattle.fp_steps.specs.declared.step.Step.{Step}
+use Rattle.fp_steps.specs.declared.step.Step.TheVariants as steps
+use Rattle.fp_steps.specs.Accepted.{positions}
+use Rattle.fp_steps.specs.Births.{named}
+use Rattle.fp_steps.specs.History.{Event}
+use Rattle.fp_steps.specs.Sending.{Handed, out}
+
+-- of a message its moment, its octets and its answer
+abbrev pub told_message : Step → Posted → Option LoggedStep
+told_message (steps.Post frame moment) answer = Some (line.Post moment frame answer)
+told_message (steps.Lost frame moment) answer = Some (line.Lost moment frame answer)
+told_message _ answer = None
+
+-- of a tick its moment, and how many dialogues were due and were left
+abbrev pub told_tick : Step → ℕ → ℕ → Option LoggedStep
+told_tick (steps.Tick moment) added wanting = Some (line.Tick moment added wanting)
+told_tick _ added wanting = None
+
+-- of a turn that went back its dialogue, and the place of its entry, which is the next one of that to be served
+abbrev pub told_back : List Event → Step → Option LoggedStep
+told_back h (steps.PutBack local) = option_map (λ d. line.PutBack local (length (positions h d))) (named h local)
+told_back h _ = None
+
+-- what is told of a step by its answer; nothing for the answers NoRoom, Busy and Nothing
+abbrev pub told : List Event → Step → Output → Option LoggedStep
+told h step (outputs.Posted answer components) = told_message step answer
+told h step (outputs.Ticked added wanting) = told_tick step added wanting
+told h step (outputs.Took local position) = Some (line.Take local position)
+told h step outputs.NoRoom = None
+told h step (outputs.Gave local position given) = Some (line.Give local position given)
+told h step outputs.WentBack = told_back h step
+told h step (outputs.Picked local frame) = Some (line.Pick local)
+told h step outputs.Busy = None
+told h step outputs.Sent = option_map (λ (handed : Handed). line.Sent handed.local) (out h)
+told h step outputs.Unsent = option_map (λ (handed : Handed). line.Unsent handed.local) (out h)
+told h step outputs.Down = Some line.Down
+told h step outputs.Nothing = None
+
+-- whether a log has a line for what is told: it leaves out ticks at which no dialogue was due
+abbrev pub is_written : LoggedStep → Bool
+is_written (line.Tick moment added wanting) = not (nat_eq (added + wanting) 0)
+is_written _ = true
+
+abbrev pub written : Option LoggedStep → Option LoggedStep
+written told = option_and_then (λ (step : LoggedStep). if is_written step then Some step else None) told
+
+-- the line of a step in the log, if it has one
+abbrev pub logged : List Event → Step → Output → Option LoggedStep
+logged h step output = written (told h step output)
+
+-- the lines of all steps of a history, the newest first
+abbrev pub lines_told : List Event → List LoggedStep
+lines_told [] = []
+lines_told (e ∷ h) = option_to_list (logged h e.step e.output) ++ lines_told h
+
+-- the log of a run on a link: how many links there are up to that, and then the lines of its steps, in order
+abbrev pub log_of : ℕ → List Event → List Line
+log_of link h = lines.Head (link + 1) ∷ map (lines.Step link) (reverse (lines_told h))

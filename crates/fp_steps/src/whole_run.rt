@@ -1,0 +1,67 @@
+//! Whole runs of a link.
+
+ghost use Rattle.std.specs.Prelude.{◌≡◌, ◌<◌, [], IfOk};
+ghost use Rattle.fp_steps.specs.After.{IsAfter};
+ghost use Rattle.fp_steps.specs.Headline.{Runs};
+
+use crate::{LinkRun, Output, Step};
+use fp_apdu::Name;
+use fp_records::Table;
+use fp_tids::LocalIds;
+use std::alloc::{AllocError, Global};
+
+/// The outputs of these steps on a link on which nothing came yet. `Err`: memory was wanting.
+fn make_all(
+    alloc: Global,
+    table: &Table,
+    contexts: &[Name],
+    run: &mut LinkRun,
+    steps: &[Step],
+) -> Result<Vec<Output>, AllocError>
+    requires { IsAfter table.now contexts.now [] run.old }
+    ensures { IfOk result (λ outputs. Runs table.now contexts.now run.old.link steps.now outputs.items) }
+{
+    let mut outputs = Vec::new(alloc);
+    for step in steps {
+        let made = run.step(alloc, table, contexts, step)?;
+        outputs.push(made.output)?;
+    }
+    Ok(outputs)
+}
+
+/// The outputs of these steps on a link, 0 to 7, on which nothing came yet, by these records and names of application
+/// contexts. Where a step is impossible its output is `Nothing`, and it changes nothing. `Err`: memory was wanting.
+///
+/// At each moment of the run, and for each dialogue, the entries that were served are a front of those that it
+/// accepted, cut at its end, in their order and each once; and the frames that were sent for it are a front of those
+/// that its service logic requests on them, in their order and each once, under its own identifiers. No two dialogues
+/// have one local transaction identifier, and the Aborts of the provider that were sent are a front of those that were
+/// answered.
+///
+/// Each output is the answer at its moment, which the steps and outputs before it tell. A message is answered by the
+/// first line that fits it. A tick counts the dialogues that are due. A turn is handed out for the dialogue that has
+/// been ready longest, unless none is ready or all places are held; it is given or put back while it is out. The oldest
+/// Abort of the provider is sent next, or, where none waits, the oldest frame, while nothing else is out to be sent.
+///
+/// The totals of the outputs are sums over the dialogues: of the entries that each accepted and that come from
+/// components, of those that were served, and of the frames that were sent for it.
+///
+/// At each moment at which the link is up, no turn is out, and a take and a pick would both be answered `Nothing`,
+/// nothing is left to do: all that a dialogue accepted was served, up to its end, unless a refused message closed it;
+/// all that its service logic requests on that was sent, unless something ended it from outside; and all Aborts of the
+/// provider that were answered were sent.
+pub fn run(
+    alloc: Global,
+    table: &Table,
+    contexts: &[Name],
+    link: u8,
+    steps: &[Step],
+) -> Result<Vec<Output>, AllocError>
+    requires { link < LocalIds.LINKS }
+    ensures headline { IfOk result (λ outputs. Runs table.now contexts.now link steps.now outputs.items) }
+{
+    let mut made = LinkRun::new(alloc, link)?;
+    let outputs = make_all(alloc, table, contexts, &mut made, steps);
+    made.abandon();
+    outputs
+}
