@@ -1,0 +1,11 @@
+pub mod Cutting
+pub mod Hexadecimal
+pub mod Keeping
+pub mod Letters
+mod LineTexts
+mod OfRuns
+mod OneLog
+pub mod Lines
+mod Reading
+mod Reporting
+mod Retelling

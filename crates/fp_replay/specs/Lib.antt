@@ -1,0 +1,11 @@
+pub mod Fields
+pub mod Following
+pub mod Format
+pub mod Laws
+pub mod OfRuns
+pub mod Once
+pub mod Making
+pub mod Reading
+pub mod Replayed
+pub mod Stopped
+pub mod Writing

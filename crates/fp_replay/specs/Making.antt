@@ -1,0 +1,78 @@
+-- What taking a line makes of the runs of the links.
+use Rattle.std.specs.Prelude.{◌≡◌, true, false, ℕ, List, [], ◌∷◌, Some, Result, Ok, Err, length, slice_get, ⊤}
+use Rattle.fp_book.specs.declared.line.Line.{Line}
+use Rattle.fp_book.specs.declared.line.Line.TheVariants.{Head, Step}
+use Rattle.fp_records.specs.Table.{Contents}
+use Rattle.fp_steps.specs.History.{Event}
+use Rattle.fp_steps.specs.declared.link_run.LinkRun.{LinkRun}
+use Rattle.fp_replay.specs.declared.replay_fault.Refusal.{Refusal}
+use Rattle.fp_replay.specs.declared.replay_fault.Refusal.TheVariants.{BadLine, Gap, Disagrees, Memory}
+use Rattle.fp_replay.specs.declared.replay_fault.ReplayFault.{ReplayFault}
+use Rattle.fp_replay.specs.declared.replay_fault.ReplayFault.TheVariants as faults
+use Rattle.fp_replay.specs.Format.{IsLine, text_of}
+use Rattle.fp_steps.specs.After.{IsAfter}
+use Rattle.fp_replay.specs.Replayed.{Fits, IsInPlace, IsRetold, links_in}
+use Rattle.fp_replay.specs.Stopped.{Differs, is_gap}
+
+-- the fault of a log whose line of this number isn't taken
+abbrev pub fault_at : Refusal → ℕ → ReplayFault
+fault_at BadLine number = faults.BadLine number
+fault_at Gap number = faults.Gap number
+fault_at Disagrees number = faults.Disagrees number
+fault_at Memory number = faults.Memory
+
+-- a run is one of this link, after this history
+pub record IsRunOf (contents : Contents) (contexts : List (List ℕ)) (link : ℕ) (h : List Event) (run : LinkRun) : Type 0 where
+  pub link_is : run.link ≡ link
+  pub after : IsAfter contents contexts h run
+
+-- each run is one of its link, after its history
+abbrev pub AreAfter : Contents → List (List ℕ) → (ℕ → List Event) → List LinkRun → Type 0
+AreAfter contents contexts history runs = (link : ℕ) (run : LinkRun) → slice_get runs link ≡ Some run → IsRunOf contents contexts link (history link) run
+
+-- the lines are retold, and the runs are those of their links
+pub record IsKept (contents : Contents) (contexts : List (List ℕ)) (lines : List Line) (runs : List LinkRun) : Type 0 where
+  pub good : IsRetold contents contexts lines
+  pub many : length runs ≡ links_in lines
+  pub each : AreAfter contents contexts good.history runs
+
+-- a step is told otherwise behind the history of its link
+abbrev pub DiffersIn : (contents : Contents) (contexts : List (List ℕ)) (lines : List Line) → IsRetold contents contexts lines → Line → Type 0
+DiffersIn contents contexts lines good (Head links) = ⊥
+DiffersIn contents contexts lines good (Step link step) = (is_gap step ≡ false) × Differs contents contexts link (good.history link) step
+
+-- a line tells of a gap
+abbrev pub IsGapLine : Line → Type 0
+IsGapLine (Head links) = ⊥
+IsGapLine (Step link step) = is_gap step ≡ true
+
+-- what comes of a line of the format behind these
+abbrev pub Taken : (contents : Contents) (contexts : List (List ℕ)) (lines : List Line) → IsRetold contents contexts lines → Line → Result (Unit {0}) Refusal → List LinkRun → Type 0
+Taken contents contexts lines good line (Ok done) new = IsInPlace lines line × IsKept contents contexts (line ∷ lines) new
+Taken contents contexts lines good line (Err BadLine) new = IsInPlace lines line → ⊥
+Taken contents contexts lines good line (Err Gap) new = IsInPlace lines line × IsGapLine line
+Taken contents contexts lines good line (Err Disagrees) new = IsInPlace lines line × DiffersIn contents contexts lines good line
+Taken contents contexts lines good line (Err Memory) new = ⊤
+
+abbrev pub Taking : Contents → List (List ℕ) → List LinkRun → Line → Result (Unit {0}) Refusal → List LinkRun → Type 0
+Taking contents contexts old line result new =
+    (lines : List Line) (kept : IsKept contents contexts lines old) → IsLine line → Taken contents contexts lines kept.good line result new
+
+-- what comes of the text of a line behind these
+abbrev pub TakesText : (contents : Contents) (contexts : List (List ℕ)) (lines : List Line) → IsRetold contents contexts lines → List ℕ → Result (Unit {0}) Refusal → List LinkRun → Type 0
+TakesText contents contexts lines good text (Ok done) new =
+    (line : Line) × Fits lines line × (text ≡ text_of line) × IsKept contents contexts (line ∷ lines) new
+TakesText contents contexts lines good text (Err BadLine) new = (line : Line) → Fits lines line → text ≡ text_of line → ⊥
+TakesText contents contexts lines good text (Err Gap) new = (line : Line) × Fits lines line × (text ≡ text_of line) × IsGapLine line
+TakesText contents contexts lines good text (Err Disagrees) new =
+    (line : Line) × Fits lines line × (text ≡ text_of line) × DiffersIn contents contexts lines good line
+TakesText contents contexts lines good text (Err Memory) new = ⊤
+
+abbrev pub TakingText : Contents → List (List ℕ) → List LinkRun → List ℕ → Result (Unit {0}) Refusal → List LinkRun → Type 0
+TakingText contents contexts old text result new =
+    (lines : List Line) (kept : IsKept contents contexts lines old) → TakesText contents contexts lines kept.good text result new
+
+-- these are runs of the links 0, 1 and so on, each on which nothing came yet
+pub record AreNew (many : ℕ) (runs : List LinkRun) : Type 0 where
+  pub length_is : length runs ≡ many
+  pub each : (contents : Contents) (contexts : List (List ℕ)) (link : ℕ) (run : LinkRun) → slice_get runs link ≡ Some run → IsRunOf contents contexts link [] run

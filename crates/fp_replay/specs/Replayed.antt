@@ -1,0 +1,73 @@
+-- Which log is replayed, and to which report. The lines of a log are told the newest first, as histories are.
+use Rattle.std.specs.Prelude.{◌≡◌, ℕ, ◌<◌, ◌==◌, List, [], ◌∷◌, ◌++◌, codes, decimal, length, zero, suc, ⊤, if◌then◌else◌}
+use Rattle.fp_book.specs.declared.line.Line.{Line}
+use Rattle.fp_book.specs.declared.line.Line.TheVariants.{Head, Step}
+use Rattle.fp_book.specs.declared.line.LoggedStep.{LoggedStep}
+use Rattle.fp_book.specs.declared.totals.Totals.{Totals}
+use Rattle.fp_records.specs.Table.{Contents}
+use Rattle.fp_steps.specs.History.{Event, outputs_of}
+use Rattle.fp_steps.specs.Retold.{Retells}
+use Rattle.fp_steps.specs.Totals.{totals_of}
+use Rattle.fp_replay.specs.Format.{IsLine, text_of}
+
+-- the text of lines: each ends with a line feed
+abbrev pub log_text : List Line → List ℕ
+log_text [] = []
+log_text (line ∷ before) = log_text before ++ (text_of line ++ 10 ∷ [])
+
+-- how many links the head tells; none where there is no head
+abbrev pub links_in : List Line → ℕ
+links_in [] = 0
+links_in (Head links ∷ before) = links
+links_in (Step link step ∷ before) = links_in before
+
+-- the head stands before all others, and each other line is a step of a link that the head tells
+abbrev pub IsInPlace : List Line → Line → Type 0
+IsInPlace [] (Head links) = ⊤
+IsInPlace [] (Step link step) = ⊥
+IsInPlace (last ∷ before) (Head links) = ⊥
+IsInPlace (last ∷ before) (Step link step) = link < links_in (last ∷ before)
+
+-- a line of the format, in its place behind these
+abbrev pub Fits : List Line → Line → Type 0
+Fits before line = IsLine line × IsInPlace before line
+
+abbrev pub AllFit : List Line → Type 0
+AllFit [] = ⊤
+AllFit (line ∷ before) = Fits before line × AllFit before
+
+-- the steps of a link among these lines
+abbrev pub steps_of : ℕ → List Line → List LoggedStep
+steps_of link [] = []
+steps_of link (Head links ∷ before) = steps_of link before
+steps_of link (Step other step ∷ before) = if other == link then step ∷ steps_of link before else steps_of link before
+
+-- All lines are of the format and in their places, and each link has a history in which its steps, made again one after
+-- the other, are answered as its lines tell.
+pub record IsRetold (contents : Contents) (contexts : List (List ℕ)) (lines : List Line) : Type 0 where
+  pub fit : AllFit lines
+  pub history : ℕ → List Event
+  pub retells : (link : ℕ) → link < links_in lines → Retells contents contexts link (steps_of link lines) (history link)
+
+-- the totals of a history
+abbrev pub totals_in : List Event → Totals
+totals_in h = totals_of (outputs_of h)
+
+-- the line of a link in the report
+abbrev pub report_line : ℕ → Totals → List ℕ
+report_line link totals =
+    codes "link " ++ (decimal link ++ (codes " accepted " ++ (decimal totals.accepted
+    ++ (codes " served " ++ (decimal totals.served ++ (codes " sent " ++ (decimal totals.sent ++ 10 ∷ [])))))))
+
+-- the lines of the links below this number, in their order
+abbrev pub report_of : ℕ → (ℕ → List Event) → List ℕ
+report_of zero history = []
+report_of (suc link) history = report_of link history ++ report_line link (totals_in (history link))
+
+-- the input is a log, from its head on, whose lines are retold, and this is the report of its links
+pub record IsReplayed (contents : Contents) (contexts : List (List ℕ)) (input report : List ℕ) : Type 0 where
+  pub lines : List Line
+  pub begun : 0 < length lines
+  pub text : input ≡ log_text lines
+  pub good : IsRetold contents contexts lines
+  pub report_is : report ≡ report_of (links_in lines) good.history

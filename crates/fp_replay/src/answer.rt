@@ -1,0 +1,102 @@
+//! What became of a message, and of a request.
+
+ghost use Rattle.std.specs.Prelude.{◌≡◌, [], ◌∷◌, ◌++◌, decimal, IfSome, OnErr, OnOk};
+ghost use Rattle.fp_book.specs.declared.answers.Given.{Given};
+ghost use Rattle.fp_book.specs.declared.answers.Posted.{Posted};
+ghost use Rattle.fp_q773.specs.ProviderAbort.{cause_code};
+ghost use Rattle.fp_q773.specs.declared.provider_abort.AbortCause.{AbortCause};
+ghost use Rattle.fp_replay.specs.Format.{IsPosted, given_text, posted_text};
+ghost use Rattle.fp_replay.specs.Writing.{KeepsFront};
+
+use crate::number::{number_in, short_number_in, write_number};
+use crate::octets::{identifier_in, write_identifier};
+use fp_book::{Given, Posted};
+use fp_q773::AbortCause;
+use std::alloc::AllocError;
+
+/// Puts what became of a message behind a text.
+pub(crate) fn write_posted(answer: Posted, text: &mut Vec<u8>) -> Result<(), AllocError>
+    ensures written { OnOk result (text.new.items ≡ text.old.items ++ posted_text answer) }
+    ensures front { OnErr result (KeepsFront text.old.items text.new.items) }
+{
+    match answer {
+        Posted::Opened(local) => {
+            text.push(b'O')?;
+            write_identifier(local, text)
+        }
+        Posted::Accepted(entries) => {
+            text.push(b'A')?;
+            write_number(u64::from(entries), text)
+        }
+        Posted::Aborted(cause) => {
+            text.push(b'X')?;
+            write_number(u64::from(cause.code()), text)
+        }
+        Posted::Ended => Ok(text.push(b'E')?),
+        Posted::Discarded => Ok(text.push(b'D')?),
+    }
+}
+
+/// The cause of an Abort whose value a field tells.
+fn cause_in(field: &[u8]) -> Option<AbortCause>
+    ensures found { IfSome result (λ cause. field.now ≡ decimal (cause_code cause)) }
+    ensures only { (cause : AbortCause) → field.now ≡ decimal (cause_code cause) → result ≡ Some cause }
+{
+    let Some(code) = number_in(field, u8::MAX as u64) else {
+        return None;
+    };
+    AbortCause::from_code(code as u8)
+}
+
+/// What became of a message, by a field.
+pub(crate) fn posted_in(field: &[u8]) -> Option<Posted>
+    ensures found { IfSome result (λ answer. IsPosted answer × (field.now ≡ posted_text answer)) }
+    ensures only { (answer : Posted) → IsPosted answer → field.now ≡ posted_text answer → result ≡ Some answer }
+{
+    let [letter, behind @ ..] = field else {
+        return None;
+    };
+    match *letter {
+        b'O' => identifier_in(behind).map(Posted::Opened),
+        b'A' => short_number_in(behind).map(Posted::Accepted),
+        b'X' => cause_in(behind).map(Posted::Aborted),
+        b'E' if behind.is_empty() => Some(Posted::Ended),
+        b'D' if behind.is_empty() => Some(Posted::Discarded),
+        _ => None,
+    }
+}
+
+/// The letter of what became of a request.
+fn given_letter(given: Given) -> u8
+    ensures { result ∷ [] ≡ given_text given }
+{
+    match given {
+        Given::Queued => b'Q',
+        Given::Dropped => b'D',
+        Given::Silent => b'S',
+    }
+}
+
+/// Puts what became of a request behind a text.
+pub(crate) fn write_given(given: Given, text: &mut Vec<u8>) -> Result<(), AllocError>
+    ensures written { OnOk result (text.new.items ≡ text.old.items ++ given_text given) }
+    ensures front { OnErr result (KeepsFront text.old.items text.new.items) }
+{
+    Ok(text.push(given_letter(given))?)
+}
+
+/// What became of a request, by a field.
+pub(crate) fn given_in(field: &[u8]) -> Option<Given>
+    ensures found { IfSome result (λ given. field.now ≡ given_text given) }
+    ensures only { (given : Given) → field.now ≡ given_text given → result ≡ Some given }
+{
+    let [letter] = field else {
+        return None;
+    };
+    match *letter {
+        b'Q' => Some(Given::Queued),
+        b'D' => Some(Given::Dropped),
+        b'S' => Some(Given::Silent),
+        _ => None,
+    }
+}

@@ -1,0 +1,128 @@
+//! A line of a log, written and read.
+
+ghost use Rattle.std.specs.Prelude.{◌≡◌, ◌↔◌, [], ◌∷◌, ◌++◌, codes, IfOk, IsTrue, MatchResult, OnErr, OnOk};
+ghost use Rattle.fp_book.specs.declared.line.Line.{Line};
+ghost use Rattle.fp_replay.specs.Format.{IsLine, text_of};
+ghost use Rattle.fp_replay.specs.Writing.{KeepsFront};
+ghost use Rattle.fp_replay.specs.declared.fault.LineFault.TheVariants.{Memory};
+
+use crate::LineFault;
+use crate::fields::cut;
+use crate::number::{number_in, write_number};
+use crate::step::{step_in, write_step};
+use fp_book::Line;
+use std::alloc::{AllocError, Global};
+
+/// Puts the text of a line behind a text, without a line feed.
+fn write_text(line: &Line, text: &mut Vec<u8>) -> Result<(), AllocError>
+    ensures written { OnOk result (text.new.items ≡ text.old.items ++ text_of line.now) }
+    ensures front { OnErr result (KeepsFront text.old.items text.new.items) }
+{
+    match line {
+        Line::Head { links } => {
+            text.extend_from_slice(b"fplog 1 ")?;
+            write_number(u64::from(*links), text)
+        }
+        Line::Step { link, step } => {
+            write_number(u64::from(*link), text)?;
+            text.push(b' ')?;
+            write_step(step, text)
+        }
+    }
+}
+
+/// Puts the text of a line and a line feed behind a text.
+fn write_ended(line: &Line, text: &mut Vec<u8>) -> Result<(), AllocError>
+    ensures written { OnOk result (text.new.items ≡ text.old.items ++ text_of line.now ++ 10 ∷ []) }
+    ensures front { OnErr result (KeepsFront text.old.items text.new.items) }
+{
+    write_text(line, text)?;
+    Ok(text.push(b'\n')?)
+}
+
+/// Puts a line behind a text: its own text, and a line feed. Where memory is wanting the text is as it was.
+///
+/// A line that no log has is written, too, as a head of nine links or a step of link 8; it isn't read again.
+pub fn write_line(line: &Line, text: &mut Vec<u8>) -> Result<(), AllocError>
+    ensures written { OnOk result (text.new.items ≡ text.old.items ++ text_of line.now ++ 10 ∷ []) }
+    ensures unchanged { OnErr result (text.new.items ≡ text.old.items) }
+{
+    let before = text.len();
+    let written = write_ended(line, text);
+    if written.is_err() {
+        text.truncate(before);
+    }
+    written
+}
+
+/// Whether a field has this text.
+fn is_text(field: &[u8], text: &[u8]) -> bool
+    ensures { IsTrue result ↔ (field.now ≡ text.now) }
+{
+    field == text
+}
+
+/// The head of a log, by what stands behind the name of the format and a blank.
+fn head_in(text: &[u8]) -> Result<Line, LineFault>
+    ensures found { IfOk result (λ line. IsLine line × (codes "fplog " ++ text.now ≡ text_of line)) }
+    ensures only { (line : Line) → IsLine line → codes "fplog " ++ text.now ≡ text_of line → result ≡ Ok line }
+{
+    let Some((version, field)) = cut(text) else {
+        return Err(LineFault::BadLine);
+    };
+    if !is_text(version, b"1") {
+        return Err(LineFault::BadLine);
+    }
+    let Some(links) = number_in(field, 8) else {
+        return Err(LineFault::BadLine);
+    };
+    if links == 0 {
+        return Err(LineFault::BadLine);
+    }
+    Ok(Line::Head { links: links as u8 })
+}
+
+/// The line of this text, which has no line feed: a head of 1 to 8 links, or a step of a link below 8.
+pub(crate) fn line_in(alloc: Global, text: &[u8]) -> Result<Line, LineFault>
+    // What is read has this text.
+    ensures found { IfOk result (λ line. IsLine line × (text.now ≡ text_of line)) }
+    // What has this text is read, unless memory runs out.
+    ensures only { (line : Line) → IsLine line → text.now ≡ text_of line → MatchResult result (λ read. read ≡ line) (λ fault. fault ≡ Memory) }
+{
+    let Some((first, behind)) = cut(text) else {
+        return Err(LineFault::BadLine);
+    };
+    if is_text(first, b"fplog") {
+        return head_in(behind);
+    }
+    let Some(link) = number_in(first, 7) else {
+        return Err(LineFault::BadLine);
+    };
+    let Some((letter, fields)) = behind.split_first() else {
+        return Err(LineFault::BadLine);
+    };
+    let step = step_in(alloc, *letter, fields)?;
+    Ok(Line::Step {
+        link: link as u8,
+        step,
+    })
+}
+
+/// The line that a text is, with its line feed at the end: a head of 1 to 8 links, or a step of a link below 8.
+///
+/// What isn't just what [`write_line`] writes for a line of a log is a bad line. Memory is asked for the message alone
+/// that a line tells.
+pub fn read_line(alloc: Global, text: &[u8]) -> Result<Line, LineFault>
+    // What is read is written so.
+    ensures found { IfOk result (λ line. IsLine line × (text.now ≡ text_of line ++ 10 ∷ [])) }
+    // What is written so is read, unless memory runs out.
+    ensures only { (line : Line) → IsLine line → text.now ≡ text_of line ++ 10 ∷ [] → MatchResult result (λ read. read ≡ line) (λ fault. fault ≡ Memory) }
+{
+    let Some((last, line)) = text.split_last() else {
+        return Err(LineFault::BadLine);
+    };
+    if *last != b'\n' {
+        return Err(LineFault::BadLine);
+    }
+    line_in(alloc, line)
+}

@@ -1,0 +1,146 @@
+//! The links of a log, each with its run, whose steps are made again.
+
+ghost use Rattle.std.specs.Prelude.{◌≡◌, ◌≤◌, ℕ, [], IfOk, List, OnOk, length, nat_eq, string_bytes};
+ghost use Rattle.fp_book.specs.declared.line.Line.TheVariants as lines;
+ghost use Rattle.fp_records.specs.Table.{Contents};
+ghost use Rattle.fp_replay.specs.Making.{AreAfter, AreNew, Taking, TakingText};
+ghost use Rattle.fp_replay.specs.Replayed.{report_of};
+ghost use Rattle.fp_steps.specs.History.{Event};
+
+use crate::line::line_in;
+use crate::logged::{is_gap, step_of};
+use crate::replay_fault::Refusal;
+use crate::report::report_line;
+use crate::same_line::is_told;
+use crate::{LineFault, texts_are_of_one_line};
+use fp_apdu::Name;
+use fp_book::{Line, LoggedStep};
+use fp_records::Table;
+use fp_steps::LinkRun;
+use std::alloc::{AllocError, Global};
+
+/// The run of each link that the head of a log tells, in their order. It must be spent.
+pub(crate) struct Links {
+    runs: Vec<LinkRun>,
+}
+
+impl Links {
+    /// No links: the head wasn't read yet.
+    pub(crate) fn new(alloc: Global) -> Links
+        ensures { result.runs.items ≡ [] }
+    {
+        Links {
+            runs: Vec::new(alloc),
+        }
+    }
+
+    /// Whether the head wasn't read yet.
+    pub(crate) fn is_empty(&self) -> bool
+        ensures { result ≡ nat_eq (length self.now.runs.items) 0 }
+    {
+        self.runs.is_empty()
+    }
+
+    /// Takes the text of a line, without its line feed: the head, or a step of a link that is made again.
+    pub(crate) fn take_line(
+        &mut self,
+        alloc: Global,
+        table: &Table,
+        contexts: &[Name],
+        text: &[u8],
+    ) -> Result<(), Refusal>
+        ensures { TakingText table.now contexts.now self.old.runs.items text.now result self.new.runs.items }
+    {
+        texts_are_of_one_line();
+        let line = match line_in(alloc, text) {
+            Ok(line) => line,
+            Err(LineFault::BadLine) => return Err(Refusal::BadLine),
+            Err(LineFault::Memory) => return Err(Refusal::Memory),
+        };
+        match line {
+            Line::Head { links } => self.begin(alloc, links),
+            Line::Step { link, step } => self.make_again(alloc, table, contexts, link, &step),
+        }
+    }
+
+    /// The head was read: so many links begin, 1 to 8.
+    fn begin(&mut self, alloc: Global, links: u8) -> Result<(), Refusal>
+        requires { links ≤ 8 }
+        ensures { (contents : Contents) (contexts : List (List ℕ))
+            → Taking contents contexts self.old.runs.items (lines.Head links) result self.new.runs.items }
+    {
+        if !self.runs.is_empty() {
+            return Err(Refusal::BadLine);
+        }
+        begin_all(alloc, links, &mut self.runs)?;
+        Ok(())
+    }
+
+    /// Makes the step of a line again on its link, and compares what is told of it.
+    fn make_again(
+        &mut self,
+        alloc: Global,
+        table: &Table,
+        contexts: &[Name],
+        link: u8,
+        line: &LoggedStep,
+    ) -> Result<(), Refusal>
+        ensures { Taking table.now contexts.now self.old.runs.items (lines.Step link line.now) result self.new.runs.items }
+    {
+        let index = usize::from(link);
+        if index >= self.runs.len() {
+            return Err(Refusal::BadLine);
+        }
+        if is_gap(line) {
+            return Err(Refusal::Gap);
+        }
+        let Some(step) = step_of(line)? else {
+            return Err(Refusal::Gap);
+        };
+        let run = &mut self.runs[index];
+        let made = run.step(alloc, table, contexts, &step)?;
+        if !is_told(&made.line, line) {
+            return Err(Refusal::Disagrees);
+        }
+        Ok(())
+    }
+
+    /// The line of each link in the report, in their order.
+    pub(crate) fn report(&self, alloc: Global) -> Result<String, AllocError>
+        ensures { IfOk result (λ report. (contents : Contents) (contexts : List (List ℕ)) (history : ℕ → List Event)
+            → AreAfter contents contexts history self.now.runs.items
+            → string_bytes report ≡ report_of (length self.now.runs.items) history) }
+    {
+        let mut report = String::new(alloc);
+        for (link, run) in self.runs.iter().enumerate() {
+            let line = report_line(alloc, link, run.totals())?;
+            report.push_str(line.as_str())?;
+        }
+        Ok(report)
+    }
+
+    /// Spends the runs, and the tokens that are out in them.
+    pub(crate) fn abandon(self) {
+        let Links { mut runs } = self;
+        while let Some(run) = runs.pop() {
+            run.abandon();
+        }
+        runs.destroy_empty();
+    }
+}
+
+/// Puts runs of so many links, at most 8, on which nothing came yet, where there are none.
+fn begin_all(alloc: Global, links: u8, runs: &mut Vec<LinkRun>) -> Result<(), AllocError>
+    requires most { links ≤ 8 }
+    requires none { runs.old.items ≡ [] }
+    ensures { OnOk result (AreNew links runs.new.items) }
+{
+    for link in 0..links {
+        let run = LinkRun::new(alloc, link)?;
+        if let Err(failed) = runs.push(run) {
+            failed.value.abandon();
+            return Err(AllocError);
+        }
+    }
+    Ok(())
+}

@@ -1,0 +1,56 @@
+//! Numbers and moments: decimal, without leading zeros.
+
+ghost use Rattle.std.specs.Prelude.{◌≡◌, ◌++◌, ◌<◌, ◌≤◌, ◌^◌, ℕ, decimal, IfSome, OnErr, OnOk};
+ghost use Rattle.fp_digits.specs.declared.moment.TheConstants.Moment.{END};
+ghost use Rattle.fp_replay.specs.Writing.{KeepsFront};
+
+use fp_digits::Moment;
+use itoa::Buffer;
+use std::alloc::AllocError;
+
+/// Puts a number behind a text.
+pub(crate) fn write_number(number: u64, text: &mut Vec<u8>) -> Result<(), AllocError>
+    ensures written { OnOk result (text.new.items ≡ text.old.items ++ decimal number) }
+    ensures front { OnErr result (KeepsFront text.old.items text.new.items) }
+{
+    text.extend_from_slice(Buffer::new().format(number).as_bytes())
+}
+
+/// The number of a field, if it is at most `most`: the field must be what is written for it.
+pub(crate) fn number_in(field: &[u8], most: u64) -> Option<u64>
+    ensures found { IfSome result (λ number. (number ≤ most) × (field.now ≡ decimal number)) }
+    ensures only { (number : ℕ) → number ≤ most → field.now ≡ decimal number → result ≡ Some number }
+{
+    let Ok(digits) = str::from_utf8(field) else {
+        return None;
+    };
+    let Ok(number) = digits.parse::<u64>() else {
+        return None;
+    };
+    if number > most || Buffer::new().format(number) != digits {
+        return None;
+    }
+    Some(number)
+}
+
+/// The number of at most 32 bits of a field.
+pub(crate) fn short_number_in(field: &[u8]) -> Option<u32>
+    ensures found { IfSome result (λ number. (number < 2 ^ 32) × (field.now ≡ decimal number)) }
+    ensures only { (number : ℕ) → number < 2 ^ 32 → field.now ≡ decimal number → result ≡ Some number }
+{
+    let Some(number) = number_in(field, u32::MAX as u64) else {
+        return None;
+    };
+    Some(number as u32)
+}
+
+/// The moment of a field.
+pub(crate) fn moment_in(field: &[u8]) -> Option<Moment>
+    ensures found { IfSome result (λ moment. (moment < END) × (field.now ≡ decimal moment)) }
+    ensures only { (moment : ℕ) → moment < END → field.now ≡ decimal moment → result ≡ Some moment }
+{
+    let Some(milliseconds) = number_in(field, Moment::END - 1) else {
+        return None;
+    };
+    Moment::new(milliseconds)
+}

@@ -1,0 +1,91 @@
+//! Octets: two hexadecimal digits each, in upper case.
+
+ghost use Rattle.std.specs.Prelude.{◌≡◌, ◌↔◌, ◌<◌, ◌++◌, ℕ, length, slice_index, EachIndex, IfOk, IfSome, IsTrue, List, MatchResult, OnErr, OnOk, ◌^◌};
+ghost use Rattle.fp_frames.specs.Frame.{IsMessageLength};
+ghost use Rattle.hex.specs.Hex.{IsBytes, encode_upper};
+ghost use Rattle.hex.specs.declared.error.FromHexError.TheVariants.{OutOfMemory};
+ghost use Rattle.fp_replay.specs.Format.{identifier_text};
+ghost use Rattle.fp_replay.specs.Writing.{KeepsFront};
+ghost use Rattle.fp_replay.specs.declared.fault.LineFault.TheVariants.{Memory};
+
+use crate::LineFault;
+use bytes::Bytes;
+use fp_frames::Frame;
+use hex::{FromHex, FromHexError};
+use std::alloc::{AllocError, Global};
+
+/// The digits, by their value.
+const DIGITS: &[u8; 16] = b"0123456789ABCDEF";
+
+/// Puts octets behind a text.
+pub(crate) fn write_octets(octets: &[u8], text: &mut Vec<u8>) -> Result<(), AllocError>
+    ensures written { OnOk result (text.new.items ≡ text.old.items ++ encode_upper octets.now) }
+    ensures front { OnErr result (KeepsFront text.old.items text.new.items) }
+{
+    for octet in octets {
+        let high = DIGITS[usize::from(*octet / 16)];
+        let low = DIGITS[usize::from(*octet % 16)];
+        text.extend_from_slice(&[high, low])?;
+    }
+    Ok(())
+}
+
+/// Puts a local transaction identifier behind a text.
+pub(crate) fn write_identifier(local: u32, text: &mut Vec<u8>) -> Result<(), AllocError>
+    ensures written { OnOk result (text.new.items ≡ text.old.items ++ identifier_text local) }
+    ensures front { OnErr result (KeepsFront text.old.items text.new.items) }
+{
+    write_octets(&local.to_be_bytes(), text)
+}
+
+/// Whether a field has no letter in lower case: each of them stands behind the digits and the letters in upper case.
+fn is_upper_case(field: &[u8]) -> bool
+    ensures { IsTrue result ↔ EachIndex field.now (λ k. slice_index field.now k < 97) }
+{
+    field.iter().all(|octet| *octet < b'a')
+}
+
+/// The local transaction identifier of a field.
+pub(crate) fn identifier_in(field: &[u8]) -> Option<u32>
+    ensures found { IfSome result (λ local. (local < 2 ^ 32) × (field.now ≡ identifier_text local)) }
+    ensures only { (local : ℕ) → local < 2 ^ 32 → field.now ≡ identifier_text local → result ≡ Some local }
+{
+    if !is_upper_case(field) {
+        return None;
+    }
+    let Ok(octets) = <[u8; 4]>::from_hex(field) else {
+        return None;
+    };
+    Some(u32::from_be_bytes(octets))
+}
+
+/// Why digits aren't read: memory was wanting, or they are no pairs of digits.
+fn fault_of(error: FromHexError) -> LineFault
+    ensures { error ≡ OutOfMemory → result ≡ Memory }
+{
+    match error {
+        FromHexError::OutOfMemory => LineFault::Memory,
+        _ => LineFault::BadLine,
+    }
+}
+
+/// The message of a field.
+pub(crate) fn message_in(alloc: Global, field: &[u8]) -> Result<Frame, LineFault>
+    ensures found { IfOk result (λ message. IsMessageLength (length message) × IsBytes message × (field.now ≡ encode_upper message)) }
+    ensures only { (message : List ℕ) → IsMessageLength (length message) → IsBytes message → field.now ≡ encode_upper message → MatchResult result (λ read. read ≡ message) (λ fault. fault ≡ Memory) }
+{
+    if field.len() > 2 * Frame::MOST || !is_upper_case(field) {
+        return Err(LineFault::BadLine);
+    }
+    let octets = match hex::decode(alloc, field) {
+        Ok(octets) => octets,
+        Err(error) => return Err(fault_of(error)),
+    };
+    let Ok(message) = Bytes::from_vec(octets) else {
+        return Err(LineFault::Memory);
+    };
+    let Some(frame) = Frame::new(message) else {
+        return Err(LineFault::BadLine);
+    };
+    Ok(frame)
+}

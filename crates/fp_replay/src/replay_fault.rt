@@ -1,0 +1,79 @@
+//! Why a log isn't replayed.
+
+ghost use Rattle.std.specs.Prelude.{◌≡◌};
+ghost use Rattle.fp_replay.specs.declared.replay_fault.Refusal.TheVariants as refusals;
+ghost use Rattle.fp_replay.specs.declared.replay_fault.ReplayFault.TheVariants.{Memory};
+ghost use Rattle.fp_replay.specs.Making.{fault_at};
+
+use std::alloc::AllocError;
+use thiserror::Error;
+
+/// Why a log isn't replayed. Lines are counted from 1, the head too.
+#[derive(Clone, Copy, Debug, PartialEq, Eq, Error)]
+pub enum ReplayFault {
+    /// There is no line of this number, though a log has a head, or it isn't a line of the format in its place, ended by
+    /// a line feed.
+    #[error("line {0}: bad line")]
+    BadLine(u128),
+    /// The line of this number tells that lines were lost, or that memory was wanting for a Clock.
+    #[error("line {0}: gap")]
+    Gap(u128),
+    /// The step of the line of this number, made again, is told otherwise.
+    #[error("line {0}: disagrees")]
+    Disagrees(u128),
+    /// The device that is read from failed.
+    #[error("input: cannot be read")]
+    ReadFault,
+    /// The device that is written to failed.
+    #[error("output: cannot be written")]
+    WriteFault,
+    /// All reads that may be made were made, and none of them found the end of the input.
+    #[error("turn limit")]
+    TurnLimit,
+    /// Memory was wanting.
+    #[error("out of memory")]
+    Memory,
+}
+
+impl From<AllocError> for ReplayFault {
+    ghost from_gives = { λ _ fault. fault ≡ Memory };
+
+    fn from(_error: AllocError) -> ReplayFault {
+        ReplayFault::Memory
+    }
+}
+
+/// Why a line isn't taken.
+#[derive(Clone, Copy, Debug, PartialEq, Eq)]
+pub(crate) enum Refusal {
+    /// It isn't a line of the format in its place.
+    BadLine,
+    /// It tells that lines were lost, or that memory was wanting for a Clock.
+    Gap,
+    /// Its step, made again, is told otherwise.
+    Disagrees,
+    /// Memory was wanting.
+    Memory,
+}
+
+impl From<AllocError> for Refusal {
+    ghost from_gives = { λ _ refusal. refusal ≡ refusals.Memory };
+
+    fn from(_error: AllocError) -> Refusal {
+        Refusal::Memory
+    }
+}
+
+impl Refusal {
+    /// The fault of a log whose line of this number isn't taken.
+    pub(crate) fn at(self, number: u128) -> ReplayFault
+        ensures { result ≡ fault_at self number }
+    {
+        match self {
+            Refusal::BadLine => ReplayFault::BadLine(number),
+            Refusal::Gap => ReplayFault::Gap(number),
+            Refusal::Disagrees => ReplayFault::Disagrees(number),
+            Refusal::Memory => ReplayFault::Memory,
+        }
+    }
+}

@@ -1,0 +1,75 @@
+//! A tick, and a gap.
+
+ghost use Rattle.std.specs.Prelude.{◌≡◌, ◌++◌, ◌∷◌, OnErr, OnOk};
+ghost use Rattle.fp_replay.specs.Reading.{ReadsStep, gap_fields, tick_fields};
+ghost use Rattle.fp_replay.specs.Writing.{KeepsFront};
+
+use crate::LineFault;
+use crate::fields::{one_field, three_fields};
+use crate::number::{moment_in, number_in, short_number_in, write_number};
+use fp_book::LoggedStep;
+use fp_digits::Moment;
+use std::alloc::AllocError;
+
+/// Puts the letter and the fields of a tick behind a text.
+pub(crate) fn write_tick(
+    moment: Moment,
+    added: u32,
+    wanting: u32,
+    text: &mut Vec<u8>,
+) -> Result<(), AllocError>
+    ensures written { OnOk result (text.new.items ≡ text.old.items ++ 75 ∷ tick_fields moment added wanting) }
+    ensures front { OnErr result (KeepsFront text.old.items text.new.items) }
+{
+    text.extend_from_slice(b"K ")?;
+    write_number(moment.milliseconds(), text)?;
+    text.push(b' ')?;
+    write_number(u64::from(added), text)?;
+    text.push(b' ')?;
+    write_number(u64::from(wanting), text)
+}
+
+/// The tick, by the fields behind its letter.
+pub(crate) fn tick_in(fields: &[u8]) -> Result<LoggedStep, LineFault>
+    ensures { ReadsStep 75 fields.now result }
+{
+    let Some((first, second, third)) = three_fields(fields) else {
+        return Err(LineFault::BadLine);
+    };
+    let Some(moment) = moment_in(first) else {
+        return Err(LineFault::BadLine);
+    };
+    let Some(added) = short_number_in(second) else {
+        return Err(LineFault::BadLine);
+    };
+    let Some(wanting) = short_number_in(third) else {
+        return Err(LineFault::BadLine);
+    };
+    Ok(LoggedStep::Tick {
+        moment,
+        added,
+        wanting,
+    })
+}
+
+/// Puts the letter and the field of a gap behind a text.
+pub(crate) fn write_gap(lost: u64, text: &mut Vec<u8>) -> Result<(), AllocError>
+    ensures written { OnOk result (text.new.items ≡ text.old.items ++ 90 ∷ gap_fields lost) }
+    ensures front { OnErr result (KeepsFront text.old.items text.new.items) }
+{
+    text.extend_from_slice(b"Z ")?;
+    write_number(lost, text)
+}
+
+/// The gap, by the field behind its letter.
+pub(crate) fn gap_in(fields: &[u8]) -> Result<LoggedStep, LineFault>
+    ensures { ReadsStep 90 fields.now result }
+{
+    let Some(field) = one_field(fields) else {
+        return Err(LineFault::BadLine);
+    };
+    let Some(lost) = number_in(field, u64::MAX) else {
+        return Err(LineFault::BadLine);
+    };
+    Ok(LoggedStep::Gap { lost })
+}
