@@ -1,0 +1,85 @@
+-- What a seat has of the three ledgers of its link, and what the link's calls add to it.
+use Rattle.std.specs.Prelude.{◌≡◌, ℕ, ◌+◌, ◌≤◌, Result, Ok, Err}
+use Rattle.fp_book.specs.declared.answers.Posted.{Posted}
+use Rattle.fp_book.specs.declared.answers.Posted.TheVariants.{Opened, Accepted, Aborted, Ended, Discarded}
+use Rattle.fp_book.specs.declared.parcel.Content.{Content}
+use Rattle.fp_book.specs.declared.parcel.Content.TheVariants as content
+use Rattle.fp_book.specs.declared.parcel.Parcel.{Parcel}
+use Rattle.fp_book.specs.declared.totals.Totals.{Totals}
+use Rattle.fp_book.specs.Calls.{entries_in}
+use Rattle.fp_entry.specs.declared.prepared.Prepared.{Prepared}
+use Rattle.fp_entry.specs.Entries.{component_count}
+
+-- what contracts see of a seat: its parts of each of the three ledgers, and its amounts in them
+pub record Shares : Type 0 where
+  pub parts : ℕ
+  -- the components that were accepted
+  pub accepted : ℕ
+  -- the entries that were served
+  pub served : ℕ
+  -- the frames of dialogues that were sent
+  pub sent : ℕ
+
+-- so many parts, and no amounts
+abbrev pub blank : ℕ → Shares
+blank parts = record { parts = parts; accepted = 0; served = 0; sent = 0 }
+
+-- what another seat has comes on top
+abbrev pub joined : Shares → Shares → Shares
+joined s other = record {
+  parts = s.parts + other.parts;
+  accepted = s.accepted + other.accepted;
+  served = s.served + other.served;
+  sent = s.sent + other.sent;
+}
+
+-- each of the ledgers is cut into 64 parts
+pub record Whole (accepted served sent : ℕ) : Type 0 where
+  pub accepted_parts : accepted ≡ 64
+  pub served_parts : served ≡ 64
+  pub sent_parts : sent ≡ 64
+
+-- the amounts of a seat are at most what its link has counted
+pub record Within (s : Shares) (totals : Totals) : Type 0 where
+  pub accepted : s.accepted ≤ totals.accepted
+  pub served : s.served ≤ totals.served
+  pub sent : s.sent ≤ totals.sent
+
+-- the amounts of a seat, as totals
+abbrev pub amounts : Shares → Totals
+amounts s = record { accepted = s.accepted; served = s.served; sent = s.sent }
+
+-- so many components, where the answer is that the message was accepted
+abbrev pub if_accepted : Posted → ℕ → ℕ
+if_accepted (Opened local) count = count
+if_accepted (Accepted entries) count = count
+if_accepted (Aborted cause) count = 0
+if_accepted Ended count = 0
+if_accepted Discarded count = 0
+
+-- the seat after a message was posted: more by its components, where it was accepted
+abbrev pub after_post : Shares → Prepared → Posted → Shares
+after_post s came answer = record s { accepted = s.accepted + if_accepted answer (component_count (entries_in came)) }
+
+-- one, where nothing comes back
+abbrev pub one_if_ok : {T E : Type 0} → Result T E → ℕ
+one_if_ok (Ok x) = 1
+one_if_ok (Err e) = 0
+
+-- the seat after a turn was given: more by one entry, unless the turn comes back
+abbrev pub after_give : {T E : Type 0} → Shares → Result T E → Shares
+after_give s result = record s { served = s.served + one_if_ok result }
+
+-- one for the frame of a dialogue, none for an Abort of the provider
+abbrev pub frames_of : Content → ℕ
+frames_of (content.Abort frame) = 0
+frames_of (content.Frame waiting) = 1
+
+-- the frames that were sent, unless the parcel comes back
+abbrev pub frames_if_ok : {T E : Type 0} → Content → Result T E → ℕ
+frames_if_ok parcel (Ok x) = frames_of parcel
+frames_if_ok parcel (Err e) = 0
+
+-- the seat after a parcel was reported sent: more by one frame where it was a dialogue's, unless it comes back
+abbrev pub after_sent : {T E : Type 0} → Shares → Parcel → Result T E → Shares
+after_sent s parcel result = record s { sent = s.sent + frames_if_ok parcel.content result }

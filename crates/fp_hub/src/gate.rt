@@ -1,0 +1,15 @@
+//! What stands between taking a turn and serving it.
+
+/// What a worker passes between taking a turn and serving it, with no lock held: tests hold a worker there.
+pub trait Gate {
+    /// Returns once the turn of this link, birth and position may be served.
+    fn pass(&self, link: u8, birth: u64, position: u64);
+}
+
+/// A gate at which no turn waits.
+#[derive(Debug, Drop)]
+pub struct OpenGate;
+
+impl Gate for OpenGate {
+    fn pass(&self, _link: u8, _birth: u64, _position: u64) {}
+}

@@ -1,0 +1,281 @@
+//! What the lock of a link keeps.
+
+ghost use Rattle.std.specs.Prelude.{◌≡◌, ◌↔◌, ◌<◌, ◌-◌, Some, IfErr, IfOk, IsOk, OnOk, vec_capacity, vec_len};
+ghost use Rattle.std.specs.FinMap.{get};
+ghost use Rattle.fp_book.specs.declared.line.LoggedStep.TheVariants as line;
+ghost use Rattle.fp_book.specs.Calls.{DrainsBook, GivesDone, GoesDown, Hands, IsOut, NoneReady, Posts, PutsTurnBack, Sends, Takes, Ticks, Unsends, entries_in, turn_of};
+ghost use Rattle.fp_book.specs.Shelf.{Sound, empty_shelf};
+ghost use Rattle.fp_entry.specs.Entries.{component_count};
+ghost use Rattle.fp_hub.specs.Shares.{Whole, Within, after_give, after_post, after_sent, amounts, blank, if_accepted};
+
+use crate::{PARTS, Seat};
+use fp_book::{Book, Given, Line, Parcel, Picked, Posted, Taken, Ticked, Totals};
+use fp_digits::Moment;
+use fp_entry::Prepared;
+use fp_row::{Done, Turn};
+use fp_tids::LocalIds;
+use std::alloc::{AllocError, Global};
+use std::marker::Model;
+use std::sync::ledger;
+use std::sync::ledger::{Blank, Ledger};
+
+/// What the lock of a link keeps: its book, and the books of three ledgers, of the components that it accepted, the
+/// entries that it served and the frames that it sent. Its type keeps that the totals of these three are those of the
+/// book. Contracts see it as its book.
+///
+/// Each call is the book's call of the same name, and says of the book what that says. Three of them are lent the seat
+/// of the thread that calls: what the book counts in such a call, the seat's share counts, too.
+#[derive(Drop)]
+pub struct Kept<A: Ledger, B: Ledger, C: Ledger> {
+    book: Book,
+    accepted: ledger::Book<A>,
+    served: ledger::Book<B>,
+    sent: ledger::Book<C>,
+}
+
+impl<A: Ledger, B: Ledger, C: Ledger> Model for Kept<A, B, C> {
+    ghost use Rattle.std.specs.Prelude.{◌≡◌};
+    ghost use Rattle.std.specs.Coded.{codes, coded_ℕ};
+    ghost use Rattle.std.specs.Ordering.{nat_cmp};
+    ghost use Rattle.std.specs.FinMap as map;
+    ghost use Rattle.fp_book.specs.Shelf.{Shelf};
+    ghost use Rattle.fp_row.specs.contracts.row.Row as row_type;
+
+    ghost Value = { Shelf };
+
+    ghost coded = { Prim.hlevel (codes, map.code {R = nat_cmp} coded_ℕ row_type.the_row.coded) };
+
+    ghost view = { λ k. k.book };
+
+    ghost invariant = { λ k. (k.accepted.total ≡ k.book.totals.accepted) × (k.served.total ≡ k.book.totals.served) × (k.sent.total ≡ k.book.totals.sent) };
+}
+
+/// How many of the entries of a message come from components.
+fn components_of(came: &Prepared) -> u64
+    ensures { result ≡ component_count (entries_in came.now) }
+{
+    match came {
+        Prepared::Message { incoming, .. } => incoming.entries.component_count() as u64,
+        Prepared::Refused { .. } | Prepared::Lost { .. } => 0,
+    }
+}
+
+/// So many, where the answer is that the message was accepted, and else none.
+fn if_accepted(answer: Posted, count: u64) -> u64
+    ensures { result ≡ if_accepted answer count }
+{
+    match answer {
+        Posted::Opened(_) | Posted::Accepted(_) => count,
+        Posted::Aborted(_) | Posted::Ended | Posted::Discarded => 0,
+    }
+}
+
+/// What the sender of a link finds.
+#[must_use]
+pub(crate) enum Next {
+    /// This is to be sent next.
+    Parcel(Parcel),
+    /// The link is down.
+    Down,
+    /// Nothing is to be sent, or a parcel is out already.
+    Nothing,
+}
+
+impl<A: Ledger, B: Ledger, C: Ledger> Kept<A, B, C> {
+    /// The book of a link, 0 to 7, and its first seat, which has all parts. After want of memory the blanks are spent.
+    pub fn new(
+        alloc: Global,
+        link: u8,
+        blanks: (Blank, Blank, Blank),
+    ) -> Result<(Kept<A, B, C>, Seat<A, B, C>), AllocError>
+        requires link { link < LocalIds.LINKS }
+        requires accepted_name { blanks.0.name ≡ A.name }
+        requires served_name { blanks.1.name ≡ B.name }
+        requires sent_name { blanks.2.name ≡ C.name }
+        requires accepted_parts { blanks.0.parts ≡ A.parts }
+        requires served_parts { blanks.1.parts ≡ B.parts }
+        requires sent_parts { blanks.2.parts ≡ C.parts }
+        requires whole { Whole A.parts B.parts C.parts }
+        ensures empty { IfOk result (λ made. made.0 ≡ empty_shelf link) }
+        ensures seat { IfOk result (λ made. made.1 ≡ blank 64) }
+    {
+        let book = Book::new(alloc, link)?;
+        let (for_accepted, for_served, for_sent) = blanks;
+        let (accepted, all_accepted) = for_accepted.open::<A>();
+        let (served, all_served) = for_served.open::<B>();
+        let (sent, all_sent) = for_sent.open::<C>();
+        let kept = Kept {
+            book,
+            accepted,
+            served,
+            sent,
+        };
+        let seat = Seat {
+            parts: PARTS,
+            accepted: all_accepted,
+            served: all_served,
+            sent: all_sent,
+        };
+        Ok((kept, seat))
+    }
+
+    /// Compares the totals with a seat, which changes neither: no amount of it is more than the total.
+    fn compare(&mut self, seat: &mut Seat<A, B, C>)
+        ensures kept { self.new ≡ self.old }
+        ensures seat { seat.new ≡ seat.old }
+        ensures within { Within seat.old self.old.totals }
+    {
+        self.accepted.audit(&mut seat.accepted);
+        self.served.audit(&mut seat.served);
+        self.sent.audit(&mut seat.sent);
+    }
+
+    /// Posts a message, as [`Book::post`].
+    pub fn post(&mut self, alloc: Global, seat: &mut Seat<A, B, C>, came: Prepared) -> Posted
+        ensures posts { Posts self.old came result self.new }
+        ensures sound { Sound self.new }
+        ensures grows { seat.new ≡ after_post seat.old came result }
+        ensures within { Within seat.old self.old.totals }
+    {
+        self.compare(seat);
+        let components = components_of(&came);
+        let answer = self.book.post(alloc, came);
+        let count = if_accepted(answer, components);
+        self.accepted.add(&mut seat.accepted, count);
+        answer
+    }
+
+    /// Time goes by, as for [`Book::tick`].
+    pub fn tick(&mut self, moment: Moment) -> Ticked
+        ensures ticks { Ticks self.old moment result.added result.wanting self.new }
+        ensures sound { Sound self.new }
+    {
+        self.book.tick(moment)
+    }
+
+    /// Hands out a turn, as [`Book::take`].
+    pub fn take(&mut self) -> Taken
+        ensures takes { Takes self.old result self.new }
+        ensures none { NoneReady result self.old }
+        ensures sound { Sound self.new }
+    {
+        self.book.take()
+    }
+
+    /// Takes a turn back that was served, as [`Book::give`].
+    pub fn give(&mut self, seat: &mut Seat<A, B, C>, done: Done) -> Result<Given, Done>
+        ensures ok { IfOk result (λ given. GivesDone self.old done given self.new) }
+        ensures err { IfErr result (λ back. (back ≡ done) × (self.new ≡ self.old)) }
+        ensures known { IsOk result ↔ (turn_of (get self.old.rows done.turn.local) ≡ Some done.turn) }
+        ensures sound { Sound self.new }
+        ensures grows { seat.new ≡ after_give seat.old result }
+        ensures within { Within seat.old self.old.totals }
+    {
+        self.compare(seat);
+        match self.book.give(done) {
+            Ok(given) => {
+                self.served.add(&mut seat.served, 1);
+                Ok(given)
+            }
+            Err(strange) => Err(strange),
+        }
+    }
+
+    /// Takes a turn back that wasn't served, as [`Book::put_back`].
+    pub fn put_back(&mut self, turn: Turn) -> Result<(), Turn>
+        ensures ok { OnOk result (PutsTurnBack self.old turn self.new) }
+        ensures err { IfErr result (λ back. (back ≡ turn) × (self.new ≡ self.old)) }
+        ensures known { IsOk result ↔ (turn_of (get self.old.rows turn.local) ≡ Some turn) }
+        ensures sound { Sound self.new }
+    {
+        self.book.put_back(turn)
+    }
+
+    /// Hands out what is sent next, as [`Book::pick`].
+    pub fn pick(&mut self) -> Picked
+        ensures hands { Hands self.old result self.new }
+        ensures sound { Sound self.new }
+    {
+        self.book.pick()
+    }
+
+    /// Takes the parcel back that was sent, as [`Book::sent`].
+    pub fn sent(&mut self, seat: &mut Seat<A, B, C>, parcel: Parcel) -> Result<(), Parcel>
+        ensures ok { OnOk result (Sends self.old parcel.content self.new) }
+        ensures err { IfErr result (λ back. (back ≡ parcel) × (self.new ≡ self.old)) }
+        ensures known { IsOk result ↔ IsOut self.old parcel }
+        ensures sound { Sound self.new }
+        ensures grows { seat.new ≡ after_sent seat.old parcel result }
+        ensures within { Within seat.old self.old.totals }
+    {
+        self.compare(seat);
+        let count = u64::from(parcel.dialogue().is_some());
+        match self.book.sent(parcel) {
+            Ok(()) => {
+                self.sent.add(&mut seat.sent, count);
+                Ok(())
+            }
+            Err(strange) => Err(strange),
+        }
+    }
+
+    /// Takes the parcel back that couldn't be sent, as [`Book::unsent`].
+    pub fn unsent(&mut self, parcel: Parcel) -> Result<(), Parcel>
+        ensures ok { OnOk result (Unsends self.old parcel self.new) }
+        ensures err { IfErr result (λ back. (back ≡ parcel) × (self.new ≡ self.old)) }
+        ensures known { IsOk result ↔ IsOut self.old parcel }
+        ensures sound { Sound self.new }
+    {
+        self.book.unsent(parcel)
+    }
+
+    /// The link goes down, as by [`Book::down`].
+    pub fn down(&mut self)
+        ensures down { GoesDown self.old.outbox.out self.old line.Down self.new }
+        ensures sound { Sound self.new }
+    {
+        self.book.down();
+    }
+
+    /// Moves the oldest lines of the log, as [`Book::drain`].
+    pub fn drain(&mut self, lines: &mut Vec<Line>)
+        ensures drains { DrainsBook self.old lines.old.items (vec_capacity lines.old - vec_len lines.old) self.new lines.new.items }
+        ensures capacity { vec_capacity lines.new ≡ vec_capacity lines.old }
+        ensures sound { Sound self.new }
+    {
+        self.book.drain(lines);
+    }
+
+    /// Whether the link is down, as [`Book::is_down`].
+    pub fn is_down(&self) -> bool
+        ensures value { result ≡ self.now.is_down }
+        ensures sound { Sound self.now }
+    {
+        self.book.is_down()
+    }
+
+    /// Hands out what is sent next, unless the link is down.
+    pub(crate) fn next(&mut self) -> Next {
+        if self.is_down() {
+            return Next::Down;
+        }
+        match self.pick() {
+            Picked::Parcel(parcel) => Next::Parcel(parcel),
+            Picked::Busy | Picked::Nothing => Next::Nothing,
+        }
+    }
+
+    /// What was counted, once the seat has all parts: the totals are its amounts.
+    pub fn last(&mut self, seat: &mut Seat<A, B, C>) -> Totals
+        requires whole { Whole A.parts B.parts C.parts }
+        requires all { seat.old.parts ≡ 64 }
+        ensures totals { result ≡ self.old.totals }
+        ensures amounts { result ≡ amounts seat.old }
+    {
+        self.compare(seat);
+        self.accepted.audit(&mut seat.accepted);
+        self.served.audit(&mut seat.served);
+        self.sent.audit(&mut seat.sent);
+        self.book.totals()
+    }
+}

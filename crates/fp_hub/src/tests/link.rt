@@ -1,0 +1,312 @@
+//! A link whose messages come out of a list, and whose answers go into one.
+
+ghost use Rattle.std.specs.Prelude.{◌≡◌};
+ghost use Rattle.fp_hub.specs.Shares.{Whole};
+
+use super::messages::begin;
+use super::second_first::MOST_WAITS;
+use crate::{Gate, Hub, PARTS, Seat, finish, worker};
+use fp_book::{Parcel, Picked, Posted, Totals};
+use fp_digits::Moment;
+use fp_entry::Prepared;
+use fp_records::Table;
+use std::alloc::Global;
+use std::marker::Brand;
+use std::rt::Clock;
+use std::sync::Wait;
+use std::sync::atomic::{AtomicBool, AtomicU32, Ordering};
+use std::sync::ledger::{Blank, Ledger};
+use std::thread;
+use std::thread::Threads;
+use std::time::Duration;
+
+/// How the sender comes by its parcels.
+#[derive(Clone, Copy)]
+pub(crate) enum Sending {
+    /// It picks, and looks again a millisecond later where there is none.
+    Picks,
+    /// It waits for them until the link is down.
+    Awaits,
+}
+
+/// What goes through a link.
+#[derive(Clone, Copy)]
+pub(crate) struct Plan {
+    pub(crate) link: u8,
+    pub(crate) workers: u8,
+    pub(crate) sending: Sending,
+    // How many messages, and the first identifier. Each other one is greater by this step.
+    pub(crate) count: u32,
+    pub(crate) first: u32,
+    pub(crate) step: u32,
+}
+
+impl Plan {
+    /// The identifier of a message. They don't come in their order.
+    pub(crate) fn identifier(&self, number: u32) -> u32 {
+        let place = number.wrapping_mul(617) % self.count.max(1);
+        self.first.saturating_add(place.saturating_mul(self.step))
+    }
+}
+
+/// What came of a link.
+#[derive(Drop)]
+pub(crate) struct Relayed {
+    // Whether each message opened a dialogue, and a worker was told.
+    pub(crate) are_opened: bool,
+    // What was sent, in its order.
+    pub(crate) answers: Vec<Vec<u8>>,
+    pub(crate) totals: Option<Totals>,
+}
+
+/// What a sender hands back.
+#[derive(Drop)]
+struct Sent<A: Ledger, B: Ledger, C: Ledger> {
+    seat: Seat<A, B, C>,
+    answers: Vec<Vec<u8>>,
+}
+
+/// What all threads of a link share.
+#[derive(Drop)]
+pub(crate) struct Marks {
+    // Whether the frame of the second dialogue was picked.
+    pub(crate) is_second_picked: AtomicBool,
+    // How many parcels were sent.
+    sent: AtomicU32,
+}
+
+impl Marks {
+    /// Nothing was picked or sent.
+    pub(crate) fn new() -> Marks {
+        Marks {
+            is_second_picked: AtomicBool::new(false),
+            sent: AtomicU32::new(0),
+        }
+    }
+}
+
+/// Keeps what a parcel holds, and reports it sent.
+fn send<A: Ledger, B: Ledger, C: Ledger, R: Wait>(
+    rt: &R,
+    alloc: Global,
+    hub: &Hub<A, B, C>,
+    sent: &mut Sent<A, B, C>,
+    marks: &Marks,
+    parcel: Parcel,
+) {
+    if parcel.local() & 0xFF == 2 {
+        marks.is_second_picked.store(true, Ordering::SeqCst);
+    }
+    if let Ok(octets) = parcel.octets().to_vec(alloc) {
+        let _ = sent.answers.push(octets);
+    }
+    if let Err(strange) = hub.sent(rt, &mut sent.seat, parcel) {
+        strange.abandon();
+    }
+    marks.sent.fetch_add(1, Ordering::SeqCst);
+}
+
+/// Sends until as many parcels were sent as there are messages, or too long nothing was to be sent.
+fn send_picked<A: Ledger, B: Ledger, C: Ledger, R: Wait + Clock>(
+    rt: &R,
+    alloc: Global,
+    hub: &Hub<A, B, C>,
+    seat: Seat<A, B, C>,
+    marks: &Marks,
+    count: u32,
+) -> Sent<A, B, C> {
+    let mut sent = Sent {
+        seat,
+        answers: Vec::new(alloc),
+    };
+    let mut waits: u32 = 0;
+    for _ in rt.forever() {
+        if marks.sent.load(Ordering::SeqCst) >= count || waits >= MOST_WAITS {
+            break;
+        }
+        match hub.pick(rt) {
+            Picked::Parcel(parcel) => send(rt, alloc, hub, &mut sent, marks, parcel),
+            Picked::Busy | Picked::Nothing => {
+                waits += 1;
+                thread::sleep(rt, Duration::from_millis(1));
+            }
+        }
+    }
+    sent
+}
+
+/// Sends until the link is down.
+fn send_awaited<A: Ledger, B: Ledger, C: Ledger, R: Wait>(
+    rt: &R,
+    alloc: Global,
+    hub: &Hub<A, B, C>,
+    seat: Seat<A, B, C>,
+    marks: &Marks,
+) -> Sent<A, B, C> {
+    let mut sent = Sent {
+        seat,
+        answers: Vec::new(alloc),
+    };
+    for _ in rt.forever() {
+        let Some(parcel) = hub.await_parcel(rt) else {
+            break;
+        };
+        send(rt, alloc, hub, &mut sent, marks, parcel);
+    }
+    sent
+}
+
+/// Posts the messages of a plan, and hints after each. `false`: one didn't open a dialogue, or no worker was told.
+fn post_all<A: Ledger, B: Ledger, C: Ledger, R: Wait>(
+    rt: &R,
+    alloc: Global,
+    hub: &Hub<A, B, C>,
+    seat: &mut Seat<A, B, C>,
+    table: &Table,
+    plan: Plan,
+) -> bool {
+    let Some(moment) = Moment::new(1_714_996_800_000) else {
+        return false;
+    };
+    for number in 0..plan.count {
+        let Some(frame) = begin(alloc, plan.identifier(number)) else {
+            return false;
+        };
+        let came = Prepared::read(alloc, table, &[], frame, moment);
+        let Posted::Opened(_) = hub.post(rt, alloc, seat, came) else {
+            return false;
+        };
+        if !hub.hint(rt) {
+            return false;
+        }
+    }
+    true
+}
+
+/// Waits until as many parcels were sent as there are messages, but not too long.
+fn await_sent<R: Clock>(rt: &R, marks: &Marks, count: u32) {
+    for _ in 0..MOST_WAITS {
+        if marks.sent.load(Ordering::SeqCst) >= count {
+            return;
+        }
+        thread::sleep(rt, Duration::from_millis(1));
+    }
+}
+
+/// The threads of a link: those that serve, the one that sends, and this one, which posts. All seats come back in one.
+fn run_roles<
+    'x,
+    A: Ledger + Send + Sync,
+    B: Ledger + Send + Sync,
+    C: Ledger + Send + Sync,
+    R: Threads + Wait + Clock + Sync,
+    G: Gate + Sync,
+>(
+    rt: &'x R,
+    alloc: Global,
+    hub: &'x Hub<A, B, C>,
+    seat: Seat<A, B, C>,
+    gate: &'x G,
+    table: &'x Table,
+    marks: &'x Marks,
+    plan: Plan,
+) -> (bool, Sent<A, B, C>)
+    requires whole { Whole A.parts B.parts C.parts }
+{
+    thread::scope(
+        thread::scope_env(),
+        rt,
+        move |scope| -> (bool, Sent<A, B, C>)
+            requires { Whole A.parts B.parts C.parts }
+        {
+            let mut seat = seat;
+            let mut handles = Vec::new(alloc);
+            for _ in 0..plan.workers {
+                let Some(own) = seat.split() else {
+                    break;
+                };
+                let Ok(hints) = hub.hints() else {
+                    break;
+                };
+                if let Ok(handle) = scope.spawn(move || worker(rt, alloc, hub, hints, gate, own)) {
+                    let _ = handles.push(handle);
+                }
+            }
+            let mut sent = Sent {
+                seat,
+                answers: Vec::new(alloc),
+            };
+            let mut are_opened = false;
+            if let Some(own) = sent.seat.split() {
+                let sender = scope.spawn(move || match plan.sending {
+                    Sending::Picks => send_picked(rt, alloc, hub, own, marks, plan.count),
+                    Sending::Awaits => send_awaited(rt, alloc, hub, own, marks),
+                });
+                are_opened = post_all(rt, alloc, hub, &mut sent.seat, table, plan);
+                await_sent(rt, marks, plan.count);
+                hub.down(rt);
+                if let Ok(handle) = sender {
+                    let Sent { seat, answers } = handle.join(rt);
+                    sent.seat.join(seat);
+                    sent.answers = answers;
+                }
+            }
+            hub.close(rt);
+            for handle in handles {
+                sent.seat.join(handle.join(rt));
+            }
+            (are_opened, sent)
+        },
+    )
+}
+
+/// Puts the messages of a plan through a link whose ledgers are these.
+fn run_link<
+    A: Ledger + Send + Sync,
+    B: Ledger + Send + Sync,
+    C: Ledger + Send + Sync,
+    R: Threads + Wait + Clock + Sync,
+    G: Gate + Sync,
+>(
+    rt: &R,
+    alloc: Global,
+    blanks: (Blank, Blank, Blank),
+    gate: &G,
+    table: &Table,
+    marks: &Marks,
+    plan: Plan,
+) -> Option<Relayed>
+    requires accepted_name { blanks.0.name ≡ A.name }
+    requires served_name { blanks.1.name ≡ B.name }
+    requires sent_name { blanks.2.name ≡ C.name }
+    requires accepted_parts { blanks.0.parts ≡ A.parts }
+    requires served_parts { blanks.1.parts ≡ B.parts }
+    requires sent_parts { blanks.2.parts ≡ C.parts }
+    requires whole { Whole A.parts B.parts C.parts }
+{
+    if plan.link >= 8 {
+        return None;
+    }
+    let (hub, seat) = Hub::<A, B, C>::new(alloc, plan.link, blanks).ok()?;
+    let (are_opened, sent) = run_roles(rt, alloc, &hub, seat, gate, table, marks, plan);
+    let Sent { seat, answers } = sent;
+    let totals = finish(hub, seat);
+    Some(Relayed {
+        are_opened,
+        answers,
+        totals,
+    })
+}
+
+/// Puts the messages of a plan through a link of its own. `None`: memory was wanting.
+pub(crate) fn relay<R: Threads + Wait + Clock + Sync, G: Gate + Sync>(
+    rt: &R,
+    alloc: Global,
+    gate: &G,
+    table: &Table,
+    marks: &Marks,
+    plan: Plan,
+) -> Option<Relayed> {
+    let blanks = (Blank::new(PARTS), Blank::new(PARTS), Blank::new(PARTS));
+    run_link::<Brand, Brand, Brand, R, G>(rt, alloc, blanks, gate, table, marks, plan)
+}
