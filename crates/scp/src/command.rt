@@ -27,6 +27,15 @@ pub enum Asked<'a> {
         /// The text of the list of application contexts, which has not been read, where there is one.
         contexts: Option<&'a str>,
     },
+    /// The steps of a log made again, from the records of a file.
+    Replay {
+        /// The path of the file.
+        records: &'a str,
+        /// The path of the log.
+        log: &'a str,
+        /// The text of the list of application contexts, which has not been read, where there is one.
+        contexts: Option<&'a str>,
+    },
     /// This text, which tells how to use the program.
     Help(String),
     /// Nothing that there is: this text says so.
@@ -38,6 +47,9 @@ const PROGRAM: &str = "scp";
 
 /// The name of the subcommand that counts.
 const CHECK: &str = "check";
+
+/// The name of the subcommand that makes the steps of a log again.
+const REPLAY: &str = "replay";
 
 /// What the words ask for. The first of them names the program.
 pub fn asked_by<'a>(alloc: Global, words: &'a [String]) -> Result<Asked<'a>, AllocError> {
@@ -56,8 +68,16 @@ pub fn asked_by<'a>(alloc: Global, words: &'a [String]) -> Result<Asked<'a>, All
     if name == CHECK {
         return Ok(Asked::Check { records });
     }
-    let moment = chosen.get_str("MOMENT").unwrap_or("");
     let contexts = chosen.get_str("contexts");
+    if name == REPLAY {
+        let log = chosen.get_str("LOG").unwrap_or("");
+        return Ok(Asked::Replay {
+            records,
+            log,
+            contexts,
+        });
+    }
+    let moment = chosen.get_str("MOMENT").unwrap_or("");
     Ok(Asked::Ask {
         records,
         moment,
@@ -88,15 +108,30 @@ const ASK_EXAMPLE: &str = "Example:
 Each line of standard input is a TCAP message in hexadecimal digits, or +N: N milliseconds go by.
 Each message that is sent is a line of standard output, written before the next line is read.";
 
+const REPLAY_EXAMPLE: &str = "Example:
+  scp replay examples/freephone.csv examples/calls.log
+
+Makes each step of the log again, and tells of each link how many components it accepted, how many
+entries it served and how many frames it sent. The first line at which the log can't be followed is told.";
+
 const EXAMPLES: &str = "Examples:
   scp check examples/freephone.csv
-  scp ask examples/freephone.csv 2024-05-06T12:00:00Z < examples/calls.txt";
+  scp ask examples/freephone.csv 2024-05-06T12:00:00Z < examples/calls.txt
+  scp replay examples/freephone.csv examples/calls.log";
 
 /// The argument that names the file of the records.
 fn records<'a>(alloc: Global) -> Arg<'a> {
     Arg::new(alloc, "RECORDS")
         .required(true)
         .help("The file of the number translation records")
+}
+
+/// The option that lists the application contexts.
+fn contexts<'a>(alloc: Global) -> Arg<'a> {
+    Arg::new(alloc, "contexts")
+        .long("contexts")
+        .value_name("LIST")
+        .help("The application contexts that are accepted, as 2A0304,2A0305 [default: none]")
 }
 
 /// The subcommand that counts.
@@ -112,16 +147,25 @@ fn ask_command<'a>(alloc: Global) -> Result<Command<'a>, AllocError> {
     let moment = Arg::new(alloc, "MOMENT")
         .required(true)
         .help("The instant of the first line, as 2024-05-06T12:00:00Z");
-    let contexts = Arg::new(alloc, "contexts")
-        .long("contexts")
-        .value_name("LIST")
-        .help("The application contexts that are accepted, as 2A0304,2A0305 [default: none]");
     Command::new(alloc, "ask")
         .about("Answers the TCAP messages of standard input, one line of hexadecimal text each")
         .after_help(ASK_EXAMPLE)
         .arg(records(alloc))?
         .arg(moment)?
-        .arg(contexts)
+        .arg(contexts(alloc))
+}
+
+/// The subcommand that makes the steps of a log again.
+fn replay_command<'a>(alloc: Global) -> Result<Command<'a>, AllocError> {
+    let log = Arg::new(alloc, "LOG")
+        .required(true)
+        .help("The log of a run, as scp serve writes it");
+    Command::new(alloc, REPLAY)
+        .about("Makes the steps of a log again, and tells what each link did")
+        .after_help(REPLAY_EXAMPLE)
+        .arg(records(alloc))?
+        .arg(log)?
+        .arg(contexts(alloc))
 }
 
 /// The command line that there is.
@@ -132,7 +176,8 @@ fn command<'a>(alloc: Global) -> Result<Command<'a>, AllocError> {
         .after_help(EXAMPLES)
         .subcommand_required(true)
         .subcommand(check_command(alloc)?)?
-        .subcommand(ask_command(alloc)?)
+        .subcommand(ask_command(alloc)?)?
+        .subcommand(replay_command(alloc)?)
 }
 
 /// The moment that a text names: milliseconds since 1970-01-01T00:00:00Z, parts of a millisecond

@@ -4,6 +4,7 @@ ghost use Rattle.std.specs.Prelude.{◌≡◌};
 
 use fp_ask::AskFault;
 use fp_records::RecordsFault;
+use fp_replay::ReplayFault;
 use std::alloc::AllocError;
 use thiserror::Error;
 
@@ -25,6 +26,12 @@ pub enum RunFault {
     /// The lines of the input could not all be answered.
     #[error("{0}")]
     Ask(AskFault),
+    /// The file of the log could not be opened.
+    #[error("log: cannot be opened")]
+    UnopenedLog,
+    /// The log isn't replayed.
+    #[error("{0}")]
+    Replay(ReplayFault),
 }
 
 impl From<RecordsFault> for RunFault {
@@ -44,6 +51,16 @@ impl From<AskFault> for RunFault {
 
     fn from(cause: AskFault) -> RunFault {
         RunFault::Ask(cause)
+    }
+}
+
+impl From<ReplayFault> for RunFault {
+    ghost use Rattle.scp.specs.declared.fault.RunFault.TheVariants.{Replay};
+
+    ghost from_gives = { λ cause fault. fault ≡ Replay cause };
+
+    fn from(cause: ReplayFault) -> RunFault {
+        RunFault::Replay(cause)
     }
 }
 

@@ -3,7 +3,8 @@
 //!
 //! `scp check RECORDS` tells how many numbers and rules a file of records has. `scp ask RECORDS MOMENT` reads messages
 //! and waits from standard input, one a line, and holds the dialogues that they open: each message that is sent is one
-//! line of standard output. Standard error has at most one line, which says why the run ended. The status is 0 where
+//! line of standard output. `scp replay RECORDS LOG` makes the steps of a log again, and tells of each link what it did.
+//! Standard error has at most one line, which says why the run ended. The status is 0 where
 //! all went well, 1 behind such a line, and 2 where the command line was refused.
 //!
 //! The layer is handed the words of the command line, a reader, two writers and what opens files; `scp_main` gives it

@@ -2,6 +2,8 @@
 
 ghost use Rattle.std.specs.Prelude.{◌≡◌, ◌≤◌, is_ok, if◌then◌else◌, IfErr, IfSome, OnOk};
 ghost use Rattle.std.specs.Io.KnownBytes.{IsAtEnd};
+ghost use Rattle.fp_replay.specs.Stopped as stopped;
+ghost use Rattle.fp_replay.specs.Stopped.{IsUnwritten, Replays};
 ghost use Rattle.fp_ask.specs.Asked.{AnswersAll, CountsReads, CountsWrites, Reads, Stops};
 
 use crate::check::check;
@@ -13,6 +15,7 @@ use fp_apdu::Name;
 use fp_ask::{AskFault, ask};
 use fp_digits::Moment;
 use fp_records::Table;
+use fp_replay::{ReplayFault, replay};
 use fp_streams::Counted;
 use std::alloc::{AllocError, Global};
 use std::io::{ErrorKind, Read, Write};
@@ -26,7 +29,8 @@ const TURNS: u64 = 1_099_511_627_776;
 ///
 /// 0: all was answered, or help was asked for and written to `output`. 2: the words were refused,
 /// and a text on `errors` says why. 1: one line on `errors` names the fault. Faults are found in
-/// this order: the words, the moment, the application contexts, the records, then those of the lines. What cannot be
+/// this order: the words, the moment, the application contexts, the records, the opening of the log, then those of the
+/// lines. What cannot be
 /// written to `errors` is left out, and the status stays.
 pub fn program<H, R, W, E>(rt: &H, words: &[String], input: R, output: &mut W, errors: &mut E) -> u8
 where
@@ -45,6 +49,13 @@ where
                 contexts,
             },
         ) => answer_file(rt, records, moment, contexts, input, output),
+        Ok(
+            Asked::Replay {
+                records,
+                log,
+                contexts,
+            },
+        ) => replay_file(rt, records, log, contexts, output),
         Ok(Asked::Help(text)) => show(text.as_str(), output),
         Ok(Asked::Refused(text)) => {
             let _ = errors.write_all(text.as_bytes());
@@ -131,6 +142,41 @@ where
     Ok(())
 }
 
+/// Makes the steps of the log in a file again, from the records of another.
+fn replay_file<H, W>(
+    rt: &H,
+    records: &str,
+    log: &str,
+    contexts: Option<&str>,
+    output: &mut W,
+) -> Result<(), RunFault>
+where
+    H: Files + AllocGlobal,
+    W: Write,
+{
+    let Some(contexts) = accepted(rt.alloc(), contexts)? else {
+        return Err(RunFault::NoContexts);
+    };
+    let table = table_in(rt, records)?;
+    let file = match fs::open(rt, log) {
+        Ok(file) => file,
+        Err(error) if error.kind() == ErrorKind::OutOfMemory => {
+            return Err(RunFault::Replay(ReplayFault::Memory));
+        }
+        Err(_) => return Err(RunFault::UnopenedLog),
+    };
+    let mut reader = Counted::new(file);
+    let mut writer = Counted::new(output);
+    replay_lines(
+        rt.alloc(),
+        &table,
+        contexts.as_slice(),
+        &mut reader,
+        &mut writer,
+    )?;
+    Ok(())
+}
+
 /// The application contexts that are accepted: those of the list, or none where there is no list. `None` where it is no
 /// list of names.
 fn accepted(alloc: Global, contexts: Option<&str>) -> Result<Option<Vec<Name>>, AllocError> {
@@ -172,4 +218,26 @@ fn answer_lines<R: Read, W: Write>(
     ensures writes { CountsWrites result writer.old.failed writer.new.failed }
 {
     ask(alloc, table, contexts, moment, TURNS, reader, writer)
+}
+
+/// Makes the steps of a log again, and says of readers and writers whose octets are known what [`replay`] says.
+fn replay_lines<R: Read, W: Write>(
+    alloc: Global,
+    table: &Table,
+    contexts: &[Name],
+    reader: &mut Counted<R>,
+    writer: &mut Counted<W>,
+) -> Result<(), ReplayFault>
+    ensures end { OnOk result (IsAtEnd (R.remaining reader.new.device)) }
+    ensures replayed { OnOk result (IfSome (R.remaining reader.old.device)
+        (Replays table.now contexts.now TURNS (W.contents writer.old.device) (W.contents writer.new.device))) }
+    ensures stopped { IfErr result (stopped.Stops table.now contexts.now TURNS
+        (R.remaining reader.old.device) (R.remaining reader.new.device)
+        (W.contents writer.old.device) (W.contents writer.new.device)) }
+    ensures unwritten { IfErr result (IsUnwritten (W.contents writer.old.device) (W.contents writer.new.device)) }
+    ensures within { stopped.Reads TURNS (R.remaining reader.old.device) (R.remaining reader.new.device) }
+    ensures reads { stopped.CountsReads result reader.old.failed reader.new.failed }
+    ensures writes { stopped.CountsWrites result writer.old.failed writer.new.failed }
+{
+    replay(alloc, table, contexts, TURNS, reader, writer)
 }
