@@ -17,7 +17,17 @@ use std::alloc::Global;
 /// The most octets of a line, its line feed not counted.
 const MOST: usize = 8300;
 
-/// Makes the steps of a log again, and writes the totals of each link.
+/// Makes the steps of a log again, and writes what each link did: how many components it accepted, how many entries it
+/// served and how many frames of dialogues it sent, a line a link.
+///
+/// The first line is the head, and each other one a step of a link that it tells, with its answer, as
+/// [`write_line`](crate::write_line) writes them: at most 8,300 octets and a line feed. A step is made again on the run
+/// of its link, and what a log tells of it then is compared with the line. The records and the names are those by which
+/// the log was written. At most `turns` reads are made, of up to 4,096 octets each, and one line is held at a time.
+///
+/// Each line is tried for a bad one, then for a gap, then for one that disagrees, and the first fault ends the replay.
+/// The report is written behind the last line: after [`ReplayFault::WriteFault`] a front of it was written, after any
+/// other fault nothing.
 pub fn replay<R: LinkRead, W: LinkWrite>(
     alloc: Global,
     table: &Table,
