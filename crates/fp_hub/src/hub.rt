@@ -77,7 +77,7 @@ impl<A: Ledger, B: Ledger, C: Ledger> Hub<A, B, C> {
         seat: &mut Seat<A, B, C>,
         came: Prepared,
     ) -> Posted
-        ensures { seat.new ≡ after_post seat.old came result }
+        ensures grows { seat.new ≡ after_post seat.old came result }
     {
         let answer = self.hold(rt).post(alloc, seat, came);
         if let Posted::Aborted(_) = answer {

@@ -3,6 +3,7 @@
 mod link;
 mod messages;
 mod second_first;
+mod steps;
 
 use crate::OpenGate;
 use fp_book::Totals;
@@ -14,6 +15,7 @@ use std::alloc::Global;
 use std::process::Abort;
 use std::test::Fail;
 use std::thread;
+use steps::walk;
 
 /// Asserts that each message of a plan was answered, under its own identifier, once, that nothing else was sent, and
 /// that this was counted.
@@ -42,6 +44,47 @@ fn assert_answered<R: Abort>(
         sent: count,
     };
     assert_eq!(rt; relayed.totals, Some(wanted));
+    Ok(())
+}
+
+/// Each call of a hub makes its step: a call that is answered, then one that is held until its time is over and whose
+/// Abort can't be sent, which takes the link down.
+#[test]
+fn each_call_makes_its_step(rt: HostRuntime) -> Result<(), Fail> {
+    let alloc = rt.alloc();
+    let table = Table::read(alloc, RECORDS.as_bytes())?;
+    let (answered, totals) = walk(&rt, alloc, &table).ok_or("no memory")?;
+    let wanted = [
+        "opened",
+        "back",
+        "silent",
+        "queued",
+        "nothing",
+        "sent",
+        "nothing",
+        "opened",
+        "silent",
+        "none due",
+        "nothing",
+        "one due",
+        "queued",
+        "unsent",
+        "discarded",
+        "nothing",
+        "none due",
+        "nothing",
+    ];
+    for (given, wanted) in answered.texts.iter().zip(&wanted) {
+        assert_eq!(rt; *given, *wanted);
+    }
+    assert!(rt; !answered.was_down && answered.is_down);
+    assert_eq!(rt; answered.line_count, Some(18));
+    let counted = Totals {
+        accepted: 1,
+        served: 4,
+        sent: 1,
+    };
+    assert_eq!(rt; totals, Some(counted));
     Ok(())
 }
 

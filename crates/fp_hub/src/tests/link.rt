@@ -52,7 +52,7 @@ impl Plan {
 /// What came of a link.
 #[derive(Drop)]
 pub(crate) struct Relayed {
-    // Whether each message opened a dialogue, and a worker was told.
+    // Whether each message opened a dialogue, and a worker was told, and none once the hub was closed.
     pub(crate) are_opened: bool,
     // What was sent, in its order.
     pub(crate) answers: Vec<Vec<u8>>,
@@ -252,6 +252,7 @@ fn run_roles<
                 }
             }
             hub.close(rt);
+            are_opened = are_opened && !hub.hint(rt);
             for handle in handles {
                 sent.seat.join(handle.join(rt));
             }

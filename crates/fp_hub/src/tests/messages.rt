@@ -19,7 +19,13 @@ pub(crate) fn begin(alloc: Global, identifier: u32) -> Option<Frame> {
     Frame::new(Bytes::copy_from_slice(alloc, octets.as_slice()).ok()?)
 }
 
-/// What answers it, with its head: an End for this identifier, with Connect.
+/// The frame of a Begin without components: its dialogue is held. `None`: memory was wanting.
+pub(crate) fn empty_begin(alloc: Global) -> Option<Frame> {
+    let octets = hex::decode(alloc, "620648040000002C").ok()?;
+    Frame::new(Bytes::copy_from_slice(alloc, octets.as_slice()).ok()?)
+}
+
+/// What answers a Begin with InitialDP from this identifier, with its head: an End for this identifier, with Connect.
 pub(crate) fn answer(alloc: Global, identifier: u32) -> Result<Vec<u8>, Fail> {
     let text = format!(in alloc;
         "0000001F641D4904{identifier:08X}6C15A113020101020114300BA009040783100322324304"
