@@ -159,7 +159,7 @@ fn ask_command<'a>(alloc: Global) -> Result<Command<'a>, AllocError> {
 fn replay_command<'a>(alloc: Global) -> Result<Command<'a>, AllocError> {
     let log = Arg::new(alloc, "LOG")
         .required(true)
-        .help("The log of a run, as scp serve writes it");
+        .help("The log of a run");
     Command::new(alloc, REPLAY)
         .about("Makes the steps of a log again, and tells what each link did")
         .after_help(REPLAY_EXAMPLE)
