@@ -26,7 +26,8 @@ pub record Reaches (contents : Contents) (contexts : List (List ℕ)) (number : 
   pub text : input ≡ log_text before ++ rest
   pub number_is : number ≡ length before + 1
 
--- there is a next line, since a log has a head, and it isn't one of the format, in its place and ended by a line feed
+-- what follows these lines doesn't begin with a line of the format, in its place and ended by a line feed; and something
+-- does follow, or these are none, and the head is missing
 pub record IsBad (before : List Line) (rest : List ℕ) : Type 0 where
   pub is : 0 < length before → 0 < length rest
   pub none : (line : Line) (behind : List ℕ) → Fits before line → rest ≡ text_of line ++ 10 ∷ behind → ⊥
@@ -94,7 +95,7 @@ pub record Reports (contents : Contents) (contexts : List (List ℕ)) (old new :
   pub replayed : IsReplayed contents contexts input report
   pub front : AppendsFront old new report
 
--- the whole log is replayed, and its report was written; one read found the end
+-- the whole log is replayed, and its report was written; the reads are enough for the input and one more
 pub record Replays (contents : Contents) (contexts : List (List ℕ)) (turns : ℕ) (old new : Option (List ℕ)) (input : List ℕ) : Type 0 where
   pub report : List ℕ
   pub replayed : IsReplayed contents contexts input report
