@@ -1,4 +1,5 @@
 mod Afters
+mod Boxes
 mod Entries
 mod Lookups
 mod Maps

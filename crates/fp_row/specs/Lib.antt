@@ -1,3 +1,4 @@
+pub mod Boxed
 pub mod Calls
 pub mod Keys
 pub mod Laws

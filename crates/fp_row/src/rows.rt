@@ -20,8 +20,9 @@ use std::marker::Model;
 /// as a finite map.
 #[derive(Debug, Drop)]
 pub struct Rows {
-    // In the order of the identifiers, which stand beside the rows: a row that is lent may be changed in any way.
-    rows: Vec<(u32, Row)>,
+    // In the order of the identifiers, which stand beside the rows: a row that is lent may be changed in any way. A row
+    // takes some hundreds of octets, and stays where it is while others come and go.
+    rows: Vec<(u32, Box<Row>)>,
 }
 
 impl Model for Rows {
@@ -31,18 +32,19 @@ impl Model for Rows {
     ghost use Rattle.fp_row.specs.contracts.row.Row as row_type;
     ghost use Rattle.fp_row.specs.declared.row.Row.{Row};
     ghost use Rattle.fp_row.specs.Keys.{keys_of, IsInOrder};
+    ghost use Rattle.fp_row.specs.Boxed.{unboxed};
 
     ghost Value = { map.FinMap nat_cmp Row };
 
     ghost coded = { map.code coded_ℕ row_type.the_row.coded };
 
-    ghost view = { λ rows. map.from_entries rows.rows.items };
+    ghost view = { λ rows. map.from_entries (unboxed rows.rows.items) };
 
     ghost invariant = { λ rows. IsInOrder (keys_of rows.rows.items) };
 }
 
 /// The place of the identifier's row, or, where it has none, the place at which one would go.
-fn place_of(rows: &[(u32, Row)], local: u32) -> Result<usize, usize>
+fn place_of(rows: &[(u32, Box<Row>)], local: u32) -> Result<usize, usize>
     requires { IsInOrder (keys_of rows.now) }
     ensures found { IfOk result (IsAt (keys_of rows.now) local) }
     ensures missing { IfErr result (IsGapFor (keys_of rows.now) local) }
@@ -51,7 +53,7 @@ fn place_of(rows: &[(u32, Row)], local: u32) -> Result<usize, usize>
 }
 
 /// The place of the first row whose identifier is above this one: of the first of all for `None`.
-fn place_after(rows: &[(u32, Row)], local: Option<u32>) -> usize
+fn place_after(rows: &[(u32, Box<Row>)], local: Option<u32>) -> usize
     requires { IsInOrder (keys_of rows.now) }
     ensures { IsFirstAbove (keys_of rows.now) local result }
 {
@@ -90,13 +92,19 @@ impl Rows {
     {
         match place_of(&self.rows, local) {
             Ok(place) => {
-                self.rows[place].1 = row;
+                *self.rows[place].1 = row;
                 Ok(())
             }
-            Err(place) => match self.rows.insert(place, (local, row)) {
-                Ok(()) => Ok(()),
-                Err(failed) => Err(failed.value.1),
-            },
+            Err(place) => {
+                let row = match Box::new(*self.rows.allocator(), row) {
+                    Ok(row) => row,
+                    Err(failed) => return Err(failed.value),
+                };
+                match self.rows.insert(place, (local, row)) {
+                    Ok(()) => Ok(()),
+                    Err(failed) => Err(Box::into_inner(failed.value.1)),
+                }
+            }
         }
     }
 
@@ -107,7 +115,7 @@ impl Rows {
         let Ok(place) = place_of(&self.rows, local) else {
             return None;
         };
-        Some(&self.rows[place].1)
+        Some(&*self.rows[place].1)
     }
 
     /// Lends the row under an identifier, to be changed, if there is one: what is left behind the reference then stands
@@ -119,7 +127,7 @@ impl Rows {
         let Ok(place) = place_of(&self.rows, local) else {
             return None;
         };
-        Some(&mut self.rows[place].1)
+        Some(&mut *self.rows[place].1)
     }
 
     /// Takes the row under an identifier out and hands it over, if there is one. Takes no memory.
@@ -130,7 +138,7 @@ impl Rows {
         let Ok(place) = place_of(&self.rows, local) else {
             return None;
         };
-        Some(self.rows.remove(place).1)
+        Some(Box::into_inner(self.rows.remove(place).1))
     }
 
     /// Gives the least identifier above this one under which a row stands, or the least of all for `None`: `None` where

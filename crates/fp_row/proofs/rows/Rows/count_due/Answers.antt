@@ -1,8 +1,9 @@
-use Rattle.std.proofs.Common.{rules, ◌≡◌, ℕ, count_by, sym, ap, ◌∙◌}
-use Rattle.std.specs.FinMap as map
+use Rattle.std.proofs.Common.{rules, ◌≡◌, ℕ, Box, Global, count_by, sym, ap, ◌∙◌}
+use Rattle.fp_row.specs.Boxed.{unboxed}
 use Rattle.fp_row.specs.declared.row.Row.{Row}
 use Rattle.fp_row.specs.Row.{is_due}
 use Rattle.fp_row.specs.Rows.{count_due}
+use Rattle.fp_row.proofs.Boxes.{counted-unboxed, in_order-unboxed}
 use Rattle.fp_row.proofs.Entries.{entries_are}
 use Rattle.fp_row.proofs.rows.Rows.count_due.Goals as goal
 
@@ -10,5 +11,9 @@ use Rattle.fp_row.proofs.rows.Rows.count_due.Goals as goal
 pub returns : goal.returns
 returns c =
     let items = c.self.inside.rows.items in
-    let counted : c.count.result ≡ count_by (λ (entry : ℕ × Row). is_due entry.1 c.args.moment) items = search rules in
-    counted ∙ ap (count_by (λ (entry : ℕ × Row). is_due entry.1 c.args.moment)) (sym (entries_are items c.self.invariant)) ∙ ap (λ m. count_due m c.args.moment) c.self.view_is
+    let due = λ (entry : ℕ × Row). is_due entry.1 c.args.moment in
+    let counted : c.count.result ≡ count_by (λ (entry : ℕ × Box Row Global). is_due entry.1.value c.args.moment) items = search rules in
+    counted
+    ∙ counted-unboxed due items
+    ∙ ap (count_by due) (sym (entries_are (unboxed items) (in_order-unboxed items c.self.invariant)))
+    ∙ ap (λ m. count_due m c.args.moment) c.self.view_is
