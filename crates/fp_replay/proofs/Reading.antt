@@ -369,6 +369,7 @@ reaches_with contents contexts turns had left later held after number fault runs
     begun = after.octets;
     text = ap (λ l. l ++ holds.read) r.text ∙ append_assoc (log_text r.lines) held.octets holds.read ∙ ap (λ l. log_text r.lines ++ l) (sym holds.held);
     one_line = begun.one_line;
+    short = let n = begun.short in let m = holds.reads.most in let e = r.most in omega (arith, n, m, e);
     good = r.kept.good;
   },
   refl,

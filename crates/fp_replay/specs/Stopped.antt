@@ -74,7 +74,8 @@ DisagreesAt contents contexts number input =
     (at : StepAt contents contexts number input) × (is_gap at.step ≡ false)
     × Differs contents contexts at.link (at.reaches.good.history at.link) at.step
 
--- so much of the input was read, and each line of it that a line feed ended is good
+-- so much of the input was read, and each line of it that a line feed ended is good; the line that was begun behind them
+-- is no longer than a line may be
 pub record ReachesEnd (contents : Contents) (contexts : List (List ℕ)) (left : Option (List ℕ)) (input : List ℕ) : Type 0 where
   pub read : List ℕ
   pub consumed : Consumes (Some input) left read
@@ -82,6 +83,7 @@ pub record ReachesEnd (contents : Contents) (contexts : List (List ℕ)) (left :
   pub begun : List ℕ
   pub text : read ≡ log_text lines ++ begun
   pub one_line : IsOneLine begun
+  pub short : length begun ≤ 8300
   pub good : IsRetold contents contexts lines
 
 -- as many octets were read as there were reads, or more

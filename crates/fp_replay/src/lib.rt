@@ -9,6 +9,7 @@
 //! * [`read_line`] gives the line that was written so.
 //! * [`replay`] makes the steps of a log again, link by link, compares what is told of each with its line, and writes
 //!   the totals of each link.
+//! * [`report_line`] gives the line of a link in that report.
 //!
 //! | File | What it writes and reads |
 //! |---|---|
@@ -61,3 +62,4 @@ pub use line::{read_line, write_line};
 pub use replay_fault::ReplayFault;
 pub use replay_laws::{logs_have_one_report, logs_of_runs_are_replayed};
 pub use replaying::replay;
+pub use report::report_line;
