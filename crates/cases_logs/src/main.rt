@@ -9,17 +9,22 @@
 //! |---|---|
 //! | `lines` | the text of a line, read and written again |
 //! | `replays` | logs, replayed |
+//! | `runs` | the logs of whole runs, and their replay |
 #![tactic(auto)]
 
 mod lines;
 mod replays;
+mod runs;
 mod texts;
 
 use std::alloc::Global;
 
 /// What a case gives, or `None` where it is none.
 fn given(alloc: Global, input: &str) -> anyhow::Result<Option<String>> {
-    match lines::case(alloc, input)? {
+    if let Some(text) = lines::case(alloc, input)? {
+        return Ok(Some(text));
+    }
+    match runs::case(alloc, input)? {
         Some(text) => Ok(Some(text)),
         None => replays::case(alloc, input),
     }

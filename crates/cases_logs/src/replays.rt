@@ -5,8 +5,10 @@
 //! | `replay LOG` | the report of the log, or why there is none |
 //! | `pieces COUNT LOG` | the same, where a read gives so many octets at most, and a write takes so many |
 //! | `turns COUNT LOG` | the same, where so many reads may be made |
+//! | `reads TURNS COUNT LOG` | how many reads were made, of TURNS that might be, each of so many octets at most, and the same |
 //! | `failing-read COUNT LOG` | the same, where the read of this number fails, counted from 1; each gives 7 octets |
 //! | `failing-write COUNT LOG` | the same, where the write of this number does; each takes 7 octets |
+//! | `failing-flush LOG` | the same, where the output can't be flushed |
 //!
 //! In a log and in a report `|` stands for a line feed, and `{COUNT*TEXT}` in a log for a text so many times over. Where
 //! something was written before a fault, it stands behind it. The records are those of `TABLE`.
@@ -19,7 +21,7 @@ use std::io;
 use std::io::{ErrorKind, Read, Write};
 
 /// A number with one destination, one with two, one that is refused and one that is passed on.
-const TABLE: &str = "key,100,60
+pub(crate) const TABLE: &str = "key,100,60
 800123456,,1234567,00:00,24:00,1,route,302223344
 800123457,,1234567,00:00,24:00,1,route,302223344,302223355
 800123458,,1234567,00:00,24:00,1,refuse
@@ -41,23 +43,21 @@ impl Read for Source<'_> {
         }
         self.calls -= 1;
         let count = self.octets.len().min(self.piece);
-        let (mut front, rest) = self.octets.split_at(count);
+        let (mut front, _) = self.octets.split_at(count);
         let taken = front.read(room)?;
-        self.octets = if taken == count {
-            rest
-        } else {
-            &self.octets[self.octets.len()..]
-        };
+        self.octets = self.octets.get(taken..).unwrap_or(&[]);
         Ok(taken)
     }
 }
 
-/// A writer that takes so many octets at a time at most. The call behind so many others fails.
+/// A writer that takes so many octets at a time at most. The write behind so many others fails, and each flush where
+/// none is to succeed.
 #[derive(Drop)]
 struct Sink {
     octets: Vec<u8>,
     piece: usize,
     calls: u32,
+    flushes: bool,
 }
 
 impl Write for Sink {
@@ -72,6 +72,9 @@ impl Write for Sink {
     }
 
     fn flush(&mut self) -> io::Result<()> {
+        if !self.flushes {
+            return Err(io::Error::from(ErrorKind::Other));
+        }
         Ok(())
     }
 }
@@ -84,6 +87,7 @@ struct Devices {
     reads: u32,
     write: usize,
     writes: u32,
+    flushes: bool,
 }
 
 /// Devices that never fail.
@@ -93,6 +97,7 @@ const SOUND: Devices = Devices {
     reads: u32::MAX,
     write: 4096,
     writes: u32::MAX,
+    flushes: true,
 };
 
 /// Puts a text behind a log, with a line feed for each bar.
@@ -140,7 +145,7 @@ fn log_of(alloc: Global, text: &str) -> anyhow::Result<Vec<u8>> {
 }
 
 /// What was written, with a bar for each line feed.
-fn written(alloc: Global, octets: &[u8]) -> Result<String, AllocError> {
+pub(crate) fn written(alloc: Global, octets: &[u8]) -> Result<String, AllocError> {
     let mut text = String::new(alloc);
     for octet in octets {
         text.push(if *octet == b'\n' {
@@ -152,12 +157,18 @@ fn written(alloc: Global, octets: &[u8]) -> Result<String, AllocError> {
     Ok(text)
 }
 
-/// What replaying a log gives, over these devices.
-fn replayed(alloc: Global, devices: Devices, text: &str) -> anyhow::Result<String> {
-    let log = log_of(alloc, text)?;
+/// What replaying a log gave, and how many reads were made of it, one that failed not counted.
+#[derive(Drop)]
+struct Outcome {
+    text: String,
+    reads: u32,
+}
+
+/// What replaying these octets gives, over these devices.
+fn replayed(alloc: Global, devices: Devices, log: &[u8]) -> anyhow::Result<Outcome> {
     let table = Table::read(alloc, TABLE.as_bytes())?;
     let mut reader = Counted::new(Source {
-        octets: log.as_slice(),
+        octets: log,
         piece: devices.read,
         calls: devices.reads,
     });
@@ -165,14 +176,34 @@ fn replayed(alloc: Global, devices: Devices, text: &str) -> anyhow::Result<Strin
         octets: Vec::new(alloc),
         piece: devices.write,
         calls: devices.writes,
+        flushes: devices.flushes,
     });
     let answer = replay(alloc, &table, &[], devices.turns, &mut reader, &mut writer);
     let report = written(alloc, writer.device.octets.as_slice())?;
-    match answer {
-        Ok(()) => Ok(report),
-        Err(fault) if report.as_str().is_empty() => Ok(format!(in alloc; "{fault}")?),
-        Err(fault) => Ok(format!(in alloc; "{fault}, behind {report}")?),
-    }
+    let text = match answer {
+        Ok(()) => report,
+        Err(fault) if report.as_str().is_empty() => format!(in alloc; "{fault}")?,
+        Err(fault) => format!(in alloc; "{fault}, behind {report}")?,
+    };
+    let reads = devices.reads.saturating_sub(reader.device.calls);
+    Ok(Outcome { text, reads })
+}
+
+/// What replaying these octets gives, over devices that never fail.
+pub(crate) fn answer(alloc: Global, log: &[u8]) -> anyhow::Result<String> {
+    Ok(replayed(alloc, SOUND, log)?.text)
+}
+
+/// How many reads are made of a log, of so many that may be, each of so many octets at most, and what that gives.
+fn reads(alloc: Global, turns: u64, piece: usize, text: &str) -> anyhow::Result<String> {
+    let log = log_of(alloc, text)?;
+    let devices = Devices {
+        turns,
+        read: piece,
+        ..SOUND
+    };
+    let Outcome { text, reads } = replayed(alloc, devices, log.as_slice())?;
+    Ok(format!(in alloc; "reads {reads}, {text}")?)
 }
 
 /// Devices of which the call of this number fails, each call one of 7 octets.
@@ -186,17 +217,20 @@ fn failing(reads: u32, writes: u32) -> Devices {
     }
 }
 
-/// What a case of this module gives, or `None` where its first word is none.
-pub(crate) fn case(alloc: Global, input: &str) -> anyhow::Result<Option<String>> {
-    let Some((word, rest)) = input.split_once(" ") else {
-        return Ok(None);
-    };
-    if word == "replay" {
-        return Ok(Some(replayed(alloc, SOUND, rest)?));
+/// The devices of a case without a count, by its first word.
+fn plain_devices(word: &str) -> Option<Devices> {
+    match word {
+        "replay" => Some(SOUND),
+        "failing-flush" => Some(Devices {
+            flushes: false,
+            ..SOUND
+        }),
+        _ => None,
     }
-    let Some((count, log)) = rest.split_once(" ") else {
-        return Ok(None);
-    };
+}
+
+/// The devices of a case with a count, by its first word.
+fn counted_devices(word: &str, count: &str) -> anyhow::Result<Option<Devices>> {
     let devices = match word {
         "turns" => Devices {
             turns: count.parse()?,
@@ -220,5 +254,34 @@ pub(crate) fn case(alloc: Global, input: &str) -> anyhow::Result<Option<String>>
         }
         _ => return Ok(None),
     };
-    Ok(Some(replayed(alloc, devices, log)?))
+    Ok(Some(devices))
+}
+
+/// What replaying the log of a text gives, over these devices.
+fn replayed_text(alloc: Global, devices: Devices, text: &str) -> anyhow::Result<String> {
+    let log = log_of(alloc, text)?;
+    Ok(replayed(alloc, devices, log.as_slice())?.text)
+}
+
+/// What a case of this module gives, or `None` where its first word is none.
+pub(crate) fn case(alloc: Global, input: &str) -> anyhow::Result<Option<String>> {
+    let Some((word, rest)) = input.split_once(" ") else {
+        return Ok(None);
+    };
+    if let Some(devices) = plain_devices(word) {
+        return Ok(Some(replayed_text(alloc, devices, rest)?));
+    }
+    let Some((count, log)) = rest.split_once(" ") else {
+        return Ok(None);
+    };
+    if word == "reads" {
+        let Some((piece, log)) = log.split_once(" ") else {
+            return Ok(None);
+        };
+        return Ok(Some(reads(alloc, count.parse()?, piece.parse()?, log)?));
+    }
+    match counted_devices(word, count)? {
+        Some(devices) => Ok(Some(replayed_text(alloc, devices, log)?)),
+        None => Ok(None),
+    }
 }
