@@ -6,9 +6,8 @@ use Rattle.fp_book.specs.declared.parcel.Content.{Content}
 use Rattle.fp_book.specs.declared.parcel.Content.TheVariants as content
 use Rattle.fp_book.specs.declared.parcel.Parcel.{Parcel}
 use Rattle.fp_book.specs.declared.totals.Totals.{Totals}
-use Rattle.fp_book.specs.Calls.{entries_in}
 use Rattle.fp_entry.specs.declared.prepared.Prepared.{Prepared}
-use Rattle.fp_entry.specs.Entries.{component_count}
+use Rattle.fp_entry.specs.Prepared.{components_of}
 
 -- what contracts see of a seat: its parts of each of the three ledgers, and its amounts in them
 pub record Shares : Type 0 where
@@ -59,7 +58,7 @@ if_accepted Discarded count = 0
 
 -- the seat after a message was posted: more by its components, where it was accepted
 abbrev pub after_post : Shares → Prepared → Posted → Shares
-after_post s came answer = record s { accepted = s.accepted + if_accepted answer (component_count (entries_in came)) }
+after_post s came answer = record s { accepted = s.accepted + if_accepted answer (components_of came) }
 
 -- one, where nothing comes back
 abbrev pub one_if_ok : {T E : Type 0} → Result T E → ℕ

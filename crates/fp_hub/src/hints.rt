@@ -1,6 +1,7 @@
 //! Hints to workers that there may be a turn to take.
 
-use crate::waiting::await_hint;
+use crate::Looks;
+use crate::waiting::{await_hint, hold};
 use crossbeam_channel::{Receiver, Sender, unbounded};
 use std::alloc::{AllocError, Global};
 use std::sync::atomic::{AtomicUsize, Ordering};
@@ -10,41 +11,51 @@ use std::sync::{Mutex, Wait};
 #[derive(Drop)]
 pub struct Hints {
     receiver: Receiver<()>,
+    looks: Looks,
 }
 
 impl Hints {
-    /// Waits for a hint. `false`: the channel is closed, and no hint waits.
+    /// Waits for a hint, and takes it. `false`: the channel is closed, and no hint waits.
     pub(crate) fn wait<R: Wait>(&self, rt: &R) -> bool {
-        await_hint(rt, &self.receiver)
+        await_hint(rt, &self.receiver, self.looks)
     }
 }
 
 /// The hint channel of a link.
 #[derive(Drop)]
 pub(crate) struct HintChannel {
-    // `None`: it is closed.
+    // What hints go in by. `None`: it is closed. Its lock is held while hints are counted and one is added, so that no
+    // two of them are added for one place.
     sender: Mutex<Option<Sender<()>>>,
+    // An end that nobody waits on: further ends are copied from it, and it keeps the channel open for hints while no
+    // worker has an end yet, or no longer.
     receiver: Receiver<()>,
-    // How many workers have an end of it.
+    // How many ends were handed to workers.
     workers: AtomicUsize,
+    // How often the lock, and a worker, looks before it sleeps.
+    looks: Looks,
 }
 
 impl HintChannel {
     /// A channel that is open, and that no worker listens to yet.
-    pub(crate) fn new(alloc: Global) -> Result<HintChannel, AllocError> {
+    pub(crate) fn new(alloc: Global, looks: Looks) -> Result<HintChannel, AllocError> {
         let (sender, receiver) = unbounded(alloc)?;
         Ok(HintChannel {
             sender: Mutex::new(Some(sender)),
             receiver,
             workers: AtomicUsize::new(0),
+            looks,
         })
     }
 
-    /// One more worker's end.
+    /// One more worker's end. From now on one hint more may wait.
     pub(crate) fn listen(&self) -> Result<Hints, AllocError> {
         let receiver = self.receiver.clone()?;
         self.workers.fetch_add(1, Ordering::SeqCst);
-        Ok(Hints { receiver })
+        Ok(Hints {
+            receiver,
+            looks: self.looks,
+        })
     }
 
     /// How many hints may wait: one for each worker, and one where there is no worker yet.
@@ -52,17 +63,20 @@ impl HintChannel {
         self.workers.load(Ordering::SeqCst).max(1)
     }
 
-    /// Sends a hint, if fewer wait than there are workers. Each hint that waits is still taken after this call, so each
-    /// worker looks for turns after it all the same. `false`: the channel is closed, or memory was wanting.
+    /// Sends a hint, unless as many wait as there are workers. `false`: the channel is closed, or memory was wanting.
+    ///
+    /// A hint that waits is as good as a new one: it says that there may be a turn, and no more. Each worker that takes
+    /// it takes turns until none is ready, and does so after this call, so it finds what was ready before it. Where as
+    /// many hints wait as there are workers, each worker has yet to do so; a further hint would wake nobody else.
     pub(crate) fn hint<R: Wait>(&self, rt: &R) -> bool {
-        match &*self.sender.lock(rt) {
+        match &*hold(rt, &self.sender, self.looks) {
             None => false,
             Some(sender) => sender.len() >= self.most() || sender.try_send(rt, ()).is_ok(),
         }
     }
 
-    /// No hint is sent from now on. Those that wait are still taken.
+    /// No hint is sent from now on. Those that wait are still taken, and then each worker's wait ends.
     pub(crate) fn close<R: Wait>(&self, rt: &R) {
-        let _ = self.sender.lock(rt).take();
+        let _ = hold(rt, &self.sender, self.looks).take();
     }
 }

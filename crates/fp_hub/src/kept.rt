@@ -3,11 +3,14 @@
 ghost use Rattle.std.specs.Prelude.{◌≡◌, ◌↔◌, ◌<◌, ◌-◌, Some, IfErr, IfOk, IsOk, OnOk, vec_capacity, vec_len};
 ghost use Rattle.std.specs.FinMap.{get};
 ghost use Rattle.fp_book.specs.declared.line.LoggedStep.TheVariants as line;
-ghost use Rattle.fp_book.specs.Calls.{DrainsBook, GivesDone, GoesDown, Hands, IsOut, NoneReady, Posts, PutsTurnBack, Sends, Takes, Ticks, Unsends, entries_in, turn_of};
+ghost use Rattle.fp_book.specs.Calls.{DrainsBook, GivesDone, GoesDown, Hands, IsOut, NoneReady, Posts, PutsTurnBack, Sends, Takes, Ticks, Unsends, entries_in, posted_totals, turn_of};
 ghost use Rattle.fp_book.specs.Shelf.{Sound, empty_shelf};
 ghost use Rattle.fp_entry.specs.Entries.{component_count};
+ghost use Rattle.fp_entry.specs.Prepared.{components_of};
+ghost use Rattle.fp_hub.specs.Next.{Finds};
 ghost use Rattle.fp_hub.specs.Shares.{Whole, Within, after_give, after_post, after_sent, amounts, blank, if_accepted};
 
+use crate::next::Next;
 use crate::{PARTS, Seat};
 use fp_book::{Book, Given, Line, Parcel, Picked, Posted, Taken, Ticked, Totals};
 use fp_digits::Moment;
@@ -50,9 +53,10 @@ impl<A: Ledger, B: Ledger, C: Ledger> Model for Kept<A, B, C> {
     ghost invariant = { λ k. (k.accepted.total ≡ k.book.totals.accepted) × (k.served.total ≡ k.book.totals.served) × (k.sent.total ≡ k.book.totals.sent) };
 }
 
-/// How many of the entries of a message come from components.
+/// How many of the entries of a message come from components, as the book counts them.
 fn components_of(came: &Prepared) -> u64
-    ensures { result ≡ component_count (entries_in came.now) }
+    ensures value { result ≡ components_of came.now }
+    ensures entries { result ≡ component_count (entries_in came.now) }
 {
     match came {
         Prepared::Message { incoming, .. } => incoming.entries.component_count() as u64,
@@ -68,17 +72,6 @@ fn if_accepted(answer: Posted, count: u64) -> u64
         Posted::Opened(_) | Posted::Accepted(_) => count,
         Posted::Aborted(_) | Posted::Ended | Posted::Discarded => 0,
     }
-}
-
-/// What the sender of a link finds.
-#[must_use]
-pub(crate) enum Next {
-    /// This is to be sent next.
-    Parcel(Parcel),
-    /// The link is down.
-    Down,
-    /// Nothing is to be sent, or a parcel is out already.
-    Nothing,
 }
 
 impl<A: Ledger, B: Ledger, C: Ledger> Kept<A, B, C> {
@@ -97,6 +90,7 @@ impl<A: Ledger, B: Ledger, C: Ledger> Kept<A, B, C> {
         requires sent_parts { blanks.2.parts ≡ C.parts }
         requires whole { Whole A.parts B.parts C.parts }
         ensures empty { IfOk result (λ made. made.0 ≡ empty_shelf link) }
+        ensures sound { IfOk result (λ made. Sound made.0) }
         ensures seat { IfOk result (λ made. made.1 ≡ blank 64) }
     {
         let book = Book::new(alloc, link)?;
@@ -133,6 +127,7 @@ impl<A: Ledger, B: Ledger, C: Ledger> Kept<A, B, C> {
     /// Posts a message, as [`Book::post`].
     pub fn post(&mut self, alloc: Global, seat: &mut Seat<A, B, C>, came: Prepared) -> Posted
         ensures posts { Posts self.old came result self.new }
+        ensures totals { self.new.totals ≡ posted_totals self.old.totals came result }
         ensures sound { Sound self.new }
         ensures grows { seat.new ≡ after_post seat.old came result }
         ensures within { Within seat.old self.old.totals }
@@ -255,7 +250,10 @@ impl<A: Ledger, B: Ledger, C: Ledger> Kept<A, B, C> {
     }
 
     /// Hands out what is sent next, unless the link is down.
-    pub(crate) fn next(&mut self) -> Next {
+    pub(crate) fn next(&mut self) -> Next
+        ensures finds { Finds self.old result self.new }
+        ensures sound { Sound self.new }
+    {
         if self.is_down() {
             return Next::Down;
         }
@@ -265,14 +263,15 @@ impl<A: Ledger, B: Ledger, C: Ledger> Kept<A, B, C> {
         }
     }
 
-    /// What was counted, once the seat has all parts: the totals are its amounts.
+    /// What was counted, once the seat has all parts: the totals are its amounts. Changes neither.
     pub fn last(&mut self, seat: &mut Seat<A, B, C>) -> Totals
         requires whole { Whole A.parts B.parts C.parts }
         requires all { seat.old.parts ≡ 64 }
         ensures totals { result ≡ self.old.totals }
         ensures amounts { result ≡ amounts seat.old }
+        ensures kept { self.new ≡ self.old }
+        ensures seat { seat.new ≡ seat.old }
     {
-        self.compare(seat);
         self.accepted.audit(&mut seat.accepted);
         self.served.audit(&mut seat.served);
         self.sent.audit(&mut seat.sent);

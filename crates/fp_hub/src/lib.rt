@@ -21,16 +21,17 @@
 //! | who receives | [`Hub::post`] and then [`Hub::hint`] for each frame | the socket |
 //! | worker | [`Hub::take`], [`Turn::serve`](fp_row::Turn::serve), [`Hub::give`] and then [`Hub::hint`] | a hint |
 //! | who sends | [`Hub::await_parcel`], then [`Hub::sent`] or [`Hub::unsent`] | a parcel |
-//! | clock | [`Hub::tick`] and then [`Hub::hint`], [`Hub::drain`] | the time |
+//! | clock | [`Hub::rest`], then [`Hub::tick`] and [`Hub::hint`], [`Hub::drain`] | the time, half of the log, or the end of the link |
 //!
 //! Each of them waits for the lock, too, which is held for one call of the book and never while a turn is served or a
-//! frame is sent. How they wait is in `src/waiting.rt`.
+//! frame is sent. Each looks again a number of times before it sleeps, as often as [`Looks`] says, by the threads and
+//! processors that there are (`src/waiting.rt`).
 //!
 //! The layer above may rely on this: the book that a lock keeps is sound at each hold (`Sound` of `fp_book`), and each
 //! call of [`Kept`] makes of it what the book's call says. A seat grows by just what the book counts in the call to
 //! which the seat is lent, the message's components where it was accepted, one entry where the turn doesn't come back,
-//! one frame where a dialogue's parcel doesn't come back, and the book's totals are never less than its amounts; a
-//! split moves no amount, a join adds both. So what [`finish`] answers is the totals of the book, and the sums of what the
+//! one frame where a dialogue's parcel doesn't come back, and the book's totals are never less than its amounts; a split
+//! moves no amount, a join adds both. So what [`finish`] answers is the totals of the book, and the sums of what the
 //! threads counted. That a call of a [`Hub`] makes the book's call isn't said by a contract, since no clause names what
 //! another thread may have changed: tests show it.
 #![tactic(auto)]
@@ -40,6 +41,8 @@ mod gate;
 mod hints;
 mod hub;
 mod kept;
+mod next;
+mod resting;
 mod seat;
 mod waiting;
 mod workers;
@@ -50,6 +53,7 @@ pub use hints::Hints;
 pub use hub::Hub;
 pub use kept::Kept;
 pub use seat::{PARTS, Seat};
+pub use waiting::Looks;
 pub use workers::worker;
 
 #[cfg(test)]

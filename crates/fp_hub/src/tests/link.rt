@@ -3,12 +3,13 @@
 ghost use Rattle.std.specs.Prelude.{◌≡◌};
 ghost use Rattle.fp_hub.specs.Shares.{Whole};
 
-use super::messages::begin;
+use super::messages::{STRANGE, begin, frame_of};
 use super::second_first::MOST_WAITS;
-use crate::{Gate, Hub, PARTS, Seat, finish, worker};
-use fp_book::{Parcel, Picked, Posted, Totals};
+use crate::{Gate, Hub, Looks, PARTS, Seat, finish, worker};
+use fp_book::{Line, Log, Parcel, Picked, Posted, Totals};
 use fp_digits::Moment;
 use fp_entry::Prepared;
+use fp_frames::Frame;
 use fp_records::Table;
 use std::alloc::Global;
 use std::marker::Brand;
@@ -34,7 +35,14 @@ pub(crate) enum Sending {
 pub(crate) struct Plan {
     pub(crate) link: u8,
     pub(crate) workers: u8,
+    pub(crate) looks: Looks,
     pub(crate) sending: Sending,
+    // Whether one hint follows all messages, in place of one behind each.
+    pub(crate) is_hinted_once: bool,
+    // How many milliseconds go by before each message.
+    pub(crate) pause: u64,
+    // Whether a message to a dialogue that there isn't comes behind all the others.
+    pub(crate) has_stranger: bool,
     // How many messages, and the first identifier. Each other one is greater by this step.
     pub(crate) count: u32,
     pub(crate) first: u32,
@@ -47,15 +55,29 @@ impl Plan {
         let place = number.wrapping_mul(617) % self.count.max(1);
         self.first.saturating_add(place.saturating_mul(self.step))
     }
+
+    /// The local transaction identifier of the dialogue that a message opens, the numbers being from 0.
+    fn local(&self, number: u32) -> u32 {
+        u32::from(self.link)
+            .wrapping_mul(0x2000_0000)
+            .wrapping_add(number)
+            .wrapping_add(1)
+    }
+
+    /// How many parcels are sent.
+    fn parcel_count(&self) -> u32 {
+        self.count.saturating_add(u32::from(self.has_stranger))
+    }
 }
 
 /// What came of a link.
 #[derive(Drop)]
 pub(crate) struct Relayed {
-    // Whether each message opened a dialogue, and a worker was told, and none once the hub was closed.
+    // Whether each message opened the dialogue that it should, and workers were told, and none once the hub was closed.
     pub(crate) are_opened: bool,
     // What was sent, in its order.
     pub(crate) answers: Vec<Vec<u8>>,
+    pub(crate) line_count: Option<usize>,
     pub(crate) totals: Option<Totals>,
 }
 
@@ -106,7 +128,7 @@ fn send<A: Ledger, B: Ledger, C: Ledger, R: Wait>(
     marks.sent.fetch_add(1, Ordering::SeqCst);
 }
 
-/// Sends until as many parcels were sent as there are messages, or too long nothing was to be sent.
+/// Sends until so many parcels were sent, or too long nothing was to be sent.
 fn send_picked<A: Ledger, B: Ledger, C: Ledger, R: Wait + Clock>(
     rt: &R,
     alloc: Global,
@@ -156,8 +178,23 @@ fn send_awaited<A: Ledger, B: Ledger, C: Ledger, R: Wait>(
     sent
 }
 
-/// Posts the messages of a plan, and hints after each. `false`: one didn't open a dialogue, or no worker was told.
-fn post_all<A: Ledger, B: Ledger, C: Ledger, R: Wait>(
+/// Posts a message.
+fn post<A: Ledger, B: Ledger, C: Ledger, R: Wait>(
+    rt: &R,
+    alloc: Global,
+    hub: &Hub<A, B, C>,
+    seat: &mut Seat<A, B, C>,
+    table: &Table,
+    frame: Option<Frame>,
+) -> Option<Posted> {
+    let moment = Moment::new(1_714_996_800_000)?;
+    let came = Prepared::read(alloc, table, &[], frame?, moment);
+    Some(hub.post(rt, alloc, seat, came))
+}
+
+/// Posts the messages of a plan, and hints. `false`: one didn't open the dialogue that it should, or no worker was told,
+/// or the stranger wasn't refused.
+fn post_all<A: Ledger, B: Ledger, C: Ledger, R: Wait + Clock>(
     rt: &R,
     alloc: Global,
     hub: &Hub<A, B, C>,
@@ -165,25 +202,26 @@ fn post_all<A: Ledger, B: Ledger, C: Ledger, R: Wait>(
     table: &Table,
     plan: Plan,
 ) -> bool {
-    let Some(moment) = Moment::new(1_714_996_800_000) else {
-        return false;
-    };
     for number in 0..plan.count {
-        let Some(frame) = begin(alloc, plan.identifier(number)) else {
+        thread::sleep(rt, Duration::from_millis(plan.pause));
+        let frame = begin(alloc, plan.identifier(number));
+        let posted = post(rt, alloc, hub, seat, table, frame);
+        if posted != Some(Posted::Opened(plan.local(number))) {
             return false;
-        };
-        let came = Prepared::read(alloc, table, &[], frame, moment);
-        let Posted::Opened(_) = hub.post(rt, alloc, seat, came) else {
-            return false;
-        };
-        if !hub.hint(rt) {
+        }
+        if !plan.is_hinted_once && !hub.hint(rt) {
             return false;
         }
     }
-    true
+    if plan.has_stranger {
+        thread::sleep(rt, Duration::from_millis(plan.pause));
+        let posted = post(rt, alloc, hub, seat, table, frame_of(alloc, STRANGE));
+        return matches!(posted, Some(Posted::Aborted(_)));
+    }
+    !plan.is_hinted_once || hub.hint(rt)
 }
 
-/// Waits until as many parcels were sent as there are messages, but not too long.
+/// Waits until so many parcels were sent, but not too long.
 fn await_sent<R: Clock>(rt: &R, marks: &Marks, count: u32) {
     for _ in 0..MOST_WAITS {
         if marks.sent.load(Ordering::SeqCst) >= count {
@@ -239,11 +277,11 @@ fn run_roles<
             let mut are_opened = false;
             if let Some(own) = sent.seat.split() {
                 let sender = scope.spawn(move || match plan.sending {
-                    Sending::Picks => send_picked(rt, alloc, hub, own, marks, plan.count),
+                    Sending::Picks => send_picked(rt, alloc, hub, own, marks, plan.parcel_count()),
                     Sending::Awaits => send_awaited(rt, alloc, hub, own, marks),
                 });
                 are_opened = post_all(rt, alloc, hub, &mut sent.seat, table, plan);
-                await_sent(rt, marks, plan.count);
+                await_sent(rt, marks, plan.parcel_count());
                 hub.down(rt);
                 if let Ok(handle) = sender {
                     let Sent { seat, answers } = handle.join(rt);
@@ -259,6 +297,17 @@ fn run_roles<
             (are_opened, sent)
         },
     )
+}
+
+/// How many lines the log has. `None`: memory was wanting.
+fn line_count<A: Ledger, B: Ledger, C: Ledger, R: Wait>(
+    rt: &R,
+    alloc: Global,
+    hub: &Hub<A, B, C>,
+) -> Option<usize> {
+    let mut lines: Vec<Line> = Vec::with_capacity(alloc, Log::MOST).ok()?;
+    hub.drain(rt, &mut lines);
+    Some(lines.len())
 }
 
 /// Puts the messages of a plan through a link whose ledgers are these.
@@ -288,13 +337,15 @@ fn run_link<
     if plan.link >= 8 {
         return None;
     }
-    let (hub, seat) = Hub::<A, B, C>::new(alloc, plan.link, blanks).ok()?;
+    let (hub, seat) = Hub::<A, B, C>::new(alloc, plan.link, plan.looks, blanks).ok()?;
     let (are_opened, sent) = run_roles(rt, alloc, &hub, seat, gate, table, marks, plan);
     let Sent { seat, answers } = sent;
+    let line_count = line_count(rt, alloc, &hub);
     let totals = finish(hub, seat);
     Some(Relayed {
         are_opened,
         answers,
+        line_count,
         totals,
     })
 }

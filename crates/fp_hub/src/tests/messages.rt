@@ -5,23 +5,55 @@ use fp_frames::Frame;
 use std::alloc::Global;
 use std::test::Fail;
 
-/// Records: one number, and where its calls go.
+/// Records: one number with one destination, and one with two.
 pub(crate) const RECORDS: &str = "key,100,60
 800123456,,1234567,00:00,24:00,1,route,302223344
+800123457,,1234567,00:00,24:00,1,route,302223344,302223355
 ";
 
-/// The frame of a Begin with InitialDP from this identifier, for that number. `None`: memory was wanting.
+/// A Begin without components: its dialogue is held.
+pub(crate) const EMPTY_BEGIN: &str = "620648040000002C";
+
+/// A Unidirectional: it is discarded.
+pub(crate) const UNIDIRECTIONAL: &str = "6100";
+
+/// A Continue to a dialogue that there isn't.
+pub(crate) const STRANGE: &str = "650C48040000002A490400000009";
+
+/// What answers it, with its head: an Abort of the provider for cause 1, unrecognized transaction identifier.
+pub(crate) const STRANGE_ANSWER: &str = "0000000B670949040000002A4A0101";
+
+/// How many InitialDP are in `CALLS`.
+pub(crate) const CALLS_COUNT: usize = 16;
+
+/// A Begin for as many InitialDP, which follow it.
+const CALLS: &str = "6282025A48040000002A6C820250";
+
+/// An InitialDP for the number with two destinations.
+const CALL: &str = "A123020101020100301B80016482078310081032540783078313032143650785010A9C0103";
+
+/// The frame of these octets. `None`: memory was wanting.
+pub(crate) fn frame_of(alloc: Global, text: &str) -> Option<Frame> {
+    let octets = hex::decode(alloc, text).ok()?;
+    Frame::new(Bytes::copy_from_slice(alloc, octets.as_slice()).ok()?)
+}
+
+/// The frame of a Begin with InitialDP from this identifier, for the number with one destination. `None`: memory was
+/// wanting.
 pub(crate) fn begin(alloc: Global, identifier: u32) -> Option<Frame> {
     let text = format!(in alloc;
         "622D4804{identifier:08X}6C25A123020101020100301B80016482078310081032540683078313032143650785010A9C0103"
     );
-    let octets = hex::decode(alloc, text.ok()?.as_str()).ok()?;
-    Frame::new(Bytes::copy_from_slice(alloc, octets.as_slice()).ok()?)
+    frame_of(alloc, text.ok()?.as_str())
 }
 
-/// The frame of a Begin without components: its dialogue is held. `None`: memory was wanting.
-pub(crate) fn empty_begin(alloc: Global) -> Option<Frame> {
-    let octets = hex::decode(alloc, "620648040000002C").ok()?;
+/// The frame of a Begin with sixteen InitialDP: each of them is answered. `None`: memory was wanting.
+pub(crate) fn calls(alloc: Global) -> Option<Frame> {
+    let mut octets = hex::decode(alloc, CALLS).ok()?;
+    let call = hex::decode(alloc, CALL).ok()?;
+    for _ in 0..CALLS_COUNT {
+        octets.extend_from_slice(call.as_slice()).ok()?;
+    }
     Frame::new(Bytes::copy_from_slice(alloc, octets.as_slice()).ok()?)
 }
 

@@ -3,9 +3,9 @@
 ghost use Rattle.std.specs.Prelude.{◌≡◌};
 ghost use Rattle.fp_hub.specs.Shares.{Whole};
 
-use super::messages::{begin, empty_begin};
-use crate::{Hub, PARTS, Seat, finish};
-use fp_book::{Given, Line, Picked, Posted, Taken, Totals};
+use super::messages::{CALLS_COUNT, EMPTY_BEGIN, UNIDIRECTIONAL, begin, calls, frame_of};
+use crate::{Hub, Looks, PARTS, Seat, finish};
+use fp_book::{Given, Line, Log, Outbox, Picked, Posted, Taken, Totals};
 use fp_digits::Moment;
 use fp_entry::Prepared;
 use fp_frames::Frame;
@@ -13,33 +13,81 @@ use fp_records::Table;
 use fp_row::Turn;
 use std::alloc::Global;
 use std::marker::Brand;
+use std::rt::Clock;
 use std::sync::Wait;
 use std::sync::ledger::{Blank, Ledger};
+use std::time::{Duration, Instant};
 
 /// Noon of 6 May 2024.
 const NOON: u64 = 1_714_996_800_000;
 
+/// Half of the places for lines of the log.
+const HALF: usize = 4096;
+
+/// An eighth of them.
+const EIGHTH: usize = 1024;
+
+/// How many Begins fill all places for frames, and one more.
+const FILLING: usize = Outbox::MOST_FRAMES / CALLS_COUNT + 1;
+
+/// More milliseconds than a test has.
+const LONG: u64 = 100_000;
+
+/// What is done with a hub.
+#[derive(Clone, Copy)]
+pub(crate) enum Walk {
+    /// Each call, until the link is down; and then as many as wake whoever rests.
+    EachCall,
+    /// All places for frames are filled.
+    AllPlaces,
+}
+
+/// What the calls of a walk answered.
+#[derive(Drop)]
+struct Words {
+    text: String,
+}
+
+impl Words {
+    /// Puts a word behind the others.
+    fn say(&mut self, word: &str) {
+        let _ = self.text.push_str(word);
+        let _ = self.text.push_str(" ");
+    }
+}
+
 /// What a thread of a test has at hand.
 #[derive(Drop)]
-struct Caller<'a, R: Wait, A: Ledger, B: Ledger, C: Ledger> {
+struct Caller<'a, R: Wait + Clock, A: Ledger, B: Ledger, C: Ledger> {
     rt: &'a R,
     alloc: Global,
     hub: &'a Hub<A, B, C>,
     seat: Seat<A, B, C>,
+    table: &'a Table,
 }
 
-impl<R: Wait, A: Ledger, B: Ledger, C: Ledger> Caller<'_, R, A, B, C> {
+impl<R: Wait + Clock, A: Ledger, B: Ledger, C: Ledger> Caller<'_, R, A, B, C> {
     /// Posts a frame.
-    fn post(&mut self, table: &Table, frame: Option<Frame>) -> &'static str {
+    fn post(&mut self, frame: Option<Frame>) -> &'static str {
         let (Some(frame), Some(moment)) = (frame, Moment::new(NOON)) else {
             return "no frame";
         };
-        let came = Prepared::read(self.alloc, table, &[], frame, moment);
+        let came = Prepared::read(self.alloc, self.table, &[], frame, moment);
         match self.hub.post(self.rt, self.alloc, &mut self.seat, came) {
             Posted::Opened(_) => "opened",
             Posted::Discarded => "discarded",
             Posted::Accepted(_) | Posted::Aborted(_) | Posted::Ended => "else",
         }
+    }
+
+    /// Posts so many messages that are discarded.
+    fn post_many(&mut self, count: usize) -> &'static str {
+        for _ in 0..count {
+            if self.post(frame_of(self.alloc, UNIDIRECTIONAL)) != "discarded" {
+                return "else";
+            }
+        }
+        "all discarded"
     }
 
     /// Serves a turn, and gives it back.
@@ -66,11 +114,13 @@ impl<R: Wait, A: Ledger, B: Ledger, C: Ledger> Caller<'_, R, A, B, C> {
     fn turn(&mut self, position: u64, is_served: bool) -> &'static str {
         let turn = match self.hub.take(self.rt) {
             Taken::Turn(turn) => turn,
-            Taken::Nothing | Taken::NoRoom | Taken::Memory => return "nothing",
+            Taken::Nothing => return "nothing",
+            Taken::NoRoom => return "no room",
+            Taken::Memory => return "no memory",
         };
         if turn.position() != position {
             turn.abandon();
-            return "another turn";
+            return "another position";
         }
         if is_served {
             return self.serve(turn);
@@ -82,6 +132,19 @@ impl<R: Wait, A: Ledger, B: Ledger, C: Ledger> Caller<'_, R, A, B, C> {
                 "strange"
             }
         }
+    }
+
+    /// Takes and serves turns until none is handed out.
+    fn serve_all(&mut self) -> &'static str {
+        for _ in 0..100_000 {
+            match self.hub.take(self.rt) {
+                Taken::Turn(turn) => self.serve(turn),
+                Taken::Nothing => return "nothing",
+                Taken::NoRoom => return "no room",
+                Taken::Memory => return "no memory",
+            };
+        }
+        "else"
     }
 
     /// Picks what is sent next, and picks once more, which finds it out; then reports it sent or unsent.
@@ -109,6 +172,20 @@ impl<R: Wait, A: Ledger, B: Ledger, C: Ledger> Caller<'_, R, A, B, C> {
         }
     }
 
+    /// Awaits what is sent next, and reports it sent.
+    fn await_and_send(&mut self) -> &'static str {
+        let Some(parcel) = self.hub.await_parcel(self.rt) else {
+            return "down";
+        };
+        match self.hub.sent(self.rt, &mut self.seat, parcel) {
+            Ok(()) => "sent",
+            Err(strange) => {
+                strange.abandon();
+                "strange"
+            }
+        }
+    }
+
     /// So many milliseconds after noon, one dialogue is given a Clock.
     fn tick(&self, milliseconds: u64) -> &'static str {
         let Some(moment) = Moment::new(NOON.saturating_add(milliseconds)) else {
@@ -122,85 +199,178 @@ impl<R: Wait, A: Ledger, B: Ledger, C: Ledger> Caller<'_, R, A, B, C> {
         }
     }
 
-    /// How many lines the log has.
-    fn line_count(&self) -> Option<usize> {
-        let mut lines: Vec<Line> = Vec::with_capacity(self.alloc, 64).ok()?;
+    /// Whether the link is down.
+    fn state(&self) -> &'static str {
+        if self.hub.is_down(self.rt) {
+            "down"
+        } else {
+            "up"
+        }
+    }
+
+    /// Rests so many milliseconds at most: whether it did, or was woken.
+    fn rest(&self, milliseconds: u64) -> &'static str {
+        let time = Duration::from_millis(milliseconds);
+        let Ok(start) = Instant::now(self.rt) else {
+            return "no clock";
+        };
+        self.hub.rest(self.rt, time);
+        match start.elapsed(self.rt) {
+            Ok(spent) if spent < time => "woken",
+            Ok(_) => "rested",
+            Err(_) => "no clock",
+        }
+    }
+
+    /// Whether the log is filling.
+    fn filling(&self) -> &'static str {
+        if self.hub.is_log_filling() {
+            "filling"
+        } else {
+            "not filling"
+        }
+    }
+
+    /// Drains the log, which has so many lines.
+    fn drain(&self, line_count: usize) -> &'static str {
+        let Ok(mut lines) = Vec::<Line>::with_capacity(self.alloc, Log::MOST) else {
+            return "no memory";
+        };
         self.hub.drain(self.rt, &mut lines);
-        Some(lines.len())
+        if lines.len() == line_count {
+            "drained"
+        } else {
+            "else"
+        }
+    }
+
+    /// Makes each call of a hub, of which 18 lines of the log come; the last parcel can't be sent, which takes the link
+    /// down.
+    fn make_calls(&mut self, words: &mut Words) {
+        let alloc = self.alloc;
+        words.say(self.post(begin(alloc, 0x2A)));
+        words.say(self.turn(0, false));
+        words.say(self.turn(0, true));
+        words.say(self.turn(1, true));
+        words.say(self.turn(2, true));
+        words.say(self.send(true));
+        words.say(self.send(true));
+        words.say(self.post(frame_of(alloc, EMPTY_BEGIN)));
+        words.say(self.turn(0, true));
+        words.say(self.tick(299_999));
+        words.say(self.turn(1, true));
+        words.say(self.tick(300_000));
+        words.say(self.turn(1, true));
+        words.say(self.state());
+        words.say(self.send(false));
+        words.say(self.state());
+        words.say(self.post(begin(alloc, 0x2B)));
+        words.say(self.turn(0, true));
+        words.say(self.tick(600_000));
+        words.say(self.send(true));
+    }
+
+    /// Rests behind so many lines of the log: it is woken where the link went down, and where half of the places are
+    /// taken, and else rests its time. Where five eighths are taken the log is filling, and not before.
+    fn rest_often(&mut self, line_count: usize, words: &mut Words) {
+        words.say(self.rest(LONG));
+        words.say(self.post_many(HALF.saturating_sub(line_count).saturating_sub(1)));
+        words.say(self.rest(20));
+        words.say(self.post_many(1));
+        words.say(self.rest(LONG));
+        words.say(self.drain(HALF));
+        words.say(self.post_many(HALF));
+        words.say(self.rest(LONG));
+        words.say(self.post_many(EIGHTH - 1));
+        words.say(self.filling());
+        words.say(self.post_many(1));
+        words.say(self.filling());
+        words.say(self.drain(HALF + EIGHTH));
+        words.say(self.filling());
+        self.hub.down(self.rt);
+        words.say(self.rest(LONG));
+    }
+
+    /// Fills all places for frames behind a parcel that was sent. Two workers listen, and one of them is hinted, where
+    /// the next parcel is awaited.
+    fn fill_places(&mut self, words: &mut Words) {
+        let (Ok(hints), Ok(others)) = (self.hub.hints(), self.hub.hints()) else {
+            return;
+        };
+        words.say(self.post(calls(self.alloc)));
+        words.say(self.turn(0, true));
+        words.say(self.turn(1, true));
+        words.say(self.await_and_send());
+        for _ in 1..FILLING {
+            if self.post(calls(self.alloc)) != "opened" {
+                words.say("else");
+            }
+        }
+        words.say(self.serve_all());
+        words.say(self.await_and_send());
+        self.hub.close(self.rt);
+        for end in [&hints, &others] {
+            words.say(if end.wait(self.rt) {
+                "hinted"
+            } else {
+                "closed"
+            });
+        }
+        words.say(self.serve_all());
     }
 }
 
-/// What the calls answer, whether the link was down before its parcel was reported unsent and behind that, and how many
-/// lines the log has then.
+/// What the calls of a walk answered, word by word, and what was counted.
 #[derive(Drop)]
-pub(crate) struct Answered {
-    pub(crate) texts: [&'static str; 18],
-    pub(crate) was_down: bool,
-    pub(crate) is_down: bool,
-    pub(crate) line_count: Option<usize>,
+pub(crate) struct Walked {
+    pub(crate) words: String,
+    pub(crate) totals: Option<Totals>,
 }
 
-/// Makes each call of a hub.
-fn make_calls<'x, A: Ledger, B: Ledger, C: Ledger, R: Wait>(
+/// Makes the calls of a walk.
+fn make_walk<'x, A: Ledger, B: Ledger, C: Ledger, R: Wait + Clock>(
     rt: &'x R,
     alloc: Global,
     hub: &'x Hub<A, B, C>,
     seat: Seat<A, B, C>,
     table: &'x Table,
-) -> (Answered, Seat<A, B, C>) {
+    walk: Walk,
+) -> (Words, Seat<A, B, C>) {
+    let mut words = Words {
+        text: String::new(alloc),
+    };
     let mut caller = Caller {
         rt,
         alloc,
         hub,
         seat,
+        table,
     };
-    let opened = caller.post(table, begin(alloc, 0x2A));
-    let back = caller.turn(0, false);
-    let first = caller.turn(0, true);
-    let second = caller.turn(1, true);
-    let third = caller.turn(2, true);
-    let sent = caller.send(true);
-    let none = caller.send(true);
-    let held = caller.post(table, empty_begin(alloc));
-    let opening = caller.turn(0, true);
-    let early = caller.tick(299_999);
-    let idle = caller.turn(1, true);
-    let late = caller.tick(300_000);
-    let clock = caller.turn(1, true);
-    let was_down = hub.is_down(rt);
-    let unsent = caller.send(false);
-    let is_down = hub.is_down(rt);
-    let late_post = caller.post(table, begin(alloc, 0x2B));
-    let late_turn = caller.turn(0, true);
-    let late_tick = caller.tick(600_000);
-    let late_pick = caller.send(true);
-    let line_count = caller.line_count();
+    match walk {
+        Walk::EachCall => {
+            caller.make_calls(&mut words);
+            caller.rest_often(18, &mut words);
+        }
+        Walk::AllPlaces => caller.fill_places(&mut words),
+    }
     let Caller {
         rt: _,
         alloc: _,
         hub: _,
         seat,
+        table: _,
     } = caller;
-    let texts = [
-        opened, back, first, second, third, sent, none, held, opening, early, idle, late, clock,
-        unsent, late_post, late_turn, late_tick, late_pick,
-    ];
-    let answered = Answered {
-        texts,
-        was_down,
-        is_down,
-        line_count,
-    };
-    (answered, seat)
+    (words, seat)
 }
 
-/// Makes each call of a hub whose ledgers are these.
-fn walk_over<A: Ledger, B: Ledger, C: Ledger, R: Wait>(
+/// Makes the calls of a walk with a hub whose ledgers are these.
+fn walk_over<A: Ledger, B: Ledger, C: Ledger, R: Wait + Clock>(
     rt: &R,
     alloc: Global,
     blanks: (Blank, Blank, Blank),
     table: &Table,
-) -> Option<(Answered, Option<Totals>)>
+    walk: Walk,
+) -> Option<Walked>
     requires accepted_name { blanks.0.name ≡ A.name }
     requires served_name { blanks.1.name ≡ B.name }
     requires sent_name { blanks.2.name ≡ C.name }
@@ -209,17 +379,22 @@ fn walk_over<A: Ledger, B: Ledger, C: Ledger, R: Wait>(
     requires sent_parts { blanks.2.parts ≡ C.parts }
     requires whole { Whole A.parts B.parts C.parts }
 {
-    let (hub, seat) = Hub::<A, B, C>::new(alloc, 0, blanks).ok()?;
-    let (answered, seat) = make_calls(rt, alloc, &hub, seat, table);
-    Some((answered, finish(hub, seat)))
+    let (hub, seat) = Hub::<A, B, C>::new(alloc, 0, Looks::FEW, blanks).ok()?;
+    let (words, seat) = make_walk(rt, alloc, &hub, seat, table, walk);
+    let Words { text } = words;
+    Some(Walked {
+        words: text,
+        totals: finish(hub, seat),
+    })
 }
 
-/// Makes each call of a hub, and finishes its link. `None`: memory was wanting.
-pub(crate) fn walk<R: Wait>(
+/// Makes the calls of a walk, and finishes the link. `None`: memory was wanting.
+pub(crate) fn walk_link<R: Wait + Clock>(
     rt: &R,
     alloc: Global,
     table: &Table,
-) -> Option<(Answered, Option<Totals>)> {
+    walk: Walk,
+) -> Option<Walked> {
     let blanks = (Blank::new(PARTS), Blank::new(PARTS), Blank::new(PARTS));
-    walk_over::<Brand, Brand, Brand, R>(rt, alloc, blanks, table)
+    walk_over::<Brand, Brand, Brand, R>(rt, alloc, blanks, table, walk)
 }

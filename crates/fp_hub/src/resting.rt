@@ -1,0 +1,58 @@
+//! The rest of the thread that runs the clock of a link and drains its log.
+
+use fp_book::Log;
+use std::sync::Wait;
+use std::sync::atomic::{AtomicU32, Ordering};
+use std::thread::Parker;
+use std::time::Duration;
+
+/// After how many lines whoever rests is woken: half as many as the log has places.
+const LINES_OF_A_REST: u32 = (Log::MOST / 2) as u32;
+
+/// After how many lines the log is filling: five eighths as many as it has places.
+const LINES_OF_A_FILLING_LOG: u32 = (Log::MOST / 8 * 5) as u32;
+
+/// Where the thread rests that runs the clock of a link and drains its log.
+#[derive(Drop)]
+pub(crate) struct Resting {
+    // How many lines were put into the log since it was last drained.
+    lines: AtomicU32,
+    parker: Parker,
+}
+
+impl Resting {
+    /// No line was put into the log, and nobody rests.
+    pub(crate) fn new() -> Resting {
+        Resting {
+            lines: AtomicU32::new(0),
+            parker: Parker::new(),
+        }
+    }
+
+    /// Counts a line, and wakes whoever rests where half of the places may be taken by now.
+    pub(crate) fn count(&self) {
+        if self.lines.fetch_add(1, Ordering::SeqCst) == LINES_OF_A_REST - 1 {
+            self.wake();
+        }
+    }
+
+    /// Counts from none again, since the log is drained now.
+    pub(crate) fn count_anew(&self) {
+        self.lines.store(0, Ordering::SeqCst);
+    }
+
+    /// Whether five eighths of the places may be taken by now.
+    pub(crate) fn is_log_filling(&self) -> bool {
+        self.lines.load(Ordering::SeqCst) >= LINES_OF_A_FILLING_LOG
+    }
+
+    /// Wakes whoever rests, or whoever rests next, where nobody does now.
+    pub(crate) fn wake(&self) {
+        self.parker.unpark();
+    }
+
+    /// Rests so long, or until it is woken, or for a shorter time. One thread at a time may rest.
+    pub(crate) fn rest<R: Wait>(&self, rt: &R, time: Duration) {
+        self.parker.park_timeout(rt, time);
+    }
+}
