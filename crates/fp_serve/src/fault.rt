@@ -1,0 +1,39 @@
+//! Why a run ended otherwise than by the end of its links.
+
+ghost use Rattle.std.specs.Prelude.{◌≡◌};
+
+use std::alloc::AllocError;
+use thiserror::Error;
+
+/// Why a run ended otherwise than by the end of its links. All links went down.
+#[derive(Clone, Copy, Debug, PartialEq, Eq, Error)]
+pub enum ServeFault {
+    /// The address could not be told, or a connection could not be accepted.
+    #[error("listen: cannot listen")]
+    NoConnection,
+    /// A thread could not be made.
+    #[error("thread: cannot start")]
+    NoThread,
+    /// A link has lost a part of what it counted, so that its totals aren't known.
+    #[error("seats: not all came back")]
+    LostSeat,
+    /// The log could not be written.
+    #[error("log: cannot be written")]
+    UnwrittenLog,
+    /// What is told of the links could not be written.
+    #[error("output: cannot be written")]
+    WriteFault,
+    /// Memory was wanting.
+    #[error("out of memory")]
+    Memory,
+}
+
+impl From<AllocError> for ServeFault {
+    ghost use Rattle.fp_serve.specs.declared.fault.ServeFault.TheVariants.{Memory};
+
+    ghost from_gives = { λ _ fault. fault ≡ Memory };
+
+    fn from(_error: AllocError) -> ServeFault {
+        ServeFault::Memory
+    }
+}

@@ -1,0 +1,140 @@
+//! The way of a link's lines to the log.
+
+use crate::log::Log;
+use fp_book::Line;
+use fp_hub::Hub;
+use fp_replay::write_line;
+use fp_streams::LinkWrite;
+use std::alloc::{AllocError, Global};
+use std::rt::Clock;
+use std::sync::atomic::{AtomicBool, Ordering};
+use std::sync::ledger::Ledger;
+use std::sync::{Mutex, Wait};
+use std::thread;
+use std::time::Duration;
+
+/// How many lines are moved out of the book at once, an eighth of its places: the lock of the link is held for as long
+/// as that takes.
+const LINES_AT_ONCE: usize = 1_024;
+
+/// How often lines are moved before the clock of the link is looked at again: twice what the book holds.
+const MOST_MOVES: u32 = 16;
+
+/// How many octets of text are written at once, or a line more.
+const TEXT_AT_ONCE: usize = 65_536;
+
+/// How many octets no line has, with its line feed.
+const LONGER_THAN_A_LINE: usize = 8_301;
+
+/// How many milliseconds a thread waits for another one that writes lines, before it takes the device for one that
+/// hangs: longer than a thread waits for a processor.
+const MOST_WAITS: u32 = 500;
+
+/// Room in which lines become text.
+#[derive(Drop)]
+struct Room {
+    lines: Vec<Line>,
+    text: Vec<u8>,
+}
+
+impl Room {
+    /// Moves the lines of a book to the log, all that it has now, or many of them.
+    fn write<R: Wait, L: LinkWrite + Drop, A: Ledger, B: Ledger, C: Ledger>(
+        &mut self,
+        rt: &R,
+        hub: &Hub<A, B, C>,
+        log: &Log<L>,
+    ) {
+        for _ in 0..MOST_MOVES {
+            hub.drain(rt, &mut self.lines);
+            let count = self.lines.len();
+            self.put(rt, log);
+            if count < LINES_AT_ONCE {
+                break;
+            }
+        }
+        log.write(rt, self.text.as_slice());
+        self.text.clear();
+    }
+
+    /// Puts the lines that are here behind the text, and writes that where it is long enough.
+    fn put<R: Wait, L: LinkWrite + Drop>(&mut self, rt: &R, log: &Log<L>) {
+        for line in self.lines.iter() {
+            if write_line(line, &mut self.text).is_err() {
+                log.write(rt, self.text.as_slice());
+                self.text.clear();
+                log.close(rt);
+                break;
+            }
+            if self.text.len() >= TEXT_AT_ONCE {
+                log.write(rt, self.text.as_slice());
+                self.text.clear();
+            }
+        }
+        self.lines.clear();
+    }
+}
+
+/// The way of a link's lines to the log. Its clock writes them once a second, and where about half of the places for
+/// them may be taken. Where that isn't enough, since it has to wait for a processor, whoever puts lines in writes some.
+#[derive(Drop)]
+pub(crate) struct LinkLog {
+    // Its room is had once, so that writing needs no memory while calls are served. Its lock is held from where lines
+    // are moved out of the book to where they are written, so that they stay in their order.
+    room: Mutex<Room>,
+    // Whether a thread waited in vain for another one to have written its lines: the device may hang.
+    is_held_up: AtomicBool,
+}
+
+impl LinkLog {
+    /// A way on which no line is.
+    pub(crate) fn new(alloc: Global) -> Result<LinkLog, AllocError> {
+        let room = Room {
+            lines: Vec::with_capacity(alloc, LINES_AT_ONCE)?,
+            text: Vec::with_capacity(alloc, TEXT_AT_ONCE + LONGER_THAN_A_LINE)?,
+        };
+        Ok(LinkLog {
+            room: Mutex::new(room),
+            is_held_up: AtomicBool::new(false),
+        })
+    }
+
+    /// Writes the lines that the book of the link has. Waits while another thread writes some.
+    pub(crate) fn write<R: Wait, L: LinkWrite + Drop, A: Ledger, B: Ledger, C: Ledger>(
+        &self,
+        rt: &R,
+        hub: &Hub<A, B, C>,
+        log: &Log<L>,
+    ) {
+        let mut room = self.room.lock(rt);
+        self.is_held_up.store(false, Ordering::SeqCst);
+        room.write(rt, hub, log);
+    }
+
+    /// Writes lines where more than half of the places for them may be taken. Waits while another thread writes some,
+    /// but not for longer than half a second, and then no more until somebody has written his: calls are answered though
+    /// the device hangs, and the lines that find no place are counted in a gap.
+    pub(crate) fn write_if_many<
+        R: Wait + Clock,
+        L: LinkWrite + Drop,
+        A: Ledger,
+        B: Ledger,
+        C: Ledger,
+    >(&self, rt: &R, hub: &Hub<A, B, C>, log: &Log<L>) {
+        for _ in 0..MOST_WAITS {
+            if !hub.is_log_filling() {
+                return;
+            }
+            if let Some(mut room) = self.room.try_lock() {
+                self.is_held_up.store(false, Ordering::SeqCst);
+                room.write(rt, hub, log);
+                return;
+            }
+            if self.is_held_up.load(Ordering::SeqCst) {
+                return;
+            }
+            thread::sleep(rt, Duration::from_millis(1));
+        }
+        self.is_held_up.store(true, Ordering::SeqCst);
+    }
+}

@@ -1,0 +1,149 @@
+//! What clients say, and what has to be answered.
+
+use super::client::Client;
+use std::alloc::{AllocError, Global};
+use std::net::{Net, SocketAddr, TcpStream};
+
+/// What each Connect asks to be told of, where another place may follow: no route, busy, no answer, the answer, the end.
+const EVENTS: &str =
+    "A041300B800104810100A203800102300B800105810100A203800102300B800106810100A203800102300B800107810101A203800102300B80010A810101A203800101";
+
+/// The component portion that lets a call through: Continue.
+const PASSED: &str = "6C08A10602010102011F";
+
+/// The component portion that refuses a call: ReleaseCall, call rejected.
+const REFUSED: &str = "6C0CA10A02010102011604028295";
+
+/// The message that releases a call from 101 when no place is left: ReleaseCall, no answer.
+const RELEASED: &str = "64144904000001016C0CA10A02010502011604028293";
+
+/// The frame of a Begin with InitialDP from this identifier, for the number whose last octet is this.
+fn begin_for(alloc: Global, identifier: u32, last: &str) -> Result<String, AllocError> {
+    format!(in alloc;
+        "0000002F622D4804{identifier:08X}6C25A123020101020100301B8001648207831008103254{last}83078313032143650785010A9C0103"
+    )
+}
+
+/// The frame of a Begin with InitialDP from this identifier, for a number that leads to one place.
+pub(crate) fn begin(alloc: Global, identifier: u32) -> Result<String, AllocError> {
+    begin_for(alloc, identifier, "06")
+}
+
+/// The message that answers it: an End with Connect.
+pub(crate) fn answer(alloc: Global, identifier: u32) -> Result<String, AllocError> {
+    format!(in alloc; "641D4904{identifier:08X}6C15A113020101020114300BA009040783100322324304")
+}
+
+/// The frame of such a Begin from 2A that names the application context 2A0304.
+pub(crate) const BEGIN_WITH_CONTEXT: &str =
+    "0000004B624948040000002A6B1A2818060700118605010101A00D600B80020780A10506032A03046C25A123020101020100301B80016482078310081032540683078313032143650785010A9C0103";
+
+/// The message that answers it: an End that accepts the context, with Connect.
+pub(crate) const ANSWER_WITH_CONTEXT: &str =
+    "644549040000002A6B262824060700118605010101A019611780020780A10506032A0304A203020100A305A1030201006C15A113020101020114300BA009040783100322324304";
+
+/// The frame of a Begin from 2A for a number that leads to two places.
+pub(crate) fn long_begin(alloc: Global) -> Result<String, AllocError> {
+    begin_for(alloc, 0x2A, "07")
+}
+
+/// The frame of a Continue from 2A to the first dialogue of link 2, in which the peer tells an error of the second
+/// invocation, missing customer record.
+pub(crate) const LATE_ERROR: &str = "00000018651648040000002A4904400000016C08A306020102020106";
+
+/// The message that refuses it once the time of that invocation is over: a Reject, unrecognized invocation.
+pub(crate) const LATE_ERROR_REFUSED: &str = "651648044000000149040000002A6C08A406020102830100";
+
+/// The frame of a Continue from 101 to this dialogue, with an EventReportBCSM in this invocation of this event.
+fn report(alloc: Global, local: &str, invocation: &str, event: &str) -> Result<String, AllocError> {
+    format!(in alloc;
+        "0000002765254804000001014904{local}6C17A1150201{invocation}020118300D8001{event}A303810102A403800100"
+    )
+}
+
+/// The message of a Continue from this dialogue to 101 that asks for events in one invocation and connects to this place
+/// in another.
+fn connection(
+    alloc: Global,
+    local: &str,
+    asks: &str,
+    connects: &str,
+    place: &str,
+) -> Result<String, AllocError> {
+    format!(in alloc;
+        "65704804{local}4904000001016C62A14B0201{asks}0201173043{EVENTS}A1130201{connects}020114300BA00904078310032232{place}"
+    )
+}
+
+/// Opens a dialogue for a number of each kind, sends a Continue to a dialogue that there isn't, and reads what comes;
+/// gives the local identifier of the dialogue that goes on. `None`: something else came than has to.
+fn open_four(alloc: Global, client: &mut Client) -> Option<String> {
+    let mut frames = String::new(alloc);
+    for (identifier, last) in [(0x100, "06"), (0x101, "07"), (0x102, "08"), (0x103, "09")] {
+        frames
+            .push_str(begin_for(alloc, identifier, last).ok()?.as_str())
+            .ok()?;
+    }
+    frames
+        .push_str("0000000E650C480400000104490400000009")
+        .ok()?;
+    client.write_text(alloc, frames.as_str())?;
+    let mut messages = Vec::new(alloc);
+    for _ in 0..5 {
+        messages.push(client.message(alloc)?).ok()?;
+    }
+    // By their tags and lengths they are in this order.
+    messages.sort_unstable();
+    let local = messages.get(3)?.get(8..16)?;
+    let passed = format!(in alloc; "6410490400000103{PASSED}").ok()?;
+    let refused = format!(in alloc; "6414490400000102{REFUSED}").ok()?;
+    let wanted = [
+        passed,
+        refused,
+        answer(alloc, 0x100).ok()?,
+        connection(alloc, local, "01", "02", "4304").ok()?,
+        String::from_str(alloc, "67094904000001044A0101").ok()?,
+    ];
+    let are_wanted = messages
+        .iter()
+        .zip(&wanted)
+        .all(|(came, wanted)| came == wanted);
+    if are_wanted {
+        String::from_str(alloc, local).ok()
+    } else {
+        None
+    }
+}
+
+/// Makes a call of each kind on a connection of its own, of which one goes on: its first place is busy, and its second
+/// one doesn't answer. Gives the link that the dialogues were opened on. `None`: something else came than has to.
+pub(crate) fn all_kinds<R: Net<Stream = TcpStream>>(
+    rt: &R,
+    alloc: Global,
+    address: SocketAddr,
+) -> Option<u32> {
+    let mut client = Client::connect(rt, address)?;
+    let local = open_four(alloc, &mut client)?;
+    client.write_text(
+        alloc,
+        report(alloc, local.as_str(), "02", "05").ok()?.as_str(),
+    )?;
+    let second = connection(alloc, local.as_str(), "03", "04", "5305").ok()?;
+    if client.message(alloc)? != second {
+        return None;
+    }
+    client.write_text(
+        alloc,
+        report(alloc, local.as_str(), "03", "06").ok()?.as_str(),
+    )?;
+    if client.message(alloc)?.as_str() != RELEASED {
+        return None;
+    }
+    let number = u32::from_str_radix(local.as_str(), 16).ok()?;
+    // The second dialogue of its link.
+    if number & 0x1FFF_FFFF == 2 {
+        Some(number >> 29)
+    } else {
+        None
+    }
+}
