@@ -5,8 +5,9 @@ ghost use Rattle.jiff.specs.Words.{parse_timestamp};
 ghost use Rattle.scp.specs.Instant.{moment_in};
 
 use clap::error::ErrorKind;
-use clap::{Arg, Command, Error};
+use clap::{Arg, ArgMatches, Command, Error, value_parser};
 use fp_digits::Moment;
+use fp_serve::Settings;
 use jiff::Timestamp;
 use std::alloc::{AllocError, Global};
 
@@ -36,6 +37,19 @@ pub enum Asked<'a> {
         /// The text of the list of application contexts, which has not been read, where there is one.
         contexts: Option<&'a str>,
     },
+    /// Links over connections, answered from the records of a file.
+    Serve {
+        /// The path of the file.
+        records: &'a str,
+        /// The text of the address where connections are awaited, which has not been read.
+        listen: &'a str,
+        /// How many links there are, 1 to 8, and how many workers each has, 1 to 8.
+        settings: Settings,
+        /// The path of the log that is written.
+        log: &'a str,
+        /// The text of the list of application contexts, which has not been read, where there is one.
+        contexts: Option<&'a str>,
+    },
     /// This text, which tells how to use the program.
     Help(String),
     /// Nothing that there is: this text says so.
@@ -50,6 +64,9 @@ const CHECK: &str = "check";
 
 /// The name of the subcommand that makes the steps of a log again.
 const REPLAY: &str = "replay";
+
+/// The name of the subcommand that serves links.
+const SERVE: &str = "serve";
 
 /// What the words ask for. The first of them names the program.
 pub fn asked_by<'a>(alloc: Global, words: &'a [String]) -> Result<Asked<'a>, AllocError> {
@@ -77,12 +94,36 @@ pub fn asked_by<'a>(alloc: Global, words: &'a [String]) -> Result<Asked<'a>, All
             contexts,
         });
     }
+    if name == SERVE {
+        return Ok(serve_asked(alloc, records, contexts, &chosen));
+    }
     let moment = chosen.get_str("MOMENT").unwrap_or("");
     Ok(Asked::Ask {
         records,
         moment,
         contexts,
     })
+}
+
+/// What the words of `serve` ask for.
+fn serve_asked<'a>(
+    alloc: Global,
+    records: &'a str,
+    contexts: Option<&'a str>,
+    chosen: &ArgMatches<'a>,
+) -> Asked<'a> {
+    let links = chosen.get_one::<u8>("links").unwrap_or(1);
+    let workers = chosen.get_one::<u8>("workers").unwrap_or(2);
+    let Some(settings) = Settings::new(links, workers) else {
+        return Asked::Refused(String::new(alloc));
+    };
+    Asked::Serve {
+        records,
+        listen: chosen.get_str("listen").unwrap_or(""),
+        settings,
+        log: chosen.get_str("log").unwrap_or(""),
+        contexts,
+    }
 }
 
 /// The text of what clap answers in place of matches.
@@ -114,9 +155,17 @@ const REPLAY_EXAMPLE: &str = "Example:
 Makes each step of the log again, and tells of each link how many components it accepted, how many
 entries it served and how many frames it sent. The first line at which the log can't be followed is told.";
 
+const SERVE_EXAMPLE: &str = "Example:
+  scp serve examples/freephone.csv --listen 127.0.0.1:14700 --log run.log
+
+Prints the address where it listens, answers each connection as one link, and tells in the end of each
+link what it did. Each message stands behind its length in four octets. FILE is emptied first, and gets
+each step of the links: scp replay makes them again.";
+
 const EXAMPLES: &str = "Examples:
   scp check examples/freephone.csv
   scp ask examples/freephone.csv 2024-05-06T12:00:00Z < examples/calls.txt
+  scp serve examples/freephone.csv --listen 127.0.0.1:14700 --log run.log
   scp replay examples/freephone.csv examples/calls.log";
 
 /// The argument that names the file of the records.
@@ -168,6 +217,49 @@ fn replay_command<'a>(alloc: Global) -> Result<Command<'a>, AllocError> {
         .arg(contexts(alloc))
 }
 
+/// An option that takes a number from 1 to 8.
+fn up_to_eight<'a>(alloc: Global, name: &'a str, default: &'a str, help: &'a str) -> Arg<'a> {
+    Arg::new(alloc, name)
+        .long(name)
+        .value_name("N")
+        .value_parser(value_parser!(u8).range(1..=8))
+        .default_value(default)
+        .help(help)
+}
+
+/// The subcommand that serves links.
+fn serve_command<'a>(alloc: Global) -> Result<Command<'a>, AllocError> {
+    let listen = Arg::new(alloc, "listen")
+        .long("listen")
+        .value_name("ADDRESS")
+        .required(true)
+        .help("The IP address and the port where connections are awaited, as 127.0.0.1:14700");
+    let log = Arg::new(alloc, "log")
+        .long("log")
+        .value_name("FILE")
+        .required(true)
+        .help("The file that the log is written to, which is emptied first");
+    Command::new(alloc, SERVE)
+        .about("Awaits connections, and answers the TCAP messages of each as one link")
+        .after_help(SERVE_EXAMPLE)
+        .arg(records(alloc))?
+        .arg(listen)?
+        .arg(log)?
+        .arg(up_to_eight(
+            alloc,
+            "workers",
+            "2",
+            "How many workers each link has, 1 to 8",
+        ))?
+        .arg(up_to_eight(
+            alloc,
+            "links",
+            "1",
+            "How many connections are accepted, 1 to 8",
+        ))?
+        .arg(contexts(alloc))
+}
+
 /// The command line that there is.
 fn command<'a>(alloc: Global) -> Result<Command<'a>, AllocError> {
     Command::new(alloc, PROGRAM)
@@ -177,6 +269,7 @@ fn command<'a>(alloc: Global) -> Result<Command<'a>, AllocError> {
         .subcommand_required(true)
         .subcommand(check_command(alloc)?)?
         .subcommand(ask_command(alloc)?)?
+        .subcommand(serve_command(alloc)?)?
         .subcommand(replay_command(alloc)?)
 }
 

@@ -5,6 +5,7 @@ ghost use Rattle.std.specs.Prelude.{◌≡◌};
 use fp_ask::AskFault;
 use fp_records::RecordsFault;
 use fp_replay::ReplayFault;
+use fp_serve::ServeFault;
 use std::alloc::AllocError;
 use thiserror::Error;
 
@@ -32,6 +33,9 @@ pub enum RunFault {
     /// The log isn't replayed.
     #[error("{0}")]
     Replay(ReplayFault),
+    /// The links were not all served to their end.
+    #[error("{0}")]
+    Serve(ServeFault),
 }
 
 impl From<RecordsFault> for RunFault {
@@ -61,6 +65,16 @@ impl From<ReplayFault> for RunFault {
 
     fn from(cause: ReplayFault) -> RunFault {
         RunFault::Replay(cause)
+    }
+}
+
+impl From<ServeFault> for RunFault {
+    ghost use Rattle.scp.specs.declared.fault.RunFault.TheVariants.{Serve};
+
+    ghost from_gives = { λ cause fault. fault ≡ Serve cause };
+
+    fn from(cause: ServeFault) -> RunFault {
+        RunFault::Serve(cause)
     }
 }
 

@@ -3,15 +3,18 @@
 //!
 //! `scp check RECORDS` tells how many numbers and rules a file of records has. `scp ask RECORDS MOMENT` reads messages
 //! and waits from standard input, one a line, and holds the dialogues that they open: each message that is sent is one
-//! line of standard output. `scp replay RECORDS LOG` makes the steps of a log again, and tells of each link what it did.
-//! Standard error has at most one line, which says why the run ended. The status is 0 where
-//! all went well, 1 behind such a line, and 2 where the command line was refused.
+//! line of standard output. `scp serve RECORDS --listen A --log FILE` answers connections, each as one link, and writes a
+//! log. `scp replay RECORDS LOG` makes the steps of a log again, and tells of each link what it did. Standard error has
+//! at most one line, which says why the run ended. The status is 0 where all went well, 1 behind such a line, and 2 where
+//! the command line was refused.
 //!
-//! The layer is handed the words of the command line, a reader, two writers and what opens files; `scp_main` gives it
-//! those of the system.
+//! The layer is handed the words of the command line, a reader, two writers and what opens files and awaits connections;
+//! `scp_main` gives it those of the system.
 //!
-//! * [`program`] takes one run from the words to the status, over any files, reader and writers.
-//! * [`ask`] answers the lines of an input. It is that of `fp_ask`, with its contract.
+//! * [`program`] takes one run from the words to the status, over any files, reader and writers; and
+//!   [`program_with_links`] one that may serve links.
+//! * [`ask`] answers the lines of an input, and [`serve`] the connections to a listener. They are those of `fp_ask` and
+//!   `fp_serve`, with their contracts.
 //! * `command` reads the words of the command line, and the moment among them; `contexts` the list of names.
 //! * `check` tells what the records hold.
 //! * `output` writes a text.
@@ -28,6 +31,12 @@ mod contexts;
 mod fault;
 mod output;
 mod run;
+mod with_links;
 
 pub use fp_ask::{AskFault, ask};
+pub use fp_serve::{ServeFault, Settings, serve};
 pub use run::{program, refuse_words};
+pub use with_links::program_with_links;
+
+#[cfg(test)]
+mod tests;

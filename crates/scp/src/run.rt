@@ -16,6 +16,7 @@ use fp_ask::{AskFault, ask};
 use fp_digits::Moment;
 use fp_records::Table;
 use fp_replay::{ReplayFault, replay};
+use fp_serve::ServeFault;
 use fp_streams::Counted;
 use std::alloc::{AllocError, Global};
 use std::io::{ErrorKind, Read, Write};
@@ -30,8 +31,11 @@ const TURNS: u64 = 1_099_511_627_776;
 /// 0: all was answered, or help was asked for and written to `output`. 2: the words were refused,
 /// and a text on `errors` says why. 1: one line on `errors` names the fault. Faults are found in
 /// this order: the words, the moment, the application contexts, the records, the opening of the log, then those of the
-/// lines. What cannot be
-/// written to `errors` is left out, and the status stays.
+/// lines. What cannot be written to `errors` is left out, and the status stays.
+///
+/// It is handed no network. So words that ask for `serve` and aren't refused get status 1 and the line
+/// `listen: cannot listen`, before the application contexts, the records and the log are looked at:
+/// [`program_with_links`](crate::program_with_links) serves.
 pub fn program<H, R, W, E>(rt: &H, words: &[String], input: R, output: &mut W, errors: &mut E) -> u8
 where
     H: Files + AllocGlobal,
@@ -40,7 +44,25 @@ where
     E: Write,
     ensures { result ≤ 2 }
 {
-    let outcome = match asked_by(rt.alloc(), words) {
+    run_asked(rt, asked_by(rt.alloc(), words), input, output, errors)
+}
+
+/// Does what the words ask for, and returns the status, as [`program`] says.
+pub(crate) fn run_asked<H, R, W, E>(
+    rt: &H,
+    asked: Result<Asked<'_>, AllocError>,
+    input: R,
+    output: &mut W,
+    errors: &mut E,
+) -> u8
+where
+    H: Files + AllocGlobal,
+    R: Read + Drop,
+    W: Write,
+    E: Write,
+    ensures { result ≤ 2 }
+{
+    let outcome = match asked {
         Ok(Asked::Check { records }) => check_file(rt, records, output),
         Ok(
             Asked::Ask {
@@ -56,6 +78,7 @@ where
                 contexts,
             },
         ) => replay_file(rt, records, log, contexts, output),
+        Ok(Asked::Serve { .. }) => Err(RunFault::Serve(ServeFault::NoConnection)),
         Ok(Asked::Help(text)) => show(text.as_str(), output),
         Ok(Asked::Refused(text)) => {
             let _ = errors.write_all(text.as_bytes());
@@ -79,7 +102,7 @@ pub fn refuse_words<E: Write>(error: &io::Error, errors: &mut E) -> u8
 }
 
 /// 0, or 1 behind the line of the fault.
-fn status_of<E: Write>(outcome: Result<(), RunFault>, errors: &mut E) -> u8
+pub(crate) fn status_of<E: Write>(outcome: Result<(), RunFault>, errors: &mut E) -> u8
     ensures { result ≡ (if is_ok outcome then 0 else 1) }
 {
     match outcome {
@@ -179,7 +202,10 @@ where
 
 /// The application contexts that are accepted: those of the list, or none where there is no list. `None` where it is no
 /// list of names.
-fn accepted(alloc: Global, contexts: Option<&str>) -> Result<Option<Vec<Name>>, AllocError> {
+pub(crate) fn accepted(
+    alloc: Global,
+    contexts: Option<&str>,
+) -> Result<Option<Vec<Name>>, AllocError> {
     match contexts {
         Some(text) => contexts_in(alloc, text),
         None => Ok(Some(Vec::new(alloc))),
@@ -187,7 +213,7 @@ fn accepted(alloc: Global, contexts: Option<&str>) -> Result<Option<Vec<Name>>, 
 }
 
 /// The table in a file.
-fn table_in<H: Files + AllocGlobal>(rt: &H, path: &str) -> Result<Table, RunFault> {
+pub(crate) fn table_in<H: Files + AllocGlobal>(rt: &H, path: &str) -> Result<Table, RunFault> {
     match fs::read(rt, path) {
         Ok(text) => Ok(Table::read(rt.alloc(), text.as_slice())?),
         Err(error) if error.kind() == ErrorKind::OutOfMemory => {

@@ -1,0 +1,218 @@
+//! Runs of `scp serve` over files and over the loopback of this machine.
+
+mod client;
+mod runs;
+
+use client::{BY_NAME, Call, PLAIN, Shown, make_calls};
+use runs::{Ended, enter_folder, old_log, run, want, words_of};
+use std::fs::File;
+use std::net::{Net, SocketAddr, TcpListener, TcpStream};
+use std::rt::{Clock, Files};
+use std::sync::{Mutex, Wait};
+use std::test::Fail;
+use std::thread::Threads;
+use std::{fs, process, str, thread};
+
+/// Command lines, each with all faults that come behind the one that is told, and what comes of each: the status, the
+/// output and the errors. At `USED` connections are awaited already.
+const FAULTS: &str = "\
+serve none.csv --listen x --log none/run.log --contexts 2A030 => 1, , contexts: not a list of names
+serve none.csv --listen x --log none/run.log --contexts 2A0304 => 1, , records: cannot be read
+serve bad.csv --listen x --log none/run.log => 1, , record 2: BadDays
+serve good.csv --listen x --log none/run.log => 1, , log: cannot be opened
+serve good.csv --listen x --log old.log => 1, , listen: cannot listen
+serve good.csv --listen 127.0.0.1 --log old.log => 1, , listen: cannot listen
+serve good.csv --listen USED --log old.log => 1, , listen: cannot listen
+";
+
+/// Command lines that are refused.
+const REFUSED: &str = "\
+serve good.csv --listen x --log old.log --workers 0
+serve good.csv --listen x --log old.log --links 9
+serve good.csv --listen x
+";
+
+/// A run of links, a call on each of them, and the replay of its log.
+#[derive(Clone, Copy)]
+struct Plan<'a> {
+    serve: &'a str,
+    replay: &'a str,
+    call: Call<'a>,
+    links: u32,
+    told: &'a str,
+}
+
+/// Two links, on which a name of an application context is accepted.
+const TWO_LINKS: Plan<'static> = Plan {
+    serve: "serve good.csv --listen 127.0.0.1:0 --log old.log --links 2 --workers 1 --contexts 2A0304",
+    replay: "replay good.csv old.log --contexts 2A0304",
+    call: BY_NAME,
+    links: 2,
+    told: "link 0 accepted 1 served 2 sent 1\nlink 1 accepted 1 served 2 sent 1\n",
+};
+
+/// As many links as there are where the words don't say so.
+const ONE_LINK: Plan<'static> = Plan {
+    serve: "serve good.csv --listen 127.0.0.1:0 --log old.log",
+    replay: "replay good.csv old.log",
+    call: PLAIN,
+    links: 1,
+    told: "link 0 accepted 1 served 2 sent 1\n",
+};
+
+/// Each fault is told, and none that comes behind it; the log of an earlier run is left alone.
+#[test]
+fn faults_come_in_their_order(rt: HostRuntime) -> Result<(), Fail> {
+    let folder = enter_folder(&rt, process::id(rt.process()))?;
+    let used = TcpListener::bind(&rt, "127.0.0.1:0")?;
+    tell_faults(&rt, used.local_addr()?)?;
+    refuse_words(&rt)?;
+    want_old_log(&rt)?;
+    want_full_log(&rt)?;
+    fs::remove_dir_all(&rt, folder.as_str())?;
+    Ok(())
+}
+
+/// Links are served, as many as the words ask for, and told of; the log of an earlier run gives way to theirs, whose
+/// replay tells the same.
+#[test]
+fn links_are_served(rt: HostRuntime) -> Result<(), Fail> {
+    let alloc = rt.alloc();
+    let folder = enter_folder(&rt, process::id(rt.process()))?;
+    for plan in [TWO_LINKS, ONE_LINK] {
+        let words = words_of(alloc, plan.serve, "")?;
+        let shown = Mutex::new(Vec::new(alloc));
+        let (ended, address) = thread::join(
+            &rt,
+            || run(&rt, words.as_slice(), &mut Shown::new(&rt, alloc, &shown)),
+            || make_calls(&rt, alloc, &shown, &plan.call, plan.links),
+        );
+        let output = shown.into_inner();
+        want_served(&rt, &plan, ended, output.as_slice(), address)?;
+    }
+    fs::remove_dir_all(&rt, folder.as_str())?;
+    Ok(())
+}
+
+/// Runs the program with the words of each line, while connections are awaited at this address.
+fn tell_faults<H>(rt: &H, used: SocketAddr) -> Result<(), Fail>
+where
+    H: Files<File = File>
+        + AllocGlobal
+        + Net<Listener = TcpListener, Stream = TcpStream>
+        + Threads
+        + Wait
+        + Clock
+        + Sync,
+{
+    let alloc = rt.alloc();
+    let address = format!(in alloc; "{used}")?;
+    for row in FAULTS.lines() {
+        let (line, wanted) = row.split_once(" => ").ok_or("no outcome")?;
+        let given = ran(rt, line, address.as_str())?;
+        want(given.as_str(), format!(in alloc; "{wanted}\n")?.as_str())?;
+    }
+    Ok(())
+}
+
+/// Runs the program with the words of each line that is refused.
+fn refuse_words<H>(rt: &H) -> Result<(), Fail>
+where
+    H: Files<File = File>
+        + AllocGlobal
+        + Net<Listener = TcpListener, Stream = TcpStream>
+        + Threads
+        + Wait
+        + Clock
+        + Sync,
+{
+    for line in REFUSED.lines() {
+        let given = ran(rt, line, "")?;
+        if !given.as_str().starts_with("2, , error: ") {
+            return Err(Fail::new(given));
+        }
+    }
+    Ok(())
+}
+
+/// Fails where the log of an earlier run isn't as it was.
+fn want_old_log<H: Files + AllocGlobal>(rt: &H) -> Result<(), Fail> {
+    let log = fs::read(rt, "old.log")?;
+    want(
+        str::from_utf8(log.as_slice())?,
+        old_log(rt.alloc())?.as_str(),
+    )
+}
+
+/// Runs the program with a log that can be opened and needn't be emptied, but not written, which is told behind the
+/// address.
+fn want_full_log<H>(rt: &H) -> Result<(), Fail>
+where
+    H: Files<File = File>
+        + AllocGlobal
+        + Net<Listener = TcpListener, Stream = TcpStream>
+        + Threads
+        + Wait
+        + Clock
+        + Sync,
+{
+    let given = ran(
+        rt,
+        "serve good.csv --listen 127.0.0.1:0 --log /dev/full",
+        "",
+    )?;
+    let (_, behind) = given.as_str().split_once('\n').ok_or("no address")?;
+    want(behind, ", log: cannot be written\n")
+}
+
+/// What comes of a run with these words: its status, its output and its errors.
+fn ran<H>(rt: &H, line: &str, used: &str) -> Result<String, Fail>
+where
+    H: Files<File = File>
+        + AllocGlobal
+        + Net<Listener = TcpListener, Stream = TcpStream>
+        + Threads
+        + Wait
+        + Clock
+        + Sync,
+{
+    let alloc = rt.alloc();
+    let words = words_of(alloc, line, used)?;
+    let mut output = Vec::new(alloc);
+    let ended = run(rt, words.as_slice(), &mut output);
+    ended.text(alloc, output.as_slice())
+}
+
+/// Fails where a run didn't tell what a plan wants, or the replay of its log doesn't. It listened at this address.
+fn want_served<H>(
+    rt: &H,
+    plan: &Plan<'_>,
+    ended: Ended,
+    output: &[u8],
+    address: Option<SocketAddr>,
+) -> Result<(), Fail>
+where
+    H: Files<File = File>
+        + AllocGlobal
+        + Net<Listener = TcpListener, Stream = TcpStream>
+        + Threads
+        + Wait
+        + Clock
+        + Sync,
+{
+    let alloc = rt.alloc();
+    let told = plan.told;
+    let given = ended.text(alloc, output)?;
+    let address = address.ok_or("a call wasn't answered")?;
+    want(
+        given.as_str(),
+        format!(in alloc; "0, listening {address}\n{told}, ")?.as_str(),
+    )?;
+    let log = fs::read(rt, "old.log")?;
+    let (head, _) = str::from_utf8(log.as_slice())?
+        .split_once('\n')
+        .ok_or("no log")?;
+    want(head, format!(in alloc; "fplog 1 {}", plan.links)?.as_str())?;
+    let again = ran(rt, plan.replay, "")?;
+    want(again.as_str(), format!(in alloc; "0, {told}, ")?.as_str())
+}
