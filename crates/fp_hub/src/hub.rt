@@ -212,8 +212,9 @@ impl<A: Ledger, B: Ledger, C: Ledger> Hub<A, B, C> {
         ensures behind { KeepsFront lines.old.items lines.new.items }
         ensures capacity { vec_capacity lines.new ≡ vec_capacity lines.old }
     {
+        let mut kept = self.hold(rt);
         self.resting.count_anew();
-        self.hold(rt).drain(lines);
+        kept.drain(lines);
     }
 
     /// Whether the link is down.

@@ -17,8 +17,11 @@ use std::time::Duration;
 /// as that takes.
 const LINES_AT_ONCE: usize = 1_024;
 
-/// How often lines are moved before the clock of the link is looked at again: twice what the book holds.
-const MOST_MOVES: u32 = 16;
+/// How many lines are moved before they become text: as many as the book has places.
+const MOST_LINES: usize = fp_book::Log::MOST;
+
+/// How often the book is emptied before the clock of the link is looked at again.
+const MOST_ROUNDS: u32 = 8;
 
 /// How many octets of text are written at once, or a line more.
 const TEXT_AT_ONCE: usize = 65_536;
@@ -33,28 +36,42 @@ const MOST_WAITS: u32 = 500;
 /// Room in which lines become text.
 #[derive(Drop)]
 struct Room {
+    // What was moved out of the book at once.
+    moved: Vec<Line>,
     lines: Vec<Line>,
     text: Vec<u8>,
 }
 
 impl Room {
-    /// Moves the lines of a book to the log, all that it has now, or many of them.
+    /// Moves the lines of a book to the log, all that it has now, or many of them. The book is emptied before the first
+    /// of them becomes text, so that it has its places again soon.
     fn write<R: Wait, L: LinkWrite + Drop, A: Ledger, B: Ledger, C: Ledger>(
         &mut self,
         rt: &R,
         hub: &Hub<A, B, C>,
         log: &Log<L>,
     ) {
-        for _ in 0..MOST_MOVES {
-            hub.drain(rt, &mut self.lines);
-            let count = self.lines.len();
+        for _ in 0..MOST_ROUNDS {
+            self.empty(rt, hub);
+            let is_last = self.lines.len() < LINES_AT_ONCE;
             self.put(rt, log);
-            if count < LINES_AT_ONCE {
+            if is_last {
                 break;
             }
         }
         log.write(rt, self.text.as_slice());
         self.text.clear();
+    }
+
+    /// Moves the lines of a book here, all that it has now, or as many as there are places for.
+    fn empty<R: Wait, A: Ledger, B: Ledger, C: Ledger>(&mut self, rt: &R, hub: &Hub<A, B, C>) {
+        for _ in 0..MOST_LINES / LINES_AT_ONCE {
+            hub.drain(rt, &mut self.moved);
+            let is_last = self.moved.len() < LINES_AT_ONCE;
+            if self.lines.append(&mut self.moved).is_err() || is_last {
+                break;
+            }
+        }
     }
 
     /// Puts the lines that are here behind the text, and writes that where it is long enough.
@@ -90,7 +107,8 @@ impl LinkLog {
     /// A way on which no line is.
     pub(crate) fn new(alloc: Global) -> Result<LinkLog, AllocError> {
         let room = Room {
-            lines: Vec::with_capacity(alloc, LINES_AT_ONCE)?,
+            moved: Vec::with_capacity(alloc, LINES_AT_ONCE)?,
+            lines: Vec::with_capacity(alloc, MOST_LINES)?,
             text: Vec::with_capacity(alloc, TEXT_AT_ONCE + LONGER_THAN_A_LINE)?,
         };
         Ok(LinkLog {
