@@ -212,9 +212,14 @@ impl<A: Ledger, B: Ledger, C: Ledger> Hub<A, B, C> {
         ensures behind { KeepsFront lines.old.items lines.new.items }
         ensures capacity { vec_capacity lines.new ≡ vec_capacity lines.old }
     {
+        let count = lines.len();
         let mut kept = self.hold(rt);
-        self.resting.count_anew();
         kept.drain(lines);
+        if lines.len() < lines.capacity() {
+            self.resting.count_anew();
+        } else {
+            self.resting.count_less(lines.len().saturating_sub(count));
+        }
     }
 
     /// Whether the link is down.
@@ -222,18 +227,16 @@ impl<A: Ledger, B: Ledger, C: Ledger> Hub<A, B, C> {
         self.hold(rt).is_down()
     }
 
-    /// Rests so long, or until about half of the places for lines of the log may be taken, or the link goes down. It may
-    /// return sooner. What wakes it is a hint and no promise: lines are counted since the log was last drained, each of
-    /// them after its call let the lock go, and those that a [`Hub::drain`] leaves aren't counted again. One thread at a
-    /// time may rest, the one that runs the clock and drains the log; where nobody rests, the next rest ends at once.
-    /// Doesn't take the lock of the link.
+    /// Rests so long, or until about half of the places for lines of the log are taken, or the link goes down. It may
+    /// return sooner. What wakes it is a hint and no promise: each line is counted after its call let the lock go, so that
+    /// one may be counted that was just drained. One thread at a time may rest, the one that runs the clock and drains the
+    /// log; where nobody rests, the next rest ends at once. Doesn't take the lock of the link.
     pub fn rest<R: Wait>(&self, rt: &R, time: Duration) {
         self.resting.rest(rt, time);
     }
 
-    /// Whether about five eighths of the places for lines of the log may be taken since it was last drained, so that
-    /// whoever puts lines in had better drain some. It is a hint, counted as for [`Hub::rest`]. Doesn't take the lock of
-    /// the link.
+    /// Whether about five eighths of the places for lines of the log are taken, so that whoever puts lines in had better
+    /// drain some. It is a hint, counted as for [`Hub::rest`]. Doesn't take the lock of the link.
     pub fn is_log_filling(&self) -> bool {
         self.resting.is_log_filling()
     }

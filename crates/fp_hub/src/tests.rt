@@ -72,14 +72,14 @@ fn assert_answered<R: Abort>(
 
 /// Each call of a hub makes its step: a call that is answered, then one that is held until its time is over and whose
 /// Abort can't be sent, which takes the link down and wakes whoever rests. So do 4,096 lines, each time the log was
-/// drained, and fewer don't; and of 5,120 the log is filling.
+/// drained, and fewer don't; and of 5,120 the log is filling, also where a drain left them.
 #[test]
 fn each_call_makes_its_step(rt: HostRuntime) -> Result<(), Fail> {
     let alloc = rt.alloc();
     let table = Table::read(alloc, RECORDS.as_bytes())?;
     let walked = walk_link(&rt, alloc, &table, Walk::EachCall).ok_or("no memory")?;
     let wanted =
-        "opened back silent queued nothing sent nothing opened silent none due nothing one due queued up unsent down discarded nothing none due nothing woken all discarded rested all discarded woken drained all discarded woken all discarded not filling all discarded filling drained not filling woken ";
+        "opened back silent queued nothing sent nothing opened silent none due nothing one due queued up unsent down discarded nothing none due nothing woken all discarded rested all discarded woken drained all discarded woken all discarded not filling all discarded filling drained not filling all discarded filling drained not filling woken ";
     assert_eq!(rt; walked.words.as_str(), wanted);
     let counted = Totals {
         accepted: 1,

@@ -233,7 +233,12 @@ impl<R: Wait + Clock, A: Ledger, B: Ledger, C: Ledger> Caller<'_, R, A, B, C> {
 
     /// Drains the log, which has so many lines.
     fn drain(&self, line_count: usize) -> &'static str {
-        let Ok(mut lines) = Vec::<Line>::with_capacity(self.alloc, Log::MOST) else {
+        self.drain_into(Log::MOST, line_count)
+    }
+
+    /// Drains the log into a list with so many places, of which so many are taken then.
+    fn drain_into(&self, place_count: usize, line_count: usize) -> &'static str {
+        let Ok(mut lines) = Vec::<Line>::with_capacity(self.alloc, place_count) else {
             return "no memory";
         };
         self.hub.drain(self.rt, &mut lines);
@@ -271,7 +276,8 @@ impl<R: Wait + Clock, A: Ledger, B: Ledger, C: Ledger> Caller<'_, R, A, B, C> {
     }
 
     /// Rests behind so many lines of the log: it is woken where the link went down, and where half of the places are
-    /// taken, and else rests its time. Where five eighths are taken the log is filling, and not before.
+    /// taken, and else rests its time. Where five eighths are taken the log is filling, and not before; lines that a drain
+    /// leaves are still counted.
     fn rest_often(&mut self, line_count: usize, words: &mut Words) {
         words.say(self.rest(LONG));
         words.say(self.post_many(HALF.saturating_sub(line_count).saturating_sub(1)));
@@ -282,6 +288,10 @@ impl<R: Wait + Clock, A: Ledger, B: Ledger, C: Ledger> Caller<'_, R, A, B, C> {
         words.say(self.post_many(HALF));
         words.say(self.rest(LONG));
         words.say(self.post_many(EIGHTH - 1));
+        words.say(self.filling());
+        words.say(self.post_many(1));
+        words.say(self.filling());
+        words.say(self.drain_into(1, 1));
         words.say(self.filling());
         words.say(self.post_many(1));
         words.say(self.filling());
