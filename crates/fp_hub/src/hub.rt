@@ -229,8 +229,9 @@ impl<A: Ledger, B: Ledger, C: Ledger> Hub<A, B, C> {
 
     /// Rests so long, or until about half of the places for lines of the log are taken, or the link goes down. It may
     /// return sooner. What wakes it is a hint and no promise: each line is counted after its call let the lock go, so that
-    /// one may be counted that was just drained. One thread at a time may rest, the one that runs the clock and drains the
-    /// log; where nobody rests, the next rest ends at once. Doesn't take the lock of the link.
+    /// one may be counted that was just drained. It comes with the line that takes the half: where a drain leaves more, no
+    /// later line wakes it. One thread at a time may rest, the one that runs the clock and drains the log; where nobody
+    /// rests, the next rest ends at once. Doesn't take the lock of the link.
     pub fn rest<R: Wait>(&self, rt: &R, time: Duration) {
         self.resting.rest(rt, time);
     }
