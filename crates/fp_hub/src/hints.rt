@@ -15,8 +15,9 @@ pub struct Hints {
 }
 
 impl Hints {
-    /// Waits for a hint, and takes it. `false`: the channel is closed, and no hint waits.
-    pub(crate) fn wait<R: Wait>(&self, rt: &R) -> bool {
+    /// Waits for a hint, and takes it, as [`worker`](crate::worker) does before it takes turns. `false`: the hub is
+    /// closed, and no hint waits.
+    pub fn wait<R: Wait>(&self, rt: &R) -> bool {
         await_hint(rt, &self.receiver, self.looks)
     }
 }

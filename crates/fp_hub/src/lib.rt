@@ -33,7 +33,7 @@
 //! one frame where a dialogue's parcel doesn't come back, and the book's totals are never less than its amounts; a split
 //! moves no amount, a join adds both. So what [`finish`] answers is the totals of the book, and the sums of what the
 //! threads counted. That a call of a [`Hub`] makes the book's call isn't said by a contract, since no clause names what
-//! another thread may have changed: tests show it.
+//! another thread may have changed: the tests in `tests_hub` show it.
 #![tactic(auto)]
 
 mod finishing;
@@ -55,6 +55,3 @@ pub use kept::Kept;
 pub use seat::{PARTS, Seat};
 pub use waiting::Looks;
 pub use workers::worker;
-
-#[cfg(test)]
-mod tests;

@@ -1,6 +1,6 @@
 //! The frames of a link that came.
 
-use crate::link::Service;
+use crate::Service;
 use crate::link_log::LinkLog;
 use crate::log::Log;
 use crate::moment::now;

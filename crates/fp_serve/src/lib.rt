@@ -4,6 +4,8 @@
 //! system for connections, threads, the time, locks, sleep and memory; it opens no file and binds no address.
 //!
 //! * [`serve`] awaits as many connections as there are to be links, runs them all, and returns when all are down.
+//! * [`serve_through`] is the same with a gate that each worker passes before it serves a turn; tests wait there.
+//!   [`Service`] is what the messages are answered from.
 //! * [`Settings`] says how many links there are, and how many workers each has.
 //! * [`ServeFault`] says why a run ended otherwise.
 //!
@@ -25,6 +27,7 @@
 //! | File | What it has |
 //! |---|---|
 //! | `serving.rt` | the run: the connections, a thread for each link, and what is told of them |
+//! | `service.rt`, `settings.rt` | what the messages are answered from, and how many links and workers there are |
 //! | `link.rt` | a link: its hub, its threads, its end |
 //! | `arrivals.rt`, `departures.rt` | the frames that came, put into the book; the parcels that go out of it |
 //! | `ticking.rt`, `moment.rt` | the clock of a link |
@@ -35,7 +38,8 @@
 //! The layer above may rely on this: where [`serve`] answers without a fault it wrote the address and one line for each
 //! link, and nothing else (`specs/Report.antt`). What a link's book, seats and hub keep is said in `fp_hub`; what of a
 //! stream is handed on and what of the parcels is written in `fp_linkio`. What the sockets and the log hold, that the
-//! threads get on, and that each does what the picture says, no contract says: tests over loopback show it.
+//! threads get on, and that each does what the picture says, no contract says: the tests of `tests_serve`, over loopback,
+//! show it.
 #![tactic(auto)]
 
 mod arrivals;
@@ -47,14 +51,13 @@ mod log;
 mod log_gate;
 mod moment;
 mod report;
+mod service;
 mod serving;
 mod settings;
 mod stop;
 mod ticking;
 
 pub use fault::ServeFault;
-pub use serving::serve;
+pub use service::Service;
+pub use serving::{serve, serve_through};
 pub use settings::Settings;
-
-#[cfg(test)]
-mod tests;

@@ -3,18 +3,16 @@
 ghost use Rattle.std.specs.Prelude.{◌≡◌, ◌<◌};
 ghost use Rattle.fp_hub.specs.Shares.{Whole};
 
-use crate::ServeFault;
 use crate::arrivals::Arrivals;
 use crate::departures::Departures;
 use crate::link_log::LinkLog;
 use crate::log::Log;
 use crate::log_gate::LogGate;
 use crate::ticking::keep_time;
-use fp_apdu::Name;
+use crate::{ServeFault, Service};
 use fp_book::Totals;
 use fp_hub::{Gate, Hub, Looks, PARTS, Seat, finish, worker};
 use fp_linkio::{Counted, receive, send_loop};
-use fp_records::Table;
 use fp_streams::LinkWrite;
 use fp_tids::LocalIds;
 use std::alloc::{AllocError, Global};
@@ -28,14 +26,6 @@ use std::thread::{JoinHandle, Threads};
 
 /// How many reads a link may make, and how many parcels it may send: 2^40.
 const TURNS: u64 = 1_099_511_627_776;
-
-/// What messages are prepared from.
-#[derive(Clone, Copy)]
-pub(crate) struct Service<'x> {
-    pub(crate) alloc: Global,
-    pub(crate) table: &'x Table,
-    pub(crate) contexts: &'x [Name],
-}
 
 /// Which link it is, how many workers it has, and how its threads wait.
 #[derive(Clone, Copy)]

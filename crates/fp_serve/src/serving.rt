@@ -3,11 +3,11 @@
 ghost use Rattle.std.specs.Prelude.{◌≡◌, ◌≤◌, ◌<◌, OnOk};
 ghost use Rattle.fp_serve.specs.Report.{TellsLinks};
 
-use crate::link::{Plan, Service, run_link};
+use crate::link::{Plan, run_link};
 use crate::log::Log;
 use crate::report::{write_address, write_report};
 use crate::stop::Stop;
-use crate::{ServeFault, Settings};
+use crate::{ServeFault, Service, Settings};
 use fp_apdu::Name;
 use fp_book::Totals;
 use fp_hub::{Gate, Looks, OpenGate};
@@ -69,8 +69,10 @@ pub fn serve<R: Threads + Wait + Clock + Sync, L: LinkWrite + Send + Drop, W: Li
     serve_through(rt, service, settings, &OpenGate, listener, log, output)
 }
 
-/// Serves links as [`serve`], whose workers pass a gate with each turn.
-pub(crate) fn serve_through<
+/// Serves links as [`serve`] does, whose workers pass an [`OpenGate`]: here each worker passes this gate between taking a
+/// turn and serving it, with no lock held. A turn that waits there holds up its worker and its dialogue, and no others.
+/// The run ends only once no worker waits there.
+pub fn serve_through<
     R: Threads + Wait + Clock + Sync,
     L: LinkWrite + Send + Drop,
     W: LinkWrite,

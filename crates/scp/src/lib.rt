@@ -37,6 +37,3 @@ pub use fp_ask::{AskFault, ask};
 pub use fp_serve::{ServeFault, Settings, serve};
 pub use run::{program, refuse_words};
 pub use with_links::program_with_links;
-
-#[cfg(test)]
-mod tests;

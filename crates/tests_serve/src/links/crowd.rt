@@ -1,8 +1,8 @@
 //! Clients with many calls.
 
-use super::client::Client;
 use super::run::Told;
-use super::talk::{answer, begin};
+use crate::client::Client;
+use crate::talk::{answer, begin};
 use std::alloc::Global;
 use std::net::{Net, SocketAddr, TcpStream};
 use std::rt::Clock;

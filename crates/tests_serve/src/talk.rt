@@ -1,8 +1,16 @@
 //! What clients say, and what has to be answered.
 
-use super::client::Client;
+use crate::client::Client;
 use std::alloc::{AllocError, Global};
 use std::net::{Net, SocketAddr, TcpStream};
+
+/// Records: a number that leads on, one that leads on to two places in turn, one that is refused, one that passes.
+pub(crate) const RECORDS: &str = "key,100,60
+800123456,,1234567,00:00,24:00,1,route,302223344
+800123457,,1234567,00:00,24:00,1,route,302223344,302223355
+800123458,,1234567,00:00,24:00,1,refuse
+800123459,,1234567,00:00,24:00,1,pass
+";
 
 /// What each Connect asks to be told of, where another place may follow: no route, busy, no answer, the answer, the end.
 const EVENTS: &str =
@@ -75,7 +83,7 @@ fn connection(
     )
 }
 
-/// Opens a dialogue for a number of each kind, sends a Continue to a dialogue that there isn't, and reads what comes;
+/// Opens a dialogue for a number of each kind, sends a Continue to a dialogue that doesn't exist, and reads what comes;
 /// gives the local identifier of the dialogue that goes on. `None`: something else came than has to.
 fn open_four(alloc: Global, client: &mut Client) -> Option<String> {
     let mut frames = String::new(alloc);

@@ -1,12 +1,16 @@
-//! Writers over memory that others read meanwhile.
+//! Writers over memory that other threads read meanwhile, and the address that they find there.
 
 use std::alloc::Global;
-use std::io;
 use std::io::{ErrorKind, Write};
+use std::net::SocketAddr;
+use std::rt::Clock;
 use std::sync::{Mutex, Wait};
+use std::time::Duration;
+use std::{io, str, thread};
+use tests_hub::MOST_WAITS;
 
-/// A writer to a text that others share. What it was given is there once it was flushed. It takes so many octets, and
-/// then fails.
+/// A writer to a text that other threads share. What it was given is there once it was flushed. It takes so many octets,
+/// and then fails.
 #[derive(Drop)]
 pub(crate) struct Shared<'x, R: Wait> {
     rt: &'x R,
@@ -49,4 +53,25 @@ impl<R: Wait> Write for Shared<'_, R> {
         self.unflushed.clear();
         Ok(())
     }
+}
+
+/// The address that the first line of a text tells, if that line is complete.
+fn address_in(text: &[u8]) -> Option<SocketAddr> {
+    let end = text.iter().position(|octet| *octet == b'\n')?;
+    let line = str::from_utf8(text.get(..end)?).ok()?;
+    line.strip_prefix("listening ")?.parse().ok()
+}
+
+/// Waits until the output of a run tells its address, and gives it. `None`: it wasn't told in time.
+pub(crate) fn awaited_address<R: Wait + Clock>(
+    rt: &R,
+    output: &Mutex<Vec<u8>>,
+) -> Option<SocketAddr> {
+    for _ in 0..MOST_WAITS {
+        if let Some(address) = address_in(output.lock(rt).as_slice()) {
+            return Some(address);
+        }
+        thread::sleep(rt, Duration::from_millis(1));
+    }
+    None
 }

@@ -1,21 +1,18 @@
-//! One call of a hub after the other, by one thread.
+//! A thread that makes one call of a hub after the other, and puts each answer into a word.
 
-ghost use Rattle.std.specs.Prelude.{◌≡◌};
-ghost use Rattle.fp_hub.specs.Shares.{Whole};
-
-use super::messages::{CALLS_COUNT, EMPTY_BEGIN, UNIDIRECTIONAL, begin, calls, frame_of};
-use crate::{Hub, Looks, PARTS, Seat, finish};
-use fp_book::{Given, Line, Log, Outbox, Picked, Posted, Taken, Totals};
+use super::Walk;
+use crate::messages::{CALLS_COUNT, EMPTY_BEGIN, UNIDIRECTIONAL, begin, calls, frame_of};
+use fp_book::{Given, Line, Log, Outbox, Picked, Posted, Taken};
 use fp_digits::Moment;
 use fp_entry::Prepared;
 use fp_frames::Frame;
+use fp_hub::{Hints, Hub, Seat};
 use fp_records::Table;
 use fp_row::Turn;
 use std::alloc::Global;
-use std::marker::Brand;
 use std::rt::Clock;
 use std::sync::Wait;
-use std::sync::ledger::{Blank, Ledger};
+use std::sync::ledger::Ledger;
 use std::time::{Duration, Instant};
 
 /// Noon of 6 May 2024.
@@ -33,30 +30,21 @@ const FILLING: usize = Outbox::MOST_FRAMES / CALLS_COUNT + 1;
 /// More milliseconds than a test has.
 const LONG: u64 = 100_000;
 
-/// What is done with a hub.
-#[derive(Clone, Copy)]
-pub(crate) enum Walk {
-    /// Each call, until the link is down; and then as many as wake whoever rests.
-    EachCall,
-    /// All places for frames are filled.
-    AllPlaces,
-}
-
-/// What the calls of a walk answered.
+/// What the calls of a walk answered, word by word.
 #[derive(Drop)]
 struct Words {
     text: String,
 }
 
 impl Words {
-    /// Puts a word behind the others.
+    /// Puts a word after the others.
     fn say(&mut self, word: &str) {
         let _ = self.text.push_str(word);
         let _ = self.text.push_str(" ");
     }
 }
 
-/// What a thread of a test has at hand.
+/// What the thread has at hand.
 #[derive(Drop)]
 struct Caller<'a, R: Wait + Clock, A: Ledger, B: Ledger, C: Ledger> {
     rt: &'a R,
@@ -222,6 +210,24 @@ impl<R: Wait + Clock, A: Ledger, B: Ledger, C: Ledger> Caller<'_, R, A, B, C> {
         }
     }
 
+    /// Hints to a worker: whether it may.
+    fn hint(&self) -> &'static str {
+        if self.hub.hint(self.rt) {
+            "hint"
+        } else {
+            "no hint"
+        }
+    }
+
+    /// Waits for a hint as a worker: whether there was one, or the hub is closed.
+    fn await_hint(&self, hints: &Hints) -> &'static str {
+        if hints.wait(self.rt) {
+            "hinted"
+        } else {
+            "closed"
+        }
+    }
+
     /// Whether the log is filling.
     fn filling(&self) -> &'static str {
         if self.hub.is_log_filling() {
@@ -319,33 +325,41 @@ impl<R: Wait + Clock, A: Ledger, B: Ledger, C: Ledger> Caller<'_, R, A, B, C> {
         words.say(self.serve_all());
         words.say(self.await_and_send());
         self.hub.close(self.rt);
-        for end in [&hints, &others] {
-            words.say(if end.wait(self.rt) {
-                "hinted"
-            } else {
-                "closed"
-            });
-        }
+        words.say(self.await_hint(&hints));
+        words.say(self.await_hint(&others));
         words.say(self.serve_all());
+    }
+
+    /// Gives five hints to three workers, and one more after the hub was closed; then one of the workers takes those
+    /// that wait, and finds no fourth one.
+    fn hint_workers(&mut self, words: &mut Words) {
+        let (Ok(hints), Ok(_second), Ok(_third)) = (
+            self.hub.hints(),
+            self.hub.hints(),
+            self.hub.hints(),
+        ) else {
+            return;
+        };
+        for _ in 0..5 {
+            words.say(self.hint());
+        }
+        self.hub.close(self.rt);
+        words.say(self.hint());
+        for _ in 0..4 {
+            words.say(self.await_hint(&hints));
+        }
     }
 }
 
-/// What the calls of a walk answered, word by word, and what was counted.
-#[derive(Drop)]
-pub(crate) struct Walked {
-    pub(crate) words: String,
-    pub(crate) totals: Option<Totals>,
-}
-
-/// Makes the calls of a walk.
-fn make_walk<'x, A: Ledger, B: Ledger, C: Ledger, R: Wait + Clock>(
+/// Makes the calls of a walk, and gives their words and the seat.
+pub(crate) fn make_walk<'x, A: Ledger, B: Ledger, C: Ledger, R: Wait + Clock>(
     rt: &'x R,
     alloc: Global,
     hub: &'x Hub<A, B, C>,
     seat: Seat<A, B, C>,
     table: &'x Table,
     walk: Walk,
-) -> (Words, Seat<A, B, C>) {
+) -> (String, Seat<A, B, C>) {
     let mut words = Words {
         text: String::new(alloc),
     };
@@ -362,6 +376,7 @@ fn make_walk<'x, A: Ledger, B: Ledger, C: Ledger, R: Wait + Clock>(
             caller.rest_often(18, &mut words);
         }
         Walk::AllPlaces => caller.fill_places(&mut words),
+        Walk::Hints => caller.hint_workers(&mut words),
     }
     let Caller {
         rt: _,
@@ -370,41 +385,6 @@ fn make_walk<'x, A: Ledger, B: Ledger, C: Ledger, R: Wait + Clock>(
         seat,
         table: _,
     } = caller;
-    (words, seat)
-}
-
-/// Makes the calls of a walk with a hub whose ledgers are these.
-fn walk_over<A: Ledger, B: Ledger, C: Ledger, R: Wait + Clock>(
-    rt: &R,
-    alloc: Global,
-    blanks: (Blank, Blank, Blank),
-    table: &Table,
-    walk: Walk,
-) -> Option<Walked>
-    requires accepted_name { blanks.0.name ≡ A.name }
-    requires served_name { blanks.1.name ≡ B.name }
-    requires sent_name { blanks.2.name ≡ C.name }
-    requires accepted_parts { blanks.0.parts ≡ A.parts }
-    requires served_parts { blanks.1.parts ≡ B.parts }
-    requires sent_parts { blanks.2.parts ≡ C.parts }
-    requires whole { Whole A.parts B.parts C.parts }
-{
-    let (hub, seat) = Hub::<A, B, C>::new(alloc, 0, Looks::FEW, blanks).ok()?;
-    let (words, seat) = make_walk(rt, alloc, &hub, seat, table, walk);
     let Words { text } = words;
-    Some(Walked {
-        words: text,
-        totals: finish(hub, seat),
-    })
-}
-
-/// Makes the calls of a walk, and finishes the link. `None`: memory was wanting.
-pub(crate) fn walk_link<R: Wait + Clock>(
-    rt: &R,
-    alloc: Global,
-    table: &Table,
-    walk: Walk,
-) -> Option<Walked> {
-    let blanks = (Blank::new(PARTS), Blank::new(PARTS), Blank::new(PARTS));
-    walk_over::<Brand, Brand, Brand, R>(rt, alloc, blanks, table, walk)
+    (text, seat)
 }

@@ -1,9 +1,10 @@
 //! Runs of `scp serve` over files and over the loopback of this machine.
 
-mod client;
+mod calls;
 mod runs;
 
-use client::{BY_NAME, Call, PLAIN, Shown, make_calls};
+use crate::memory::Shared;
+use calls::make_calls;
 use runs::{Ended, enter_folder, old_log, run, want, words_of};
 use std::fs::File;
 use std::net::{Net, SocketAddr, TcpListener, TcpStream};
@@ -13,7 +14,7 @@ use std::test::Fail;
 use std::thread::Threads;
 use std::{fs, process, str, thread};
 
-/// Command lines, each with all faults that come behind the one that is told, and what comes of each: the status, the
+/// Command lines, each with all faults that come after the one that is told, and what comes of each: the status, the
 /// output and the errors. At `USED` connections are awaited already.
 const FAULTS: &str = "\
 serve none.csv --listen x --log none/run.log --contexts 2A030 => 1, , contexts: not a list of names
@@ -38,7 +39,8 @@ serve good.csv --listen x
 struct Plan<'a> {
     serve: &'a str,
     replay: &'a str,
-    call: Call<'a>,
+    // Whether a call names an application context.
+    names_context: bool,
     links: u32,
     told: &'a str,
 }
@@ -47,21 +49,21 @@ struct Plan<'a> {
 const TWO_LINKS: Plan<'static> = Plan {
     serve: "serve good.csv --listen 127.0.0.1:0 --log old.log --links 2 --workers 1 --contexts 2A0304",
     replay: "replay good.csv old.log --contexts 2A0304",
-    call: BY_NAME,
+    names_context: true,
     links: 2,
     told: "link 0 accepted 1 served 2 sent 1\nlink 1 accepted 1 served 2 sent 1\n",
 };
 
-/// As many links as there are where the words don't say so.
+/// As many links as there are if the words don't say it.
 const ONE_LINK: Plan<'static> = Plan {
     serve: "serve good.csv --listen 127.0.0.1:0 --log old.log",
     replay: "replay good.csv old.log",
-    call: PLAIN,
+    names_context: false,
     links: 1,
     told: "link 0 accepted 1 served 2 sent 1\n",
 };
 
-/// Each fault is told, and none that comes behind it; the log of an earlier run is left alone.
+/// Each fault is told, and none that comes after it; the log of an earlier run is left alone.
 #[test]
 fn faults_come_in_their_order(rt: HostRuntime) -> Result<(), Fail> {
     let folder = enter_folder(&rt, process::id(rt.process()))?;
@@ -85,8 +87,12 @@ fn links_are_served(rt: HostRuntime) -> Result<(), Fail> {
         let shown = Mutex::new(Vec::new(alloc));
         let (ended, address) = thread::join(
             &rt,
-            || run(&rt, words.as_slice(), &mut Shown::new(&rt, alloc, &shown)),
-            || make_calls(&rt, alloc, &shown, &plan.call, plan.links),
+            || run(
+                &rt,
+                words.as_slice(),
+                &mut Shared::new(&rt, alloc, &shown, usize::MAX),
+            ),
+            || make_calls(&rt, alloc, &shown, plan.names_context, plan.links),
         );
         let output = shown.into_inner();
         want_served(&rt, &plan, ended, output.as_slice(), address)?;
@@ -136,7 +142,7 @@ where
     Ok(())
 }
 
-/// Fails where the log of an earlier run isn't as it was.
+/// Fails if the log of an earlier run has changed.
 fn want_old_log<H: Files + AllocGlobal>(rt: &H) -> Result<(), Fail> {
     let log = fs::read(rt, "old.log")?;
     if log.as_slice() != old_log(rt.alloc())?.as_bytes() {
@@ -145,7 +151,7 @@ fn want_old_log<H: Files + AllocGlobal>(rt: &H) -> Result<(), Fail> {
     Ok(())
 }
 
-/// Runs the program with a log that can be opened and needn't be emptied, but not written, which is told behind the
+/// Runs the program with a log that can be opened and needn't be emptied, but not written, which is told after the
 /// address.
 fn want_full_log<H>(rt: &H) -> Result<(), Fail>
 where
@@ -162,8 +168,8 @@ where
         "serve good.csv --listen 127.0.0.1:0 --log /dev/full",
         "",
     )?;
-    let (_, behind) = given.as_str().split_once('\n').ok_or("no address")?;
-    want(behind, ", log: cannot be written\n")
+    let (_, after) = given.as_str().split_once('\n').ok_or("no address")?;
+    want(after, ", log: cannot be written\n")
 }
 
 /// What comes of a run with these words: its status, its output and its errors.
@@ -184,7 +190,7 @@ where
     ended.text(alloc, output.as_slice())
 }
 
-/// Fails where a run didn't tell what a plan wants, or the replay of its log doesn't. It listened at this address.
+/// Fails if a run didn't tell what a plan wants, or the replay of its log doesn't. It listened at this address.
 fn want_served<H>(
     rt: &H,
     plan: &Plan<'_>,

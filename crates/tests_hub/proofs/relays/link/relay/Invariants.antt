@@ -1,4 +1,4 @@
-use Rattle.fp_hub.proofs.tests.link.relay.Given as goal
+use Rattle.tests_hub.proofs.relays.link.relay.Given as goal
 
 -- the three ledgers are those that the blanks open
 abbrev pub ghosts-run_link-A-Ledger : goal.ghosts-run_link-A-Ledger

@@ -3,13 +3,13 @@
 ghost use Rattle.std.specs.Prelude.{◌≡◌};
 ghost use Rattle.fp_hub.specs.Shares.{Whole};
 
-use super::messages::{STRANGE, begin, frame_of};
-use super::second_first::MOST_WAITS;
-use crate::{Gate, Hub, Looks, PARTS, Seat, finish, worker};
+use crate::MOST_WAITS;
+use crate::messages::{STRANGE, begin, frame_of};
 use fp_book::{Line, Log, Parcel, Picked, Posted, Totals};
 use fp_digits::Moment;
 use fp_entry::Prepared;
 use fp_frames::Frame;
+use fp_hub::{Gate, Hub, Looks, PARTS, Seat, finish, worker};
 use fp_records::Table;
 use std::alloc::Global;
 use std::marker::Brand;
@@ -37,11 +37,11 @@ pub(crate) struct Plan {
     pub(crate) workers: u8,
     pub(crate) looks: Looks,
     pub(crate) sending: Sending,
-    // Whether one hint follows all messages, in place of one behind each.
+    // Whether one hint follows all messages, in place of one after each.
     pub(crate) is_hinted_once: bool,
     // How many milliseconds go by before each message.
     pub(crate) pause: u64,
-    // Whether a message to a dialogue that there isn't comes behind all the others.
+    // Whether a message to a dialogue that doesn't exist comes after all the others.
     pub(crate) has_stranger: bool,
     // How many messages, and the first identifier. Each other one is greater by this step.
     pub(crate) count: u32,
@@ -73,7 +73,7 @@ impl Plan {
 /// What came of a link.
 #[derive(Drop)]
 pub(crate) struct Relayed {
-    // Whether each message opened the dialogue that it should, and workers were told, and none once the hub was closed.
+    // Whether each message opened the dialogue that it should, with a hint, and no hint was given once the hub was closed.
     pub(crate) are_opened: bool,
     // What was sent, in its order.
     pub(crate) answers: Vec<Vec<u8>>,
@@ -178,34 +178,41 @@ fn send_awaited<A: Ledger, B: Ledger, C: Ledger, R: Wait>(
     sent
 }
 
+/// What goes through a link, and what its threads share beside the hub.
+#[derive(Clone, Copy)]
+struct Load<'x> {
+    alloc: Global,
+    table: &'x Table,
+    marks: &'x Marks,
+    plan: Plan,
+}
+
 /// Posts a message.
 fn post<A: Ledger, B: Ledger, C: Ledger, R: Wait>(
     rt: &R,
-    alloc: Global,
     hub: &Hub<A, B, C>,
     seat: &mut Seat<A, B, C>,
-    table: &Table,
+    load: Load<'_>,
     frame: Option<Frame>,
 ) -> Option<Posted> {
     let moment = Moment::new(1_714_996_800_000)?;
-    let came = Prepared::read(alloc, table, &[], frame?, moment);
-    Some(hub.post(rt, alloc, seat, came))
+    let came = Prepared::read(load.alloc, load.table, &[], frame?, moment);
+    Some(hub.post(rt, load.alloc, seat, came))
 }
 
-/// Posts the messages of a plan, and hints. `false`: one didn't open the dialogue that it should, or no worker was told,
-/// or the stranger wasn't refused.
+/// Posts the messages of a plan, and hints. `false`: one didn't open the dialogue that it should, or a hint failed, or
+/// the stranger wasn't refused.
 fn post_all<A: Ledger, B: Ledger, C: Ledger, R: Wait + Clock>(
     rt: &R,
-    alloc: Global,
     hub: &Hub<A, B, C>,
     seat: &mut Seat<A, B, C>,
-    table: &Table,
-    plan: Plan,
+    load: Load<'_>,
 ) -> bool {
+    let plan = load.plan;
     for number in 0..plan.count {
         thread::sleep(rt, Duration::from_millis(plan.pause));
-        let frame = begin(alloc, plan.identifier(number));
-        let posted = post(rt, alloc, hub, seat, table, frame);
+        let frame = begin(load.alloc, plan.identifier(number));
+        let posted = post(rt, hub, seat, load, frame);
         if posted != Some(Posted::Opened(plan.local(number))) {
             return false;
         }
@@ -215,7 +222,7 @@ fn post_all<A: Ledger, B: Ledger, C: Ledger, R: Wait + Clock>(
     }
     if plan.has_stranger {
         thread::sleep(rt, Duration::from_millis(plan.pause));
-        let posted = post(rt, alloc, hub, seat, table, frame_of(alloc, STRANGE));
+        let posted = post(rt, hub, seat, load, frame_of(load.alloc, STRANGE));
         return matches!(posted, Some(Posted::Aborted(_)));
     }
     !plan.is_hinted_once || hub.hint(rt)
@@ -231,7 +238,55 @@ fn await_sent<R: Clock>(rt: &R, marks: &Marks, count: u32) {
     }
 }
 
-/// The threads of a link: those that serve, the one that sends, and this one, which posts. All seats come back in one.
+/// Posts the messages of a plan, waits until all were answered, and takes the link down. Gives whether all was posted
+/// as it should be, and the seat.
+fn post_until_sent<A: Ledger, B: Ledger, C: Ledger, R: Wait + Clock>(
+    rt: &R,
+    hub: &Hub<A, B, C>,
+    seat: Seat<A, B, C>,
+    load: Load<'_>,
+) -> (bool, Seat<A, B, C>) {
+    let mut seat = seat;
+    let are_opened = post_all(rt, hub, &mut seat, load);
+    await_sent(rt, load.marks, load.plan.parcel_count());
+    hub.down(rt);
+    (are_opened, seat)
+}
+
+/// Sends, and posts on another thread, until the link is down. Both seats come back in one.
+fn post_and_send<
+    'x,
+    A: Ledger + Send + Sync,
+    B: Ledger + Send + Sync,
+    C: Ledger + Send + Sync,
+    R: Threads + Wait + Clock + Sync,
+>(rt: &'x R, hub: &'x Hub<A, B, C>, seat: Seat<A, B, C>, load: Load<'x>) -> (bool, Sent<A, B, C>)
+    requires whole { Whole A.parts B.parts C.parts }
+{
+    let Load {
+        alloc,
+        marks,
+        plan,
+        ..
+    } = load;
+    let mut seat = seat;
+    let Some(own) = seat.split() else {
+        let answers = Vec::new(alloc);
+        return (false, Sent { seat, answers });
+    };
+    let (mut sent, (are_opened, rest)) = thread::join(
+        rt,
+        move || match plan.sending {
+            Sending::Picks => send_picked(rt, alloc, hub, own, marks, plan.parcel_count()),
+            Sending::Awaits => send_awaited(rt, alloc, hub, own, marks),
+        },
+        move || post_until_sent(rt, hub, seat, load),
+    );
+    sent.seat.join(rest);
+    (are_opened, sent)
+}
+
+/// Runs the threads of a link: its workers, one that posts and one that sends. All seats come back in one.
 fn run_roles<
     'x,
     A: Ledger + Send + Sync,
@@ -241,13 +296,10 @@ fn run_roles<
     G: Gate + Sync,
 >(
     rt: &'x R,
-    alloc: Global,
     hub: &'x Hub<A, B, C>,
     seat: Seat<A, B, C>,
     gate: &'x G,
-    table: &'x Table,
-    marks: &'x Marks,
-    plan: Plan,
+    load: Load<'x>,
 ) -> (bool, Sent<A, B, C>)
     requires whole { Whole A.parts B.parts C.parts }
 {
@@ -257,49 +309,29 @@ fn run_roles<
         move |scope| -> (bool, Sent<A, B, C>)
             requires { Whole A.parts B.parts C.parts }
         {
+            let alloc = load.alloc;
             let mut seat = seat;
             let mut handles = Vec::new(alloc);
-            for _ in 0..plan.workers {
-                let Some(own) = seat.split() else {
-                    break;
-                };
-                let Ok(hints) = hub.hints() else {
+            for _ in 0..load.plan.workers {
+                let (Some(own), Ok(hints)) = (seat.split(), hub.hints()) else {
                     break;
                 };
                 if let Ok(handle) = scope.spawn(move || worker(rt, alloc, hub, hints, gate, own)) {
                     let _ = handles.push(handle);
                 }
             }
-            let mut sent = Sent {
-                seat,
-                answers: Vec::new(alloc),
-            };
-            let mut are_opened = false;
-            if let Some(own) = sent.seat.split() {
-                let sender = scope.spawn(move || match plan.sending {
-                    Sending::Picks => send_picked(rt, alloc, hub, own, marks, plan.parcel_count()),
-                    Sending::Awaits => send_awaited(rt, alloc, hub, own, marks),
-                });
-                are_opened = post_all(rt, alloc, hub, &mut sent.seat, table, plan);
-                await_sent(rt, marks, plan.parcel_count());
-                hub.down(rt);
-                if let Ok(handle) = sender {
-                    let Sent { seat, answers } = handle.join(rt);
-                    sent.seat.join(seat);
-                    sent.answers = answers;
-                }
-            }
+            let (are_opened, mut sent) = post_and_send(rt, hub, seat, load);
             hub.close(rt);
-            are_opened = are_opened && !hub.hint(rt);
+            let is_closed = !hub.hint(rt);
             for handle in handles {
                 sent.seat.join(handle.join(rt));
             }
-            (are_opened, sent)
+            (are_opened && is_closed, sent)
         },
     )
 }
 
-/// How many lines the log has. `None`: memory was wanting.
+/// How many lines the log has. `None`: out of memory.
 fn line_count<A: Ledger, B: Ledger, C: Ledger, R: Wait>(
     rt: &R,
     alloc: Global,
@@ -317,15 +349,7 @@ fn run_link<
     C: Ledger + Send + Sync,
     R: Threads + Wait + Clock + Sync,
     G: Gate + Sync,
->(
-    rt: &R,
-    alloc: Global,
-    blanks: (Blank, Blank, Blank),
-    gate: &G,
-    table: &Table,
-    marks: &Marks,
-    plan: Plan,
-) -> Option<Relayed>
+>(rt: &R, blanks: (Blank, Blank, Blank), gate: &G, load: Load<'_>) -> Option<Relayed>
     requires accepted_name { blanks.0.name ≡ A.name }
     requires served_name { blanks.1.name ≡ B.name }
     requires sent_name { blanks.2.name ≡ C.name }
@@ -334,23 +358,22 @@ fn run_link<
     requires sent_parts { blanks.2.parts ≡ C.parts }
     requires whole { Whole A.parts B.parts C.parts }
 {
+    let Load { alloc, plan, .. } = load;
     if plan.link >= 8 {
         return None;
     }
     let (hub, seat) = Hub::<A, B, C>::new(alloc, plan.link, plan.looks, blanks).ok()?;
-    let (are_opened, sent) = run_roles(rt, alloc, &hub, seat, gate, table, marks, plan);
+    let (are_opened, sent) = run_roles(rt, &hub, seat, gate, load);
     let Sent { seat, answers } = sent;
-    let line_count = line_count(rt, alloc, &hub);
-    let totals = finish(hub, seat);
     Some(Relayed {
         are_opened,
         answers,
-        line_count,
-        totals,
+        line_count: line_count(rt, alloc, &hub),
+        totals: finish(hub, seat),
     })
 }
 
-/// Puts the messages of a plan through a link of its own. `None`: memory was wanting.
+/// Puts the messages of a plan through a link of its own. `None`: out of memory.
 pub(crate) fn relay<R: Threads + Wait + Clock + Sync, G: Gate + Sync>(
     rt: &R,
     alloc: Global,
@@ -360,5 +383,11 @@ pub(crate) fn relay<R: Threads + Wait + Clock + Sync, G: Gate + Sync>(
     plan: Plan,
 ) -> Option<Relayed> {
     let blanks = (Blank::new(PARTS), Blank::new(PARTS), Blank::new(PARTS));
-    run_link::<Brand, Brand, Brand, R, G>(rt, alloc, blanks, gate, table, marks, plan)
+    let load = Load {
+        alloc,
+        table,
+        marks,
+        plan,
+    };
+    run_link::<Brand, Brand, Brand, R, G>(rt, blanks, gate, load)
 }

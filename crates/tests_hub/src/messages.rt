@@ -1,4 +1,4 @@
-//! Messages of the tests.
+//! The records, the messages and what answers them.
 
 use bytes::Bytes;
 use fp_frames::Frame;
@@ -17,7 +17,7 @@ pub(crate) const EMPTY_BEGIN: &str = "620648040000002C";
 /// A Unidirectional: it is discarded.
 pub(crate) const UNIDIRECTIONAL: &str = "6100";
 
-/// A Continue to a dialogue that there isn't.
+/// A Continue to a dialogue that doesn't exist.
 pub(crate) const STRANGE: &str = "650C48040000002A490400000009";
 
 /// What answers it, with its head: an Abort of the provider for cause 1, unrecognized transaction identifier.
@@ -32,14 +32,14 @@ const CALLS: &str = "6282025A48040000002A6C820250";
 /// An InitialDP for the number with two destinations.
 const CALL: &str = "A123020101020100301B80016482078310081032540783078313032143650785010A9C0103";
 
-/// The frame of these octets. `None`: memory was wanting.
+/// The frame of these octets. `None`: out of memory.
 pub(crate) fn frame_of(alloc: Global, text: &str) -> Option<Frame> {
     let octets = hex::decode(alloc, text).ok()?;
     Frame::new(Bytes::copy_from_slice(alloc, octets.as_slice()).ok()?)
 }
 
-/// The frame of a Begin with InitialDP from this identifier, for the number with one destination. `None`: memory was
-/// wanting.
+/// The frame of a Begin with InitialDP from this identifier, for the number with one destination. `None`: out of
+/// memory.
 pub(crate) fn begin(alloc: Global, identifier: u32) -> Option<Frame> {
     let text = format!(in alloc;
         "622D4804{identifier:08X}6C25A123020101020100301B80016482078310081032540683078313032143650785010A9C0103"
@@ -47,7 +47,7 @@ pub(crate) fn begin(alloc: Global, identifier: u32) -> Option<Frame> {
     frame_of(alloc, text.ok()?.as_str())
 }
 
-/// The frame of a Begin with sixteen InitialDP: each of them is answered. `None`: memory was wanting.
+/// The frame of a Begin with sixteen InitialDP: each of them is answered. `None`: out of memory.
 pub(crate) fn calls(alloc: Global) -> Option<Frame> {
     let mut octets = hex::decode(alloc, CALLS).ok()?;
     let call = hex::decode(alloc, CALL).ok()?;

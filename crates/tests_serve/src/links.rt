@@ -1,33 +1,28 @@
 //! Links over the loopback of this machine: clients connect, write and read, and the log is replayed.
 
-mod client;
 mod crowd;
-mod memory;
 mod run;
-mod second_first;
-mod talk;
 
-use crate::ServeFault;
-use crate::moment::now;
-use client::Client;
+use crate::client::Client;
+use crate::talk::{
+    ANSWER_WITH_CONTEXT, BEGIN_WITH_CONTEXT, LATE_ERROR, LATE_ERROR_REFUSED, all_kinds, answer,
+    begin, long_begin,
+};
 use crowd::{make_all_calls, never_read};
 use fp_hub::OpenGate;
+use fp_serve::ServeFault;
 use run::{Outcome, Told, served};
-use second_first::SecondFirst;
 use std::alloc::Global;
 use std::net::{Net, SocketAddr, TcpListener, TcpStream};
 use std::process::Abort;
 use std::rt::Clock;
 use std::sync::Wait;
-use std::sync::atomic::Ordering;
+use std::sync::atomic::{AtomicBool, Ordering};
 use std::test::Fail;
 use std::thread;
 use std::thread::Threads;
-use std::time::Duration;
-use talk::{
-    ANSWER_WITH_CONTEXT, BEGIN_WITH_CONTEXT, LATE_ERROR, LATE_ERROR_REFUSED, all_kinds, answer,
-    begin, long_begin,
-};
+use std::time::{Duration, SystemTime, UNIX_EPOCH};
+use tests_hub::{EACH_ONCE, SecondFirst};
 
 /// How many octets a log takes that takes all.
 const ALL: usize = 1 << 30;
@@ -41,11 +36,17 @@ fn listener<R: Net<Listener = TcpListener, Stream = TcpStream>>(
 
 /// Asserts that a run ended without a fault, told this of its links, and left a log that tells the same.
 fn assert_told<R: Abort>(rt: &R, outcome: Option<Outcome>, wanted: &str) -> Result<Outcome, Fail> {
-    let outcome = outcome.ok_or("no memory")?;
+    let outcome = outcome.ok_or("out of memory")?;
     assert_eq!(rt; outcome.fault, None);
     assert_eq!(rt; outcome.told.as_slice(), wanted.as_bytes());
     assert_eq!(rt; outcome.replayed.as_slice(), wanted.as_bytes());
     Ok(outcome)
+}
+
+/// The time of day, in milliseconds since 1970.
+fn milliseconds<R: Clock>(rt: &R) -> Result<u64, Fail> {
+    let since = SystemTime::now(rt)?.duration_since(UNIX_EPOCH)?;
+    Ok(u64::try_from(since.as_millis())?)
 }
 
 /// One call: the address is told at once, the answer comes, octet by octet, the link is told of, its log tells the same,
@@ -55,13 +56,13 @@ fn a_call_is_answered(rt: HostRuntime) -> Result<(), Fail> {
     let alloc = rt.alloc();
     let listener = listener(&rt)?;
     let told = Told::new(alloc);
-    let before = now(&rt).milliseconds();
+    let before = milliseconds(&rt)?;
     let (outcome, given) = thread::join(
         &rt,
         || served(&rt, alloc, 1, &OpenGate, &listener, &told, ALL),
         || one_call(&rt, alloc, &told),
     );
-    let after = now(&rt).milliseconds();
+    let after = milliseconds(&rt)?;
     assert_eq!(rt; given.ok_or("no answer")?.as_str(), ANSWER_WITH_CONTEXT);
     let outcome = assert_told(&rt, outcome, "link 0 accepted 1 served 2 sent 1\n")?;
     let log = str::from_utf8(outcome.log.as_slice())?;
@@ -83,54 +84,41 @@ fn one_call<R: Net<Stream = TcpStream> + Wait + Clock>(
     client.message(alloc)
 }
 
-/// A worker stands between taking a turn of the first dialogue and serving it: the other one serves the second dialogue
-/// meanwhile, and its answer reaches the client.
+/// A worker waits between taking a turn of the first dialogue and serving it: the other one serves the second dialogue
+/// meanwhile, and its answer reaches the client. Each turn passes the gate once.
 #[test]
 fn one_waits_and_the_other_serves(rt: HostRuntime) -> Result<(), Fail> {
     let alloc = rt.alloc();
     let listener = listener(&rt)?;
     let told = Told::new(alloc);
-    let gate = SecondFirst::new(&rt);
-    let (outcome, given) = run_through(&rt, alloc, &gate, &listener, &told);
+    let is_answered = AtomicBool::new(false);
+    let gate = SecondFirst::new(&rt, 0, &is_answered);
+    let (outcome, given) = thread::join(
+        &rt,
+        || served(&rt, alloc, 1, &gate, &listener, &told, ALL),
+        || two_calls(&rt, alloc, &told, &is_answered),
+    );
     let (first, second) = given.ok_or("no answer")?;
     assert_eq!(rt; first.as_str(), answer(alloc, 0x2B)?.as_str());
     assert_eq!(rt; second.as_str(), answer(alloc, 0x2A)?.as_str());
-    assert!(rt; gate.has_held.load(Ordering::SeqCst), "no turn came by");
-    assert!(rt;
-        !gate.is_late.load(Ordering::SeqCst),
-        "the second dialogue had to wait"
-    );
+    assert!(rt; !gate.is_late(), "the second dialogue had to wait");
+    assert_eq!(rt; gate.seen(), EACH_ONCE);
     assert_told(&rt, outcome, "link 0 accepted 2 served 4 sent 2\n")?;
     Ok(())
 }
 
-/// Runs one link through a gate, and beside it makes two calls.
-fn run_through<'x, R: Threads + Wait + Clock + Net<Stream = TcpStream> + Sync>(
-    rt: &'x R,
-    alloc: Global,
-    gate: &'x SecondFirst<'x, R>,
-    listener: &'x TcpListener,
-    told: &'x Told,
-) -> (Option<Outcome>, Option<(String, String)>) {
-    thread::join(
-        rt,
-        move || served(rt, alloc, 1, gate, listener, told, ALL),
-        move || two_calls(rt, alloc, told, gate),
-    )
-}
-
-/// Makes two calls at once, marks at the gate that the first answer came, and gives both.
+/// Makes two calls at once, marks that the first answer came, and gives both.
 fn two_calls<R: Net<Stream = TcpStream> + Wait + Clock>(
     rt: &R,
     alloc: Global,
     told: &Told,
-    gate: &SecondFirst<'_, R>,
+    is_answered: &AtomicBool,
 ) -> Option<(String, String)> {
     let mut client = Client::connect(rt, told.address(rt)?)?;
     client.write_text(alloc, begin(alloc, 0x2A).ok()?.as_str())?;
     client.write_text(alloc, begin(alloc, 0x2B).ok()?.as_str())?;
     let first = client.message(alloc)?;
-    gate.is_answered.store(true, Ordering::SeqCst);
+    is_answered.store(true, Ordering::SeqCst);
     Some((first, client.message(alloc)?))
 }
 
@@ -240,7 +228,7 @@ fn break_off<R: Net<Stream = TcpStream> + Wait + Clock>(
     third.message(alloc)
 }
 
-/// A client that reads none of its answers keeps nobody else waiting, and its link ends when it goes.
+/// A client that reads none of its answers keeps no other client waiting, and its link ends when it goes.
 #[test]
 fn who_never_reads_waits_alone(rt: HostRuntime) -> Result<(), Fail> {
     let alloc = rt.alloc();
@@ -255,7 +243,7 @@ fn who_never_reads_waits_alone(rt: HostRuntime) -> Result<(), Fail> {
         given.ok_or("no answer")?.as_str(),
         answer(alloc, 0x2A)?.as_str()
     );
-    let outcome = outcome.ok_or("no memory")?;
+    let outcome = outcome.ok_or("out of memory")?;
     assert_eq!(rt; outcome.fault, None);
     assert_eq!(rt; outcome.told.as_slice(), outcome.replayed.as_slice());
     assert!(rt;
@@ -279,14 +267,14 @@ fn a_fault_ends_the_run(rt: HostRuntime) -> Result<(), Fail> {
         || served(&rt, alloc, 2, &OpenGate, &listener, &told, 100),
         || wait_for_end(&rt, alloc, &told),
     );
-    let outcome = outcome.ok_or("no memory")?;
+    let outcome = outcome.ok_or("out of memory")?;
     assert_eq!(rt; are_at_end, Some((true, true)));
     assert_eq!(rt; outcome.fault, Some(ServeFault::UnwrittenLog));
     let wanted = "link 0 accepted 1 served 2 sent 1\n";
     assert_eq!(rt; outcome.told.as_slice(), wanted.as_bytes());
     listener.set_nonblocking(true)?;
     let told = Told::new(alloc);
-    let outcome = served(&rt, alloc, 1, &OpenGate, &listener, &told, ALL).ok_or("no memory")?;
+    let outcome = served(&rt, alloc, 1, &OpenGate, &listener, &told, ALL).ok_or("out of memory")?;
     assert_eq!(rt; outcome.fault, Some(ServeFault::NoConnection));
     assert!(rt; outcome.told.is_empty());
     Ok(())

@@ -1,32 +1,18 @@
-//! A run of a server for tests.
+//! A run whose outputs are in memory.
 
-use super::memory::Shared;
-use crate::link::Service;
-use crate::serving::serve_through;
-use crate::{ServeFault, Settings};
+use crate::memory::{Shared, awaited_address};
+use crate::talk::RECORDS;
 use fp_apdu::Name;
 use fp_hub::Gate;
 use fp_records::Table;
 use fp_replay::replay;
+use fp_serve::{ServeFault, Service, Settings, serve_through};
 use fp_streams::Counted;
 use std::alloc::Global;
 use std::net::{SocketAddr, TcpListener};
 use std::rt::Clock;
 use std::sync::{Mutex, Wait};
-use std::thread;
 use std::thread::Threads;
-use std::time::Duration;
-
-/// Records: a number that leads on, one that leads on to two places in turn, one that is refused, one that passes.
-const RECORDS: &str = "key,100,60
-800123456,,1234567,00:00,24:00,1,route,302223344
-800123457,,1234567,00:00,24:00,1,route,302223344,302223355
-800123458,,1234567,00:00,24:00,1,refuse
-800123459,,1234567,00:00,24:00,1,pass
-";
-
-/// How many milliseconds something is waited for.
-pub(crate) const MOST_WAITS: u32 = 10_000;
 
 /// What a run writes while it goes on, as far as it was flushed: what it tells of the links, and the log.
 #[derive(Drop)]
@@ -46,25 +32,12 @@ impl Told {
 
     /// Waits until the run tells its address, and gives it.
     pub(crate) fn address<R: Wait + Clock>(&self, rt: &R) -> Option<SocketAddr> {
-        for _ in 0..MOST_WAITS {
-            if let Some(address) = address_in(self.output.lock(rt).as_slice()) {
-                return Some(address);
-            }
-            thread::sleep(rt, Duration::from_millis(1));
-        }
-        None
+        awaited_address(rt, &self.output)
     }
 }
 
-/// The address that the first line tells, where it is there whole.
-fn address_in(text: &[u8]) -> Option<SocketAddr> {
-    let end = text.iter().position(|octet| *octet == b'\n')?;
-    let line = str::from_utf8(text.get(..end)?).ok()?;
-    line.strip_prefix("listening ")?.parse().ok()
-}
-
-/// What stands behind the first line of a text.
-fn behind_first_line(text: &[u8]) -> &[u8] {
+/// What follows the first line of a text.
+fn after_first_line(text: &[u8]) -> &[u8] {
     match text.iter().position(|octet| *octet == b'\n') {
         Some(end) => text.get(end + 1..).unwrap_or(&[]),
         None => &[],
@@ -75,15 +48,15 @@ fn behind_first_line(text: &[u8]) -> &[u8] {
 #[derive(Drop)]
 pub(crate) struct Outcome {
     pub(crate) fault: Option<ServeFault>,
-    /// What was told of the links, but the address.
+    /// What was told of the links, without the address.
     pub(crate) told: Vec<u8>,
-    /// What the replay of the log tells of them; nothing, where it can't be followed.
+    /// What the replay of the log tells of them; nothing, if it can't be followed.
     pub(crate) replayed: Vec<u8>,
     pub(crate) log: Vec<u8>,
 }
 
 /// Serves so many links with two workers each, whose turns pass this gate, with a log that takes so many octets, until
-/// all of them are down. One application context is accepted, 2A0304. `None`: memory was wanting.
+/// all of them are down. One application context is accepted, 2A0304. `None`: out of memory.
 pub(crate) fn served<R: Threads + Wait + Clock + Sync, G: Gate + Sync>(
     rt: &R,
     alloc: Global,
@@ -112,7 +85,7 @@ pub(crate) fn served<R: Threads + Wait + Clock + Sync, G: Gate + Sync>(
     }
     Some(Outcome {
         fault: result.err(),
-        told: behind_first_line(told.output.lock(rt).as_slice())
+        told: after_first_line(told.output.lock(rt).as_slice())
             .to_vec(alloc)
             .ok()?,
         replayed: replayed.device,

@@ -1,6 +1,7 @@
 //! Runs of the program in a folder of their own.
 
-use crate::program_with_links;
+use crate::talk::RECORDS;
+use scp::program_with_links;
 use std::alloc::{AllocError, Global};
 use std::env::Env;
 use std::fs::File;
@@ -12,12 +13,7 @@ use std::test::Fail;
 use std::thread::Threads;
 use std::{env, fs, str};
 
-/// Records of a number that leads on.
-const GOOD_RECORDS: &str = "key,100,60
-800123456,,1234567,00:00,24:00,1,route,302223344
-";
-
-/// Records of a number with a day that stands twice.
+/// Records of a number with a day that is there twice.
 const BAD_RECORDS: &str = "key,100,60
 800123456,,1224567,00:00,24:00,1,route,302223344
 ";
@@ -44,13 +40,13 @@ pub(crate) fn enter_folder<R: Env + Files + AllocGlobal>(
     let _ = fs::remove_dir_all(rt, folder.as_str());
     fs::create_dir(rt, folder.as_str())?;
     env::set_current_dir(rt, folder.as_str())?;
-    fs::write(rt, "good.csv", GOOD_RECORDS)?;
+    fs::write(rt, "good.csv", RECORDS)?;
     fs::write(rt, "bad.csv", BAD_RECORDS)?;
     fs::write(rt, "old.log", old_log(alloc)?)?;
     Ok(folder)
 }
 
-/// The words of a line, behind the name of the program, with this address in the place of `USED`.
+/// The words of a line, after the name of the program, with this address in the place of `USED`.
 pub(crate) fn words_of(alloc: Global, line: &str, used: &str) -> Result<Vec<String>, AllocError> {
     let mut words = Vec::new(alloc);
     words.push(String::from_str(alloc, "scp")?)?;
@@ -61,7 +57,7 @@ pub(crate) fn words_of(alloc: Global, line: &str, used: &str) -> Result<Vec<Stri
     Ok(words)
 }
 
-/// What came of a run but its output.
+/// What came of a run, without its output.
 #[derive(Drop)]
 pub(crate) struct Ended {
     status: u8,
@@ -95,7 +91,7 @@ where
     Ended { status, errors }
 }
 
-/// Fails where a text isn't what is wanted, and tells both.
+/// Fails if a text isn't what is wanted, and tells both.
 pub(crate) fn want(given: &str, wanted: &str) -> Result<(), Fail> {
     if given == wanted {
         Ok(())

@@ -1,22 +1,17 @@
-//! Links over memory: messages go in, and their answers come out.
+//! Links over memory, whose threads share a hub: messages go in, and their answers come out.
 
 mod link;
-mod messages;
-mod second_first;
-mod steps;
 
-use crate::hints::HintChannel;
-use crate::{Looks, OpenGate};
+use crate::messages::{RECORDS, STRANGE_ANSWER, answer};
+use crate::{EACH_ONCE, SecondFirst};
 use fp_book::Totals;
+use fp_hub::{Looks, OpenGate};
 use fp_records::Table;
 use link::{Marks, Plan, Relayed, Sending, relay};
-use messages::{RECORDS, STRANGE_ANSWER, answer};
-use second_first::{EACH_ONCE, SecondFirst};
 use std::alloc::Global;
 use std::process::Abort;
 use std::test::Fail;
 use std::thread;
-use steps::{Walk, walk_link};
 
 /// Two messages over two workers.
 const PLAN: Plan = Plan {
@@ -32,7 +27,7 @@ const PLAN: Plan = Plan {
     step: 1,
 };
 
-/// Asserts that each message of a plan was answered, under its own identifier, once, and the stranger behind all of
+/// Asserts that each message of a plan was answered, under its own identifier, once, and the stranger after all of
 /// them; that nothing else was sent; and that this was counted and logged: seven lines for each message, three for the
 /// stranger, and one for the end.
 fn assert_answered<R: Abort>(
@@ -41,7 +36,7 @@ fn assert_answered<R: Abort>(
     plan: Plan,
     relayed: Option<Relayed>,
 ) -> Result<(), Fail> {
-    let relayed = relayed.ok_or("no memory")?;
+    let relayed = relayed.ok_or("out of memory")?;
     assert!(rt; relayed.are_opened, "a message didn't open its dialogue");
     let mut answers = relayed.answers;
     if plan.has_stranger {
@@ -70,66 +65,9 @@ fn assert_answered<R: Abort>(
     Ok(())
 }
 
-/// Each call of a hub makes its step: a call that is answered, then one that is held until its time is over and whose
-/// Abort can't be sent, which takes the link down and wakes whoever rests. So do 4,096 lines, each time the log was
-/// drained, and fewer don't; and of 5,120 the log is filling, also where a drain left them.
-#[test]
-fn each_call_makes_its_step(rt: HostRuntime) -> Result<(), Fail> {
-    let alloc = rt.alloc();
-    let table = Table::read(alloc, RECORDS.as_bytes())?;
-    let walked = walk_link(&rt, alloc, &table, Walk::EachCall).ok_or("no memory")?;
-    let wanted =
-        "opened back silent queued nothing sent nothing opened silent none due nothing one due queued up unsent down discarded nothing none due nothing woken all discarded rested all discarded woken drained all discarded woken all discarded not filling all discarded filling drained not filling all discarded filling drained not filling woken ";
-    assert_eq!(rt; walked.words.as_str(), wanted);
-    let counted = Totals {
-        accepted: 1,
-        served: 4,
-        sent: 1,
-    };
-    assert_eq!(rt; walked.totals, Some(counted));
-    Ok(())
-}
-
-/// Where all 8,192 places for frames are held, a worker is hinted when the next parcel is awaited, and not before: 513
-/// messages of 16 calls have 8,208 answers, one of which is sent before that.
-#[test]
-fn free_places_are_hinted(rt: HostRuntime) -> Result<(), Fail> {
-    let alloc = rt.alloc();
-    let table = Table::read(alloc, RECORDS.as_bytes())?;
-    let walked = walk_link(&rt, alloc, &table, Walk::AllPlaces).ok_or("no memory")?;
-    let wanted = "opened silent queued sent no room sent hinted closed no room ";
-    assert_eq!(rt; walked.words.as_str(), wanted);
-    let counted = Totals {
-        accepted: 8_208,
-        served: 8_707,
-        sent: 2,
-    };
-    assert_eq!(rt; walked.totals, Some(counted));
-    Ok(())
-}
-
-/// As many hints wait as there are workers, and are taken after the channel was closed.
-#[test]
-fn hints_wait_for_each_worker(rt: HostRuntime) -> Result<(), Fail> {
-    let channel = HintChannel::new(rt.alloc(), Looks::FEW)?;
-    let end = channel.listen()?;
-    let _second = channel.listen()?;
-    let _third = channel.listen()?;
-    for _ in 0..5 {
-        assert!(rt; channel.hint(&rt));
-    }
-    channel.close(&rt);
-    assert!(rt; !channel.hint(&rt));
-    for _ in 0..3 {
-        assert!(rt; end.wait(&rt));
-    }
-    assert!(rt; !end.wait(&rt));
-    Ok(())
-}
-
-/// One worker stands between taking a turn of the first dialogue and serving it, with no lock held: the other one
-/// serves the second dialogue meanwhile, whose answer is sent. Each turn passes there once. Where there is but one hint
-/// for both messages, workers are told of the rest by each other.
+/// One worker waits between taking a turn of the first dialogue and serving it, with no lock held: the other one serves
+/// the second dialogue meanwhile, whose answer is sent. Each turn passes the gate once. If there is only one hint for
+/// both messages, the workers hint to each other.
 #[test]
 fn one_waits_and_the_other_serves(rt: HostRuntime) -> Result<(), Fail> {
     let alloc = rt.alloc();
@@ -151,7 +89,7 @@ fn one_waits_and_the_other_serves(rt: HostRuntime) -> Result<(), Fail> {
 }
 
 /// Threads that sleep are woken: each of five messages comes when all of them do, and so does one to a dialogue that
-/// there isn't, which brings an Abort of the provider and no turn.
+/// doesn't exist, which brings an Abort of the provider and no turn.
 #[test]
 fn sleepers_are_woken(rt: HostRuntime) -> Result<(), Fail> {
     let alloc = rt.alloc();

@@ -1,0 +1,82 @@
+//! A gate that lets the second dialogue go first.
+
+use fp_hub::Gate;
+use std::rt::Clock;
+use std::sync::atomic::{AtomicBool, AtomicU64, Ordering};
+use std::thread;
+use std::time::Duration;
+
+/// How many milliseconds a test waits for something, or how often it looks for it, once a millisecond.
+pub const MOST_WAITS: u32 = 10_000;
+
+/// What a gate has counted ([`SecondFirst::seen`]) once the two turns of its first dialogue and the two of its second
+/// one have passed it once each, and nothing else has.
+pub const EACH_ONCE: u64 = 0x1111;
+
+/// How the turn counts that is held.
+const HELD: u64 = 0x10;
+
+/// How any turn counts but those of the two dialogues.
+const OTHERS: u64 = 0x1_0000;
+
+/// A gate that holds the second turn of the first dialogue of a link until a mark says that the second dialogue was
+/// answered, and counts the turns that come.
+#[derive(Drop)]
+pub struct SecondFirst<'a, R: Clock> {
+    rt: &'a R,
+    link: u8,
+    is_answered: &'a AtomicBool,
+    // The turns that came so far, each in four bits of its own.
+    seen: AtomicU64,
+    // Whether it gave up: the mark didn't come in time.
+    is_late: AtomicBool,
+}
+
+impl<'a, R: Clock> SecondFirst<'a, R> {
+    /// A gate of this link, which no turn has reached. Whoever sees the answer of the second dialogue sets the mark.
+    pub fn new(rt: &'a R, link: u8, is_answered: &'a AtomicBool) -> SecondFirst<'a, R> {
+        SecondFirst {
+            rt,
+            link,
+            is_answered,
+            seen: AtomicU64::new(0),
+            is_late: AtomicBool::new(false),
+        }
+    }
+
+    /// How often each turn has come: from the last four bits up the first and the second one of the first dialogue, and
+    /// the first and the second one of the second dialogue; above these sixteen bits all other turns, and those of
+    /// another link.
+    pub fn seen(&self) -> u64 {
+        self.seen.load(Ordering::SeqCst)
+    }
+
+    /// Whether the held turn went on without the mark, after [`MOST_WAITS`] milliseconds.
+    pub fn is_late(&self) -> bool {
+        self.is_late.load(Ordering::SeqCst)
+    }
+}
+
+impl<R: Clock> Gate for SecondFirst<'_, R> {
+    fn pass(&self, link: u8, birth: u64, position: u64) {
+        let one: u64 = match (birth, position) {
+            (1, 0) => 0x1,
+            (1, 1) => HELD,
+            (2, 0) => 0x100,
+            (2, 1) => 0x1000,
+            _ => OTHERS,
+        };
+        let counted = if link == self.link { one } else { OTHERS };
+        self.seen.fetch_add(counted, Ordering::SeqCst);
+        if counted != HELD {
+            return;
+        }
+        for _ in 0..MOST_WAITS {
+            if self.is_answered.load(Ordering::SeqCst) {
+                return;
+            }
+            thread::sleep(self.rt, Duration::from_millis(1));
+        }
+        self.is_late.store(true, Ordering::SeqCst);
+    }
+}

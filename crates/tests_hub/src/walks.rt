@@ -1,0 +1,122 @@
+//! One thread makes each call of a hub in turn.
+
+ghost use Rattle.std.specs.Prelude.{◌≡◌};
+ghost use Rattle.fp_hub.specs.Shares.{Whole};
+
+mod caller;
+
+use crate::messages::RECORDS;
+use caller::make_walk;
+use fp_book::Totals;
+use fp_hub::{Hub, Looks, PARTS, finish};
+use fp_records::Table;
+use std::alloc::Global;
+use std::marker::Brand;
+use std::process::Abort;
+use std::rt::Clock;
+use std::sync::Wait;
+use std::sync::ledger::{Blank, Ledger};
+use std::test::Fail;
+
+/// The calls that are made.
+#[derive(Clone, Copy)]
+enum Walk {
+    /// Each call, until the link is down; then rests, and lines that wake them.
+    EachCall,
+    /// All places for frames are filled.
+    AllPlaces,
+    /// Hints to three workers, before the hub is closed and after.
+    Hints,
+}
+
+/// What the calls of a walk answered, word by word, and what was counted.
+#[derive(Drop)]
+struct Walked {
+    words: String,
+    totals: Option<Totals>,
+}
+
+/// Makes the calls of a walk with a hub whose ledgers are these.
+fn walk_over<A: Ledger, B: Ledger, C: Ledger, R: Wait + Clock>(
+    rt: &R,
+    alloc: Global,
+    blanks: (Blank, Blank, Blank),
+    table: &Table,
+    walk: Walk,
+) -> Option<Walked>
+    requires accepted_name { blanks.0.name ≡ A.name }
+    requires served_name { blanks.1.name ≡ B.name }
+    requires sent_name { blanks.2.name ≡ C.name }
+    requires accepted_parts { blanks.0.parts ≡ A.parts }
+    requires served_parts { blanks.1.parts ≡ B.parts }
+    requires sent_parts { blanks.2.parts ≡ C.parts }
+    requires whole { Whole A.parts B.parts C.parts }
+{
+    let (hub, seat) = Hub::<A, B, C>::new(alloc, 0, Looks::FEW, blanks).ok()?;
+    let (words, seat) = make_walk(rt, alloc, &hub, seat, table, walk);
+    Some(Walked {
+        words,
+        totals: finish(hub, seat),
+    })
+}
+
+/// Makes the calls of a walk, and finishes the link. `None`: out of memory.
+fn walk_link<R: Wait + Clock>(rt: &R, alloc: Global, table: &Table, walk: Walk) -> Option<Walked> {
+    let blanks = (Blank::new(PARTS), Blank::new(PARTS), Blank::new(PARTS));
+    walk_over::<Brand, Brand, Brand, R>(rt, alloc, blanks, table, walk)
+}
+
+/// Asserts that the calls of a walk answer these words, and that as much is counted.
+fn assert_walk<R: Wait + Clock + Abort>(
+    rt: &R,
+    alloc: Global,
+    walk: Walk,
+    words: &str,
+    totals: Totals,
+) -> Result<(), Fail> {
+    let table = Table::read(alloc, RECORDS.as_bytes())?;
+    let walked = walk_link(rt, alloc, &table, walk).ok_or("out of memory")?;
+    assert_eq!(rt; walked.words.as_str(), words);
+    assert_eq!(rt; walked.totals, Some(totals));
+    Ok(())
+}
+
+/// Each call of a hub makes its step: a call that is answered, then one that is held until its time is over and whose
+/// Abort can't be sent, which takes the link down and wakes the thread that rests. 4,096 lines wake it too, each time
+/// after the log was drained, and fewer don't; with 5,120 the log is filling, also if a drain left them.
+#[test]
+fn each_call_makes_its_step(rt: HostRuntime) -> Result<(), Fail> {
+    let words =
+        "opened back silent queued nothing sent nothing opened silent none due nothing one due queued up unsent down discarded nothing none due nothing woken all discarded rested all discarded woken drained all discarded woken all discarded not filling all discarded filling drained not filling all discarded filling drained not filling woken ";
+    let totals = Totals {
+        accepted: 1,
+        served: 4,
+        sent: 1,
+    };
+    assert_walk(&rt, rt.alloc(), Walk::EachCall, words, totals)
+}
+
+/// If all 8,192 places for frames are held, a worker is hinted when the next parcel is awaited, and not before: 513
+/// messages of 16 calls have 8,208 answers, one of which is sent before that.
+#[test]
+fn free_places_are_hinted(rt: HostRuntime) -> Result<(), Fail> {
+    let words = "opened silent queued sent no room sent hinted closed no room ";
+    let totals = Totals {
+        accepted: 8_208,
+        served: 8_707,
+        sent: 2,
+    };
+    assert_walk(&rt, rt.alloc(), Walk::AllPlaces, words, totals)
+}
+
+/// At most as many hints wait as there are workers, and they are taken after the hub was closed.
+#[test]
+fn hints_wait_for_each_worker(rt: HostRuntime) -> Result<(), Fail> {
+    let words = "hint hint hint hint hint no hint hinted hinted hinted closed ";
+    let totals = Totals {
+        accepted: 0,
+        served: 0,
+        sent: 0,
+    };
+    assert_walk(&rt, rt.alloc(), Walk::Hints, words, totals)
+}
