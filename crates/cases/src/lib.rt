@@ -1,0 +1,68 @@
+//! Worked cases, one a line: `INPUT => WANTED`.
+//!
+//! A case program answers the cases on its standard input. That input is text for a telecom engineer to read: an empty
+//! line or one that begins with `#` is a comment, and each other line is a case: what goes in, and after ` => ` what
+//! must come out, worked out by hand or taken from a standard. The program prints each case whose answer is another
+//! one, and at the end the number of cases and of those.
+//!
+//! A program has a type that is `Answers`: it writes what a case gives. `run` does the rest. `Words` reads an input word
+//! by word; `octets` has octets as hexadecimal text, and back.
+#![tactic(auto)]
+
+mod octets;
+mod words;
+
+pub use octets::{octets_of, push_octets};
+pub use words::Words;
+
+use std::alloc::Global;
+
+/// What answers the cases of a program.
+pub trait Answers {
+    /// Writes what this input gives to `out`, which is empty. An input that is no case, or no good one, is an error.
+    fn answer(&mut self, input: &str, out: &mut String) -> anyhow::Result<()>;
+}
+
+/// Whether a line is no case.
+fn is_comment(line: &str) -> bool {
+    line.is_empty() || line.starts_with('#')
+}
+
+/// Answers a case, and says what is wrong with it. Nothing is said of a case whose answer is the wanted one.
+fn fault<A: Answers>(
+    alloc: Global,
+    answers: &mut A,
+    line: &str,
+) -> anyhow::Result<Option<String>> {
+    let Some((input, wanted)) = line.split_once(" => ") else {
+        return Ok(Some(format!(in alloc; "{line}: no case")?));
+    };
+    let mut out = String::new(alloc);
+    match answers.answer(input, &mut out) {
+        Ok(()) if out.as_str() == wanted => Ok(None),
+        Ok(()) => Ok(Some(format!(in alloc; "{input}: {out}, and not {wanted}")?)),
+        Err(error) => Ok(Some(format!(in alloc; "{input}: {error}")?)),
+    }
+}
+
+/// Answers the cases of standard input, prints what is wrong with each, and at the end `N cases, M wrong`.
+pub fn run<R: Input + Print + AllocGlobal, A: Answers>(
+    rt: &R,
+    answers: &mut A,
+) -> anyhow::Result<()> {
+    let mut count: u32 = 0;
+    let mut wrong: u32 = 0;
+    for line in rt.lines(rt.alloc()) {
+        let line = line?;
+        if is_comment(line.as_str()) {
+            continue;
+        }
+        count = count.saturating_add(1);
+        if let Some(text) = fault(rt.alloc(), answers, line.as_str())? {
+            wrong = wrong.saturating_add(1);
+            println!(rt; "{text}")?;
+        }
+    }
+    println!(rt; "{count} cases, {wrong} wrong")?;
+    Ok(())
+}
