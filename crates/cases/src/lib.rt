@@ -5,17 +5,16 @@
 //! must come out, worked out by hand or taken from a standard. The program prints each case whose answer is another
 //! one, and at the end the number of cases and of those.
 //!
-//! A program has a type that is `Answers`: it writes what a case gives. `run` does the rest. `Words` reads an input word
-//! by word; `octets` has octets as hexadecimal text, and back.
+//! A program has a type that is `Answers`: it writes what a case gives. `run` does the rest. `first_word` takes an
+//! input apart; `octets_of` and `push_octets` have octets as hexadecimal text.
 #![tactic(auto)]
 
 mod octets;
 mod words;
 
 pub use octets::{octets_of, push_octets};
-pub use words::Words;
-
 use std::alloc::Global;
+pub use words::first_word;
 
 /// What answers the cases of a program.
 pub trait Answers {
@@ -29,11 +28,7 @@ fn is_comment(line: &str) -> bool {
 }
 
 /// Answers a case, and says what is wrong with it. Nothing is said of a case whose answer is the wanted one.
-fn fault<A: Answers>(
-    alloc: Global,
-    answers: &mut A,
-    line: &str,
-) -> anyhow::Result<Option<String>> {
+fn fault<A: Answers>(alloc: Global, answers: &mut A, line: &str) -> anyhow::Result<Option<String>> {
     let Some((input, wanted)) = line.split_once(" => ") else {
         return Ok(Some(format!(in alloc; "{line}: no case")?));
     };
