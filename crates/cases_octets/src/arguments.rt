@@ -12,94 +12,91 @@
 //! | `event CODE` | the event of this code, and the code that it has |
 //! | `error NAME` | the code of this error, as `missingParameter` |
 //!
-//! A number is its nature of address and behind a colon its digits, as `3:800123456`; a leg is its side and its
+//! A number is its nature of address and after a colon its digits, as `3:800123456`; a leg is its side and its
 //! octet, as `receiving 2`. What is absent is `-`.
 
-use crate::elements::{element_of, new_writer, written_text};
+use crate::elements::{element_of, new_writer, push_written};
+use crate::numbers::{are_writable, digits_of};
+use crate::texts::{push_digits, push_name, push_value};
 use fp_digits::{Cause, Number};
 use fp_inap::{
-    Event, Leg, Operation, OperationError, read_event_report, read_initial_dp, write_connect,
-    write_continue, write_release, write_request_report,
+    Event, EventReport, InitialDp, Leg, Operation, OperationError, read_event_report,
+    read_initial_dp, write_connect, write_continue, write_release, write_request_report,
 };
 use std::alloc::Global;
-use std::fmt;
+use std::fmt::Write;
 
-/// A value, or `-` where it is absent.
-fn optional_text<T: fmt::Debug + Drop>(alloc: Global, value: Option<T>) -> anyhow::Result<String> {
-    match value {
-        Some(value) => Ok(format!(in alloc; "{value:?}")?),
-        None => Ok(format!(in alloc; "-")?),
-    }
-}
-
-/// A number, as its nature of address and its digits.
-fn number_text(alloc: Global, number: Option<Number>) -> anyhow::Result<String> {
+/// Writes a number, as its nature of address and its digits.
+fn push_number(out: &mut String, number: Option<Number>) -> anyhow::Result<()> {
     let Some(number) = number else {
-        return Ok(format!(in alloc; "-")?);
+        return Ok(out.push_str("-")?);
     };
-    let mut text = format!(in alloc; "{}:", number.nature.code())?;
-    for digit in number.digits.as_slice() {
-        text.push_str(format!(in alloc; "{digit:X}")?.as_str())?;
-    }
-    Ok(text)
+    write!(out, "{}:", number.nature.code())?;
+    push_digits(out, number.digits.as_slice())
 }
 
-/// A leg, as its side and its octet.
-fn leg_text(alloc: Global, leg: Option<Leg>) -> anyhow::Result<String> {
-    match leg {
-        Some(Leg::Sending(leg)) => Ok(format!(in alloc; "sending {leg}")?),
-        Some(Leg::Receiving(leg)) => Ok(format!(in alloc; "receiving {leg}")?),
-        None => Ok(format!(in alloc; "-")?),
-    }
+/// Writes what the argument of an InitialDP says.
+fn push_initial_dp(out: &mut String, read: &InitialDp) -> anyhow::Result<()> {
+    out.push_str("key ")?;
+    push_value(out, read.key, "-")?;
+    out.push_str(", called ")?;
+    push_number(out, read.called)?;
+    out.push_str(", calling ")?;
+    push_number(out, read.calling)?;
+    out.push_str(", category ")?;
+    push_value(out, read.category, "-")?;
+    out.push_str(", event ")?;
+    push_name(out, read.event, "-")
 }
 
 /// What the argument of an InitialDP says.
-fn initial_dp(alloc: Global, text: &str) -> anyhow::Result<String> {
+fn initial_dp(alloc: Global, text: &str, out: &mut String) -> anyhow::Result<()> {
     let element = element_of(alloc, text)?;
-    let Ok(read) = read_initial_dp(&element) else {
-        return Ok(format!(in alloc; "mistyped")?);
-    };
-    let key = optional_text(alloc, read.key)?;
-    let called = number_text(alloc, read.called)?;
-    let calling = number_text(alloc, read.calling)?;
-    let category = optional_text(alloc, read.category)?;
-    let event = optional_text(alloc, read.event)?;
-    Ok(format!(in alloc;
-        "key {key}, called {called}, calling {calling}, category {category}, event {event}"
-    )?)
+    match read_initial_dp(&element) {
+        Ok(read) => push_initial_dp(out, &read),
+        Err(_) => Ok(out.push_str("mistyped")?),
+    }
+}
+
+/// Writes a leg, as its side and its octet.
+fn push_leg(out: &mut String, leg: Option<Leg>) -> anyhow::Result<()> {
+    match leg {
+        Some(Leg::Sending(leg)) => write!(out, "sending {leg}")?,
+        Some(Leg::Receiving(leg)) => write!(out, "receiving {leg}")?,
+        None => out.push_str("-")?,
+    }
+    Ok(())
+}
+
+/// Writes what the argument of an EventReportBCSM says.
+fn push_event_report(out: &mut String, read: &EventReport) -> anyhow::Result<()> {
+    write!(out, "event {:?}, leg ", read.event)?;
+    push_leg(out, read.leg)?;
+    out.push_str(if read.notification {
+        ", notification"
+    } else {
+        ", request"
+    })?;
+    Ok(())
 }
 
 /// What the argument of an EventReportBCSM says.
-fn event_report(alloc: Global, text: &str) -> anyhow::Result<String> {
+fn event_report(alloc: Global, text: &str, out: &mut String) -> anyhow::Result<()> {
     let element = element_of(alloc, text)?;
-    let Ok(read) = read_event_report(&element) else {
-        return Ok(format!(in alloc; "mistyped")?);
-    };
-    let leg = leg_text(alloc, read.leg)?;
-    let message_type = if read.notification {
-        "notification"
-    } else {
-        "request"
-    };
-    Ok(format!(in alloc; "event {:?}, leg {leg}, {message_type}", read.event)?)
+    match read_event_report(&element) {
+        Ok(read) => push_event_report(out, &read),
+        Err(_) => Ok(out.push_str("mistyped")?),
+    }
 }
 
 /// The octets of the argument of a Connect.
-fn connect(alloc: Global, text: &str) -> anyhow::Result<String> {
-    let mut digits: Vec<u8> = Vec::new(alloc);
-    for octet in text.as_bytes() {
-        if !octet.is_ascii_digit() {
-            anyhow::bail!("a destination of other digits");
-        }
-        digits.push(*octet - b'0')?;
-    }
+fn connect(alloc: Global, text: &str, out: &mut String) -> anyhow::Result<()> {
+    let digits = digits_of(alloc, text)?;
     let digits = digits.as_slice();
-    if digits.is_empty() || digits.len() > 15 || !digits.iter().all(|&digit| digit < 10) {
-        anyhow::bail!("a destination of no digits or more than 15");
-    }
+    anyhow::ensure!(are_writable(digits), "not 1 to 15 decimal digits");
     let mut argument = new_writer(alloc)?;
     write_connect(digits, &mut argument)?;
-    written_text(alloc, argument)
+    push_written(out, argument)
 }
 
 /// The cause of this name.
@@ -114,69 +111,80 @@ fn cause_of(name: &str) -> anyhow::Result<Cause> {
 }
 
 /// The octets of the argument of a ReleaseCall.
-fn release(alloc: Global, name: &str) -> anyhow::Result<String> {
+fn release(alloc: Global, name: &str, out: &mut String) -> anyhow::Result<()> {
+    let cause = cause_of(name)?;
     let mut argument = new_writer(alloc)?;
-    write_release(cause_of(name)?, &mut argument)?;
-    written_text(alloc, argument)
+    write_release(cause, &mut argument)?;
+    push_written(out, argument)
 }
 
 /// The octets of the argument of a RequestReportBCSMEvent.
-fn request_report(alloc: Global) -> anyhow::Result<String> {
+fn request_report(alloc: Global, out: &mut String) -> anyhow::Result<()> {
     let mut argument = new_writer(alloc)?;
     write_request_report(&mut argument)?;
-    written_text(alloc, argument)
+    push_written(out, argument)
 }
 
 /// The octets of the Invoke of Continue.
-fn continuing(alloc: Global, identifier: i8) -> anyhow::Result<String> {
+fn continuing(alloc: Global, text: &str, out: &mut String) -> anyhow::Result<()> {
+    let identifier: i8 = text.parse()?;
     let mut invoke = new_writer(alloc)?;
     write_continue(identifier, &mut invoke)?;
-    written_text(alloc, invoke)
+    push_written(out, invoke)
 }
 
 /// The operation of a code, with its code and its class.
-fn operation(alloc: Global, code: i32) -> anyhow::Result<String> {
-    let Some(operation) = Operation::from_code(code) else {
-        return Ok(format!(in alloc; "-")?);
+fn operation(text: &str, out: &mut String) -> anyhow::Result<()> {
+    let Some(operation) = Operation::from_code(text.parse()?) else {
+        return Ok(out.push_str("-")?);
     };
-    Ok(format!(in alloc;
-        "{operation:?}, code {}, {:?}",
-        operation.code(),
-        operation.class()
-    )?)
+    let code = operation.code();
+    let class = operation.class();
+    Ok(write!(out, "{operation:?}, code {code}, {class:?}")?)
 }
 
 /// The event of a code, and the code that it has.
-fn event(alloc: Global, code: u8) -> anyhow::Result<String> {
-    let event = Event::from_code(code);
-    Ok(format!(in alloc; "{event:?}, code {}", event.code())?)
+fn event(text: &str, out: &mut String) -> anyhow::Result<()> {
+    let event = Event::from_code(text.parse()?);
+    Ok(write!(out, "{event:?}, code {}", event.code())?)
+}
+
+/// The error of this name.
+fn error_of(name: &str) -> anyhow::Result<OperationError> {
+    match name {
+        "missingCustomerRecord" => Ok(OperationError::MissingCustomerRecord),
+        "missingParameter" => Ok(OperationError::MissingParameter),
+        "unexpectedComponentSequence" => Ok(OperationError::UnexpectedComponentSequence),
+        "unexpectedDataValue" => Ok(OperationError::UnexpectedDataValue),
+        _ => anyhow::bail!("no error"),
+    }
 }
 
 /// The code of the error of this name.
-fn error(alloc: Global, name: &str) -> anyhow::Result<String> {
-    let error = match name {
-        "missingCustomerRecord" => OperationError::MissingCustomerRecord,
-        "missingParameter" => OperationError::MissingParameter,
-        "unexpectedComponentSequence" => OperationError::UnexpectedComponentSequence,
-        "unexpectedDataValue" => OperationError::UnexpectedDataValue,
-        _ => anyhow::bail!("no error"),
-    };
-    Ok(format!(in alloc; "code {}", error.code())?)
+fn error(name: &str, out: &mut String) -> anyhow::Result<()> {
+    let error = error_of(name)?;
+    Ok(write!(out, "code {}", error.code())?)
 }
 
-/// What a case of this module gives, or `None` where the words are none.
-pub(crate) fn case(alloc: Global, words: &[&str]) -> anyhow::Result<Option<String>> {
-    let text = match words {
-        ["initial-dp", text] => initial_dp(alloc, text)?,
-        ["event-report", text] => event_report(alloc, text)?,
-        ["connect", digits] => connect(alloc, digits)?,
-        ["release", name] => release(alloc, name)?,
-        ["request-report"] => request_report(alloc)?,
-        ["continue", identifier] => continuing(alloc, identifier.parse()?)?,
-        ["operation", code] => operation(alloc, code.parse()?)?,
-        ["event", code] => event(alloc, code.parse()?)?,
-        ["error", name] => error(alloc, name)?,
-        _ => return Ok(None),
+/// Writes what a case of this module gives, and says whether it has one of this kind.
+pub(crate) fn answer(
+    alloc: Global,
+    kind: &str,
+    rest: &str,
+    out: &mut String,
+) -> anyhow::Result<bool> {
+    let written = match kind {
+        "initial-dp" => initial_dp(alloc, rest, out),
+        "event-report" => event_report(alloc, rest, out),
+        "connect" => connect(alloc, rest, out),
+        "release" => release(alloc, rest, out),
+        "request-report" => request_report(alloc, out),
+        "continue" => continuing(alloc, rest, out),
+        "operation" => operation(rest, out),
+        "event" => event(rest, out),
+        "error" => error(rest, out),
+        _ => return Ok(false),
     };
-    Ok(Some(text))
+    written?;
+    Ok(true)
 }

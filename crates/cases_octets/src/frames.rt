@@ -4,64 +4,91 @@
 //! |---|---|
 //! | `frame HEX` | the octets of the frame of this message (`empty`: of no octets), or `none` |
 //! | `copy-frame HEX` | the octets of a copy of the frame of this message |
-//! | `frame-of COUNT` | how many octets the frame of a message of so many octets of 5A holds, or `none` |
-//! | `head COUNT` | the octets before a message of so many octets |
+//! | `frame-of COUNT` | of the frame of a message of COUNT octets 5A: how many octets it holds, or `none` |
+//! | `head COUNT` | the octets before a message of COUNT octets |
 
-use crate::elements::{octets_of, octets_text};
-use anyhow::ensure;
+use anyhow::{bail, ensure};
 use bytes::Bytes;
+use cases::{octets_of, push_octets};
 use fp_frames::{Frame, frame_head};
 use std::alloc::Global;
+use std::fmt::Write;
 
-/// The octets of the frame of a message.
-fn frame(alloc: Global, text: &str) -> anyhow::Result<String> {
-    let octets = octets_of(alloc, text)?;
-    let message = Bytes::copy_from_slice(alloc, octets.as_slice())?;
-    match Frame::new(message) {
-        Some(frame) => octets_text(alloc, frame.octets()),
-        None => Ok(format!(in alloc; "none")?),
+/// The frame of this message, or `None` where no frame holds it.
+fn frame_of(alloc: Global, octets: &[u8]) -> anyhow::Result<Option<Frame>> {
+    Ok(Frame::new(Bytes::copy_from_slice(alloc, octets)?))
+}
+
+/// Writes the octets of a frame, or `none`.
+fn push_frame(out: &mut String, frame: Option<&Frame>) -> anyhow::Result<()> {
+    match frame {
+        Some(frame) => push_octets(out, frame.octets()),
+        None => Ok(out.push_str("none")?),
     }
 }
 
-/// The octets of a copy of the frame of a message, which stays when the frame itself is given back.
-fn copy(alloc: Global, text: &str) -> anyhow::Result<String> {
+/// The octets of the frame of a message.
+fn frame(alloc: Global, text: &str, out: &mut String) -> anyhow::Result<()> {
     let octets = octets_of(alloc, text)?;
-    let message = Bytes::copy_from_slice(alloc, octets.as_slice())?;
-    let Some(frame) = Frame::new(message) else {
-        return Ok(format!(in alloc; "none")?);
-    };
-    let copy = frame.try_clone()?;
-    drop(frame);
-    octets_text(alloc, copy.octets())
+    let frame = frame_of(alloc, octets.as_slice())?;
+    push_frame(out, frame.as_ref())
 }
 
-/// How many octets the frame of a message of so many octets of 5A holds.
-fn frame_of(alloc: Global, count: u16) -> anyhow::Result<String> {
-    let mut octets = Vec::new(alloc);
-    octets.resize(usize::from(count), 0x5A)?;
-    let message = Bytes::copy_from_slice(alloc, octets.as_slice())?;
-    let Some(frame) = Frame::new(message) else {
-        return Ok(format!(in alloc; "none")?);
+/// A copy of this frame, which is dropped.
+fn copy_of(frame: Option<Frame>) -> anyhow::Result<Frame> {
+    match frame {
+        Some(frame) => Ok(frame.try_clone()?),
+        None => bail!("no frame"),
+    }
+}
+
+/// The octets of a copy of the frame of a message, after the frame itself is gone.
+fn copy(alloc: Global, text: &str, out: &mut String) -> anyhow::Result<()> {
+    let octets = octets_of(alloc, text)?;
+    let copy = copy_of(frame_of(alloc, octets.as_slice())?)?;
+    push_octets(out, copy.octets())
+}
+
+/// Writes how many octets a frame holds, each of them 5A, or `none`.
+fn push_count(out: &mut String, frame: Option<&Frame>) -> anyhow::Result<()> {
+    let Some(frame) = frame else {
+        return Ok(out.push_str("none")?);
     };
     let octets = frame.octets();
     ensure!(octets.iter().all(|&octet| octet == 0x5A), "other octets");
-    Ok(format!(in alloc; "{} of 5A", octets.len())?)
+    Ok(write!(out, "{} of 5A", octets.len())?)
 }
 
-/// The octets before a message of so many octets.
-fn head(alloc: Global, count: u16) -> anyhow::Result<String> {
+/// How many octets the frame of a message of this many octets 5A holds.
+fn count(alloc: Global, text: &str, out: &mut String) -> anyhow::Result<()> {
+    let count: u16 = text.parse()?;
+    let mut octets = Vec::new(alloc);
+    octets.resize(usize::from(count), 0x5A)?;
+    let frame = frame_of(alloc, octets.as_slice())?;
+    push_count(out, frame.as_ref())
+}
+
+/// The octets before a message of this many octets.
+fn head(text: &str, out: &mut String) -> anyhow::Result<()> {
+    let count: u16 = text.parse()?;
     ensure!(0 < count && count <= 4_096, "not 1 to 4,096 octets");
-    octets_text(alloc, &frame_head(count))
+    push_octets(out, &frame_head(count))
 }
 
-/// What a case of this module gives.
-pub(crate) fn case(alloc: Global, words: &[&str]) -> anyhow::Result<Option<String>> {
-    let text = match words {
-        ["frame", text] => frame(alloc, text)?,
-        ["copy-frame", text] => copy(alloc, text)?,
-        ["frame-of", count] => frame_of(alloc, count.parse()?)?,
-        ["head", count] => head(alloc, count.parse()?)?,
-        _ => return Ok(None),
+/// Writes what a case of this module gives, and says whether it has one of this kind.
+pub(crate) fn answer(
+    alloc: Global,
+    kind: &str,
+    rest: &str,
+    out: &mut String,
+) -> anyhow::Result<bool> {
+    let written = match kind {
+        "frame" => frame(alloc, rest, out),
+        "copy-frame" => copy(alloc, rest, out),
+        "frame-of" => count(alloc, rest, out),
+        "head" => head(rest, out),
+        _ => return Ok(false),
     };
-    Ok(Some(text))
+    written?;
+    Ok(true)
 }

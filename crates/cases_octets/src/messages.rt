@@ -1,4 +1,4 @@
-//! Messages and components of TCAP (Q.773): how they are read, what can be told of octets that needn't be a message,
+//! Messages and components of TCAP (Q.773): how they are read, what `ids_of` finds in octets that need not be a message,
 //! and how they are written.
 //!
 //! | Case | What it gives |
@@ -28,25 +28,27 @@ mod written;
 
 use std::alloc::Global;
 
-/// What a case of this module gives.
-pub(crate) fn case(alloc: Global, words: &[&str]) -> anyhow::Result<Option<String>> {
-    let text = match words {
-        ["message", text] => reading::message(alloc, text)?,
-        ["component", text] => reading::component(alloc, text)?,
-        ["invokes", text] => reading::invokes(alloc, text)?,
-        ["identifiers"] => identifiers::identifiers(alloc, "")?,
-        ["identifiers", text] => identifiers::identifiers(alloc, text)?,
-        ["transaction"] => identifiers::transaction(alloc, "")?,
-        ["transaction", text] => identifiers::transaction(alloc, text)?,
-        ["identifier-of", number] => identifiers::identifier_of(alloc, number.parse()?)?,
-        ["number-of", text] => identifiers::number_of(alloc, text)?,
-        ["problem", tag, value] => problems::problem(alloc, tag.parse()?, value.parse()?)?,
-        ["provider-abort", identifier, cause] => {
-            aborts::provider_abort(alloc, identifier, cause)?
-        }
-        ["provider-cause", value] => aborts::provider_cause(alloc, value.parse()?)?,
-        ["write", parts @ ..] => written::write(alloc, parts)?,
-        _ => return Ok(None),
+/// Writes what a case of this module gives, and says whether it has one of this kind.
+pub(crate) fn answer(
+    alloc: Global,
+    kind: &str,
+    rest: &str,
+    out: &mut String,
+) -> anyhow::Result<bool> {
+    let written = match kind {
+        "message" => reading::message(alloc, rest, out),
+        "component" => reading::component(alloc, rest, out),
+        "invokes" => reading::invokes(alloc, rest, out),
+        "identifiers" => identifiers::identifiers(alloc, rest, out),
+        "transaction" => identifiers::transaction(alloc, rest, out),
+        "identifier-of" => identifiers::identifier_of(rest, out),
+        "number-of" => identifiers::number_of(alloc, rest, out),
+        "problem" => problems::problem(rest, out),
+        "provider-abort" => aborts::provider_abort(alloc, rest, out),
+        "provider-cause" => aborts::provider_cause(rest, out),
+        "write" => written::write(alloc, rest, out),
+        _ => return Ok(false),
     };
-    Ok(Some(text))
+    written?;
+    Ok(true)
 }

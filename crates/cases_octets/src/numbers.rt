@@ -1,6 +1,6 @@
-//! Numbers and causes of Q.763 and Q.850, and moments.
+//! Numbers and causes (ITU-T Q.763, 3.9, 3.10 and 3.12; Q.850, 2.2), and moments.
 //!
-//! Octets stand as hexadecimal, and `empty` where there are none; so do digits, each 0 to F.
+//! Octets are hexadecimal, and `empty` where there are none; so are digits, each 0 to F.
 //!
 //! | Case | What it gives |
 //! |---|---|
@@ -8,66 +8,64 @@
 //! | `calling HEX` | the number in the contents octets of a calling party number, or `NoNumber` |
 //! | `write-called DIGITS` | the contents octets of a called party number with these 1 to 15 decimal digits |
 //! | `cause NAME` | the value of this cause, and its contents octets |
-//! | `moment MILLISECONDS` | the moment so long after 1970-01-01T00:00:00Z, in milliseconds, or `none` |
+//! | `moment MILLISECONDS` | the moment this long after 1970-01-01T00:00:00Z, in milliseconds, or `none` |
 
-use crate::elements::{octets_of, octets_text};
+ghost use Rattle.std.specs.Prelude.{◌≡◌, ◌≤◌, ◌<◌, All, length, true};
+
+use crate::texts::{push_digits, push_value};
 use anyhow::{bail, ensure};
+use cases::{octets_of, push_octets};
 use fp_digits::{
     Cause, Moment, NatureOfAddress, NoNumber, Number, cause, read_called, read_calling,
     write_called,
 };
 use std::alloc::Global;
+use std::fmt::Write;
 
-/// A nature of address, by its name where it has one, and its code.
-fn nature_text(alloc: Global, nature: NatureOfAddress) -> anyhow::Result<String> {
-    let name = if nature == NatureOfAddress::NATIONAL {
+/// The name of a nature of address.
+fn nature_name(nature: NatureOfAddress) -> &'static str {
+    if nature == NatureOfAddress::NATIONAL {
         "national"
     } else if nature == NatureOfAddress::INTERNATIONAL {
         "international"
     } else {
         "nature"
-    };
-    Ok(format!(in alloc; "{name} {}", nature.code())?)
+    }
 }
 
-/// Digits as text, `empty` where there are none.
-fn digits_text(alloc: Global, digits: &[u8]) -> anyhow::Result<String> {
+/// Writes the nature of address of a number, by its name and its code, and its digits.
+fn push_number(out: &mut String, number: &Number) -> anyhow::Result<()> {
+    let nature = number.nature;
+    let digits = number.digits.as_slice();
+    write!(out, "{} {}, digits ", nature_name(nature), nature.code())?;
     if digits.is_empty() {
-        return Ok(format!(in alloc; "empty")?);
+        out.push_str("empty")?;
     }
-    let mut text = String::new(alloc);
-    for digit in digits {
-        text.push_str(format!(in alloc; "{digit:X}")?.as_str())?;
-    }
-    Ok(text)
+    push_digits(out, digits)
 }
 
-/// A number, or that there is none.
-fn number_text(alloc: Global, read: Result<Number, NoNumber>) -> anyhow::Result<String> {
+/// Writes a number that was read, or that there is none.
+fn push_read(out: &mut String, read: Result<Number, NoNumber>) -> anyhow::Result<()> {
     match read {
-        Ok(number) => {
-            let nature = nature_text(alloc, number.nature)?;
-            let digits = digits_text(alloc, number.digits.as_slice())?;
-            Ok(format!(in alloc; "{nature}, digits {digits}")?)
-        }
-        Err(NoNumber) => Ok(format!(in alloc; "NoNumber")?),
+        Ok(number) => push_number(out, &number),
+        Err(NoNumber) => Ok(out.push_str("NoNumber")?),
     }
 }
 
 /// The number in the contents octets of a called party number.
-fn called(alloc: Global, text: &str) -> anyhow::Result<String> {
+fn called(alloc: Global, text: &str, out: &mut String) -> anyhow::Result<()> {
     let octets = octets_of(alloc, text)?;
-    number_text(alloc, read_called(octets.as_slice()))
+    push_read(out, read_called(octets.as_slice()))
 }
 
 /// The number in the contents octets of a calling party number.
-fn calling(alloc: Global, text: &str) -> anyhow::Result<String> {
+fn calling(alloc: Global, text: &str, out: &mut String) -> anyhow::Result<()> {
     let octets = octets_of(alloc, text)?;
-    number_text(alloc, read_calling(octets.as_slice()))
+    push_read(out, read_calling(octets.as_slice()))
 }
 
 /// The decimal digits of a text.
-fn digits_of(alloc: Global, text: &str) -> anyhow::Result<Vec<u8>> {
+pub(crate) fn digits_of(alloc: Global, text: &str) -> anyhow::Result<Vec<u8>> {
     let mut digits = Vec::new(alloc);
     for octet in text.as_bytes() {
         ensure!(octet.is_ascii_digit(), "{text} is no number");
@@ -76,17 +74,21 @@ fn digits_of(alloc: Global, text: &str) -> anyhow::Result<Vec<u8>> {
     Ok(digits)
 }
 
+/// Whether these are 1 to 15 decimal digits.
+pub(crate) fn are_writable(digits: &[u8]) -> bool
+    ensures some { result ≡ true → 1 ≤ length digits.now }
+    ensures most { result ≡ true → length digits.now ≤ 15 }
+    ensures decimal { result ≡ true → All (λ digit. digit < 10) digits.now }
+{
+    !digits.is_empty() && digits.len() <= 15 && digits.iter().all(|&digit| digit < 10)
+}
+
 /// The contents octets of a called party number with these digits.
-fn write(alloc: Global, text: &str) -> anyhow::Result<String> {
+fn write(alloc: Global, text: &str, out: &mut String) -> anyhow::Result<()> {
     let digits = digits_of(alloc, text)?;
     let digits = digits.as_slice();
-    ensure!(
-        !digits.is_empty() && digits.len() <= 15,
-        "not 1 to 15 digits"
-    );
-    ensure!(digits.iter().all(|&digit| digit < 10), "digits beyond 9");
-    let octets = write_called(digits);
-    octets_text(alloc, octets.as_slice())
+    ensure!(are_writable(digits), "not 1 to 15 decimal digits");
+    push_octets(out, write_called(digits).as_slice())
 }
 
 /// A cause by its name.
@@ -101,29 +103,33 @@ fn cause_of(text: &str) -> anyhow::Result<Cause> {
 }
 
 /// The value and the contents octets of a cause.
-fn cause_text(alloc: Global, text: &str) -> anyhow::Result<String> {
+fn coded_cause(text: &str, out: &mut String) -> anyhow::Result<()> {
     let value = cause_of(text)?.code();
-    let octets = octets_text(alloc, &cause(value))?;
-    Ok(format!(in alloc; "value {value}, {octets}")?)
+    write!(out, "value {value}, ")?;
+    push_octets(out, &cause(value))
 }
 
-/// The moment so many milliseconds after 1970-01-01T00:00:00Z.
-fn moment(alloc: Global, milliseconds: u64) -> anyhow::Result<String> {
-    match Moment::new(milliseconds) {
-        Some(moment) => Ok(format!(in alloc; "{}", moment.milliseconds())?),
-        None => Ok(format!(in alloc; "none")?),
-    }
+/// The moment this many milliseconds after 1970-01-01T00:00:00Z.
+fn moment(text: &str, out: &mut String) -> anyhow::Result<()> {
+    let moment = Moment::new(text.parse()?);
+    push_value(out, moment.map(|moment| moment.milliseconds()), "none")
 }
 
-/// What a case of this module gives.
-pub(crate) fn case(alloc: Global, words: &[&str]) -> anyhow::Result<Option<String>> {
-    let text = match words {
-        ["called", text] => called(alloc, text)?,
-        ["calling", text] => calling(alloc, text)?,
-        ["write-called", text] => write(alloc, text)?,
-        ["cause", text] => cause_text(alloc, text)?,
-        ["moment", milliseconds] => moment(alloc, milliseconds.parse()?)?,
-        _ => return Ok(None),
+/// Writes what a case of this module gives, and says whether it has one of this kind.
+pub(crate) fn answer(
+    alloc: Global,
+    kind: &str,
+    rest: &str,
+    out: &mut String,
+) -> anyhow::Result<bool> {
+    let written = match kind {
+        "called" => called(alloc, rest, out),
+        "calling" => calling(alloc, rest, out),
+        "write-called" => write(alloc, rest, out),
+        "cause" => coded_cause(rest, out),
+        "moment" => moment(rest, out),
+        _ => return Ok(false),
     };
-    Ok(Some(text))
+    written?;
+    Ok(true)
 }

@@ -10,11 +10,13 @@
 //! | `answer NAME VERDICT` | the octets of the dialogue portion that answers `accepted`, `no-name` or `no-version` |
 //! | `abort` | those of the dialogue portion that aborts |
 //!
-//! Names have commas between them. `empty` stands for no octets, and `-` for no names or no dialogue portion.
+//! Names have commas between them. `empty` is no octets, and `-` is no names or no dialogue portion.
 
-use crate::elements::{element_of, new_writer, octets_of, octets_text, written_text};
+use crate::elements::{element_of, new_writer, push_written};
+use cases::{first_word, octets_of, push_octets};
 use fp_apdu::{Badly, Name, Opening, Verdict, opening_of, write_aare, write_abrt};
 use std::alloc::Global;
+use std::fmt::Write;
 
 /// The name that this text spells.
 fn name_of(alloc: Global, text: &str) -> anyhow::Result<Name> {
@@ -38,11 +40,11 @@ fn names_of(alloc: Global, text: &str) -> anyhow::Result<Vec<Name>> {
 }
 
 /// The octets that the name of these octets has.
-fn name(alloc: Global, text: &str) -> anyhow::Result<String> {
+fn name(alloc: Global, text: &str, out: &mut String) -> anyhow::Result<()> {
     let octets = octets_of(alloc, text)?;
     match Name::new(octets.as_slice()) {
-        Some(name) => octets_text(alloc, name.as_slice()),
-        None => Ok(format!(in alloc; "none")?),
+        Some(name) => push_octets(out, name.as_slice()),
+        None => Ok(out.push_str("none")?),
     }
 }
 
@@ -54,65 +56,75 @@ fn is_kept(octets: &[u8]) -> bool {
     }
 }
 
+/// Writes a length after others.
+fn push_length(out: &mut String, length: u8) -> anyhow::Result<()> {
+    if !out.is_empty() {
+        out.push_str(" ")?;
+    }
+    Ok(write!(out, "{length}")?)
+}
+
 /// The lengths at which repetitions of an octet are a name.
-fn name_lengths(alloc: Global, octet: u8, most: u8) -> anyhow::Result<String> {
-    let mut octets: Vec<u8> = Vec::new(alloc);
-    let mut text = String::new(alloc);
+fn name_lengths(alloc: Global, text: &str, out: &mut String) -> anyhow::Result<()> {
+    let (octet, most) = first_word(text);
+    let octet: u8 = octet.parse()?;
+    let most: u8 = most.parse()?;
+    let mut octets = Vec::new(alloc);
     for length in 0..=most {
         if is_kept(octets.as_slice()) {
-            text.push_str(format!(in alloc; "{length} ")?.as_str())?;
+            push_length(out, length)?;
         }
         octets.push(octet)?;
     }
-    Ok(text.as_str().trim_end().to_string(alloc)?)
+    Ok(())
 }
 
 /// Whether two names are equal.
-fn same_name(alloc: Global, one: &str, other: &str) -> anyhow::Result<String> {
+fn same_name(alloc: Global, text: &str, out: &mut String) -> anyhow::Result<()> {
+    let (one, other) = first_word(text);
     let is_same = name_of(alloc, one)? == name_of(alloc, other)?;
-    let text = if is_same { "yes" } else { "no" };
-    Ok(text.to_string(alloc)?)
+    Ok(out.push_str(if is_same { "yes" } else { "no" })?)
 }
 
-/// What is opened, with its name.
-fn named_text(alloc: Global, kind: &str, name: &Name) -> anyhow::Result<String> {
-    let name = octets_text(alloc, name.as_slice())?;
-    Ok(format!(in alloc; "{kind} {name}")?)
+/// Writes what is opened, with its name.
+fn push_named(out: &mut String, kind: &str, name: &Name) -> anyhow::Result<()> {
+    out.push_str(kind)?;
+    push_octets(out, name.as_slice())
 }
 
-/// What is opened.
-fn opening_text(alloc: Global, opening: &Opening) -> anyhow::Result<String> {
-    match opening {
-        Opening::None => Ok(format!(in alloc; "none")?),
-        Opening::Known(name) => named_text(alloc, "known", name),
-        Opening::Unknown(name) => named_text(alloc, "unknown", name),
-        Opening::BadVersion(name) => named_text(alloc, "bad version", name),
+/// Writes what is opened, or that it is no request.
+fn push_opening(out: &mut String, found: Result<Opening, Badly>) -> anyhow::Result<()> {
+    match &found {
+        Ok(Opening::None) => Ok(out.push_str("none")?),
+        Ok(Opening::Known(name)) => push_named(out, "known ", name),
+        Ok(Opening::Unknown(name)) => push_named(out, "unknown ", name),
+        Ok(Opening::BadVersion(name)) => push_named(out, "bad version ", name),
+        Err(Badly) => Ok(out.push_str("badly")?),
     }
 }
 
-/// What is opened, or that it is no request.
-fn found_text(alloc: Global, found: Result<Opening, Badly>) -> anyhow::Result<String> {
-    match found {
-        Ok(opening) => opening_text(alloc, &opening),
-        Err(Badly) => Ok(format!(in alloc; "badly")?),
+/// What a dialogue portion opens where these names are accepted.
+fn opened(alloc: Global, names: &[Name], portion: &str) -> anyhow::Result<Result<Opening, Badly>> {
+    if portion == "-" {
+        return Ok(opening_of(None, names));
     }
+    let portion = element_of(alloc, portion)?;
+    Ok(opening_of(Some(&portion), names))
 }
 
 /// What a dialogue portion opens.
-fn opening(alloc: Global, names: &str, portion: &str) -> anyhow::Result<String> {
+fn opening(alloc: Global, text: &str, out: &mut String) -> anyhow::Result<()> {
+    let (names, portion) = first_word(text);
     let names = names_of(alloc, names)?;
-    if portion == "-" {
-        return found_text(alloc, opening_of(None, names.as_slice()));
-    }
-    let portion = element_of(alloc, portion)?;
-    found_text(alloc, opening_of(Some(&portion), names.as_slice()))
+    push_opening(out, opened(alloc, names.as_slice(), portion)?)
 }
 
 /// What the dialogue portion around an APDU opens: an EXTERNAL of the abstract syntax of dialogue APDUs, each
 /// element down to the APDU with an indefinite length.
-fn request(alloc: Global, names: &str, apdu: &str) -> anyhow::Result<String> {
-    let portion = format!(in alloc; "6B802880060700118605010101A080{apdu}000000000000")?;
-    opening(alloc, names, portion.as_str())
+fn request(alloc: Global, text: &str, out: &mut String) -> anyhow::Result<()> {
+    let (names, apdu) = first_word(text);
+    let text = format!(in alloc; "{names} 6B802880060700118605010101A080{apdu}000000000000")?;
+    opening(alloc, text.as_str(), out)
 }
 
 /// The verdict of this name.
@@ -126,31 +138,39 @@ fn verdict_of(name: &str) -> anyhow::Result<Verdict> {
 }
 
 /// The octets of an answer.
-fn answer(alloc: Global, name: &str, verdict: &str) -> anyhow::Result<String> {
+fn answering(alloc: Global, text: &str, out: &mut String) -> anyhow::Result<()> {
+    let (name, verdict) = first_word(text);
     let name = name_of(alloc, name)?;
+    let verdict = verdict_of(verdict)?;
     let mut portion = new_writer(alloc)?;
-    write_aare(&name, verdict_of(verdict)?, &mut portion)?;
-    written_text(alloc, portion)
+    write_aare(&name, verdict, &mut portion)?;
+    push_written(out, portion)
 }
 
 /// The octets of an abort.
-fn abort(alloc: Global) -> anyhow::Result<String> {
+fn abort(alloc: Global, out: &mut String) -> anyhow::Result<()> {
     let mut portion = new_writer(alloc)?;
     write_abrt(&mut portion)?;
-    written_text(alloc, portion)
+    push_written(out, portion)
 }
 
-/// What a case of this module gives, or `None` where the words are none.
-pub(crate) fn case(alloc: Global, words: &[&str]) -> anyhow::Result<Option<String>> {
-    let text = match words {
-        ["name", octets] => name(alloc, octets)?,
-        ["name-lengths", octet, most] => name_lengths(alloc, octet.parse()?, most.parse()?)?,
-        ["same-name", one, other] => same_name(alloc, one, other)?,
-        ["opening", names, portion] => opening(alloc, names, portion)?,
-        ["request", names, apdu] => request(alloc, names, apdu)?,
-        ["answer", name, verdict] => answer(alloc, name, verdict)?,
-        ["abort"] => abort(alloc)?,
-        _ => return Ok(None),
+/// Writes what a case of this module gives, and says whether it has one of this kind.
+pub(crate) fn answer(
+    alloc: Global,
+    kind: &str,
+    rest: &str,
+    out: &mut String,
+) -> anyhow::Result<bool> {
+    let written = match kind {
+        "name" => name(alloc, rest, out),
+        "name-lengths" => name_lengths(alloc, rest, out),
+        "same-name" => same_name(alloc, rest, out),
+        "opening" => opening(alloc, rest, out),
+        "request" => request(alloc, rest, out),
+        "answer" => answering(alloc, rest, out),
+        "abort" => abort(alloc, out),
+        _ => return Ok(false),
     };
-    Ok(Some(text))
+    written?;
+    Ok(true)
 }

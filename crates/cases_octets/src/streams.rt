@@ -2,32 +2,34 @@
 //!
 //! | Case | What it gives |
 //! |---|---|
-//! | `lines MOST TURNS CALLS READ ..` | what so many calls for the next line answer, with `; ` between them, where lines have at most so many octets and at most so many reads may be made: a line, `end`, or a fault and how often the reader failed by then |
-//! | `write-all PIECE ROOM HEX` | what writing these octets answers, what a writer then holds that takes so many octets a write, so many in all, and how often it failed |
+//! | `lines MOST TURNS CALLS READ ..` | what CALLS calls for the next line answer, with `; ` between them, if a line has at most MOST octets and at most TURNS reads may be made: a line, `end`, or a fault and how often the reader failed by then |
+//! | `write-all PIECE ROOM HEX` | what writing these octets answers, what the writer then holds, and how often it failed; it takes PIECE octets a write, and ROOM in all |
 //!
-//! A READ is the octets that one read gives, `interrupted`, or `fault`. Behind the last one the input is at its end.
-//! Lines and octets stand as hexadecimal, and `empty` where there are none.
+//! A READ is the octets that one read gives, `interrupted`, or `fault`. After the last one the input is at its end.
+//! Lines and octets are hexadecimal, and `empty` where there are none.
 
-use crate::elements::{octets_of, octets_text};
+use cases::{first_word, octets_of, push_octets};
 use fp_streams::{Counted, Lines, LinesFault, write_all};
 use std::alloc::Global;
+use std::fmt::Write;
 use std::io;
-use std::io::{ErrorKind, Read, Write};
+use std::io::{ErrorKind, Read};
 
 /// A reader that gives what its words say, one a read. A word that spells no octets is a failure.
 #[derive(Drop)]
 struct Reads<'a> {
     alloc: Global,
-    words: &'a [&'a str],
+    words: &'a str,
 }
 
 impl Read for Reads<'_> {
     fn read(&mut self, room: &mut [u8]) -> io::Result<usize> {
-        let [word, rest @ ..] = self.words else {
+        if self.words.is_empty() {
             return Ok(0);
-        };
+        }
+        let (word, rest) = first_word(self.words);
         self.words = rest;
-        if *word == "interrupted" {
+        if word == "interrupted" {
             return Err(io::Error::from(ErrorKind::Interrupted));
         }
         let Ok(octets) = octets_of(self.alloc, word) else {
@@ -38,7 +40,7 @@ impl Read for Reads<'_> {
     }
 }
 
-/// A writer that takes so many octets a write, and has room for so many more.
+/// A writer that takes at most `piece` octets a write, and has room for `room` more.
 #[derive(Drop)]
 struct Pieces {
     octets: Vec<u8>,
@@ -46,7 +48,7 @@ struct Pieces {
     room: usize,
 }
 
-impl Write for Pieces {
+impl io::Write for Pieces {
     fn write(&mut self, octets: &[u8]) -> io::Result<usize> {
         let count = octets.len().min(self.piece).min(self.room);
         self.octets.extend_from_slice(&octets[..count])?;
@@ -59,58 +61,92 @@ impl Write for Pieces {
     }
 }
 
-/// What a call for the next line answered, where the reader failed so often.
-fn answer_text(
-    alloc: Global,
+/// Writes what a call for the next line answered, after the reader failed this often.
+fn push_answer(
+    out: &mut String,
     answer: Result<Option<Vec<u8>>, LinesFault>,
     failed: u64,
-) -> anyhow::Result<String> {
+) -> anyhow::Result<()> {
     match answer {
-        Ok(Some(line)) => octets_text(alloc, line.as_slice()),
-        Ok(None) => Ok(format!(in alloc; "end")?),
-        Err(fault) => Ok(format!(in alloc; "{fault}, {failed} failed")?),
+        Ok(Some(line)) => push_octets(out, line.as_slice()),
+        Ok(None) => Ok(out.push_str("end")?),
+        Err(fault) => Ok(write!(out, "{fault}, {failed} failed")?),
     }
 }
 
-/// What so many calls for the next line answer.
-fn lines(alloc: Global, mut lines: Lines, calls: u8, words: &[&str]) -> anyhow::Result<String> {
-    let mut reader = Counted::new(Reads { alloc, words });
-    let mut text = String::new(alloc);
+/// Writes what this many calls for the next line answer.
+fn push_lines(
+    out: &mut String,
+    lines: &mut Lines,
+    calls: u8,
+    reader: &mut Counted<Reads<'_>>,
+) -> anyhow::Result<()> {
     for call in 0..calls {
         if call > 0 {
-            text.push_str("; ")?;
+            out.push_str("; ")?;
         }
-        let answer = lines.next(&mut reader);
-        text.push_str(answer_text(alloc, answer, reader.failed)?.as_str())?;
+        push_answer(out, lines.next(reader), reader.failed)?;
     }
-    Ok(text)
+    Ok(())
 }
 
-/// What writing octets answers, what was written, and how often the writer failed.
-fn written(alloc: Global, piece: usize, room: usize, text: &str) -> anyhow::Result<String> {
-    let octets = octets_of(alloc, text)?;
-    let mut writer = Counted::new(Pieces {
+/// What calls for the next line answer.
+fn lines(alloc: Global, text: &str, out: &mut String) -> anyhow::Result<()> {
+    let (most, text) = first_word(text);
+    let (turns, text) = first_word(text);
+    let (calls, words) = first_word(text);
+    let calls: u8 = calls.parse()?;
+    let mut lines = Lines::new(alloc, most.parse()?, turns.parse()?);
+    let mut reader = Counted::new(Reads { alloc, words });
+    push_lines(out, &mut lines, calls, &mut reader)
+}
+
+/// A writer of pieces.
+fn counted_pieces(alloc: Global, piece: &str, room: &str) -> anyhow::Result<Counted<Pieces>> {
+    let piece: usize = piece.parse()?;
+    let room: usize = room.parse()?;
+    Ok(Counted::new(Pieces {
         octets: Vec::new(alloc),
         piece,
         room,
-    });
-    let answer = match write_all(&mut writer, octets.as_slice()) {
-        Ok(()) => format!(in alloc; "written")?,
-        Err(fault) => format!(in alloc; "{fault}")?,
-    };
-    let held = octets_text(alloc, writer.device.octets.as_slice())?;
-    Ok(format!(in alloc; "{answer}: {held}, {} failed", writer.failed)?)
+    }))
 }
 
-/// What a case of this module gives, or `None` where the words are none.
-pub(crate) fn case(alloc: Global, words: &[&str]) -> anyhow::Result<Option<String>> {
-    let text = match words {
-        ["lines", most, turns, calls, reads @ ..] => {
-            let held = Lines::new(alloc, most.parse()?, turns.parse()?);
-            lines(alloc, held, calls.parse()?, reads)?
-        }
-        ["write-all", piece, room, text] => written(alloc, piece.parse()?, room.parse()?, text)?,
-        _ => return Ok(None),
+/// Writes these octets by a writer of pieces, and to `out` what that answers.
+fn push_written(
+    out: &mut String,
+    writer: &mut Counted<Pieces>,
+    octets: &[u8],
+) -> anyhow::Result<()> {
+    match write_all(writer, octets) {
+        Ok(()) => Ok(out.push_str("written: ")?),
+        Err(fault) => Ok(write!(out, "{fault}: ")?),
+    }
+}
+
+/// What writing octets answers, what was written, and how often the writer failed.
+fn written(alloc: Global, text: &str, out: &mut String) -> anyhow::Result<()> {
+    let (piece, text) = first_word(text);
+    let (room, text) = first_word(text);
+    let mut writer = counted_pieces(alloc, piece, room)?;
+    let octets = octets_of(alloc, text)?;
+    push_written(out, &mut writer, octets.as_slice())?;
+    push_octets(out, writer.device.octets.as_slice())?;
+    Ok(write!(out, ", {} failed", writer.failed)?)
+}
+
+/// Writes what a case of this module gives, and says whether it has one of this kind.
+pub(crate) fn answer(
+    alloc: Global,
+    kind: &str,
+    rest: &str,
+    out: &mut String,
+) -> anyhow::Result<bool> {
+    let written = match kind {
+        "lines" => lines(alloc, rest, out),
+        "write-all" => written(alloc, rest, out),
+        _ => return Ok(false),
     };
-    Ok(Some(text))
+    written?;
+    Ok(true)
 }

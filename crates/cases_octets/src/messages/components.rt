@@ -1,111 +1,93 @@
 //! Components as text.
 
-use crate::messages::elements::optional_text;
-use crate::messages::problems::problem_text;
-use fp_q773::{Code, Coded, Component, Invoke, Problem, ReturnError, ReturnResult};
-use std::alloc::Global;
+use crate::messages::elements::push_optional;
+use crate::messages::problems::push_problem;
+use crate::texts::{push_hexadecimal, push_value};
+use fp_ber::Element;
+use fp_q773::{Code, Coded, Component, Problem};
+use std::fmt::Write;
 
-/// An invoke identifier that may be there, or `none`.
-fn identifier_text(alloc: Global, identifier: Option<i8>) -> anyhow::Result<String> {
-    match identifier {
-        Some(identifier) => Ok(format!(in alloc; "{identifier}")?),
-        None => Ok(format!(in alloc; "none")?),
-    }
-}
-
-/// The code of an operation or of an error.
-fn code_text(alloc: Global, code: &Code<'_>) -> anyhow::Result<String> {
+/// Writes the code of an operation or of an error.
+fn push_code(out: &mut String, code: &Code<'_>) -> anyhow::Result<()> {
     match code {
-        Code::Local(code) => Ok(format!(in alloc; "local {code}")?),
+        Code::Local(code) => Ok(write!(out, ", code local {code}")?),
         Code::Global(octets) => {
-            let octets = hex::encode_upper(alloc, *octets)?;
-            Ok(format!(in alloc; "global [{octets}]")?)
+            out.push_str(", code global [")?;
+            push_hexadecimal(out, octets)?;
+            Ok(out.push_str("]")?)
         }
     }
 }
 
-/// A code and a parameter.
-fn coded_text(alloc: Global, coded: &Coded<'_>) -> anyhow::Result<String> {
-    let code = code_text(alloc, &coded.code)?;
-    let parameter = optional_text(alloc, coded.parameter)?;
-    Ok(format!(in alloc; "code {code}, parameter {parameter}")?)
+/// Writes a code and a parameter.
+fn push_coded(
+    out: &mut String,
+    code: &Code<'_>,
+    parameter: Option<&Element>,
+) -> anyhow::Result<()> {
+    push_code(out, code)?;
+    out.push_str(", parameter ")?;
+    push_optional(out, parameter)
 }
 
-/// An Invoke.
-fn invoke_text(alloc: Global, invoke: &Invoke<'_>) -> anyhow::Result<String> {
-    let identifier = invoke.identifier;
-    let linked = identifier_text(alloc, invoke.linked)?;
-    let code = code_text(alloc, &invoke.code)?;
-    let parameter = optional_text(alloc, invoke.parameter)?;
-    Ok(format!(in alloc;
-        "Invoke {identifier}, linked {linked}, code {code}, parameter {parameter}"
-    )?)
-}
-
-/// What a ReturnResult returns.
-fn result_text(alloc: Global, returned: &ReturnResult<'_>) -> anyhow::Result<String> {
-    let identifier = returned.identifier;
-    match &returned.result {
-        Some(coded) => {
-            let coded = coded_text(alloc, coded)?;
-            Ok(format!(in alloc; "{identifier}, {coded}")?)
-        }
-        None => Ok(format!(in alloc; "{identifier}, no result")?),
+/// Writes what a ReturnResult returns.
+fn push_result(out: &mut String, returned: Option<&Coded<'_>>) -> anyhow::Result<()> {
+    match returned {
+        Some(coded) => push_coded(out, &coded.code, coded.parameter),
+        None => Ok(out.push_str(", no result")?),
     }
 }
 
-/// A ReturnError.
-fn error_text(alloc: Global, error: &ReturnError<'_>) -> anyhow::Result<String> {
-    let identifier = error.identifier;
-    let code = code_text(alloc, &error.code)?;
-    let parameter = optional_text(alloc, error.parameter)?;
-    Ok(format!(in alloc; "ReturnError {identifier}, code {code}, parameter {parameter}")?)
+/// Writes why a component is refused.
+fn push_refusal(out: &mut String, identifier: Option<i8>, problem: Problem) -> anyhow::Result<()> {
+    push_value(out, identifier, "none")?;
+    out.push_str(", ")?;
+    push_problem(out, problem)
 }
 
-/// A component that can't be taken, and why.
-fn refused_text(
-    alloc: Global,
-    name: &str,
-    identifier: Option<i8>,
-    problem: Problem,
-) -> anyhow::Result<String> {
-    let identifier = identifier_text(alloc, identifier)?;
-    let problem = problem_text(alloc, problem)?;
-    Ok(format!(in alloc; "{name} {identifier}, {problem}")?)
-}
-
-/// A component, with each of its fields.
-pub(crate) fn component_text(alloc: Global, component: &Component<'_>) -> anyhow::Result<String> {
+/// Writes a component, with each of its fields.
+pub(crate) fn push_component(out: &mut String, component: &Component<'_>) -> anyhow::Result<()> {
     match component {
-        Component::Invoke(invoke) => invoke_text(alloc, invoke),
-        Component::ReturnResultLast(result) => {
-            let text = result_text(alloc, result)?;
-            Ok(format!(in alloc; "ReturnResultLast {text}")?)
+        Component::Invoke(invoke) => {
+            write!(out, "Invoke {}, linked ", invoke.identifier)?;
+            push_value(out, invoke.linked, "none")?;
+            push_coded(out, &invoke.code, invoke.parameter)
         }
-        Component::ReturnResultNotLast(result) => {
-            let text = result_text(alloc, result)?;
-            Ok(format!(in alloc; "ReturnResultNotLast {text}")?)
+        Component::ReturnResultLast(last) => {
+            write!(out, "ReturnResultLast {}", last.identifier)?;
+            push_result(out, last.result.as_ref())
         }
-        Component::ReturnError(error) => error_text(alloc, error),
+        Component::ReturnResultNotLast(not_last) => {
+            write!(out, "ReturnResultNotLast {}", not_last.identifier)?;
+            push_result(out, not_last.result.as_ref())
+        }
+        Component::ReturnError(error) => {
+            write!(out, "ReturnError {}", error.identifier)?;
+            push_coded(out, &error.code, error.parameter)
+        }
         Component::Reject(reject) => {
-            refused_text(alloc, "Reject", reject.identifier, reject.problem)
+            out.push_str("Reject ")?;
+            push_refusal(out, reject.identifier, reject.problem)
         }
         Component::Faulty {
             identifier,
             problem,
-        } => refused_text(alloc, "Faulty", *identifier, Problem::General(*problem)),
+        } => {
+            out.push_str("Faulty ")?;
+            push_refusal(out, *identifier, Problem::General(*problem))
+        }
     }
 }
 
-/// Components: how many there are, and each of them.
-pub(crate) fn components_text(
-    alloc: Global,
+/// Writes how many components there are, and each of them.
+pub(crate) fn push_components(
+    out: &mut String,
     components: &[Component<'_>],
-) -> anyhow::Result<String> {
-    let mut text = format!(in alloc; "components {}", components.len())?;
+) -> anyhow::Result<()> {
+    write!(out, ", components {}", components.len())?;
     for component in components {
-        text.push_str("; ")?;
-        text.push_str(component_text(alloc, component)?.as_str())?;
+        out.push_str("; ")?;
+        push_component(out, component)?;
     }
-    Ok(text)
+    Ok(())
 }

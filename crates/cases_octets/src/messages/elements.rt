@@ -1,7 +1,8 @@
 //! Elements as text: tags and contents, without lengths.
 
+use crate::texts::push_hexadecimal;
 use fp_ber::{Body, Class, Element};
-use std::alloc::Global;
+use std::fmt::Write;
 
 /// The bits of a class in the first octet of a tag (X.690, 8.1.2.2).
 fn class_bits(class: Class) -> u8 {
@@ -13,49 +14,51 @@ fn class_bits(class: Class) -> u8 {
     }
 }
 
-/// A tag: its octet, or its class and its number where one octet doesn't hold them.
-fn tag_text(alloc: Global, class: Class, form: u8, number: u16) -> anyhow::Result<String> {
+/// Writes a tag: its octet, or its class and its number where one octet does not hold them.
+fn push_tag(out: &mut String, class: Class, form: u8, number: u16) -> anyhow::Result<()> {
     if number > 30 {
-        return Ok(format!(in alloc; "{class:?}-{number}")?);
+        return Ok(write!(out, "{class:?}-{number}")?);
     }
     let octet = class_bits(class) | form | number as u8;
-    Ok(format!(in alloc; "{octet:02X}")?)
+    Ok(write!(out, "{octet:02X}")?)
 }
 
-/// An element: its tag, and its octets or its elements.
+/// Writes an element: its tag, and its octets or its elements.
 #[cycle(texts)]
-pub(crate) fn element_text(alloc: Global, element: &Element) -> anyhow::Result<String> {
+pub(crate) fn push_element(out: &mut String, element: &Element) -> anyhow::Result<()> {
     match &element.body {
         Body::Primitive(octets) => {
-            let tag = tag_text(alloc, element.class, 0x00, element.number)?;
-            let octets = hex::encode_upper(alloc, octets.as_slice())?;
-            Ok(format!(in alloc; "{tag}:{octets}")?)
+            push_tag(out, element.class, 0x00, element.number)?;
+            out.push_str(":")?;
+            push_hexadecimal(out, octets.as_slice())
         }
         Body::Constructed(children) => {
-            let tag = tag_text(alloc, element.class, 0x20, element.number)?;
-            let children = all_text(alloc, children.as_slice())?;
-            Ok(format!(in alloc; "{tag}({children})")?)
+            push_tag(out, element.class, 0x20, element.number)?;
+            push_elements(out, children.as_slice())
         }
     }
 }
 
-/// Elements, one after another.
+/// Writes elements, one after another.
 #[cycle(texts)]
-fn all_text(alloc: Global, elements: &[Element]) -> anyhow::Result<String> {
-    let mut text = String::new(alloc);
+fn push_elements(out: &mut String, elements: &[Element]) -> anyhow::Result<()> {
+    let mut is_first = true;
+    out.push_str("(")?;
     for element in elements {
-        if !text.is_empty() {
-            text.push_str(" ")?;
+        if !is_first {
+            out.push_str(" ")?;
         }
-        text.push_str(element_text(alloc, element)?.as_str())?;
+        is_first = false;
+        push_element(out, element)?;
     }
-    Ok(text)
+    out.push_str(")")?;
+    Ok(())
 }
 
-/// An element that may be there, or `none`.
-pub(crate) fn optional_text(alloc: Global, element: Option<&Element>) -> anyhow::Result<String> {
+/// Writes an element, or `none`.
+pub(crate) fn push_optional(out: &mut String, element: Option<&Element>) -> anyhow::Result<()> {
     match element {
-        Some(element) => element_text(alloc, element),
-        None => Ok(format!(in alloc; "none")?),
+        Some(element) => push_element(out, element),
+        None => Ok(out.push_str("none")?),
     }
 }

@@ -1,7 +1,10 @@
-//! Transaction identifiers, and what can be told of octets that needn't be a message.
+//! Transaction identifiers, and the identifiers in octets that need not be a message.
 
+use crate::texts::push_value;
+use cases::push_octets;
 use fp_q773::{Tid, ids_of};
 use std::alloc::Global;
+use std::fmt::Write;
 
 /// The transaction identifier of a text.
 pub(crate) fn tid_of(alloc: Global, text: &str) -> anyhow::Result<Tid> {
@@ -12,44 +15,36 @@ pub(crate) fn tid_of(alloc: Global, text: &str) -> anyhow::Result<Tid> {
     Ok(tid)
 }
 
-/// A transaction identifier.
-pub(crate) fn tid_text(alloc: Global, tid: &Tid) -> anyhow::Result<String> {
-    Ok(hex::encode_upper(alloc, tid.as_slice())?)
-}
-
-/// A transaction identifier that may be there, or `none`.
-fn optional_tid_text(alloc: Global, tid: Option<Tid>) -> anyhow::Result<String> {
+/// Writes a transaction identifier, or `none`.
+fn push_tid(out: &mut String, tid: Option<Tid>) -> anyhow::Result<()> {
     match tid {
-        Some(tid) => tid_text(alloc, &tid),
-        None => Ok(format!(in alloc; "none")?),
+        Some(tid) => push_octets(out, tid.as_slice()),
+        None => Ok(out.push_str("none")?),
     }
 }
 
 /// The transaction identifier of these octets, or `none`.
-pub(crate) fn transaction(alloc: Global, text: &str) -> anyhow::Result<String> {
+pub(crate) fn transaction(alloc: Global, text: &str, out: &mut String) -> anyhow::Result<()> {
     let octets = hex::decode(alloc, text)?;
-    optional_tid_text(alloc, Tid::new(octets.as_slice()))
+    push_tid(out, Tid::new(octets.as_slice()))
 }
 
 /// The transaction identifier of a number.
-pub(crate) fn identifier_of(alloc: Global, number: u32) -> anyhow::Result<String> {
-    tid_text(alloc, &Tid::of_number(number))
+pub(crate) fn identifier_of(text: &str, out: &mut String) -> anyhow::Result<()> {
+    push_octets(out, Tid::of_number(text.parse()?).as_slice())
 }
 
 /// The number of a transaction identifier, or `none`.
-pub(crate) fn number_of(alloc: Global, text: &str) -> anyhow::Result<String> {
-    match tid_of(alloc, text)?.number() {
-        Some(number) => Ok(format!(in alloc; "{number}")?),
-        None => Ok(format!(in alloc; "none")?),
-    }
+pub(crate) fn number_of(alloc: Global, text: &str, out: &mut String) -> anyhow::Result<()> {
+    push_value(out, tid_of(alloc, text)?.number(), "none")
 }
 
 /// The kind and the transaction identifiers of these octets.
-pub(crate) fn identifiers(alloc: Global, text: &str) -> anyhow::Result<String> {
+pub(crate) fn identifiers(alloc: Global, text: &str, out: &mut String) -> anyhow::Result<()> {
     let octets = hex::decode(alloc, text)?;
     let ids = ids_of(octets.as_slice());
-    let kind = ids.kind;
-    let originating = optional_tid_text(alloc, ids.orig)?;
-    let destination = optional_tid_text(alloc, ids.dest)?;
-    Ok(format!(in alloc; "{kind:?}, originating {originating}, destination {destination}")?)
+    write!(out, "{:?}, originating ", ids.kind)?;
+    push_tid(out, ids.orig)?;
+    out.push_str(", destination ")?;
+    push_tid(out, ids.dest)
 }

@@ -1,19 +1,27 @@
 //! Problems by name, with the numbers of their tags and their values.
 
+use cases::first_word;
 use fp_q773::Problem;
-use std::alloc::Global;
+use std::fmt::Write;
 
-/// A problem by name, with the number of its tag and its value.
-pub(crate) fn problem_text(alloc: Global, problem: Problem) -> anyhow::Result<String> {
+/// Writes a problem by name, with the number of its tag and its value.
+pub(crate) fn push_problem(out: &mut String, problem: Problem) -> anyhow::Result<()> {
     let tag = problem.tag();
     let code = problem.code();
-    Ok(format!(in alloc; "{problem:?}, tag {tag}, value {code}")?)
+    Ok(write!(out, "{problem:?}, tag {tag}, value {code}")?)
 }
 
-/// The problem of this value whose tag has this number.
-pub(crate) fn problem(alloc: Global, tag: u16, code: u8) -> anyhow::Result<String> {
-    match Problem::new(tag, code) {
-        Some(problem) => problem_text(alloc, problem),
-        None => Ok(format!(in alloc; "none")?),
+/// The problem of this value whose tag has this number, or `None`.
+pub(crate) fn problem_of(tag: &str, code: &str) -> anyhow::Result<Option<Problem>> {
+    let tag: u16 = tag.parse()?;
+    Ok(Problem::new(tag, code.parse()?))
+}
+
+/// The problem of a tag and a value.
+pub(crate) fn problem(text: &str, out: &mut String) -> anyhow::Result<()> {
+    let (tag, code) = first_word(text);
+    match problem_of(tag, code)? {
+        Some(problem) => push_problem(out, problem),
+        None => Ok(out.push_str("none")?),
     }
 }

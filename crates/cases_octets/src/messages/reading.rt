@@ -1,132 +1,121 @@
 //! Messages as they are read.
 
 use crate::elements::element_of;
-use crate::messages::components::{component_text, components_text};
-use crate::messages::elements::{element_text, optional_text};
-use crate::messages::identifiers::tid_text;
-use fp_q773::{
-    Abort, AbortReason, Begin, Component, Continue, End, Message, MessageFault, message_of,
-};
+use crate::messages::components::{push_component, push_components};
+use crate::messages::elements::push_optional;
+use cases::push_octets;
+use fp_ber::Element;
+use fp_q773::{Abort, AbortReason, Component, Message, MessageFault, Tid, message_of};
 use std::alloc::Global;
+use std::fmt::Write;
 
-/// A Begin.
-fn begin_text(alloc: Global, begin: &Begin<'_>) -> anyhow::Result<String> {
-    let originating = tid_text(alloc, &begin.originating)?;
-    let dialogue = optional_text(alloc, begin.dialogue)?;
-    let components = components_text(alloc, begin.components.as_slice())?;
-    Ok(format!(in alloc; "Begin, originating {originating}, dialogue {dialogue}, {components}")?)
+/// Writes a transaction identifier after a text.
+fn push_tid(out: &mut String, before: &str, tid: &Tid) -> anyhow::Result<()> {
+    out.push_str(before)?;
+    push_octets(out, tid.as_slice())
 }
 
-/// An End.
-fn end_text(alloc: Global, end: &End<'_>) -> anyhow::Result<String> {
-    let destination = tid_text(alloc, &end.destination)?;
-    let dialogue = optional_text(alloc, end.dialogue)?;
-    let components = components_text(alloc, end.components.as_slice())?;
-    Ok(format!(in alloc; "End, destination {destination}, dialogue {dialogue}, {components}")?)
+/// Writes a dialogue portion and components.
+fn push_portions(
+    out: &mut String,
+    dialogue: Option<&Element>,
+    components: &[Component<'_>],
+) -> anyhow::Result<()> {
+    out.push_str(", dialogue ")?;
+    push_optional(out, dialogue)?;
+    push_components(out, components)
 }
 
-/// A Continue.
-fn continue_text(alloc: Global, continuing: &Continue<'_>) -> anyhow::Result<String> {
-    let originating = tid_text(alloc, &continuing.originating)?;
-    let destination = tid_text(alloc, &continuing.destination)?;
-    let dialogue = optional_text(alloc, continuing.dialogue)?;
-    let components = components_text(alloc, continuing.components.as_slice())?;
-    Ok(format!(in alloc;
-        "Continue, originating {originating}, destination {destination}, dialogue {dialogue}, {components}"
-    )?)
-}
-
-/// The reason of an Abort.
-fn reason_text(alloc: Global, reason: &AbortReason<'_>) -> anyhow::Result<String> {
-    match reason {
-        AbortReason::Provider(cause) => Ok(format!(in alloc; "cause {cause}")?),
-        AbortReason::User(dialogue) => {
-            let dialogue = element_text(alloc, dialogue)?;
-            Ok(format!(in alloc; "dialogue {dialogue}")?)
+/// Writes an Abort.
+fn push_abort(out: &mut String, abort: &Abort<'_>) -> anyhow::Result<()> {
+    push_tid(out, "Abort, destination ", &abort.destination)?;
+    match &abort.reason {
+        Some(AbortReason::Provider(cause)) => Ok(write!(out, ", cause {cause}")?),
+        Some(AbortReason::User(dialogue)) => {
+            out.push_str(", dialogue ")?;
+            push_optional(out, Some(dialogue))
         }
+        None => Ok(out.push_str(", no reason")?),
     }
 }
 
-/// An Abort.
-fn abort_text(alloc: Global, abort: &Abort<'_>) -> anyhow::Result<String> {
-    let destination = tid_text(alloc, &abort.destination)?;
-    let Some(reason) = &abort.reason else {
-        return Ok(format!(in alloc; "Abort, destination {destination}, no reason")?);
-    };
-    let reason = reason_text(alloc, reason)?;
-    Ok(format!(in alloc; "Abort, destination {destination}, {reason}")?)
-}
-
-/// A message, with each of its fields.
-fn message_text(alloc: Global, message: &Message<'_>) -> anyhow::Result<String> {
+/// Writes a message, with each of its fields.
+fn push_message(out: &mut String, message: &Message<'_>) -> anyhow::Result<()> {
     match message {
-        Message::Unidirectional => Ok(format!(in alloc; "Unidirectional")?),
-        Message::Begin(begin) => begin_text(alloc, begin),
-        Message::End(end) => end_text(alloc, end),
-        Message::Continue(continuing) => continue_text(alloc, continuing),
-        Message::Abort(abort) => abort_text(alloc, abort),
+        Message::Unidirectional => Ok(out.push_str("Unidirectional")?),
+        Message::Begin(begin) => {
+            push_tid(out, "Begin, originating ", &begin.originating)?;
+            push_portions(out, begin.dialogue, begin.components.as_slice())
+        }
+        Message::End(end) => {
+            push_tid(out, "End, destination ", &end.destination)?;
+            push_portions(out, end.dialogue, end.components.as_slice())
+        }
+        Message::Continue(continuing) => {
+            push_tid(out, "Continue, originating ", &continuing.originating)?;
+            push_tid(out, ", destination ", &continuing.destination)?;
+            push_portions(out, continuing.dialogue, continuing.components.as_slice())
+        }
+        Message::Abort(abort) => push_abort(out, abort),
     }
 }
 
-/// A message that was read, or its fault.
-fn read_text(alloc: Global, read: &Result<Message<'_>, MessageFault>) -> anyhow::Result<String> {
+/// Writes a message that was read, or its fault.
+fn push_read(out: &mut String, read: &Result<Message<'_>, MessageFault>) -> anyhow::Result<()> {
     match read {
-        Ok(message) => message_text(alloc, message),
-        Err(fault) => Ok(format!(in alloc; "fault {fault:?}")?),
+        Ok(message) => push_message(out, message),
+        Err(fault) => Ok(write!(out, "fault {fault:?}")?),
     }
 }
 
 /// The message of these octets.
-pub(crate) fn message(alloc: Global, text: &str) -> anyhow::Result<String> {
+pub(crate) fn message(alloc: Global, text: &str, out: &mut String) -> anyhow::Result<()> {
     let element = element_of(alloc, text)?;
-    read_text(alloc, &message_of(alloc, &element))
+    push_read(out, &message_of(alloc, &element))
 }
 
-/// The one component of a Begin.
-fn only_component_text(alloc: Global, message: &Message<'_>) -> anyhow::Result<String> {
+/// Writes the one component of a Begin.
+fn push_only_component(out: &mut String, message: &Message<'_>) -> anyhow::Result<()> {
     let Message::Begin(begin) = message else {
         anyhow::bail!("no Begin");
     };
     let [component] = begin.components.as_slice() else {
         anyhow::bail!("not one component");
     };
-    component_text(alloc, component)
+    push_component(out, component)
 }
 
 /// The component of these octets, in a Begin whose lengths are indefinite.
-pub(crate) fn component(alloc: Global, text: &str) -> anyhow::Result<String> {
-    let element = element_of(
-        alloc,
-        format!(in alloc; "628048012A6C80{text}00000000")?.as_str(),
-    )?;
-    only_component_text(alloc, &message_of(alloc, &element)?)
+pub(crate) fn component(alloc: Global, text: &str, out: &mut String) -> anyhow::Result<()> {
+    let text = format!(in alloc; "628048012A6C80{text}00000000")?;
+    let element = element_of(alloc, text.as_str())?;
+    push_only_component(out, &message_of(alloc, &element)?)
 }
 
-/// The identifier of a component, if it is an Invoke.
-fn invoke_identifier_text(alloc: Global, component: &Component<'_>) -> anyhow::Result<String> {
+/// Writes the identifier of a component, if it is an Invoke.
+fn push_invoke(out: &mut String, component: &Component<'_>) -> anyhow::Result<()> {
     match component.as_invoke() {
-        Some(invoke) => Ok(format!(in alloc; "Invoke {}", invoke.identifier)?),
-        None => Ok(format!(in alloc; "no Invoke")?),
+        Some(invoke) => Ok(write!(out, "Invoke {}", invoke.identifier)?),
+        None => Ok(out.push_str("no Invoke")?),
     }
 }
 
-/// Of each component of a Begin, its identifier if it is an Invoke.
-fn invokes_text(alloc: Global, message: &Message<'_>) -> anyhow::Result<String> {
+/// Writes of each component of a Begin its identifier if it is an Invoke.
+fn push_invokes(out: &mut String, message: &Message<'_>) -> anyhow::Result<()> {
     let Message::Begin(begin) = message else {
         anyhow::bail!("no Begin");
     };
-    let mut text = String::new(alloc);
     for component in begin.components.as_slice() {
-        if !text.is_empty() {
-            text.push_str("; ")?;
+        if !out.is_empty() {
+            out.push_str("; ")?;
         }
-        text.push_str(invoke_identifier_text(alloc, component)?.as_str())?;
+        push_invoke(out, component)?;
     }
-    Ok(text)
+    Ok(())
 }
 
 /// Of each component of the Begin of these octets, its identifier if it is an Invoke.
-pub(crate) fn invokes(alloc: Global, text: &str) -> anyhow::Result<String> {
+pub(crate) fn invokes(alloc: Global, text: &str, out: &mut String) -> anyhow::Result<()> {
     let element = element_of(alloc, text)?;
-    invokes_text(alloc, &message_of(alloc, &element)?)
+    push_invokes(out, &message_of(alloc, &element)?)
 }

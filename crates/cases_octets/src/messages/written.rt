@@ -23,24 +23,23 @@
 //! | `error:ID:CODE:ELEMENT` | a ReturnError |
 //! | `reject:ID:TAG:VALUE` | a Reject, whose `ID` may be `null` |
 
-ghost use Rattle.std.specs.Prelude.{◌≡◌, ◌<◌, ◌≤◌, ◌^◌, IfOk, None, length, map, option_map};
-ghost use Rattle.fp_ber.specs.View.{tree_of};
-ghost use Rattle.fp_q773.specs.Copied.{ComponentHasTags, ComponentsHaveTags, CopiesHaveTags, CopyHasTags, ReasonHasTags, ResultHasTags};
-ghost use Rattle.fp_q773.specs.Room.{code_room, component_room, components_room, message_room, reason_room, result_room, tree_room};
-ghost use Rattle.fp_q773.specs.View.{code_of, component_of, message_value, reason_of, result_of, tree_in};
-ghost use Rattle.fp_q773.specs.Writable.{AllWritable, IsWritable, IsWritableDialogue, IsWritableMessage, IsWritableReason};
+mod components;
+mod portions;
 
-use crate::elements::{new_writer, written_text};
+ghost use Rattle.std.specs.Prelude.{◌<◌, ◌≤◌, ◌^◌, map, option_map};
+ghost use Rattle.fp_q773.specs.Copied.{ComponentsHaveTags, CopiesHaveTags, CopyHasTags, ReasonHasTags};
+ghost use Rattle.fp_q773.specs.Room.{components_room, message_room, reason_room, tree_room};
+ghost use Rattle.fp_q773.specs.View.{component_of, message_value, reason_of, tree_in};
+ghost use Rattle.fp_q773.specs.Writable.{AllWritable, IsWritableDialogue, IsWritableMessage, IsWritableReason};
+
+use crate::elements::{new_writer, push_written};
 use crate::messages::identifiers::tid_of;
-use fp_ber::{Class, Element};
-use fp_q773::{
-    Abort, AbortReason, Begin, Code, Coded, Component, Continue, End, Invoke, Message, Problem,
-    Reject, ReturnError, ReturnResult, Tid, write_message,
-};
+use crate::messages::written::components::{components_in, held_of};
+use crate::messages::written::portions::dialogue_of;
+use cases::first_word;
+use fp_ber::Element;
+use fp_q773::{Abort, AbortReason, Begin, Component, Continue, End, Message, Tid, write_message};
 use std::alloc::Global;
-
-/// The most octets of an element in a case.
-const MOST: usize = 1000;
 
 /// A message around its portions: its transaction identifiers.
 #[derive(Clone, Copy)]
@@ -50,232 +49,25 @@ enum Frame {
     Continue(Tid, Tid),
 }
 
-/// What a component borrows: the octets of a global code, and a parameter.
-#[derive(Drop)]
-struct Held {
-    octets: Vec<u8>,
-    parameter: Option<Element>,
-}
-
-/// The octets of a message that is written.
-fn message_text(alloc: Global, message: &Message<'_>) -> anyhow::Result<String>
+/// Writes the octets of a message that is written.
+fn push_message(alloc: Global, message: &Message<'_>, out: &mut String) -> anyhow::Result<()>
     requires writable { IsWritableMessage (message_value message.now) }
     requires tags { CopiesHaveTags (message_value message.now) }
     requires room { message_room (message_value message.now) < 2 ^ 32 }
 {
-    let mut out = new_writer(alloc)?;
-    write_message(message, &mut out)?;
-    written_text(alloc, out)
+    let mut writer = new_writer(alloc)?;
+    write_message(message, &mut writer)?;
+    push_written(out, writer)
 }
 
-/// The element of a text, or `None` for `none`.
-fn optional_element(alloc: Global, text: &str) -> anyhow::Result<Option<Element>>
-    ensures tags { IfOk result (λ element. CopyHasTags (option_map tree_of element)) }
-    ensures room { IfOk result (λ element. tree_room (option_map tree_of element) ≤ 1000) }
-{
-    if text == "none" {
-        return Ok(None);
-    }
-    let octets = hex::decode(alloc, text)?;
-    if octets.len() > MOST {
-        anyhow::bail!("a long element");
-    }
-    let element = fp_ber::read(alloc, octets.as_slice())?;
-    Ok(Some(element))
-}
-
-/// The octets of a global code, and none for a number.
-fn octets_of_code(alloc: Global, code: &str) -> anyhow::Result<Vec<u8>>
-    ensures { IfOk result (λ octets. length octets.items ≤ 1000) }
-{
-    let Some(text) = code.strip_prefix("oid") else {
-        return Ok(Vec::new(alloc));
-    };
-    let octets = hex::decode(alloc, text)?;
-    if octets.len() > MOST {
-        anyhow::bail!("a long code");
-    }
-    Ok(octets)
-}
-
-/// What a component with this code and this parameter borrows.
-fn held_of_parts(alloc: Global, code: &str, parameter: &str) -> anyhow::Result<Held>
-    ensures octets { IfOk result (λ held. length held.octets.items ≤ 1000) }
-    ensures tags { IfOk result (λ held. CopyHasTags (option_map tree_of held.parameter)) }
-    ensures room { IfOk result (λ held. tree_room (option_map tree_of held.parameter) ≤ 1000) }
-{
-    let octets = octets_of_code(alloc, code)?;
-    let parameter = optional_element(alloc, parameter)?;
-    Ok(Held { octets, parameter })
-}
-
-/// What the component of a word borrows.
-fn held_of(alloc: Global, word: &str) -> anyhow::Result<Held>
-    ensures octets { IfOk result (λ held. length held.octets.items ≤ 1000) }
-    ensures tags { IfOk result (λ held. CopyHasTags (option_map tree_of held.parameter)) }
-    ensures room { IfOk result (λ held. tree_room (option_map tree_of held.parameter) ≤ 1000) }
-{
-    let parts: Vec<&str> = word.split(':').collect(alloc)?;
-    match parts.as_slice() {
-        ["linked", _, _, code, parameter] => held_of_parts(alloc, code, parameter),
-        ["reject", ..] => held_of_parts(alloc, "", "none"),
-        [_, _, code, parameter] => held_of_parts(alloc, code, parameter),
-        _ => held_of_parts(alloc, "", "none"),
-    }
-}
-
-/// The code of a text: a number, or the octets that are held.
-fn code_in<'a>(text: &str, held: &'a Held) -> anyhow::Result<Code<'a>>
-    requires { length held.now.octets.items ≤ 1000 }
-    ensures { IfOk result (λ code. code_room (code_of code) ≤ 1010) }
-{
-    if text.starts_with("oid") {
-        return Ok(Code::Global(held.octets.as_slice()));
-    }
-    Ok(Code::Local(text.parse()?))
-}
-
-/// An Invoke around what it borrows.
-fn invoke_in<'a>(
-    identifier: &str,
-    linked: Option<i8>,
-    code: &str,
-    held: &'a Held,
-) -> anyhow::Result<Component<'a>>
-    requires octets { length held.now.octets.items ≤ 1000 }
-    requires tags { CopyHasTags (option_map tree_of held.now.parameter) }
-    requires room { tree_room (option_map tree_of held.now.parameter) ≤ 1000 }
-    ensures writable { IfOk result (λ component. IsWritable (component_of component)) }
-    ensures tags { IfOk result (λ component. ComponentHasTags (component_of component)) }
-    ensures room { IfOk result (λ component. component_room (component_of component) ≤ 3000) }
-{
-    Ok(Component::Invoke(Invoke {
-        identifier: identifier.parse()?,
-        linked,
-        code: code_in(code, held)?,
-        parameter: held.parameter.as_ref(),
-    }))
-}
-
-/// A ReturnResult without a result.
-fn bare_result<'a>(identifier: &str) -> anyhow::Result<ReturnResult<'a>>
-    ensures { IfOk result (λ returned. returned.result ≡ None) }
-{
-    Ok(ReturnResult {
-        identifier: identifier.parse()?,
-        result: None,
-    })
-}
-
-/// A ReturnResult around what it borrows.
-fn result_in<'a>(identifier: &str, code: &str, held: &'a Held) -> anyhow::Result<ReturnResult<'a>>
-    requires octets { length held.now.octets.items ≤ 1000 }
-    requires tags { CopyHasTags (option_map tree_of held.now.parameter) }
-    requires room { tree_room (option_map tree_of held.now.parameter) ≤ 1000 }
-    ensures tags { IfOk result (λ returned. ResultHasTags (option_map result_of returned.result)) }
-    ensures room { IfOk result (λ returned. result_room (option_map result_of returned.result) ≤ 2100) }
-{
-    Ok(ReturnResult {
-        identifier: identifier.parse()?,
-        result: Some(Coded {
-            code: code_in(code, held)?,
-            parameter: held.parameter.as_ref(),
-        }),
-    })
-}
-
-/// A ReturnError around what it borrows.
-fn error_in<'a>(identifier: &str, code: &str, held: &'a Held) -> anyhow::Result<Component<'a>>
-    requires octets { length held.now.octets.items ≤ 1000 }
-    requires tags { CopyHasTags (option_map tree_of held.now.parameter) }
-    requires room { tree_room (option_map tree_of held.now.parameter) ≤ 1000 }
-    ensures writable { IfOk result (λ component. IsWritable (component_of component)) }
-    ensures tags { IfOk result (λ component. ComponentHasTags (component_of component)) }
-    ensures room { IfOk result (λ component. component_room (component_of component) ≤ 3000) }
-{
-    Ok(Component::ReturnError(ReturnError {
-        identifier: identifier.parse()?,
-        code: code_in(code, held)?,
-        parameter: held.parameter.as_ref(),
-    }))
-}
-
-/// The identifier of a Reject, or `None` for `null`.
-fn rejected_in(text: &str) -> anyhow::Result<Option<i8>> {
-    if text == "null" {
-        return Ok(None);
-    }
-    Ok(Some(text.parse()?))
-}
-
-/// A Reject.
-fn reject_in<'a>(identifier: &str, tag: &str, value: &str) -> anyhow::Result<Component<'a>>
-    ensures writable { IfOk result (λ component. IsWritable (component_of component)) }
-    ensures tags { IfOk result (λ component. ComponentHasTags (component_of component)) }
-    ensures room { IfOk result (λ component. component_room (component_of component) ≤ 3000) }
-{
-    let identifier = rejected_in(identifier)?;
-    let Some(problem) = Problem::new(tag.parse()?, value.parse()?) else {
-        anyhow::bail!("{tag} is the tag of no problem");
-    };
-    Ok(Component::Reject(Reject {
-        identifier,
-        problem,
-    }))
-}
-
-/// The component of a word, around what it borrows.
-fn component_in<'a>(alloc: Global, word: &str, held: &'a Held) -> anyhow::Result<Component<'a>>
-    requires octets { length held.now.octets.items ≤ 1000 }
-    requires tags { CopyHasTags (option_map tree_of held.now.parameter) }
-    requires room { tree_room (option_map tree_of held.now.parameter) ≤ 1000 }
-    ensures writable { IfOk result (λ component. IsWritable (component_of component)) }
-    ensures tags { IfOk result (λ component. ComponentHasTags (component_of component)) }
-    ensures room { IfOk result (λ component. component_room (component_of component) ≤ 3000) }
-{
-    let parts: Vec<&str> = word.split(':').collect(alloc)?;
-    match parts.as_slice() {
-        ["invoke", identifier, code, _] => invoke_in(identifier, None, code, held),
-        ["linked", identifier, linked, code, _] => {
-            let linked: i8 = linked.parse()?;
-            invoke_in(identifier, Some(linked), code, held)
-        }
-        ["last", identifier] => Ok(Component::ReturnResultLast(bare_result(identifier)?)),
-        ["last", identifier, code, _] => {
-            Ok(Component::ReturnResultLast(result_in(identifier, code, held)?))
-        }
-        ["not-last", identifier] => Ok(Component::ReturnResultNotLast(bare_result(identifier)?)),
-        ["not-last", identifier, code, _] => {
-            Ok(Component::ReturnResultNotLast(result_in(identifier, code, held)?))
-        }
-        ["error", identifier, code, _] => error_in(identifier, code, held),
-        ["reject", identifier, tag, value] => reject_in(identifier, tag, value),
-        _ => anyhow::bail!("{word} is no component"),
-    }
-}
-
-/// The dialogue portion of a text, or `None` for `none`.
-fn dialogue_of(alloc: Global, text: &str) -> anyhow::Result<Option<Element>>
-    ensures writable { IfOk result (λ dialogue. IsWritableDialogue (option_map tree_of dialogue)) }
-    ensures tags { IfOk result (λ dialogue. CopyHasTags (option_map tree_of dialogue)) }
-    ensures room { IfOk result (λ dialogue. tree_room (option_map tree_of dialogue) ≤ 1000) }
-{
-    let Some(element) = optional_element(alloc, text)? else {
-        return Ok(None);
-    };
-    if element.children_with_tag(Class::Application, 11).is_none() {
-        anyhow::bail!("{text} is no dialogue portion");
-    }
-    Ok(Some(element))
-}
-
-/// The octets of a message with these portions.
-fn portions_text(
+/// Writes the octets of a message with these portions.
+fn push_portions(
     alloc: Global,
     frame: Frame,
     dialogue: Option<&Element>,
     components: Vec<Component<'_>>,
-) -> anyhow::Result<String>
+    out: &mut String,
+) -> anyhow::Result<()>
     requires its_dialogue { IsWritableDialogue (tree_in dialogue) }
     requires dialogue_tags { CopyHasTags (tree_in dialogue) }
     requires dialogue_room { tree_room (tree_in dialogue) ≤ 1000 }
@@ -301,147 +93,106 @@ fn portions_text(
             components,
         }),
     };
-    message_text(alloc, &message)
+    push_message(alloc, &message, out)
 }
 
-/// The octets of a message with one component.
-fn one_text(
-    alloc: Global,
-    frame: Frame,
-    dialogue: Option<&Element>,
-    only: &str,
-) -> anyhow::Result<String>
-    requires its_dialogue { IsWritableDialogue (tree_in dialogue) }
-    requires dialogue_tags { CopyHasTags (tree_in dialogue) }
-    requires dialogue_room { tree_room (tree_in dialogue) ≤ 1000 }
-{
-    let held = held_of(alloc, only)?;
-    let only = component_in(alloc, only, &held)?;
-    portions_text(alloc, frame, dialogue, vec![in alloc; only]?)
+/// The octets of a message with a dialogue portion and components.
+fn with_portions(alloc: Global, frame: Frame, text: &str, out: &mut String) -> anyhow::Result<()> {
+    let (dialogue, words) = first_word(text);
+    let dialogue = dialogue_of(alloc, dialogue)?;
+    let held = held_of(alloc, words)?;
+    let components = components_in(alloc, held.as_slice())?;
+    push_portions(alloc, frame, dialogue.as_ref(), components, out)
 }
 
-/// The octets of a message with two components.
-fn two_text(
-    alloc: Global,
-    frame: Frame,
-    dialogue: Option<&Element>,
-    first: &str,
-    second: &str,
-) -> anyhow::Result<String>
-    requires its_dialogue { IsWritableDialogue (tree_in dialogue) }
-    requires dialogue_tags { CopyHasTags (tree_in dialogue) }
-    requires dialogue_room { tree_room (tree_in dialogue) ≤ 1000 }
-{
-    let held_by_first = held_of(alloc, first)?;
-    let held_by_second = held_of(alloc, second)?;
-    let first = component_in(alloc, first, &held_by_first)?;
-    let second = component_in(alloc, second, &held_by_second)?;
-    portions_text(alloc, frame, dialogue, vec![in alloc; first, second]?)
+/// The octets of a Begin.
+fn begin(alloc: Global, text: &str, out: &mut String) -> anyhow::Result<()> {
+    let (originating, text) = first_word(text);
+    let frame = Frame::Begin(tid_of(alloc, originating)?);
+    with_portions(alloc, frame, text, out)
 }
 
-/// The octets of a message with three components.
-fn three_text(
-    alloc: Global,
-    frame: Frame,
-    dialogue: Option<&Element>,
-    first: &str,
-    second: &str,
-    third: &str,
-) -> anyhow::Result<String>
-    requires its_dialogue { IsWritableDialogue (tree_in dialogue) }
-    requires dialogue_tags { CopyHasTags (tree_in dialogue) }
-    requires dialogue_room { tree_room (tree_in dialogue) ≤ 1000 }
-{
-    let held_by_first = held_of(alloc, first)?;
-    let held_by_second = held_of(alloc, second)?;
-    let held_by_third = held_of(alloc, third)?;
-    let first = component_in(alloc, first, &held_by_first)?;
-    let second = component_in(alloc, second, &held_by_second)?;
-    let third = component_in(alloc, third, &held_by_third)?;
-    portions_text(
-        alloc,
-        frame,
-        dialogue,
-        vec![in alloc; first, second, third]?,
-    )
+/// The octets of an End.
+fn end(alloc: Global, text: &str, out: &mut String) -> anyhow::Result<()> {
+    let (destination, text) = first_word(text);
+    let frame = Frame::End(tid_of(alloc, destination)?);
+    with_portions(alloc, frame, text, out)
 }
 
-/// The octets of a message with this dialogue portion and these components, at most three.
-fn frame_text(
-    alloc: Global,
-    frame: Frame,
-    dialogue: &str,
-    components: &[&str],
-) -> anyhow::Result<String> {
-    let held = dialogue_of(alloc, dialogue)?;
-    let dialogue = held.as_ref();
-    match components {
-        [] => portions_text(alloc, frame, dialogue, Vec::new(alloc)),
-        [only] => one_text(alloc, frame, dialogue, only),
-        [first, second] => two_text(alloc, frame, dialogue, first, second),
-        [first, second, third] => three_text(alloc, frame, dialogue, first, second, third),
-        _ => anyhow::bail!("more than three components"),
-    }
+/// The octets of a Continue.
+fn continuing(alloc: Global, text: &str, out: &mut String) -> anyhow::Result<()> {
+    let (originating, text) = first_word(text);
+    let (destination, text) = first_word(text);
+    let originating = tid_of(alloc, originating)?;
+    let destination = tid_of(alloc, destination)?;
+    with_portions(alloc, Frame::Continue(originating, destination), text, out)
 }
 
-/// The octets of an Abort with this reason.
-fn abort_text(
+/// Writes the octets of an Abort with this reason.
+fn push_abort(
     alloc: Global,
-    identifier: &str,
+    destination: Tid,
     reason: Option<AbortReason<'_>>,
-) -> anyhow::Result<String>
+    out: &mut String,
+) -> anyhow::Result<()>
     requires writable { IsWritableReason (option_map reason_of reason) }
     requires tags { ReasonHasTags (option_map reason_of reason) }
     requires room { reason_room (option_map reason_of reason) ≤ 1000 }
 {
     let message = Message::Abort(Abort {
-        destination: tid_of(alloc, identifier)?,
+        destination,
         reason,
     });
-    message_text(alloc, &message)
+    push_message(alloc, &message, out)
+}
+
+/// The octets of an Abort of the provider, with this cause.
+fn provider_abort(
+    alloc: Global,
+    destination: Tid,
+    cause: &str,
+    out: &mut String,
+) -> anyhow::Result<()> {
+    let cause: u8 = cause.parse()?;
+    push_abort(alloc, destination, Some(AbortReason::Provider(cause)), out)
 }
 
 /// The octets of an Abort of the user, with this dialogue portion.
-fn user_abort_text(alloc: Global, identifier: &str, dialogue: &str) -> anyhow::Result<String> {
+fn user_abort(
+    alloc: Global,
+    destination: Tid,
+    dialogue: &str,
+    out: &mut String,
+) -> anyhow::Result<()> {
     let dialogue = dialogue_of(alloc, dialogue)?;
     match dialogue.as_ref() {
-        Some(dialogue) => abort_text(alloc, identifier, Some(AbortReason::User(dialogue))),
+        Some(dialogue) => push_abort(alloc, destination, Some(AbortReason::User(dialogue)), out),
         None => anyhow::bail!("no dialogue portion"),
     }
 }
 
+/// The octets of an Abort.
+fn abort(alloc: Global, text: &str, out: &mut String) -> anyhow::Result<()> {
+    let (destination, text) = first_word(text);
+    let destination = tid_of(alloc, destination)?;
+    let (kind, reason) = first_word(text);
+    match kind {
+        "" => push_abort(alloc, destination, None, out),
+        "cause" => provider_abort(alloc, destination, reason, out),
+        "dialogue" => user_abort(alloc, destination, reason, out),
+        _ => anyhow::bail!("no such reason"),
+    }
+}
+
 /// The octets of a message.
-pub(crate) fn write(alloc: Global, words: &[&str]) -> anyhow::Result<String> {
-    match words {
-        ["unidirectional"] => message_text(alloc, &Message::Unidirectional),
-        ["begin", originating, dialogue, components @ ..] => {
-            let frame = Frame::Begin(tid_of(alloc, originating)?);
-            frame_text(alloc, frame, dialogue, components)
-        }
-        ["end", destination, dialogue, components @ ..] => {
-            let frame = Frame::End(tid_of(alloc, destination)?);
-            frame_text(alloc, frame, dialogue, components)
-        }
-        [
-            "continue",
-            originating,
-            destination,
-            dialogue,
-            components @ ..,
-        ] => {
-            let originating = tid_of(alloc, originating)?;
-            let destination = tid_of(alloc, destination)?;
-            let frame = Frame::Continue(originating, destination);
-            frame_text(alloc, frame, dialogue, components)
-        }
-        ["abort", destination] => abort_text(alloc, destination, None),
-        ["abort", destination, "cause", cause] => {
-            let cause: u8 = cause.parse()?;
-            abort_text(alloc, destination, Some(AbortReason::Provider(cause)))
-        }
-        ["abort", destination, "dialogue", dialogue] => {
-            user_abort_text(alloc, destination, dialogue)
-        }
+pub(crate) fn write(alloc: Global, text: &str, out: &mut String) -> anyhow::Result<()> {
+    let (kind, rest) = first_word(text);
+    match kind {
+        "unidirectional" => push_message(alloc, &Message::Unidirectional, out),
+        "begin" => begin(alloc, rest, out),
+        "end" => end(alloc, rest, out),
+        "continue" => continuing(alloc, rest, out),
+        "abort" => abort(alloc, rest, out),
         _ => anyhow::bail!("no such message"),
     }
 }
