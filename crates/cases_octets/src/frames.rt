@@ -49,12 +49,8 @@ fn copy(alloc: Global, text: &str, out: &mut String) -> anyhow::Result<()> {
     push_octets(out, copy.octets())
 }
 
-/// Writes how many octets a frame holds, each of them 5A, or `none`.
-fn push_count(out: &mut String, frame: Option<&Frame>) -> anyhow::Result<()> {
-    let Some(frame) = frame else {
-        return Ok(out.push_str("none")?);
-    };
-    let octets = frame.octets();
+/// Writes how many octets there are, each of them 5A.
+fn push_count(out: &mut String, octets: &[u8]) -> anyhow::Result<()> {
     ensure!(octets.iter().all(|&octet| octet == 0x5A), "other octets");
     Ok(write!(out, "{} of 5A", octets.len())?)
 }
@@ -64,8 +60,10 @@ fn count(alloc: Global, text: &str, out: &mut String) -> anyhow::Result<()> {
     let count: u16 = text.parse()?;
     let mut octets = Vec::new(alloc);
     octets.resize(usize::from(count), 0x5A)?;
-    let frame = frame_of(alloc, octets.as_slice())?;
-    push_count(out, frame.as_ref())
+    match frame_of(alloc, octets.as_slice())? {
+        Some(frame) => push_count(out, frame.octets()),
+        None => Ok(out.push_str("none")?),
+    }
 }
 
 /// The octets before a message of this many octets.

@@ -36,7 +36,7 @@ fn push_faults(out: &mut String, faults: &[Option<BerFault>]) -> anyhow::Result<
 }
 
 /// The faults of all beginnings of these octets.
-pub(crate) fn prefixes(alloc: Global, text: &str, out: &mut String) -> anyhow::Result<()> {
+fn prefixes(alloc: Global, text: &str, out: &mut String) -> anyhow::Result<()> {
     let octets = octets_of(alloc, text)?;
     let mut faults = Vec::new(alloc);
     for length in 0..octets.len() {
@@ -46,7 +46,7 @@ pub(crate) fn prefixes(alloc: Global, text: &str, out: &mut String) -> anyhow::R
 }
 
 /// The faults of these octets with one more after them.
-pub(crate) fn trailing(alloc: Global, text: &str, out: &mut String) -> anyhow::Result<()> {
+fn trailing(alloc: Global, text: &str, out: &mut String) -> anyhow::Result<()> {
     let mut octets = octets_of(alloc, text)?;
     let mut faults = Vec::new(alloc);
     for octet in 0..=u8::MAX {
@@ -58,7 +58,7 @@ pub(crate) fn trailing(alloc: Global, text: &str, out: &mut String) -> anyhow::R
 }
 
 /// The faults of these octets with more and more after them.
-pub(crate) fn following(alloc: Global, text: &str, out: &mut String) -> anyhow::Result<()> {
+fn following(alloc: Global, text: &str, out: &mut String) -> anyhow::Result<()> {
     let mut octets = octets_of(alloc, text)?;
     let mut faults = Vec::new(alloc);
     faults.push(fault_of(alloc, octets.as_slice()))?;
@@ -67,4 +67,21 @@ pub(crate) fn following(alloc: Global, text: &str, out: &mut String) -> anyhow::
         faults.push(fault_of(alloc, octets.as_slice()))?;
     }
     push_faults(out, faults.as_slice())
+}
+
+/// Writes what a case of this module gives, and says whether it has one of this kind.
+pub(crate) fn answer(
+    alloc: Global,
+    kind: &str,
+    rest: &str,
+    out: &mut String,
+) -> anyhow::Result<bool> {
+    let written = match kind {
+        "prefixes" => prefixes(alloc, rest, out),
+        "trailing" => trailing(alloc, rest, out),
+        "following" => following(alloc, rest, out),
+        _ => return Ok(false),
+    };
+    written?;
+    Ok(true)
 }

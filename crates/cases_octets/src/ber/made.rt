@@ -22,7 +22,7 @@ fn push_spelling(alloc: Global, element: &Element, out: &mut String) -> anyhow::
 }
 
 /// The canonical spelling of the element that these octets spell, or their first fault.
-pub(crate) fn canonical(alloc: Global, text: &str, out: &mut String) -> anyhow::Result<()> {
+fn canonical(alloc: Global, text: &str, out: &mut String) -> anyhow::Result<()> {
     let octets = octets_of(alloc, text)?;
     ensure!(octets.len() < 65_536, "65,536 octets or more");
     match read(alloc, octets.as_slice()) {
@@ -32,7 +32,7 @@ pub(crate) fn canonical(alloc: Global, text: &str, out: &mut String) -> anyhow::
 }
 
 /// The canonical spelling of the element of this tag that holds these octets.
-pub(crate) fn primitive(alloc: Global, text: &str, out: &mut String) -> anyhow::Result<()> {
+fn primitive(alloc: Global, text: &str, out: &mut String) -> anyhow::Result<()> {
     let (class, text) = first_word(text);
     let (number, text) = first_word(text);
     let tag = tag_of(class, number)?;
@@ -43,7 +43,7 @@ pub(crate) fn primitive(alloc: Global, text: &str, out: &mut String) -> anyhow::
 }
 
 /// The canonical spelling of the element of this tag that holds the element that these octets spell.
-pub(crate) fn constructed(alloc: Global, text: &str, out: &mut String) -> anyhow::Result<()> {
+fn constructed(alloc: Global, text: &str, out: &mut String) -> anyhow::Result<()> {
     let (class, text) = first_word(text);
     let (number, text) = first_word(text);
     let tag = tag_of(class, number)?;
@@ -69,7 +69,7 @@ fn push_zeros(out: &mut String, spelling: &[u8], count: usize) -> anyhow::Result
 }
 
 /// The spelling of an octet string that holds this many octets 00.
-pub(crate) fn zeros(alloc: Global, text: &str, out: &mut String) -> anyhow::Result<()> {
+fn zeros(alloc: Global, text: &str, out: &mut String) -> anyhow::Result<()> {
     let count: usize = text.parse()?;
     ensure!(count <= 65_536, "more than 65,536 octets");
     let mut zeros = Vec::new(alloc);
@@ -80,4 +80,22 @@ pub(crate) fn zeros(alloc: Global, text: &str, out: &mut String) -> anyhow::Resu
         &mut spelling,
     )?;
     push_zeros(out, spelling.as_slice(), count)
+}
+
+/// Writes what a case of this module gives, and says whether it has one of this kind.
+pub(crate) fn answer(
+    alloc: Global,
+    kind: &str,
+    rest: &str,
+    out: &mut String,
+) -> anyhow::Result<bool> {
+    let written = match kind {
+        "canonical" => canonical(alloc, rest, out),
+        "primitive" => primitive(alloc, rest, out),
+        "constructed" => constructed(alloc, rest, out),
+        "zeros" => zeros(alloc, rest, out),
+        _ => return Ok(false),
+    };
+    written?;
+    Ok(true)
 }

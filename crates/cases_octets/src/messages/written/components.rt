@@ -1,6 +1,7 @@
 //! Components from text.
 
 ghost use Rattle.std.specs.Prelude.{◌≤◌, IfOk, length, map, option_map};
+ghost use Rattle.cases_octets.specs.Tags.{CopyHasTags-prop};
 ghost use Rattle.fp_ber.specs.View.{tree_of};
 ghost use Rattle.fp_q773.specs.Copied.{ComponentHasTags, ComponentsHaveTags, CopyHasTags, ResultHasTags};
 ghost use Rattle.fp_q773.specs.Room.{code_room, component_room, components_room, result_room, tree_room};
@@ -25,7 +26,7 @@ pub(crate) struct Held<'a> {
     octets: Vec<u8>,
     parameter: Option<Element>,
     ghost size: { length octets.items ≤ 1000 },
-    ghost tags: { CopyHasTags (option_map tree_of parameter) },
+    ghost tags: { CopyHasTags (option_map tree_of parameter) } by { CopyHasTags-prop (option_map tree_of parameter) },
     ghost room: { tree_room (option_map tree_of parameter) ≤ 1000 },
 }
 

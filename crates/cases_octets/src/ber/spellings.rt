@@ -1,0 +1,60 @@
+//! Elements that are read.
+
+use crate::ber::trees::push_tree;
+use crate::elements::element_of;
+use cases::{first_word, octets_of};
+use fp_ber::read;
+use std::alloc::Global;
+use std::fmt::Write;
+
+/// Writes the element that these octets spell, or their first fault.
+fn push_read(alloc: Global, octets: &[u8], out: &mut String) -> anyhow::Result<()> {
+    match read(alloc, octets) {
+        Ok(element) => push_tree(out, &element),
+        Err(fault) => Ok(write!(out, "{fault:?}")?),
+    }
+}
+
+/// The element that these octets spell, or their first fault.
+fn element(alloc: Global, text: &str, out: &mut String) -> anyhow::Result<()> {
+    let octets = octets_of(alloc, text)?;
+    push_read(alloc, octets.as_slice(), out)
+}
+
+/// The same of these octets in as many elements of indefinite length.
+fn nested(alloc: Global, text: &str, out: &mut String) -> anyhow::Result<()> {
+    let (count, text) = first_word(text);
+    let count: u8 = count.parse()?;
+    let mut hexadecimal = String::new(alloc);
+    for _ in 0..count {
+        hexadecimal.push_str("3080")?;
+    }
+    if text != "empty" {
+        hexadecimal.push_str(text)?;
+    }
+    element(alloc, hexadecimal.as_str(), out)
+}
+
+/// A copy of the element that these octets spell.
+fn copy(alloc: Global, text: &str, out: &mut String) -> anyhow::Result<()> {
+    let element = element_of(alloc, text)?;
+    let copy = element.try_clone(alloc)?;
+    push_tree(out, &copy)
+}
+
+/// Writes what a case of this module gives, and says whether it has one of this kind.
+pub(crate) fn answer(
+    alloc: Global,
+    kind: &str,
+    rest: &str,
+    out: &mut String,
+) -> anyhow::Result<bool> {
+    let written = match kind {
+        "element" => element(alloc, rest, out),
+        "nested" => nested(alloc, rest, out),
+        "copy" => copy(alloc, rest, out),
+        _ => return Ok(false),
+    };
+    written?;
+    Ok(true)
+}
