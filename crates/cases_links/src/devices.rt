@@ -1,17 +1,17 @@
 //! Readers and writers that do what a case says.
 
-use crate::texts::octets_of;
+use cases::{first_word, octets_of};
 use std::alloc::Global;
 use std::cell::Cell;
 use std::io;
 use std::io::{ErrorKind, Read, Write};
 
-/// A reader that gives what its words say, one a read. A word that spells no octets is a failure. Behind the last one
+/// A reader that gives what its words say, one a read. A word that spells no octets is a failure. After the last one
 /// the input is at its end.
 #[derive(Drop)]
 pub(crate) struct Reads<'a> {
     pub(crate) alloc: Global,
-    pub(crate) words: &'a [&'a str],
+    pub(crate) words: &'a str,
     // How many reads were made.
     pub(crate) made: u32,
 }
@@ -19,11 +19,12 @@ pub(crate) struct Reads<'a> {
 impl Read for Reads<'_> {
     fn read(&mut self, room: &mut [u8]) -> io::Result<usize> {
         self.made = self.made.saturating_add(1);
-        let [word, rest @ ..] = self.words else {
+        if self.words.is_empty() {
             return Ok(0);
-        };
+        }
+        let (word, rest) = first_word(self.words);
         self.words = rest;
-        if *word == "interrupted" {
+        if word == "interrupted" {
             return Err(io::Error::from(ErrorKind::Interrupted));
         }
         let Ok(octets) = octets_of(self.alloc, word) else {
@@ -34,8 +35,8 @@ impl Read for Reads<'_> {
     }
 }
 
-/// A reader that gives octets, so many a read at most, cut at two places besides, and whose read of this number fails,
-/// from 1; 0: none.
+/// A reader that gives octets, at most `most` a read, also cut at two places. The read number `failing` fails, from 1;
+/// 0: none.
 #[derive(Drop)]
 pub(crate) struct Octets<'a> {
     pub(crate) octets: &'a [u8],
@@ -67,12 +68,12 @@ impl Read for Octets<'_> {
     }
 }
 
-/// A reader that gives a piece only where so many frames were handed on before, and fails otherwise.
+/// A reader that gives a piece only after `wanted` frames were handed on, and fails otherwise.
 #[derive(Drop)]
 pub(crate) struct Waits<'a> {
     pub(crate) alloc: Global,
-    // Each piece, and behind it how many frames are to be handed on before the next read.
-    pub(crate) words: &'a [&'a str],
+    // Each piece, and after it how many frames are to be handed on before the next read.
+    pub(crate) words: &'a str,
     pub(crate) wanted: u32,
     pub(crate) count: &'a Cell<u32>,
 }
@@ -82,9 +83,11 @@ impl Read for Waits<'_> {
         if self.count.get() != self.wanted {
             return Err(io::Error::from(ErrorKind::Other));
         }
-        let [word, wanted, rest @ ..] = self.words else {
+        if self.words.is_empty() {
             return Ok(0);
-        };
+        }
+        let (word, rest) = first_word(self.words);
+        let (wanted, rest) = first_word(rest);
         self.words = rest;
         let (Ok(octets), Ok(wanted)) = (octets_of(self.alloc, word), wanted.parse()) else {
             return Err(io::Error::from(ErrorKind::Other));
@@ -95,8 +98,7 @@ impl Read for Waits<'_> {
     }
 }
 
-/// A writer that takes so many octets a write at most, and whose write of this number fails or takes none, from 1; 0:
-/// none.
+/// A writer that takes at most `most` octets a write. The write number `failing` fails or takes none, from 1; 0: none.
 #[derive(Drop)]
 pub(crate) struct Pieces {
     pub(crate) octets: Vec<u8>,

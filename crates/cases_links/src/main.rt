@@ -1,9 +1,5 @@
-//! Worked cases of what goes over a link, one a line: `INPUT => WANTED`.
-//!
-//! Standard input is text for a telecom engineer to read. An empty line or one that begins with `#` is a comment, and
-//! each other line is a case: what goes in, and behind ` => ` what must come out, worked out by hand. What differs is
-//! printed, and at the end how many cases there were. The first word of a case names what it is about; each module has
-//! a table of its own.
+//! Worked cases of what goes over a link, one a line: `INPUT => WANTED`. The library `cases` says how they are written.
+//! The first word of a case names what it is about; each module has a table of its own.
 //!
 //! | Module | What it is about |
 //! |---|---|
@@ -11,7 +7,8 @@
 //! | `receiving` | the loop that reads a link |
 //! | `sending` | the loop that writes a link |
 //!
-//! `devices` has readers and writers that do what a case says, `memory` whoever takes frames and has parcels.
+//! `devices` has readers and writers that do what a case says, `memory` an inbox and an outlet that keep what goes
+//! through them.
 #![tactic(auto)]
 
 mod devices;
@@ -21,54 +18,35 @@ mod sending;
 mod streams;
 mod texts;
 
+use cases::{Answers, first_word, run};
 use std::alloc::Global;
 
-/// What an input gives, or `None` where no module knows its first word.
-fn given(alloc: Global, words: &[&str]) -> anyhow::Result<Option<String>> {
-    if let Some(text) = streams::case(alloc, words)? {
-        return Ok(Some(text));
-    }
-    if let Some(text) = receiving::case(alloc, words)? {
-        return Ok(Some(text));
-    }
-    sending::case(alloc, words)
+/// The cases of all modules.
+#[derive(Drop)]
+struct Modules {
+    alloc: Global,
 }
 
-/// What is wrong with a case, or `None` where what it gives is wanted.
-fn fault(alloc: Global, line: &str) -> anyhow::Result<Option<String>> {
-    let Some((input, wanted)) = line.split_once(" => ") else {
-        return Ok(Some(format!(in alloc; "{line}: no case")?));
-    };
-    let words: Vec<&str> = input.split_whitespace().collect(alloc)?;
-    let fault = match given(alloc, words.as_slice()) {
-        Ok(Some(text)) if text.as_str() == wanted => return Ok(None),
-        Ok(Some(text)) => format!(in alloc; "{input}: {text}, and not {wanted}")?,
-        Ok(None) => format!(in alloc; "{input}: no such case")?,
-        Err(error) => format!(in alloc; "{input}: {error}")?,
-    };
-    Ok(Some(fault))
+/// Writes what a case gives, and says whether a module has a case of this kind.
+fn answer(alloc: Global, kind: &str, rest: &str, out: &mut String) -> anyhow::Result<bool> {
+    Ok(
+        streams::answer(alloc, kind, rest, out)?
+            || receiving::answer(alloc, kind, rest, out)?
+            || sending::answer(alloc, kind, rest, out)?,
+    )
 }
 
-/// Whether a line is no case.
-fn is_comment(line: &str) -> bool {
-    line.is_empty() || line.starts_with('#')
+impl Answers for Modules {
+    fn answer(&mut self, input: &str, out: &mut String) -> anyhow::Result<()> {
+        let (kind, rest) = first_word(input);
+        if !answer(self.alloc, kind, rest, out)? {
+            anyhow::bail!("no such case");
+        }
+        Ok(())
+    }
 }
 
 fn main(rt: HostRuntime) -> anyhow::Result<()> {
-    let alloc = rt.alloc();
-    let mut count: u32 = 0;
-    let mut wrong: u32 = 0;
-    for line in rt.lines(alloc) {
-        let line = line?;
-        if is_comment(line.as_str()) {
-            continue;
-        }
-        count = count.saturating_add(1);
-        if let Some(text) = fault(alloc, line.as_str())? {
-            wrong = wrong.saturating_add(1);
-            println!(rt; "{text}")?;
-        }
-    }
-    println!(rt; "{count} cases, {wrong} wrong")?;
-    Ok(())
+    let mut modules = Modules { alloc: rt.alloc() };
+    run(&rt, &mut modules)
 }

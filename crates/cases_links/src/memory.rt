@@ -1,5 +1,4 @@
-//! Whoever takes frames and has parcels, over memory: both tell what went through them, as long as there is memory to
-//! keep it.
+//! An inbox and an outlet that keep what goes through them, as long as no allocation fails.
 
 ghost use Rattle.std.specs.Prelude.{◌≡◌, [], ◌∷◌, IfOk};
 ghost use Rattle.fp_streams.specs.Grows.{Grows};
@@ -51,7 +50,7 @@ pub(crate) enum Call {
 pub(crate) struct Desk {
     pub(crate) alloc: Global,
     pub(crate) book: Book,
-    // Whether each parcel that is reported is taken for a strange one.
+    // Whether each parcel that is reported comes back, as a foreign one would.
     pub(crate) is_strange: bool,
     pub(crate) calls: Vec<Call>,
     // Whether all of them are kept.
@@ -67,7 +66,7 @@ fn octets_of(alloc: Global, parcel: &Parcel) -> Result<Vec<u8>, AllocError>
     Ok(octets)
 }
 
-/// That this is handed out.
+/// The call that handed this out.
 fn picked_call(alloc: Global, parcel: &Option<Parcel>) -> Result<Call, AllocError>
     ensures { IfOk result (λ call. call_of call ≡ picks parcel.now) }
 {
@@ -80,7 +79,7 @@ fn picked_call(alloc: Global, parcel: &Option<Parcel>) -> Result<Call, AllocErro
     }
 }
 
-/// That this was sent.
+/// The call that reported this sent.
 fn sent_call(alloc: Global, parcel: &Parcel) -> Result<Call, AllocError>
     ensures { IfOk result (λ call. call_of call ≡ reports_sent parcel.now) }
 {
@@ -88,7 +87,7 @@ fn sent_call(alloc: Global, parcel: &Parcel) -> Result<Call, AllocError>
     Ok(Call::Sent(parcel.local(), octets))
 }
 
-/// That this couldn't be sent.
+/// The call that reported this unsent.
 fn unsent_call(alloc: Global, parcel: &Parcel) -> Result<Call, AllocError>
     ensures { IfOk result (λ call. call_of call ≡ reports_unsent parcel.now) }
 {
@@ -96,7 +95,7 @@ fn unsent_call(alloc: Global, parcel: &Parcel) -> Result<Call, AllocError>
     Ok(Call::Unsent(parcel.local(), octets))
 }
 
-/// Keeps a call, where there was memory for it and all before it are kept, and gives whether it is.
+/// Keeps a call if no allocation failed for it or one before it, and returns whether it is kept.
 fn keep(calls: &mut Vec<Call>, is_whole: bool, call: Result<Call, AllocError>) -> bool
     ensures { (made : OutletCall) → IfOk call (λ kept. call_of kept ≡ made)
         → Grows (told is_whole (calls_of calls.old.items)) (told result (calls_of calls.new.items)) (made ∷ []) }

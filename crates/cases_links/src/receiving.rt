@@ -2,60 +2,72 @@
 //!
 //! | Case | What it gives |
 //! |---|---|
-//! | `receive TURNS READ ..` | the messages that were handed on, why the loop went no further, how many reads were made, and how often the reader failed |
-//! | `receive-cuts HEX` | the messages of these octets, why the loop went no further, and in how many ways of cutting them into up to three reads and one octet a read they are the same |
-//! | `receive-faults HEX` | how many messages were handed on where the first read of one octet fails, the second, and so on up to the one behind the last; each is to end with `ReadFault`, and the messages to be the first ones |
-//! | `waits PIECE COUNT ..` | why the loop went no further, where each read is made only when so many frames were handed on |
+//! | `receive TURNS READ ..` | the messages that were handed on, why the loop ended, how many reads were made, and how often the reader failed |
+//! | `receive-cuts HEX` | the messages of these octets, why the loop ended, and in how many ways of cutting them into up to three reads and one octet a read they are the same |
+//! | `receive-faults HEX` | how many messages were handed on if the first read of one octet fails, the second, and so on up to the one after the last; each is to end with `ReadFault`, and the messages to be the first ones |
+//! | `waits PIECE COUNT ..` | why the loop ended, where each read is made only after COUNT frames were handed on |
 //!
-//! A READ is the octets that one read gives, `interrupted`, or `fault`. Behind the last one the input is at its end.
+//! A READ is the octets that one read gives, `interrupted`, or `fault`. After the last one the input is at its end.
 
 use crate::devices::{Octets, Reads, Waits};
 use crate::memory::Frames;
-use crate::texts::{frames_text, octets_of};
+use crate::texts::push_frames;
 use anyhow::ensure;
+use cases::{first_word, octets_of};
 use fp_frames::Frame;
 use fp_linkio::{Counted, Ended, LinkRead, receive};
 use std::alloc::Global;
 use std::cell::Cell;
+use std::fmt::Write;
 
 /// More reads than any case makes.
 const MANY: u64 = 1_000_000;
 
-/// Reads a link, and gives why that went no further and the frames that were handed on.
+/// Reads a link, and adds the frames that were handed on to `frames`; returns why the loop ended.
 fn received<R: LinkRead>(
     alloc: Global,
     reader: &mut R,
     turns: u64,
     count: &Cell<u32>,
-) -> anyhow::Result<(Ended, Vec<Frame>)> {
+    frames: &mut Vec<Frame>,
+) -> anyhow::Result<Ended> {
     let mut inbox = Frames {
         frames: Vec::new(alloc),
         is_whole: true,
         count,
     };
     let ended = receive(alloc, reader, turns, &mut inbox);
-    ensure!(inbox.is_whole, "no memory");
-    Ok((ended, inbox.frames))
+    ensure!(inbox.is_whole, "out of memory");
+    *frames = inbox.frames;
+    Ok(ended)
 }
 
-/// The messages that were handed on, and why the loop went no further.
-fn received_text<R: LinkRead>(alloc: Global, reader: &mut R, turns: u64) -> anyhow::Result<String> {
-    let count = Cell::new(0);
-    let (ended, frames) = received(alloc, reader, turns, &count)?;
-    let text = frames_text(alloc, frames.as_slice())?;
-    Ok(format!(in alloc; "{text}: {ended:?}")?)
+/// Reads a link, and writes the messages that were handed on and why the loop ended.
+fn push_received<R: LinkRead>(
+    alloc: Global,
+    reader: &mut R,
+    turns: u64,
+    count: &Cell<u32>,
+    out: &mut String,
+) -> anyhow::Result<()> {
+    let mut frames = Vec::new(alloc);
+    let ended = received(alloc, reader, turns, count, &mut frames)?;
+    push_frames(out, frames.as_slice())?;
+    Ok(write!(out, ": {ended:?}")?)
 }
 
 /// What reading a link gives.
-fn reads(alloc: Global, turns: u64, words: &[&str]) -> anyhow::Result<String> {
+fn reads(alloc: Global, text: &str, out: &mut String) -> anyhow::Result<()> {
+    let (turns, words) = first_word(text);
+    let turns: u64 = turns.parse()?;
     let mut reader = Counted::new(Reads {
         alloc,
         words,
         made: 0,
     });
-    let text = received_text(alloc, &mut reader, turns)?;
+    push_received(alloc, &mut reader, turns, &Cell::new(0), out)?;
     let made = reader.device.made;
-    Ok(format!(in alloc; "{text}, {made} reads, {} failed", reader.failed)?)
+    Ok(write!(out, ", {made} reads, {} failed", reader.failed)?)
 }
 
 /// A reader of octets.
@@ -70,24 +82,39 @@ fn reader_of(octets: &[u8], most: usize, cuts: [usize; 2], failing: u32) -> Coun
     })
 }
 
-/// The messages of octets, however they are cut.
-fn cuts(alloc: Global, text: &str) -> anyhow::Result<String> {
-    let octets = octets_of(alloc, text)?;
-    let octets = octets.as_slice();
-    let wanted = received_text(alloc, &mut reader_of(octets, 1, [0, 0], 0), MANY)?;
+/// The messages of octets that are read in pieces of at most `most` octets, also cut at two places.
+fn text_of(alloc: Global, octets: &[u8], most: usize, cuts: [usize; 2]) -> anyhow::Result<String> {
+    let mut text = String::new(alloc);
+    let mut reader = reader_of(octets, most, cuts, 0);
+    push_received(alloc, &mut reader, MANY, &Cell::new(0), &mut text)?;
+    Ok(text)
+}
+
+/// Fails if octets that are cut at these two places have other messages.
+fn compare(alloc: Global, octets: &[u8], cuts: [usize; 2], wanted: &str) -> anyhow::Result<()> {
+    let given = text_of(alloc, octets, octets.len(), cuts)?;
+    ensure!(given.as_str() == wanted, "cut at {cuts:?}: {given}");
+    Ok(())
+}
+
+/// The number of ways to cut octets, each of which gives these messages.
+fn ways(alloc: Global, octets: &[u8], wanted: &str) -> anyhow::Result<u32> {
     let mut ways: u32 = 1;
     for second in 0..octets.len() {
         for first in 0..second {
-            let mut reader = reader_of(octets, octets.len(), [first, second], 0);
-            let given = received_text(alloc, &mut reader, MANY)?;
-            ensure!(
-                given.as_str() == wanted.as_str(),
-                "cut at {first} and {second}: {given}"
-            );
+            compare(alloc, octets, [first, second], wanted)?;
             ways = ways.saturating_add(1);
         }
     }
-    Ok(format!(in alloc; "{wanted}, {ways} ways")?)
+    Ok(ways)
+}
+
+/// The messages of octets, however they are cut.
+fn cuts(alloc: Global, text: &str, out: &mut String) -> anyhow::Result<()> {
+    let octets = octets_of(alloc, text)?;
+    let wanted = text_of(alloc, octets.as_slice(), 1, [0, 0])?;
+    let ways = ways(alloc, octets.as_slice(), wanted.as_str())?;
+    Ok(write!(out, "{wanted}, {ways} ways")?)
 }
 
 /// Whether the first of these messages are those.
@@ -99,33 +126,55 @@ fn begin_with(all: &[Frame], front: &[Frame]) -> bool {
             .all(|(one, other)| one.octets() == other.octets())
 }
 
-/// How many messages were handed on where each read fails in turn.
-fn faults(alloc: Global, text: &str) -> anyhow::Result<String> {
-    let octets = octets_of(alloc, text)?;
-    let octets = octets.as_slice();
-    let count = Cell::new(0);
-    let (_, all) = received(alloc, &mut reader_of(octets, 1, [0, 0], 0), MANY, &count)?;
-    let mut text = String::new(alloc);
-    let mut failing: u32 = 0;
-    for _ in 0..octets.len().saturating_add(1) {
-        failing = failing.saturating_add(1);
-        let mut reader = reader_of(octets, 1, [0, 0], failing);
-        let (ended, frames) = received(alloc, &mut reader, MANY, &count)?;
-        ensure!(
-            ended == Ended::ReadFault && reader.failed == 1,
-            "read {failing}: {ended:?}"
-        );
-        ensure!(
-            begin_with(all.as_slice(), frames.as_slice()),
-            "read {failing}: other frames"
-        );
-        text.push_str(format!(in alloc; "{}", frames.len())?.as_str())?;
-    }
-    Ok(text)
+/// Writes how many messages were handed on if this read of one octet fails. They must be the first of all.
+fn push_failing(
+    alloc: Global,
+    octets: &[u8],
+    failing: u32,
+    all: &[Frame],
+    out: &mut String,
+) -> anyhow::Result<()> {
+    let mut frames = Vec::new(alloc);
+    let mut reader = reader_of(octets, 1, [0, 0], failing);
+    let ended = received(alloc, &mut reader, MANY, &Cell::new(0), &mut frames)?;
+    ensure!(
+        ended == Ended::ReadFault && reader.failed == 1,
+        "read {failing}: {ended:?}"
+    );
+    ensure!(
+        begin_with(all, frames.as_slice()),
+        "read {failing}: other frames"
+    );
+    Ok(write!(out, "{}", frames.len())?)
 }
 
-/// Why the loop went no further, where each read waits for the frames before it.
-fn waits(alloc: Global, words: &[&str]) -> anyhow::Result<String> {
+/// Writes how many messages were handed on if each read fails in turn.
+fn push_faults(
+    alloc: Global,
+    octets: &[u8],
+    all: &[Frame],
+    out: &mut String,
+) -> anyhow::Result<()> {
+    let mut failing: u32 = 0;
+    for _ in 0..=octets.len() {
+        failing = failing.saturating_add(1);
+        push_failing(alloc, octets, failing, all, out)?;
+    }
+    Ok(())
+}
+
+/// How many messages were handed on if each read fails in turn.
+fn faults(alloc: Global, text: &str, out: &mut String) -> anyhow::Result<()> {
+    let octets = octets_of(alloc, text)?;
+    let octets = octets.as_slice();
+    let mut all = Vec::new(alloc);
+    let mut reader = reader_of(octets, 1, [0, 0], 0);
+    received(alloc, &mut reader, MANY, &Cell::new(0), &mut all)?;
+    push_faults(alloc, octets, all.as_slice(), out)
+}
+
+/// Why the loop ended, where each read waits for the frames before it.
+fn waits(alloc: Global, words: &str, out: &mut String) -> anyhow::Result<()> {
     let count = Cell::new(0);
     let mut reader = Counted::new(Waits {
         alloc,
@@ -133,19 +182,23 @@ fn waits(alloc: Global, words: &[&str]) -> anyhow::Result<String> {
         wanted: 0,
         count: &count,
     });
-    let (ended, frames) = received(alloc, &mut reader, MANY, &count)?;
-    let text = frames_text(alloc, frames.as_slice())?;
-    Ok(format!(in alloc; "{text}: {ended:?}")?)
+    push_received(alloc, &mut reader, MANY, &count, out)
 }
 
-/// What a case of this module gives, or `None` where the words are none.
-pub(crate) fn case(alloc: Global, words: &[&str]) -> anyhow::Result<Option<String>> {
-    let text = match words {
-        ["receive", turns, words @ ..] => reads(alloc, turns.parse()?, words)?,
-        ["receive-cuts", text] => cuts(alloc, text)?,
-        ["receive-faults", text] => faults(alloc, text)?,
-        ["waits", words @ ..] => waits(alloc, words)?,
-        _ => return Ok(None),
+/// Writes what a case of this module gives, and says whether it has one of this kind.
+pub(crate) fn answer(
+    alloc: Global,
+    kind: &str,
+    rest: &str,
+    out: &mut String,
+) -> anyhow::Result<bool> {
+    let written = match kind {
+        "receive" => reads(alloc, rest, out),
+        "receive-cuts" => cuts(alloc, rest, out),
+        "receive-faults" => faults(alloc, rest, out),
+        "waits" => waits(alloc, rest, out),
+        _ => return Ok(false),
     };
-    Ok(Some(text))
+    written?;
+    Ok(true)
 }

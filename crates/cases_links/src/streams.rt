@@ -2,143 +2,201 @@
 //!
 //! | Case | What it gives |
 //! |---|---|
-//! | `stream PIECE ..` | what asking for frames gives behind each piece, with `; ` between the pieces: the messages of the frames, and then `none` or a fault; a fault is asked for once more |
+//! | `stream PIECE ..` | what asking for frames gives after each piece, with `; ` between the pieces: the messages of the frames, and then `none` or a fault, which must be the answer once more |
 //! | `stream-cuts HEX` | the messages of the frames of these octets, and in how many ways of cutting them into up to three pieces and one octet a piece they are the same |
-//! | `long-stream COUNT` | behind how many octets the frame of so many octets of 5A comes, where one octet is fed at a time, and how many octets of 5A it holds |
+//! | `long-stream COUNT` | after how many octets the frame of COUNT octets 5A comes if one octet is fed at a time, and how many octets 5A it holds |
 
-use crate::texts::{frames_text, octets_of, octets_text};
+ghost use Rattle.std.specs.Prelude.{◌≤◌, length};
+
+use crate::texts::push_message;
 use anyhow::{bail, ensure};
-use fp_frames::{Frame, FrameReader, frame_head};
+use cases::{octets_of, push_octets};
+use fp_frames::{FrameFault, FrameReader, frame_head};
 use std::alloc::Global;
+use std::fmt::Write;
 
-/// What asking for the next frame gives, and whether it is a frame.
-fn next_text(alloc: Global, reader: &mut FrameReader) -> anyhow::Result<(String, bool)> {
+/// Writes that there is no frame, which must be so again.
+fn push_none(out: &mut String, reader: &mut FrameReader) -> anyhow::Result<()> {
     match reader.next() {
-        Ok(Some(frame)) => Ok((octets_text(alloc, frame.octets())?, true)),
-        Ok(None) => Ok((format!(in alloc; "none")?, false)),
-        Err(fault) => Ok((format!(in alloc; "{fault}")?, false)),
+        Ok(None) => Ok(out.push_str("none")?),
+        _ => bail!("another answer at once"),
     }
 }
 
-/// What asking for frames gives, until it gives none, and then once more.
-fn all_text(alloc: Global, reader: &mut FrameReader) -> anyhow::Result<String> {
-    let mut text = String::new(alloc);
+/// Writes a fault, which must come again.
+fn push_fault(out: &mut String, reader: &mut FrameReader, fault: FrameFault) -> anyhow::Result<()> {
+    match reader.next() {
+        Err(again) if again == fault => Ok(write!(out, "{fault}")?),
+        _ => bail!("another answer at once"),
+    }
+}
+
+/// Writes what asking for frames gives, until it gives none.
+fn push_all(out: &mut String, reader: &mut FrameReader) -> anyhow::Result<()> {
     for _ in 0..u32::MAX {
-        let (next, is_frame) = next_text(alloc, reader)?;
-        text.push_str(next.as_str())?;
-        if !is_frame {
-            let (again, _) = next_text(alloc, reader)?;
-            ensure!(again.as_str() == next.as_str(), "another answer at once");
-            return Ok(text);
+        match reader.next() {
+            Ok(Some(frame)) => push_octets(out, frame.octets())?,
+            Ok(None) => return push_none(out, reader),
+            Err(fault) => return push_fault(out, reader, fault),
         }
-        text.push_str(", ")?;
+        out.push_str(", ")?;
     }
     bail!("no end")
 }
 
-/// What asking for frames gives behind each piece.
-fn stream(alloc: Global, pieces: &[&str]) -> anyhow::Result<String> {
-    let mut reader = FrameReader::new(alloc);
-    let mut text = String::new(alloc);
-    for piece in pieces {
-        if !text.is_empty() {
-            text.push_str("; ")?;
-        }
-        let octets = octets_of(alloc, piece)?;
-        reader.feed(octets.as_slice())?;
-        text.push_str(all_text(alloc, &mut reader)?.as_str())?;
+/// Feeds a piece, and writes what asking for frames gives then.
+fn push_piece(
+    alloc: Global,
+    reader: &mut FrameReader,
+    piece: &str,
+    out: &mut String,
+) -> anyhow::Result<()> {
+    if !out.is_empty() {
+        out.push_str("; ")?;
     }
-    if reader.is_empty() {
-        text.push_str("; all handed out")?;
-    }
-    Ok(text)
+    let octets = octets_of(alloc, piece)?;
+    reader.feed(octets.as_slice())?;
+    push_all(out, reader)
 }
 
-/// Feeds a piece, and adds the frames that are there whole then.
-fn feed(reader: &mut FrameReader, piece: &[u8], frames: &mut Vec<Frame>) -> anyhow::Result<()> {
+/// What asking for frames gives after each piece.
+fn stream(alloc: Global, pieces: &str, out: &mut String) -> anyhow::Result<()> {
+    let mut reader = FrameReader::new(alloc);
+    for piece in pieces.split(' ') {
+        push_piece(alloc, &mut reader, piece, out)?;
+    }
+    if reader.is_empty() {
+        out.push_str("; all handed out")?;
+    }
+    Ok(())
+}
+
+/// Feeds a piece, and writes the messages of the frames that are whole then.
+fn feed(reader: &mut FrameReader, piece: &[u8], out: &mut String) -> anyhow::Result<()> {
     reader.feed(piece)?;
     for _ in 0..u32::MAX {
         let Some(frame) = reader.next()? else {
             return Ok(());
         };
-        frames.push(frame)?;
+        push_message(out, frame.octets())?;
     }
     bail!("no end")
 }
 
 /// The messages of octets that are cut at two places.
-fn cut_text(alloc: Global, octets: &[u8], first: usize, second: usize) -> anyhow::Result<String> {
-    let (Some(front), Some(middle), Some(back)) = (
-        octets.get(..first),
-        octets.get(first..second),
-        octets.get(second..),
-    ) else {
-        bail!("no such places");
-    };
+fn cut_text(alloc: Global, octets: &[u8], first: usize, second: usize) -> anyhow::Result<String>
+    requires rises { first ≤ second }
+    requires fits { second ≤ length octets.now }
+{
+    let mut text = String::new(alloc);
     let mut reader = FrameReader::new(alloc);
-    let mut frames = Vec::new(alloc);
-    feed(&mut reader, front, &mut frames)?;
-    feed(&mut reader, middle, &mut frames)?;
-    feed(&mut reader, back, &mut frames)?;
-    frames_text(alloc, frames.as_slice())
+    feed(&mut reader, &octets[..first], &mut text)?;
+    feed(&mut reader, &octets[first..second], &mut text)?;
+    feed(&mut reader, &octets[second..], &mut text)?;
+    Ok(text)
 }
 
 /// The messages of octets that come one by one.
 fn one_by_one_text(alloc: Global, octets: &[u8]) -> anyhow::Result<String> {
+    let mut text = String::new(alloc);
     let mut reader = FrameReader::new(alloc);
-    let mut frames = Vec::new(alloc);
     for piece in octets.chunks(1) {
-        feed(&mut reader, piece, &mut frames)?;
+        feed(&mut reader, piece, &mut text)?;
     }
-    frames_text(alloc, frames.as_slice())
+    Ok(text)
 }
 
-/// The messages of octets, however they are cut.
-fn cuts(alloc: Global, text: &str) -> anyhow::Result<String> {
-    let octets = octets_of(alloc, text)?;
-    let octets = octets.as_slice();
-    let wanted = one_by_one_text(alloc, octets)?;
+/// Fails if octets that are cut at these two places have other messages.
+fn compare(
+    alloc: Global,
+    octets: &[u8],
+    first: usize,
+    second: usize,
+    wanted: &str,
+) -> anyhow::Result<()>
+    requires rises { first ≤ second }
+    requires fits { second ≤ length octets.now }
+{
+    let given = cut_text(alloc, octets, first, second)?;
+    ensure!(
+        given.as_str() == wanted,
+        "cut at {first} and {second}: {given}"
+    );
+    Ok(())
+}
+
+/// The number of ways to cut octets, each of which gives these messages.
+fn ways(alloc: Global, octets: &[u8], wanted: &str) -> anyhow::Result<u32> {
     let mut ways: u32 = 1;
     for second in 0..octets.len() {
         for first in 0..second {
-            let given = cut_text(alloc, octets, first, second)?;
-            ensure!(
-                given.as_str() == wanted.as_str(),
-                "cut at {first} and {second}: {given}"
-            );
+            compare(alloc, octets, first, second, wanted)?;
             ways = ways.saturating_add(1);
         }
     }
-    Ok(format!(in alloc; "{wanted}: {ways} ways")?)
+    Ok(ways)
 }
 
-/// Behind how many octets a frame comes that is fed one octet at a time.
-fn long_stream(alloc: Global, count: u16) -> anyhow::Result<String> {
-    ensure!(0 < count && count <= 4_096, "not 1 to 4,096 octets");
+/// The messages of octets, however they are cut.
+fn cuts(alloc: Global, text: &str, out: &mut String) -> anyhow::Result<()> {
+    let octets = octets_of(alloc, text)?;
+    let wanted = one_by_one_text(alloc, octets.as_slice())?;
+    let ways = ways(alloc, octets.as_slice(), wanted.as_str())?;
+    Ok(write!(out, "{wanted}: {ways} ways")?)
+}
+
+/// The octets of a frame of this many octets 5A.
+fn long_octets(alloc: Global, count: u16) -> anyhow::Result<Vec<u8>>
+    requires some { 1 ≤ count }
+    requires most { count ≤ 4096 }
+{
     let mut octets = Vec::new(alloc);
     octets.extend_from_slice(&frame_head(count))?;
     octets.resize(usize::from(count).saturating_add(4), 0x5A)?;
+    Ok(octets)
+}
+
+/// Writes after how many octets a frame came, and how many octets 5A it holds.
+fn push_long(out: &mut String, fed: u32, octets: &[u8]) -> anyhow::Result<()> {
+    ensure!(octets.iter().all(|&octet| octet == 0x5A), "other octets");
+    Ok(write!(out, "behind {fed}: {} of 5A", octets.len())?)
+}
+
+/// Feeds octets one at a time until a frame comes, and writes that.
+fn push_first(alloc: Global, octets: &[u8], out: &mut String) -> anyhow::Result<()> {
     let mut reader = FrameReader::new(alloc);
     let mut fed: u32 = 0;
     for piece in octets.chunks(1) {
         reader.feed(piece)?;
         fed = fed.saturating_add(1);
         if let Some(frame) = reader.next()? {
-            let octets = frame.octets();
-            ensure!(octets.iter().all(|&octet| octet == 0x5A), "other octets");
-            return Ok(format!(in alloc; "behind {fed}: {} of 5A", octets.len())?);
+            return push_long(out, fed, frame.octets());
         }
     }
     bail!("no frame")
 }
 
-/// What a case of this module gives, or `None` where the words are none.
-pub(crate) fn case(alloc: Global, words: &[&str]) -> anyhow::Result<Option<String>> {
-    let text = match words {
-        ["stream", pieces @ ..] => stream(alloc, pieces)?,
-        ["stream-cuts", text] => cuts(alloc, text)?,
-        ["long-stream", count] => long_stream(alloc, count.parse()?)?,
-        _ => return Ok(None),
+/// After how many octets a frame comes that is fed one octet at a time.
+fn long_stream(alloc: Global, text: &str, out: &mut String) -> anyhow::Result<()> {
+    let count: u16 = text.parse()?;
+    ensure!(0 < count && count <= 4_096, "not 1 to 4,096 octets");
+    let octets = long_octets(alloc, count)?;
+    push_first(alloc, octets.as_slice(), out)
+}
+
+/// Writes what a case of this module gives, and says whether it has one of this kind.
+pub(crate) fn answer(
+    alloc: Global,
+    kind: &str,
+    rest: &str,
+    out: &mut String,
+) -> anyhow::Result<bool> {
+    let written = match kind {
+        "stream" => stream(alloc, rest, out),
+        "stream-cuts" => cuts(alloc, rest, out),
+        "long-stream" => long_stream(alloc, rest, out),
+        _ => return Ok(false),
     };
-    Ok(Some(text))
+    written?;
+    Ok(true)
 }

@@ -1,35 +1,23 @@
-//! Octets and frames as text.
+//! Frames as text.
 
+use cases::push_octets;
 use fp_frames::Frame;
-use std::alloc::Global;
 
-/// The octets that this text spells.
-pub(crate) fn octets_of(alloc: Global, text: &str) -> anyhow::Result<Vec<u8>> {
-    if text == "empty" {
-        return Ok(Vec::new(alloc));
+/// Writes a message after others, with a comma between them.
+pub(crate) fn push_message(out: &mut String, octets: &[u8]) -> anyhow::Result<()> {
+    if !out.is_empty() {
+        out.push_str(", ")?;
     }
-    Ok(hex::decode(alloc, text)?)
+    push_octets(out, octets)
 }
 
-/// Octets as text in upper case.
-pub(crate) fn octets_text(alloc: Global, octets: &[u8]) -> anyhow::Result<String> {
-    if octets.is_empty() {
-        return Ok(format!(in alloc; "empty")?);
-    }
-    Ok(hex::encode_upper(alloc, octets)?)
-}
-
-/// The messages of frames, or `no frame`.
-pub(crate) fn frames_text(alloc: Global, frames: &[Frame]) -> anyhow::Result<String> {
-    let mut text = String::new(alloc);
-    if frames.is_empty() {
-        text.push_str("no frame")?;
-    }
+/// Writes the messages of frames, or `no frame`, where nothing was written before.
+pub(crate) fn push_frames(out: &mut String, frames: &[Frame]) -> anyhow::Result<()> {
     for frame in frames {
-        if !text.is_empty() {
-            text.push_str(", ")?;
-        }
-        text.push_str(octets_text(alloc, frame.octets())?.as_str())?;
+        push_message(out, frame.octets())?;
     }
-    Ok(text)
+    if frames.is_empty() {
+        out.push_str("no frame")?;
+    }
+    Ok(())
 }
