@@ -5,16 +5,19 @@
 //! must come out, worked out by hand or taken from a standard. The program prints each case whose answer is another
 //! one, and at the end the number of cases and of those.
 //!
-//! A program has a type that is `Answers`: it writes what a case gives. `run` does the rest. `first_word` takes an
-//! input apart; `octets_of` and `push_octets` have octets as hexadecimal text.
+//! A program has a type that is `Answers`: it writes what a case gives. `run` does the rest, and `run_scripts` for cases
+//! of several lines that name their messages. `first_word` and `Words` take an input apart; `octets_of` and
+//! `push_octets` have octets as hexadecimal text.
 #![tactic(auto)]
 
 mod octets;
+mod scripts;
 mod words;
 
 pub use octets::{octets_of, push_octets};
+pub use scripts::run_scripts;
 use std::alloc::Global;
-pub use words::first_word;
+pub use words::{Words, first_word};
 
 /// What answers the cases of a program.
 pub trait Answers {
@@ -28,15 +31,25 @@ fn is_comment(line: &str) -> bool {
 }
 
 /// Answers a case, and says what is wrong with it. Nothing is said of a case whose answer is the wanted one.
-fn fault<A: Answers>(alloc: Global, answers: &mut A, line: &str) -> anyhow::Result<Option<String>> {
-    let Some((input, wanted)) = line.split_once(" => ") else {
-        return Ok(Some(format!(in alloc; "{line}: no case")?));
-    };
+fn fault_of<A: Answers>(
+    alloc: Global,
+    answers: &mut A,
+    input: &str,
+    wanted: &str,
+) -> anyhow::Result<Option<String>> {
     let mut out = String::new(alloc);
     match answers.answer(input, &mut out) {
         Ok(()) if out.as_str() == wanted => Ok(None),
         Ok(()) => Ok(Some(format!(in alloc; "{input}: {out}, and not {wanted}")?)),
         Err(error) => Ok(Some(format!(in alloc; "{input}: {error}")?)),
+    }
+}
+
+/// Answers the case of a line, and says what is wrong with it.
+fn fault<A: Answers>(alloc: Global, answers: &mut A, line: &str) -> anyhow::Result<Option<String>> {
+    match line.split_once(" => ") {
+        Some((input, wanted)) => fault_of(alloc, answers, input, wanted),
+        None => Ok(Some(format!(in alloc; "{line}: no case")?)),
     }
 }
 
