@@ -1,260 +1,309 @@
 //! The dialogues of a link: what its calls answer, what is sent, and what the log says.
 //!
 //! A case has one or more books, and begins at noon at the book of the link 0. The turns and the parcels that it has
-//! out have names, one letter each, whichever book they are of. A step about a turn or a parcel spends it, unless it
-//! comes back, and then it keeps its name.
+//! out have names of one letter, whichever book they are of. A step about a turn or a parcel spends it, unless it comes
+//! back, and then it keeps its name.
 //!
 //! What is answered is written as a log writes it. `O` and the local identifier: a dialogue was opened. `A` and a
-//! number: so many entries were accepted. `X` and a cause: an Abort of the provider waits to be sent. `E`: a dialogue
-//! was ended, and nothing is sent. `D`: discarded. Of a request: `Q` where its frame waits to be sent, `S` where there
-//! is none, and `D` where it isn't accepted.
+//! number: this number of entries was accepted. `X` and a cause: an Abort of the provider waits to be sent. `E`: a
+//! dialogue was ended, and nothing is sent. `D`: discarded. Of a request: `Q` if its frame waits to be sent, `S` if there
+//! is none, and `D` if it isn't accepted.
 //!
 //! | Step | What it answers |
 //! |---|---|
-//! | `book LINK` | one more book, of this link; the steps behind it are about it: `link LINK` |
-//! | `to N` | the steps behind it are about the N-th book, from 1: the same number |
-//! | `at MS` | from now on it is so many milliseconds after noon: the same number |
+//! | `book LINK` | one more book, of this link; the steps after it are about it: `link LINK` |
+//! | `to N` | the steps after it are about the N-th book, from 1: the same number |
+//! | `at MS` | from now on it is MS milliseconds after noon: the same number |
 //! | `post HEX` | a message is posted: `O`, `A`, `X`, `E` or `D` |
-//! | `lost HEX` | a message is posted that wasn't read, since memory was wanting: the same |
-//! | `posts COUNT HEX` | a message is posted so many times, each a millisecond later, and it is then one later: how |
-//! | | many, the first answer and the last; where one has another letter, the case is wrong |
-//! | `tick` | how many dialogues are given a Clock, and how many are left since memory was wanting |
+//! | `lost HEX` | a message is posted that wasn't read, since memory ran out: the same |
+//! | `posts COUNT HEX` | a message is posted COUNT times, each a millisecond later, and it is then one later: the number, |
+//! | | the first answer and the last; if one has another letter, the case is wrong |
+//! | `tick` | how many dialogues are given a Clock, and how many are left since memory ran out |
 //! | `take NAME` | the dialogue and the place of the turn that is taken, or `nothing`, or `no room` |
 //! | `show NAME` | what the turn, or what was served, says of itself |
 //! | `serve NAME` | the turn is served, and not given back: `served` |
 //! | `give NAME` | the turn is served, if it wasn't, and given back: `S`, `Q` or `D`, or `strange` |
 //! | `put-back NAME` | the turn is put back: `back`, or `strange` |
 //! | `serve-all` | turns are taken and given until there is none: how many, and how many frames then wait for them |
-//! | `rounds COUNT HEX` | so many times a message is posted, which is accepted, and `serve-all`: all in all |
+//! | `rounds COUNT HEX` | COUNT times a message is posted, which is accepted, and `serve-all`: all in all |
 //! | `pick NAME` | the dialogue and the octets of what is sent next, or `busy`, or `nothing` |
 //! | `sent NAME` | the parcel is reported sent: `sent`, or `strange` |
 //! | `unsent NAME` | the parcel is reported unsent: `unsent`, or `strange` |
 //! | `send-all` | parcels are picked and sent until there is none: how many, and the last one |
-//! | `calls COUNT HEX` | so many times a message is posted, `serve-all` and `send-all`: the last answer |
-//! | `abandon turn NAME` | nobody serves the turn: `abandoned` |
-//! | `abandon parcel NAME` | nobody reports the parcel: `abandoned` |
+//! | `calls COUNT HEX` | COUNT times a message is posted, `serve-all` and `send-all`: the last answer |
+//! | `abandon turn NAME` | the turn is never given back: `abandoned` |
+//! | `abandon parcel NAME` | the parcel is never reported: `abandoned` |
 //! | `down` | the link goes down: `down` |
 //! | `is-down` | whether it is down: `yes` or `no` |
 //! | `totals` | what was counted |
-//! | `lines ROOM` | the oldest lines of the log, into room for so many, with ` | ` between them, or `no line` |
+//! | `lines ROOM` | the oldest lines of the log, at most ROOM, with ` | ` between them, or `no line` |
 //! | `drain ROOM` | the same: how many there are, the first and the last |
 
 mod lines;
-mod loops;
-mod sending;
+pub(crate) mod loops;
 pub(crate) mod texts;
 mod turns;
 
+use crate::held::{Named, abandon, abandon_all, serve, show};
 use crate::messages::{frame_of, prepared};
-use crate::texts::{add_answer, moment_after, name_of, word};
-use crate::{parcels, token};
+use crate::script::{Steps, play};
+use crate::texts::{moment_after, name_of};
 use anyhow::bail;
-use fp_book::Book;
-use fp_digits::Moment;
+use cases::Words;
+use fp_book::{Book, Ticked};
 use fp_entry::Prepared;
 use fp_records::Table;
 use std::alloc::Global;
-use texts::{posted_text, ticked_text, totals_text};
+use std::fmt::Write;
+use texts::{push_posted, push_totals};
 
-/// How many links there may be.
+/// The number of links.
 const LINKS: u8 = 8;
 
 /// The books of a case, and its turns and parcels that are out. It must be spent.
 #[must_use]
-struct Case {
+struct Case<'a> {
+    alloc: Global,
+    table: &'a Table,
     books: Vec<Book>,
     // The place of the book that a step is about.
     place: usize,
-    // How many milliseconds after noon it is.
+    // The time, in milliseconds after noon.
     now: u32,
-    turns: Vec<token::Named>,
-    parcels: Vec<parcels::Named>,
+    turns: Vec<Named>,
+    parcels: Vec<Named>,
 }
 
-/// Posts a message.
-fn post(
+/// What the steps about one book have in common: the records and the time.
+#[derive(Clone, Copy)]
+struct Scene<'a> {
     alloc: Global,
-    table: &Table,
-    book: &mut Book,
-    moment: Moment,
-    message: &str,
-) -> anyhow::Result<String> {
-    let came = prepared(alloc, table, moment, message)?;
-    posted_text(alloc, book.post(alloc, came))
-}
-
-/// Posts a message that wasn't read, since memory was wanting.
-fn lose(alloc: Global, book: &mut Book, moment: Moment, message: &str) -> anyhow::Result<String> {
-    let came = Prepared::lost(frame_of(alloc, message)?, moment);
-    posted_text(alloc, book.post(alloc, came))
-}
-
-/// A step without a turn or a parcel.
-fn own_step(
-    alloc: Global,
-    table: &Table,
-    book: &mut Book,
+    table: &'a Table,
     now: u32,
-    words: &[&str],
-) -> anyhow::Result<String> {
-    match words {
-        ["post", message] => post(alloc, table, book, moment_after(now)?, message),
-        ["lost", message] => lose(alloc, book, moment_after(now)?, message),
-        ["tick"] => ticked_text(alloc, book.tick(moment_after(now)?)),
-        ["down"] => {
+}
+
+/// Posts a message, and writes what becomes of it.
+fn post(scene: Scene, book: &mut Book, message: &str, out: &mut String) -> anyhow::Result<()> {
+    let Scene { alloc, table, now } = scene;
+    let came = prepared(alloc, table, moment_after(now)?, message)?;
+    push_posted(out, book.post(alloc, came))
+}
+
+/// Posts a message that wasn't read, and writes what becomes of it.
+fn lose(scene: Scene, book: &mut Book, message: &str, out: &mut String) -> anyhow::Result<()> {
+    let frame = frame_of(scene.alloc, message)?;
+    let came = Prepared::lost(frame, moment_after(scene.now)?);
+    push_posted(out, book.post(scene.alloc, came))
+}
+
+/// Time goes by, and writes how many dialogues are given a Clock, and how many are left.
+fn tick(scene: Scene, book: &mut Book, out: &mut String) -> anyhow::Result<()> {
+    let Ticked { added, wanting } = book.tick(moment_after(scene.now)?);
+    write!(out, "{added} {wanting}")?;
+    Ok(())
+}
+
+/// A step that posts a message `count` times.
+fn many(
+    scene: Scene,
+    book: &mut Book,
+    verb: &str,
+    words: &mut Words,
+    out: &mut String,
+) -> anyhow::Result<()> {
+    let Scene { alloc, table, now } = scene;
+    let count = words.number()?;
+    let message = words.next()?;
+    match verb {
+        "posts" => loops::posts(alloc, table, book, now, count, message, out),
+        "rounds" => {
+            let served = loops::rounds(alloc, table, book, now, count, message)?;
+            loops::push_served(out, served)
+        }
+        _ => push_posted(out, loops::calls(alloc, table, book, now, count, message)?),
+    }
+}
+
+/// Takes and gives turns until there is none.
+fn serve_all(alloc: Global, book: &mut Book, out: &mut String) -> anyhow::Result<()> {
+    let mut served = loops::NONE;
+    loops::serve_all(alloc, book, &mut served)?;
+    loops::push_served(out, served)
+}
+
+/// The link goes down, or a step asks for it.
+fn down_step(book: &mut Book, verb: &str) -> anyhow::Result<&'static str> {
+    match verb {
+        "down" => {
             book.down();
-            word(alloc, "down")
+            Ok("down")
         }
-        ["is-down"] => word(alloc, if book.is_down() { "yes" } else { "no" }),
-        ["totals"] => totals_text(alloc, book.totals()),
-        ["lines", room] => lines::all(alloc, book, room.parse()?),
-        ["drain", room] => lines::ends(alloc, book, room.parse()?),
-        _ => bail!("no step"),
+        "is-down" => Ok(if book.is_down() { "yes" } else { "no" }),
+        _ => bail!("no step: {verb}"),
     }
 }
 
-/// A step that is made many times, or one without a turn or a parcel.
-fn step(
-    alloc: Global,
-    table: &Table,
+/// A step about a book, without a turn or a parcel.
+fn own_step(
+    scene: Scene,
     book: &mut Book,
-    now: u32,
-    words: &[&str],
-) -> anyhow::Result<String> {
-    match words {
-        ["posts", count, message] => {
-            loops::posts(alloc, table, book, now, count.parse()?, message)
+    verb: &str,
+    words: &mut Words,
+    out: &mut String,
+) -> anyhow::Result<()> {
+    match verb {
+        "post" => post(scene, book, words.next()?, out),
+        "lost" => lose(scene, book, words.next()?, out),
+        "posts" | "rounds" | "calls" => many(scene, book, verb, words, out),
+        "tick" => tick(scene, book, out),
+        "serve-all" => serve_all(scene.alloc, book, out),
+        "send-all" => loops::send_all(scene.alloc, book, out),
+        "totals" => push_totals(out, book.totals()),
+        "lines" => lines::all(scene.alloc, book, words.number()?, out),
+        "drain" => lines::ends(scene.alloc, book, words.number()?, out),
+        _ => {
+            out.push_str(down_step(book, verb)?)?;
+            Ok(())
         }
-        ["rounds", count, message] => {
-            loops::rounds(alloc, table, book, now, count.parse()?, message)
-        }
-        ["calls", count, message] => {
-            loops::calls(alloc, table, book, now, count.parse()?, message)
-        }
-        ["serve-all"] => loops::serve_all(alloc, book),
-        ["send-all"] => loops::send_all(alloc, book),
-        _ => own_step(alloc, table, book, now, words),
     }
 }
 
-impl Case {
-    /// One that begins.
-    fn new(alloc: Global) -> Case {
-        Case {
-            books: Vec::new(alloc),
-            place: 0,
-            now: 0,
-            turns: Vec::new(alloc),
-            parcels: Vec::new(alloc),
-        }
-    }
-
-    /// One more book, of this link. The steps behind it are about it.
-    fn open(&mut self, alloc: Global, link: u8) -> anyhow::Result<()> {
+impl Case<'_> {
+    /// One more book, of this link. The steps after it are about it.
+    fn open(&mut self, link: u8) -> anyhow::Result<()> {
         if link >= LINKS {
             bail!("no link");
         }
-        let book = Book::new(alloc, link)?;
         self.place = self.books.len();
-        self.books.push(book)?;
+        self.books.push(Book::new(self.alloc, link)?)?;
         Ok(())
     }
 
-    /// Goes to a book.
-    fn go(&mut self, number: usize) {
-        self.place = number.saturating_sub(1);
-    }
-
-    /// Abandons a turn or a parcel.
-    fn give_up(&mut self, what: &str, name: u8) -> anyhow::Result<()> {
-        match what {
-            "turn" => token::abandon(&mut self.turns, name),
-            "parcel" => parcels::abandon(&mut self.parcels, name),
-            _ => bail!("no turn and no parcel: {what}"),
-        }
-    }
-
-    /// What a step about a book answers.
-    fn step(&mut self, alloc: Global, table: &Table, words: &[&str]) -> anyhow::Result<String> {
-        let now = self.now;
+    /// A step about a turn or a parcel of a book.
+    fn held_step(&mut self, verb: &str, name: u8, out: &mut String) -> anyhow::Result<()> {
         let Some(book) = self.books.get_mut(self.place) else {
             bail!("no book");
         };
-        match words {
-            [
-                verb @ ("take" | "show" | "serve" | "give" | "put-back"),
-                name,
-            ] => { turns::step(alloc, book, &mut self.turns, verb, name_of(name)?) }
-            [verb @ ("pick" | "sent" | "unsent"), name] => {
-                sending::step(alloc, book, &mut self.parcels, verb, name_of(name)?)
-            }
-            _ => step(alloc, table, book, now, words),
+        let (turns, parcels) = (&mut self.turns, &mut self.parcels);
+        let answer = match verb {
+            "take" => return turns::take(book, turns, name, out),
+            "pick" => return turns::pick(book, parcels, name, out),
+            "give" => turns::give(self.alloc, book, turns, name)?,
+            "put-back" => turns::put_back(book, turns, name)?,
+            _ => turns::report(book, parcels, name, verb == "sent")?,
+        };
+        out.push_str(answer)?;
+        Ok(())
+    }
+
+    /// A step about a book.
+    fn book_step(&mut self, verb: &str, words: &mut Words, out: &mut String) -> anyhow::Result<()> {
+        let scene = Scene {
+            alloc: self.alloc,
+            table: self.table,
+            now: self.now,
+        };
+        match self.books.get_mut(self.place) {
+            Some(book) => own_step(scene, book, verb, words, out),
+            None => bail!("no book"),
         }
     }
 
-    /// What a step answers.
-    fn answer(&mut self, alloc: Global, table: &Table, words: &[&str]) -> anyhow::Result<String> {
-        match words {
-            ["at", milliseconds] => {
-                self.now = milliseconds.parse()?;
-                word(alloc, milliseconds)
-            }
-            ["book", link] => {
-                self.open(alloc, link.parse()?)?;
-                Ok(format!(in alloc; "link {link}")?)
-            }
-            ["to", number] => {
-                self.go(number.parse()?);
-                word(alloc, number)
-            }
-            ["abandon", what, name] => {
-                self.give_up(what, name_of(name)?)?;
-                word(alloc, "abandoned")
-            }
-            ["posts", count, _] => {
-                let answer = self.step(alloc, table, words)?;
-                self.now = self.now.saturating_add(count.parse()?);
-                Ok(answer)
-            }
-            _ => self.step(alloc, table, words),
+    /// Abandons a turn or a parcel.
+    fn give_up(&mut self, words: &mut Words) -> anyhow::Result<()> {
+        match words.next()? {
+            "turn" => abandon(&mut self.turns, name_of(words)?),
+            "parcel" => abandon(&mut self.parcels, name_of(words)?),
+            what => bail!("no turn and no parcel: {what}"),
         }
     }
 
-    /// What a step answers.
-    fn answer_to(&mut self, alloc: Global, table: &Table, step: &str) -> anyhow::Result<String> {
-        let words: Vec<&str> = step.split_whitespace().collect(alloc)?;
-        self.answer(alloc, table, words.as_slice())
-    }
-
-    /// What the steps of a script answer.
-    fn answers(&mut self, alloc: Global, table: &Table, script: &str) -> anyhow::Result<String> {
-        self.open(alloc, 0)?;
-        let mut text = String::new(alloc);
-        for step in script.split(';') {
-            let answer = self.answer_to(alloc, table, step)?;
-            add_answer(&mut text, answer.as_str())?;
+    /// A step about the case: the time, the book, a turn or a parcel.
+    fn case_step(&mut self, verb: &str, words: &mut Words, out: &mut String) -> anyhow::Result<()> {
+        match verb {
+            "at" => {
+                self.now = words.number()?;
+                write!(out, "{}", self.now)?;
+            }
+            "to" => {
+                let number: usize = words.number()?;
+                self.place = number.saturating_sub(1);
+                write!(out, "{number}")?;
+            }
+            "book" => {
+                let link = words.number()?;
+                self.open(link)?;
+                write!(out, "link {link}")?;
+            }
+            _ => {
+                self.give_up(words)?;
+                out.push_str("abandoned")?;
+            }
         }
-        Ok(text)
+        Ok(())
     }
 
     /// Spends the turns and the parcels that are out.
     fn abandon(self) {
         let Case {
+            alloc: _,
+            table: _,
             books: _,
             place: _,
             now: _,
             turns,
             parcels,
         } = self;
-        token::abandon_all(turns);
-        parcels::abandon_all(parcels);
+        abandon_all(turns);
+        abandon_all(parcels);
     }
 }
 
-/// What the steps of a case answer.
-pub(crate) fn answers(alloc: Global, table: &Table, script: &str) -> anyhow::Result<String> {
-    let mut case = Case::new(alloc);
-    let answers = case.answers(alloc, table, script);
+impl Steps for Case<'_> {
+    fn step(&mut self, step: &str, out: &mut String) -> anyhow::Result<()> {
+        let mut words = Words::new(step);
+        match words.next()? {
+            verb @ ("at" | "to" | "book" | "abandon") => self.case_step(verb, &mut words, out),
+            verb @ ("take" | "give" | "put-back" | "pick" | "sent" | "unsent") => {
+                self.held_step(verb, name_of(&mut words)?, out)
+            }
+            "show" => show(self.turns.as_slice(), name_of(&mut words)?, out),
+            "serve" => {
+                serve(self.alloc, &mut self.turns, name_of(&mut words)?)?;
+                out.push_str("served")?;
+                Ok(())
+            }
+            "posts" => {
+                let count: u32 = Words::new(words.rest()).number()?;
+                self.book_step("posts", &mut words, out)?;
+                self.now = self.now.saturating_add(count);
+                Ok(())
+            }
+            verb => self.book_step(verb, &mut words, out),
+        }
+    }
+}
+
+/// Writes what the steps of a case answer.
+pub(crate) fn answer(
+    alloc: Global,
+    table: &Table,
+    script: &str,
+    out: &mut String,
+) -> anyhow::Result<()> {
+    let mut case = Case {
+        alloc,
+        table,
+        books: Vec::new(alloc),
+        place: 0,
+        now: 0,
+        turns: Vec::new(alloc),
+        parcels: Vec::new(alloc),
+    };
+    let answered = match case.open(0) {
+        Ok(()) => play(&mut case, script, out),
+        Err(error) => Err(error),
+    };
     case.abandon();
-    answers
+    answered
 }

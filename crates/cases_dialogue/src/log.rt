@@ -4,46 +4,39 @@
 //!
 //! | Step | What it answers |
 //! |---|---|
-//! | `add COUNT` | so many steps are put into the log: how many there are then |
+//! | `add COUNT` | COUNT steps are put into the log: how many there are then |
 //! | `len` | how many there are |
-//! | `drain LINK ROOM` | the oldest ones as lines of this link, into room for so many: how many, the first, the last |
+//! | `drain LINK ROOM` | the oldest ones, at most ROOM, as lines of this link: how many, the first, the last |
 //!
-//! A line is `take PLACE` or `gap LOST`. Where one is of another link, or its place isn't above those before it, the
-//! case is wrong.
+//! A line is `take PLACE` or `gap LOST`. If one is of another link, or its place isn't above those before it, the case
+//! is wrong.
 
-use crate::texts::{add_answer, count_text, word};
+use crate::script::{Steps, play};
 use anyhow::bail;
+use cases::Words;
 use fp_book::{Line, Log, LoggedStep};
 use std::alloc::Global;
+use std::fmt::Write;
 
 /// A log, and how many steps were put into it.
 #[derive(Drop)]
-struct Steps {
+struct Turns {
+    alloc: Global,
     log: Log,
     added: u32,
 }
 
-/// Puts so many steps into the log.
-fn add(steps: &mut Steps, count: u16) {
-    for _ in 0..count {
-        steps.log.add(LoggedStep::Take {
-            local: 1,
-            position: u64::from(steps.added),
-        });
-        steps.added = steps.added.saturating_add(1);
-    }
-}
-
-/// A line.
-fn line_text(alloc: Global, line: Option<&Line>) -> anyhow::Result<String> {
+/// Writes a line.
+fn push_line(out: &mut String, line: Option<&Line>) -> anyhow::Result<()> {
     let Some(Line::Step { link: _, step }) = line else {
-        return word(alloc, "no step");
+        bail!("no step");
     };
     match step {
-        LoggedStep::Take { local: _, position } => Ok(format!(in alloc; "take {position}")?),
-        LoggedStep::Gap { lost } => Ok(format!(in alloc; "gap {lost}")?),
-        _ => word(alloc, "another step"),
+        LoggedStep::Take { local: _, position } => write!(out, "take {position}")?,
+        LoggedStep::Gap { lost } => write!(out, "gap {lost}")?,
+        _ => bail!("another step"),
     }
+    Ok(())
 }
 
 /// Whether a line is of this link.
@@ -65,11 +58,6 @@ fn place_of(line: &Line) -> Option<u64> {
     }
 }
 
-/// Whether each line is of this link.
-fn are_of(lines: &[Line], link: u8) -> bool {
-    lines.iter().all(|line| is_of(line, link))
-}
-
 /// Whether each place is above those before it.
 fn are_in_order(lines: &[Line]) -> bool {
     let mut least = 0;
@@ -84,53 +72,65 @@ fn are_in_order(lines: &[Line]) -> bool {
     true
 }
 
-/// What was drained.
-fn lines_text(alloc: Global, lines: &[Line]) -> anyhow::Result<String> {
-    if lines.is_empty() {
-        return word(alloc, "0 lines");
+/// Writes what was drained.
+fn push_lines(out: &mut String, link: u8, lines: &[Line]) -> anyhow::Result<()> {
+    if !lines.iter().all(|line| is_of(line, link)) || !are_in_order(lines) {
+        bail!("lines of another link, or out of order");
     }
-    let first = line_text(alloc, lines.first())?;
-    let last = line_text(alloc, lines.last())?;
-    Ok(format!(in alloc; "{} lines, {first} to {last}", lines.len())?)
+    write!(out, "{} lines", lines.len())?;
+    if !lines.is_empty() {
+        out.push_str(", ")?;
+        push_line(out, lines.first())?;
+        out.push_str(" to ")?;
+        push_line(out, lines.last())?;
+    }
+    Ok(())
 }
 
-/// Drains the oldest steps.
-fn drain(alloc: Global, log: &mut Log, link: u8, room: usize) -> anyhow::Result<String> {
-    let mut lines = Vec::with_capacity(alloc, room)?;
-    log.drain(link, &mut lines);
-    if !are_of(lines.as_slice(), link) {
-        bail!("a line of another link");
-    }
-    if !are_in_order(lines.as_slice()) {
-        bail!("lines out of order");
-    }
-    lines_text(alloc, lines.as_slice())
-}
-
-/// What a step answers.
-fn step(alloc: Global, steps: &mut Steps, text: &str) -> anyhow::Result<String> {
-    let words: Vec<&str> = text.split_whitespace().collect(alloc)?;
-    match words.as_slice() {
-        ["len"] => {}
-        ["add", count] => add(steps, count.parse()?),
-        ["drain", link, room] => {
-            return drain(alloc, &mut steps.log, link.parse()?, room.parse()?);
+impl Turns {
+    /// Puts steps into the log.
+    fn add(&mut self, count: u16) {
+        for _ in 0..count {
+            self.log.add(LoggedStep::Take {
+                local: 1,
+                position: u64::from(self.added),
+            });
+            self.added = self.added.saturating_add(1);
         }
-        _ => bail!("no step: {text}"),
     }
-    count_text(alloc, steps.log.len())
+
+    /// Drains the oldest steps.
+    fn drain(&mut self, link: u8, room: usize, out: &mut String) -> anyhow::Result<()> {
+        let mut lines = Vec::with_capacity(self.alloc, room)?;
+        self.log.drain(link, &mut lines);
+        push_lines(out, link, lines.as_slice())
+    }
 }
 
-/// What the steps of a case answer.
-pub(crate) fn answers(alloc: Global, script: &str) -> anyhow::Result<String> {
-    let mut steps = Steps {
-        log: Log::new(alloc)?,
-        added: 0,
-    };
-    let mut text = String::new(alloc);
-    for one in script.split("; ") {
-        let answer = step(alloc, &mut steps, one)?;
-        add_answer(&mut text, answer.as_str())?;
+impl Steps for Turns {
+    fn step(&mut self, step: &str, out: &mut String) -> anyhow::Result<()> {
+        let mut words = Words::new(step);
+        match words.next()? {
+            "drain" => return self.drain(words.number()?, words.number()?, out),
+            "add" => self.add(words.number()?),
+            "len" => {}
+            verb => bail!("no step: {verb}"),
+        }
+        write!(out, "{}", self.log.len())?;
+        Ok(())
     }
-    Ok(text)
+}
+
+/// Writes what the steps of a case answer.
+pub(crate) fn answer(alloc: Global, script: &str, out: &mut String) -> anyhow::Result<()> {
+    let log = Log::new(alloc)?;
+    play(
+        &mut Turns {
+            alloc,
+            log,
+            added: 0,
+        },
+        script,
+        out,
+    )
 }

@@ -10,14 +10,13 @@ use std::alloc::Global;
 /// The frame of a message, without its head.
 pub(crate) fn frame_of(alloc: Global, text: &str) -> anyhow::Result<Frame> {
     let octets = hex::decode(alloc, text)?;
-    let message = Bytes::copy_from_slice(alloc, octets.as_slice())?;
-    let Some(frame) = Frame::new(message) else {
-        anyhow::bail!("no frame");
-    };
-    Ok(frame)
+    match Frame::new(Bytes::copy_from_slice(alloc, octets.as_slice())?) {
+        Some(frame) => Ok(frame),
+        None => anyhow::bail!("no frame"),
+    }
 }
 
-/// What the octets of a message are prepared to, where no application context name is accepted.
+/// What a message is prepared to, if no application context name is accepted.
 pub(crate) fn prepared(
     alloc: Global,
     table: &Table,

@@ -1,25 +1,52 @@
-//! The dialogues of a case, and its turns that are out.
+//! Dialogues, their turns and their frames.
+//!
+//! A case may open several dialogues: a step is about the one that was opened or gone to last. The turns that it takes
+//! have names of one letter. A step about a turn spends it, unless the turn comes back, which then keeps its name.
+//!
+//! | Step | What it answers |
+//! |---|---|
+//! | `row LOCAL PEER BIRTH` | a Begin opens a dialogue of these identifiers, the BIRTH-th of its link: `opened` |
+//! | `to N` | the N-th dialogue of the case, from 1: its identifiers and its birth |
+//! | `at MS` | from now on it is MS milliseconds after noon: the same number |
+//! | `post HEX` | its entries of this message are accepted: how many there are, or `refused` |
+//! | `clock` | it is given a Clock: `due`, or `not due` |
+//! | `take NAME` | its next turn is taken: its place, or `none` |
+//! | `show NAME` | what the turn, or what was served, says of itself |
+//! | `serve NAME` | the turn is served, and not given back: `served` |
+//! | `give NAME` | the turn is served, if it wasn't, and given back: `nothing`, `frame HEX`, `dropped`, or `strange` |
+//! | `put-back NAME` | the turn is put back: `back`, or `strange` |
+//! | `abandon NAME` | the turn is never given back: `abandoned` |
+//! | `each` | its turns are taken and given one by one: how many, how many frames, and the last of these |
+//! | `sent` | one more of its frames was sent: `sent`, or `none` |
+//! | `end peer`, `end closed` | its peer ends it, or it is closed: `ended` |
+//! | `end peer sending`, `end closed sending` | the same while a frame of it is being sent |
+//! | `state` | which it is of `admitted`, `ready`, `held`, else `gone`; the places its entries take; its deadline |
 
-use crate::messages::prepared;
-use crate::texts::{
-    add_answer, after_noon, ending_of, local_of, name_of, peer_of, requested_text, row_text,
-    state_text, word,
+use crate::held::{
+    Held, Named, abandon, abandon_all, find, find_served, keep, serve, served, show,
 };
-use crate::token::{Named, Token, abandon, abandon_all, find, keep, serve, show};
+use crate::messages::prepared;
+use crate::script::{Steps, play};
+use crate::texts::{NOON, local_of, moment_after, name_of, peer_of, push_dialogue};
+use anyhow::bail;
+use cases::{Words, push_octets};
 use fp_digits::Moment;
 use fp_entry::{Entries, Prepared};
 use fp_records::Table;
-use fp_row::{Requested, Row};
+use fp_row::{Ending, Requested, Row};
 use std::alloc::Global;
+use std::fmt::Write;
 
 /// The dialogues of a case, and its turns that are out. It must be spent.
 #[must_use]
-struct Scene {
+struct Scene<'a> {
+    alloc: Global,
+    table: &'a Table,
     rows: Vec<Row>,
     // The place of the dialogue that a step is about.
     place: usize,
     moment: Moment,
-    tokens: Vec<Named>,
+    turns: Vec<Named>,
 }
 
 /// What several turns requested: how many there were, how many frames, and the last of these.
@@ -27,294 +54,309 @@ struct Scene {
 struct Tally {
     turns: u32,
     frames: u32,
-    last: String,
+    last: Requested,
 }
 
 /// The entries of a message.
 fn entries_of(alloc: Global, prepared: &Prepared) -> anyhow::Result<Entries> {
     match prepared {
         Prepared::Message { incoming, .. } => Ok(incoming.entries.try_clone(alloc)?),
-        _ => anyhow::bail!("no message"),
+        _ => bail!("no message"),
     }
 }
 
-/// A dialogue accepts the entries of a message.
-fn post(
-    alloc: Global,
-    table: &Table,
-    row: &mut Row,
-    moment: Moment,
-    text: &str,
-) -> anyhow::Result<String> {
-    let prepared = prepared(alloc, table, moment, text)?;
-    let entries = entries_of(alloc, &prepared)?;
+/// A dialogue accepts entries.
+fn accept(row: &mut Row, entries: Entries, out: &mut String) -> anyhow::Result<()> {
     let count = entries.len();
     if row.accept(entries)? {
-        return Ok(format!(in alloc; "{count}")?);
+        write!(out, "{count}")?;
+    } else {
+        out.push_str("refused")?;
     }
-    word(alloc, "refused")
+    Ok(())
 }
 
-/// A dialogue is given a Clock.
-fn clock(alloc: Global, row: &mut Row, moment: Moment) -> anyhow::Result<String> {
-    if row.accept_clock(moment)? {
-        return word(alloc, "due");
+/// Who ends a dialogue.
+fn ending_of(text: &str) -> anyhow::Result<Ending> {
+    match text {
+        "peer" => Ok(Ending::ByPeer),
+        "closed" => Ok(Ending::Closed),
+        _ => bail!("no ending: {text}"),
     }
-    word(alloc, "not due")
 }
 
-/// One more frame of a dialogue was sent.
-fn sent(alloc: Global, row: &mut Row) -> anyhow::Result<String> {
-    if row.sent() {
-        return word(alloc, "sent");
+/// Writes what becomes of a request.
+fn push_requested(out: &mut String, requested: &Requested) -> anyhow::Result<()> {
+    match requested {
+        Requested::Nothing => out.push_str("nothing")?,
+        Requested::Dropped => out.push_str("dropped")?,
+        Requested::Frame(frame) => {
+            out.push_str("frame ")?;
+            push_octets(out, frame.octets())?;
+        }
     }
-    word(alloc, "none")
+    Ok(())
 }
 
-/// A dialogue is ended from elsewhere.
-fn end(alloc: Global, row: &mut Row, ending: &str, is_sending: bool) -> anyhow::Result<String> {
-    row.end(ending_of(ending)?, is_sending);
-    word(alloc, "ended")
-}
-
-/// Takes the next turn of a dialogue and keeps it, and tells its place.
-fn take(row: &mut Row, tokens: &mut Vec<Named>, name: u8) -> anyhow::Result<Option<u64>> {
+/// Takes the next turn of a dialogue.
+fn take(row: &mut Row, turns: &mut Vec<Named>, name: u8, out: &mut String) -> anyhow::Result<()> {
     let Some(turn) = row.take()? else {
-        return Ok(None);
+        out.push_str("none")?;
+        return Ok(());
     };
     let position = turn.position();
-    keep(tokens, name, Token::Turn(turn));
-    Ok(Some(position))
+    keep(turns, name, Held::Turn(turn));
+    write!(out, "{position}")?;
+    Ok(())
 }
 
-/// Gives the turn of a name to a dialogue: what becomes of its request, or `None` where it came back.
+/// Gives a turn to a dialogue.
 fn give(
     alloc: Global,
     row: &mut Row,
-    tokens: &mut Vec<Named>,
+    turns: &mut Vec<Named>,
     name: u8,
-) -> anyhow::Result<Option<Requested>> {
-    let Some(token) = find(tokens, name) else {
-        anyhow::bail!("no turn of this name");
-    };
-    match token.give(alloc, row) {
-        Ok(requested) => Ok(Some(requested)),
-        Err(token) => {
-            keep(tokens, name, token);
-            Ok(None)
+    out: &mut String,
+) -> anyhow::Result<()> {
+    let done = find_served(alloc, turns, name)?;
+    match row.give(done) {
+        Ok(requested) => push_requested(out, &requested),
+        Err(done) => {
+            keep(turns, name, Held::Done(done));
+            out.push_str("strange")?;
+            Ok(())
         }
     }
 }
 
-/// Puts the turn of a name back, and tells whether it was taken.
-fn put_back(row: &mut Row, tokens: &mut Vec<Named>, name: u8) -> anyhow::Result<bool> {
-    let Some(token) = find(tokens, name) else {
-        anyhow::bail!("no turn of this name");
+/// Puts a turn back.
+fn put_back(row: &mut Row, turns: &mut Vec<Named>, name: u8) -> anyhow::Result<&'static str> {
+    let held = match find(turns, name)? {
+        Held::Turn(turn) => match row.put_back(turn) {
+            Ok(()) => return Ok("back"),
+            Err(turn) => Held::Turn(turn),
+        },
+        held => held,
     };
-    match token.put_back(row) {
-        Ok(()) => Ok(true),
-        Err(token) => {
-            keep(tokens, name, token);
-            Ok(false)
+    keep(turns, name, held);
+    Ok("strange")
+}
+
+/// Takes, serves and gives the next turn of a dialogue: what becomes of its request, if there is a turn.
+fn serve_next(alloc: Global, row: &mut Row) -> anyhow::Result<Option<Requested>> {
+    let Some(turn) = row.take()? else {
+        return Ok(None);
+    };
+    match row.give(served(alloc, turn)?) {
+        Ok(requested) => Ok(Some(requested)),
+        Err(done) => {
+            done.abandon();
+            bail!("a turn came back");
         }
     }
 }
 
 impl Tally {
     /// Counts one more turn, and what became of its request.
-    fn count(&mut self, alloc: Global, requested: &Requested) -> anyhow::Result<()> {
+    fn count(&mut self, requested: Requested) {
         self.turns = self.turns.saturating_add(1);
-        if let Requested::Frame(_) = requested {
+        if let Requested::Frame(_) = &requested {
             self.frames = self.frames.saturating_add(1);
-            self.last = requested_text(alloc, requested)?;
+            self.last = requested;
         }
-        Ok(())
     }
-}
-
-/// Takes and gives the next turn of a dialogue, and counts it. Tells whether there was one.
-fn one_more(
-    alloc: Global,
-    row: &mut Row,
-    tokens: &mut Vec<Named>,
-    tally: &mut Tally,
-) -> anyhow::Result<bool> {
-    if take(row, tokens, b'.')?.is_none() {
-        return Ok(false);
-    }
-    let Some(requested) = give(alloc, row, tokens, b'.')? else {
-        anyhow::bail!("a turn came back");
-    };
-    tally.count(alloc, &requested)?;
-    Ok(true)
 }
 
 /// Takes and gives the turns of a dialogue one after the other, at most a thousand.
-fn each(alloc: Global, row: &mut Row, tokens: &mut Vec<Named>) -> anyhow::Result<String> {
+fn serve_each(alloc: Global, row: &mut Row, tally: &mut Tally) -> anyhow::Result<()> {
+    for _ in 0..1000 {
+        match serve_next(alloc, row)? {
+            Some(requested) => tally.count(requested),
+            None => break,
+        }
+    }
+    Ok(())
+}
+
+/// Takes and gives the turns of a dialogue one after the other.
+fn each(alloc: Global, row: &mut Row, out: &mut String) -> anyhow::Result<()> {
     let mut tally = Tally {
         turns: 0,
         frames: 0,
-        last: word(alloc, "no frame")?,
+        last: Requested::Nothing,
     };
-    for _ in 0..1000 {
-        if !one_more(alloc, row, tokens, &mut tally)? {
-            break;
-        }
+    serve_each(alloc, row, &mut tally)?;
+    write!(out, "{} turns, {} frames, ", tally.turns, tally.frames)?;
+    if tally.frames == 0 {
+        out.push_str("no frame")?;
+        return Ok(());
     }
-    Ok(format!(in alloc;
-        "{} turns, {} frames, {}",
-        tally.turns, tally.frames, tally.last
-    )?)
+    push_requested(out, &tally.last)
 }
 
-/// A step about the turns of a dialogue.
-fn turn_step(
-    alloc: Global,
-    row: &mut Row,
-    tokens: &mut Vec<Named>,
-    words: &[&str],
-) -> anyhow::Result<String> {
-    match words {
-        ["take", name] => match take(row, tokens, name_of(name)?)? {
-            Some(position) => Ok(format!(in alloc; "{position}")?),
-            None => word(alloc, "none"),
-        },
-        ["give", name] => match give(alloc, row, tokens, name_of(name)?)? {
-            Some(requested) => requested_text(alloc, &requested),
-            None => word(alloc, "strange"),
-        },
-        ["put-back", name] => match put_back(row, tokens, name_of(name)?)? {
-            true => word(alloc, "back"),
-            false => word(alloc, "strange"),
-        },
-        ["serve", name] => {
-            serve(alloc, tokens, name_of(name)?)?;
-            word(alloc, "served")
-        }
-        ["abandon", name] => {
-            abandon(tokens, name_of(name)?)?;
-            word(alloc, "abandoned")
-        }
-        ["show", name] => show(alloc, tokens, name_of(name)?),
-        ["each"] => each(alloc, row, tokens),
-        _ => anyhow::bail!("no step"),
+/// Those of three words that hold of a dialogue.
+fn words_of(row: &Row) -> &'static str {
+    match (row.is_admitted(), row.is_ready(), row.is_held()) {
+        (true, true, true) => "admitted ready held",
+        (true, false, true) => "admitted held",
+        (false, true, true) => "ready held",
+        (false, false, true) => "held",
+        (false, false, false) => "gone",
+        _ => "not held, and not gone",
     }
 }
 
-/// A step about a dialogue.
-fn row_step(
-    alloc: Global,
-    table: &Table,
+/// Writes what a dialogue is.
+fn push_state(out: &mut String, row: &Row) -> anyhow::Result<()> {
+    write!(out, "{}, {} places, ", words_of(row), row.places_taken())?;
+    match row.deadline() {
+        Some(deadline) => write!(out, "due {}", deadline.saturating_sub(NOON))?,
+        None => out.push_str("no deadline")?,
+    }
+    Ok(())
+}
+
+/// A step about a dialogue that has no answer but a word: that word.
+fn plain_step(
     row: &mut Row,
-    tokens: &mut Vec<Named>,
+    verb: &str,
     moment: Moment,
-    words: &[&str],
-) -> anyhow::Result<String> {
-    match words {
-        ["post", message] => post(alloc, table, row, moment, message),
-        ["clock"] => clock(alloc, row, moment),
-        ["sent"] => sent(alloc, row),
-        ["end", ending] => end(alloc, row, ending, false),
-        ["end", ending, "sending"] => end(alloc, row, ending, true),
-        ["state"] => state_text(alloc, row),
-        _ => turn_step(alloc, row, tokens, words),
+    words: &mut Words,
+) -> anyhow::Result<&'static str> {
+    match verb {
+        "clock" => Ok(if row.accept_clock(moment)? {
+            "due"
+        } else {
+            "not due"
+        }),
+        "sent" => Ok(if row.sent() { "sent" } else { "none" }),
+        "end" => {
+            row.end(ending_of(words.next()?)?, !words.is_empty());
+            Ok("ended")
+        }
+        _ => bail!("no step: {verb}"),
     }
 }
 
-impl Scene {
-    /// That of a case that begins.
-    fn new(alloc: Global, moment: Moment) -> Scene {
-        Scene {
-            rows: Vec::new(alloc),
-            place: 0,
-            moment,
-            tokens: Vec::new(alloc),
-        }
-    }
-
+impl Scene<'_> {
     /// Opens a dialogue.
-    fn open(
-        &mut self,
-        alloc: Global,
-        local: &str,
-        peer: &str,
-        birth: &str,
-    ) -> anyhow::Result<String> {
-        let local = local_of(alloc, local)?;
-        let peer = peer_of(alloc, peer)?;
-        let row = Row::open(alloc, local, peer, birth.parse()?, self.moment);
+    fn open(&mut self, words: &mut Words) -> anyhow::Result<()> {
+        let local = local_of(words)?;
+        let peer = peer_of(words)?;
+        let row = Row::open(self.alloc, local, peer, words.number()?, self.moment);
         self.place = self.rows.len();
         self.rows.push(row)?;
-        word(alloc, "opened")
+        Ok(())
     }
 
-    /// Goes to a dialogue.
-    fn go(&mut self, alloc: Global, number: &str) -> anyhow::Result<String> {
-        let number: usize = number.parse()?;
+    /// Goes to a dialogue, and writes which it is.
+    fn go(&mut self, number: usize, out: &mut String) -> anyhow::Result<()> {
         self.place = number.saturating_sub(1);
-        let Some(row) = self.rows.get(self.place) else {
-            anyhow::bail!("no dialogue");
-        };
-        row_text(alloc, row)
-    }
-
-    /// It is so many milliseconds after noon now.
-    fn wait(&mut self, alloc: Global, milliseconds: &str) -> anyhow::Result<String> {
-        self.moment = after_noon(milliseconds)?;
-        word(alloc, milliseconds)
-    }
-
-    /// What a step about the dialogue answers.
-    fn step(&mut self, alloc: Global, table: &Table, words: &[&str]) -> anyhow::Result<String> {
-        let moment = self.moment;
-        let Some(row) = self.rows.get_mut(self.place) else {
-            anyhow::bail!("no dialogue");
-        };
-        row_step(alloc, table, row, &mut self.tokens, moment, words)
-    }
-
-    /// What a step answers.
-    fn answer(&mut self, alloc: Global, table: &Table, words: &[&str]) -> anyhow::Result<String> {
-        match words {
-            ["row", local, peer, birth] => self.open(alloc, local, peer, birth),
-            ["to", number] => self.go(alloc, number),
-            ["at", milliseconds] => self.wait(alloc, milliseconds),
-            _ => self.step(alloc, table, words),
+        match self.rows.get(self.place) {
+            Some(row) => push_dialogue(out, row.local(), row.peer(), row.birth()),
+            None => bail!("no dialogue"),
         }
     }
 
-    /// What a step answers.
-    fn answer_to(&mut self, alloc: Global, table: &Table, step: &str) -> anyhow::Result<String> {
-        let words: Vec<&str> = step.split_whitespace().collect(alloc)?;
-        self.answer(alloc, table, words.as_slice())
-    }
-
-    /// What the steps of a script answer.
-    fn answers(&mut self, alloc: Global, table: &Table, script: &str) -> anyhow::Result<String> {
-        let mut text = String::new(alloc);
-        for step in script.split(';') {
-            let answer = self.answer_to(alloc, table, step)?;
-            add_answer(&mut text, answer.as_str())?;
-        }
-        Ok(text)
+    /// It is this number of milliseconds after noon now.
+    fn wait(&mut self, milliseconds: u32, out: &mut String) -> anyhow::Result<()> {
+        self.moment = moment_after(milliseconds)?;
+        write!(out, "{milliseconds}")?;
+        Ok(())
     }
 
     /// Spends the turns that are out.
     fn abandon(self) {
         let Scene {
+            alloc: _,
+            table: _,
             rows: _,
             place: _,
             moment: _,
-            tokens,
+            turns,
         } = self;
-        abandon_all(tokens);
+        abandon_all(turns);
+    }
+
+    /// A step about a turn that is out.
+    fn turn_step(&mut self, verb: &str, name: u8, out: &mut String) -> anyhow::Result<()> {
+        let turns = &mut self.turns;
+        match verb {
+            "show" => return show(turns.as_slice(), name, out),
+            "serve" => serve(self.alloc, turns, name)?,
+            _ => abandon(turns, name)?,
+        }
+        out.push_str(if verb == "serve" {
+            "served"
+        } else {
+            "abandoned"
+        })?;
+        Ok(())
+    }
+
+    /// A step about a dialogue.
+    fn row_step(&mut self, verb: &str, words: &mut Words, out: &mut String) -> anyhow::Result<()> {
+        let (alloc, moment) = (self.alloc, self.moment);
+        let Some(row) = self.rows.get_mut(self.place) else {
+            bail!("no dialogue");
+        };
+        match verb {
+            "post" => {
+                let prepared = prepared(alloc, self.table, moment, words.next()?)?;
+                accept(row, entries_of(alloc, &prepared)?, out)
+            }
+            "state" => push_state(out, row),
+            "each" => each(alloc, row, out),
+            "take" => take(row, &mut self.turns, name_of(words)?, out),
+            "give" => give(alloc, row, &mut self.turns, name_of(words)?, out),
+            "put-back" => {
+                out.push_str(put_back(row, &mut self.turns, name_of(words)?)?)?;
+                Ok(())
+            }
+            _ => {
+                out.push_str(plain_step(row, verb, moment, words)?)?;
+                Ok(())
+            }
+        }
     }
 }
 
-/// What the steps of a script answer.
-pub(crate) fn answers(alloc: Global, table: &Table, script: &str) -> anyhow::Result<String> {
-    let mut scene = Scene::new(alloc, after_noon("0")?);
-    let answers = scene.answers(alloc, table, script);
+impl Steps for Scene<'_> {
+    fn step(&mut self, step: &str, out: &mut String) -> anyhow::Result<()> {
+        let mut words = Words::new(step);
+        match words.next()? {
+            "row" => {
+                self.open(&mut words)?;
+                out.push_str("opened")?;
+                Ok(())
+            }
+            "to" => self.go(words.number()?, out),
+            "at" => self.wait(words.number()?, out),
+            verb @ ("show" | "serve" | "abandon") => {
+                self.turn_step(verb, name_of(&mut words)?, out)
+            }
+            verb => self.row_step(verb, &mut words, out),
+        }
+    }
+}
+
+/// Writes what the steps of a case answer.
+pub(crate) fn answer(
+    alloc: Global,
+    table: &Table,
+    script: &str,
+    out: &mut String,
+) -> anyhow::Result<()> {
+    let moment = moment_after(0)?;
+    let mut scene = Scene {
+        alloc,
+        table,
+        rows: Vec::new(alloc),
+        place: 0,
+        moment,
+        turns: Vec::new(alloc),
+    };
+    let answered = play(&mut scene, script, out);
     scene.abandon();
-    answers
+    answered
 }

@@ -21,8 +21,9 @@
 //! | `end ID` | nothing: the dialogue of this identifier is held no longer |
 //! | `link ID` | the link of an identifier |
 
-use crate::words::{joined, local_of};
+use crate::values::local_of;
 use anyhow::bail;
+use cases::first_word;
 use fp_digits::Moment;
 use fp_tids::{LocalIds, link_of};
 use fp_timers::Deadlines;
@@ -31,24 +32,81 @@ use std::alloc::Global;
 /// The first identifier that is given a deadline where many are.
 const FIRST: u32 = 0x2000_0001;
 
-/// The moment so many milliseconds after 1970.
-fn moment_of(text: &str) -> anyhow::Result<Moment> {
-    let milliseconds: u64 = text.parse()?;
-    let Some(moment) = Moment::new(milliseconds) else {
-        bail!("{text} is no moment");
+/// Writes what a case of this module gives; `false` if it is none.
+pub(crate) fn answer(alloc: Global, input: &str, out: &mut String) -> anyhow::Result<bool> {
+    let (word, text) = first_word(input);
+    let written = match word {
+        "deadlines" => of_deadlines(alloc, text, out),
+        "local-ids" => of_local_ids(text, out),
+        _ => return Ok(false),
     };
-    Ok(moment)
+    written?;
+    Ok(true)
 }
 
-/// An identifier, in eight hexadecimal digits.
-fn local_text(alloc: Global, local: Option<u32>) -> anyhow::Result<String> {
-    match local {
-        Some(local) => Ok(format!(in alloc; "{local:08X}")?),
-        None => Ok(format!(in alloc; "none")?),
+/// Does to new deadlines what a text says.
+fn of_deadlines(alloc: Global, text: &str, out: &mut String) -> anyhow::Result<()> {
+    let mut deadlines = Deadlines::new(alloc)?;
+    change_all(&mut deadlines, text, out)
+}
+
+/// Does to deadlines one thing after the other.
+fn change_all(deadlines: &mut Deadlines, text: &str, out: &mut String) -> anyhow::Result<()> {
+    for part in text.split(", ") {
+        change(deadlines, part, out)?;
+    }
+    Ok(())
+}
+
+/// Does something to deadlines, and writes what that gives.
+fn change(deadlines: &mut Deadlines, text: &str, out: &mut String) -> anyhow::Result<()> {
+    let (word, rest) = first_word(text);
+    match word {
+        "set" => set_of(deadlines, rest),
+        "clear" => clear(deadlines, rest),
+        "due" => push_due(deadlines, rest, out),
+        "count" => push_count(deadlines, out),
+        "fill" => fill(deadlines, rest),
+        "drain" => drain(deadlines, rest, out),
+        _ => bail!("no such case"),
     }
 }
 
-/// Gives an identifier a deadline, where there is room for one more.
+/// Gives an identifier the deadline that a text says.
+fn set_of(deadlines: &mut Deadlines, text: &str) -> anyhow::Result<()> {
+    let (local, deadline) = first_word(text);
+    let local = local_of(local)?;
+    set(deadlines, local, deadline.parse()?)
+}
+
+/// Takes away the deadline of an identifier.
+fn clear(deadlines: &mut Deadlines, local: &str) -> anyhow::Result<()> {
+    deadlines.clear(local_of(local)?);
+    Ok(())
+}
+
+/// Writes the identifier that is due at a moment.
+fn push_due(deadlines: &Deadlines, moment: &str, out: &mut String) -> anyhow::Result<()> {
+    let moment = moment_of(moment)?;
+    push_local(deadlines.due(moment), out)
+}
+
+/// Writes how many have a deadline.
+fn push_count(deadlines: &Deadlines, out: &mut String) -> anyhow::Result<()> {
+    push_blank(out)?;
+    write!(out, "{}", deadlines.len())?;
+    Ok(())
+}
+
+/// The moment so many milliseconds after 1970.
+fn moment_of(text: &str) -> anyhow::Result<Moment> {
+    match Moment::new(text.parse()?) {
+        Some(moment) => Ok(moment),
+        None => bail!("no moment"),
+    }
+}
+
+/// Gives an identifier a deadline, if there is room for one more.
 fn set(deadlines: &mut Deadlines, local: u32, deadline: u64) -> anyhow::Result<()> {
     if deadlines.len() >= Deadlines::MOST {
         bail!("no room");
@@ -58,7 +116,10 @@ fn set(deadlines: &mut Deadlines, local: u32, deadline: u64) -> anyhow::Result<(
 }
 
 /// Gives so many identifiers a deadline each, later and later ones or earlier and earlier ones.
-fn fill(deadlines: &mut Deadlines, count: u16, rises: bool) -> anyhow::Result<()> {
+fn fill(deadlines: &mut Deadlines, text: &str) -> anyhow::Result<()> {
+    let (count, order) = first_word(text);
+    let count: u16 = count.parse()?;
+    let rises = order == "rising";
     for index in 0..count {
         let deadline = if rises { index + 1 } else { count - index };
         set(deadlines, FIRST + u32::from(index), u64::from(deadline))?;
@@ -73,6 +134,66 @@ fn taken(deadlines: &mut Deadlines, moment: Moment) -> Option<u32> {
     Some(local)
 }
 
+/// Takes away what is due until nothing is, and writes how many there were, the first and the last, and their order.
+fn drain(deadlines: &mut Deadlines, moment: &str, out: &mut String) -> anyhow::Result<()> {
+    let moment = moment_of(moment)?;
+    match taken(deadlines, moment) {
+        Some(first) => push_drained(drain_all(deadlines, moment, first), out),
+        None => push_local(None, out),
+    }
+}
+
+/// Identifiers that were taken away one after the other.
+#[derive(Clone, Copy)]
+struct Drained {
+    count: u32,
+    first: u32,
+    last: u32,
+    rises: bool,
+    falls: bool,
+}
+
+/// What is taken away until nothing is due, the first of it before.
+fn drain_all(deadlines: &mut Deadlines, moment: Moment, first: u32) -> Drained {
+    let mut drained = Drained {
+        count: 1,
+        first,
+        last: first,
+        rises: true,
+        falls: true,
+    };
+    for _ in 0..Deadlines::MOST {
+        let Some(local) = taken(deadlines, moment) else {
+            break;
+        };
+        drained = with_next(drained, local);
+    }
+    drained
+}
+
+/// What was taken away, and one more.
+fn with_next(drained: Drained, local: u32) -> Drained {
+    Drained {
+        count: drained.count.saturating_add(1),
+        first: drained.first,
+        last: local,
+        rises: drained.rises && local == drained.last.saturating_add(1),
+        falls: drained.falls && local == drained.last.saturating_sub(1),
+    }
+}
+
+/// Writes what was taken away.
+fn push_drained(drained: Drained, out: &mut String) -> anyhow::Result<()> {
+    push_blank(out)?;
+    write!(
+        out,
+        "{} from {:08X} to {:08X}, ",
+        drained.count, drained.first, drained.last
+    )?;
+    out.push_str(order_text(drained.rises, drained.falls))?;
+    Ok(())
+}
+
 /// The order of identifiers, each of which is one more, or one less, than the one before.
 fn order_text(rises: bool, falls: bool) -> &'static str {
     if rises {
@@ -84,117 +205,63 @@ fn order_text(rises: bool, falls: bool) -> &'static str {
     }
 }
 
-/// Takes away what is due until nothing is.
-fn drain(alloc: Global, deadlines: &mut Deadlines, moment: Moment) -> anyhow::Result<String> {
-    let Some(first) = taken(deadlines, moment) else {
-        return Ok(format!(in alloc; "none")?);
-    };
-    let mut last = first;
-    let mut count: u32 = 1;
-    let mut rises = true;
-    let mut falls = true;
-    for _ in 0..Deadlines::MOST {
-        let Some(local) = taken(deadlines, moment) else {
-            break;
-        };
-        if local != last.saturating_add(1) {
-            rises = false;
-        }
-        if local != last.saturating_sub(1) {
-            falls = false;
-        }
-        last = local;
-        count = count.saturating_add(1);
+/// Does to the identifiers of a link what a text says. None of them was given yet.
+fn of_local_ids(text: &str, out: &mut String) -> anyhow::Result<()> {
+    let (link, rest) = first_word(text);
+    let link: u8 = link.parse()?;
+    if link >= LocalIds::LINKS {
+        bail!("no link");
     }
-    let order = order_text(rises, falls);
-    Ok(format!(in alloc; "{count} from {first:08X} to {last:08X}, {order}")?)
+    use_all(&mut LocalIds::new(link), rest, out)
 }
 
-/// What these words do to deadlines: what that gives, and no text where it gives nothing.
-fn done(alloc: Global, deadlines: &mut Deadlines, words: &[&str]) -> anyhow::Result<String> {
-    match words {
-        ["set", local, deadline] => {
-            set(deadlines, local_of(alloc, local)?, deadline.parse()?)?;
-        }
-        ["clear", local] => deadlines.clear(local_of(alloc, local)?),
-        ["due", moment] => return local_text(alloc, deadlines.due(moment_of(moment)?)),
-        ["count"] => return Ok(format!(in alloc; "{}", deadlines.len())?),
-        ["fill", count, "rising"] => fill(deadlines, count.parse()?, true)?,
-        ["fill", count, "falling"] => fill(deadlines, count.parse()?, false)?,
-        ["drain", moment] => return drain(alloc, deadlines, moment_of(moment)?),
-        _ => bail!("no such case"),
+/// Does to identifiers one thing after the other.
+fn use_all(ids: &mut LocalIds, text: &str, out: &mut String) -> anyhow::Result<()> {
+    for part in text.split(", ") {
+        use_ids(ids, part, out)?;
     }
-    Ok(String::new(alloc))
-}
-
-/// What these words do to identifiers: what that gives, and no text where it gives nothing.
-fn given(alloc: Global, ids: &mut LocalIds, words: &[&str]) -> anyhow::Result<String> {
-    match words {
-        ["give"] => local_text(alloc, ids.give()),
-        ["end", local] => {
-            ids.end(local_of(alloc, local)?);
-            Ok(String::new(alloc))
-        }
-        ["link", local] => Ok(format!(in alloc; "{}", link_of(local_of(alloc, local)?))?),
-        _ => bail!("no such case"),
-    }
-}
-
-/// Puts what was given behind the others, with a blank between them.
-fn push_given(text: &mut String, given: &str) -> anyhow::Result<()> {
-    if given.is_empty() {
-        return Ok(());
-    }
-    if !text.is_empty() {
-        text.push_str(" ")?;
-    }
-    text.push_str(given)?;
     Ok(())
 }
 
-/// What new deadlines give.
-fn of_deadlines(alloc: Global, words: &[&str]) -> anyhow::Result<String> {
-    let mut deadlines = Deadlines::new(alloc)?;
-    let mut text = String::new(alloc);
-    let all = joined(alloc, words)?;
-    let parts: Vec<&str> = all.as_str().split(", ").collect(alloc)?;
-    for part in parts.as_slice() {
-        let words: Vec<&str> = part.split_whitespace().collect(alloc)?;
-        let given = done(alloc, &mut deadlines, words.as_slice())?;
-        push_given(&mut text, given.as_str())?;
+/// Does something to identifiers, and writes what that gives.
+fn use_ids(ids: &mut LocalIds, text: &str, out: &mut String) -> anyhow::Result<()> {
+    let (word, local) = first_word(text);
+    match word {
+        "give" => push_local(ids.give(), out),
+        "end" => end(ids, local),
+        "link" => push_link(local, out),
+        _ => bail!("no such case"),
     }
-    Ok(text)
 }
 
-/// The identifiers of a link, of which none was given yet.
-fn local_ids_of(link: &str) -> anyhow::Result<LocalIds> {
-    let link: u8 = link.parse()?;
-    if link >= LocalIds::LINKS {
-        bail!("{link} is no link");
-    }
-    Ok(LocalIds::new(link))
+/// The dialogue of an identifier is held no longer.
+fn end(ids: &mut LocalIds, local: &str) -> anyhow::Result<()> {
+    ids.end(local_of(local)?);
+    Ok(())
 }
 
-/// What the identifiers of a link give.
-fn of_local_ids(alloc: Global, link: &str, words: &[&str]) -> anyhow::Result<String> {
-    let mut ids = local_ids_of(link)?;
-    let mut text = String::new(alloc);
-    let all = joined(alloc, words)?;
-    let parts: Vec<&str> = all.as_str().split(", ").collect(alloc)?;
-    for part in parts.as_slice() {
-        let words: Vec<&str> = part.split_whitespace().collect(alloc)?;
-        let given = given(alloc, &mut ids, words.as_slice())?;
-        push_given(&mut text, given.as_str())?;
-    }
-    Ok(text)
+/// Writes the link of an identifier.
+fn push_link(local: &str, out: &mut String) -> anyhow::Result<()> {
+    let link = link_of(local_of(local)?);
+    push_blank(out)?;
+    write!(out, "{link}")?;
+    Ok(())
 }
 
-/// What a case of this module gives.
-pub(crate) fn case(alloc: Global, words: &[&str]) -> anyhow::Result<Option<String>> {
-    let text = match words {
-        ["deadlines", words @ ..] => of_deadlines(alloc, words)?,
-        ["local-ids", link, words @ ..] => of_local_ids(alloc, link, words)?,
-        _ => return Ok(None),
-    };
-    Ok(Some(text))
+/// Writes an identifier, in eight hexadecimal digits, or `none`.
+fn push_local(local: Option<u32>, out: &mut String) -> anyhow::Result<()> {
+    push_blank(out)?;
+    match local {
+        Some(local) => write!(out, "{local:08X}")?,
+        None => out.push_str("none")?,
+    }
+    Ok(())
+}
+
+/// Writes a blank after what is there, if anything is.
+fn push_blank(out: &mut String) -> anyhow::Result<()> {
+    if !out.is_empty() {
+        out.push(' ')?;
+    }
+    Ok(())
 }

@@ -15,17 +15,16 @@
 //! | `ism keep` | the list as it is, of which a copy is kept |
 //! | `ism kept` | the copy |
 //!
-//! Behind each stands the list: the identifiers that are active, of all from -128 to 127; the identifier that comes
+//! After each comes the list: the identifiers that are active, of all from -128 to 127; the identifier that comes
 //! next; and the earliest moment at which one is due.
 
+use crate::kinds::is_last;
+use crate::values::{NOON, after_noon};
 use anyhow::bail;
+use cases::first_word;
 use fp_digits::Moment;
 use fp_ism::{Invocations, Outcome};
 use fp_q773::OperationClass;
-use std::alloc::Global;
-
-/// 2024-05-06T12:00:00Z, in milliseconds since 1970.
-const NOON: u64 = 1_714_996_800_000;
 
 /// What the cases before have left for the next ones.
 #[derive(Drop)]
@@ -36,24 +35,153 @@ pub(crate) struct Scene {
 
 impl Scene {
     /// That of the first case.
-    pub(crate) fn new(_alloc: Global) -> anyhow::Result<Scene> {
-        Ok(Scene {
+    pub(crate) fn new() -> Scene {
+        Scene {
             invocations: Invocations::new(),
             kept: Invocations::new(),
-        })
+        }
     }
+
+    /// Writes what a case of this module gives; `false` if it is none.
+    pub(crate) fn answer(&mut self, input: &str, out: &mut String) -> anyhow::Result<bool> {
+        let (word, text) = first_word(input);
+        if word != "ism" {
+            return Ok(false);
+        }
+        let written = match text {
+            "keep" => self.keep(out),
+            "kept" => push_with("kept", &self.kept, out),
+            _ => self.change(text, out),
+        };
+        written?;
+        Ok(true)
+    }
+
+    /// Keeps a copy of the list.
+    fn keep(&mut self, out: &mut String) -> anyhow::Result<()> {
+        self.kept = self.invocations;
+        push_with("kept", &self.kept, out)
+    }
+
+    /// Does to the list what a text says, and writes what that gives.
+    fn change(&mut self, text: &str, out: &mut String) -> anyhow::Result<()> {
+        change(&mut self.invocations, text, out)?;
+        push_with("", &self.invocations, out)
+    }
+}
+
+/// Does to a list what a text says, and writes what that gives.
+fn change(list: &mut Invocations, text: &str, out: &mut String) -> anyhow::Result<()> {
+    let (word, text) = first_word(text);
+    match word {
+        "new" => anew(list, out),
+        "start" => start(list, text, out),
+        "result" => result(list, text, out),
+        "error" => error(list, text, out),
+        "reject" => reject(list, text, out),
+        "due" => due(list, text, out),
+        "fail" => fail(list, text, out),
+        _ => bail!("no such case"),
+    }
+}
+
+/// Begins a new list.
+fn anew(list: &mut Invocations, out: &mut String) -> anyhow::Result<()> {
+    *list = Invocations::new();
+    out.push_str("new")?;
+    Ok(())
+}
+
+/// Starts an invocation, and writes its identifier or what is in its way.
+fn start(list: &mut Invocations, text: &str, out: &mut String) -> anyhow::Result<()> {
+    let (class, moment) = first_word(text);
+    let class = class_of(class)?;
+    match list.start(class, moment_of(moment)?) {
+        Ok(identifier) => write!(out, "{identifier}")?,
+        Err(full) => write!(out, "{full}")?,
+    }
+    Ok(())
+}
+
+/// Writes what a ReturnResult means.
+fn result(list: &mut Invocations, text: &str, out: &mut String) -> anyhow::Result<()> {
+    let (identifier, last) = first_word(text);
+    let outcome = list.result(identifier.parse()?, is_last(last)?);
+    push_outcome(outcome, out)
+}
+
+/// Writes what a ReturnError means.
+fn error(list: &mut Invocations, identifier: &str, out: &mut String) -> anyhow::Result<()> {
+    push_outcome(list.error(identifier.parse()?), out)
+}
+
+/// Writes what a Reject means.
+fn reject(list: &mut Invocations, identifier: &str, out: &mut String) -> anyhow::Result<()> {
+    push_outcome(list.reject(identifier.parse()?), out)
+}
+
+/// Writes what a component means.
+fn push_outcome(outcome: Outcome, out: &mut String) -> anyhow::Result<()> {
+    write!(out, "{outcome:?}")?;
+    Ok(())
+}
+
+/// Ends what is due, and writes how many that are.
+fn due(list: &mut Invocations, moment: &str, out: &mut String) -> anyhow::Result<()> {
+    let count = list.due(moment_of(moment)?);
+    write!(out, "{count}")?;
+    Ok(())
+}
+
+/// Starts so many invocations one after the other, whose identifiers rise by one, and each of which fails.
+fn fail(list: &mut Invocations, text: &str, out: &mut String) -> anyhow::Result<()> {
+    let (count, rest) = first_word(text);
+    let (class, moment) = first_word(rest);
+    let count: u8 = count.parse()?;
+    let class = class_of(class)?;
+    let moment = moment_of(moment)?;
+    let first = list.next();
+    let last = last_failed(list, count, class, moment)?;
+    write!(out, "{first} to {last}, each Failure")?;
+    Ok(())
+}
+
+/// The last identifier of so many invocations, each of which starts and fails.
+fn last_failed(
+    list: &mut Invocations,
+    count: u8,
+    class: OperationClass,
+    moment: Moment,
+) -> anyhow::Result<i32> {
+    let mut expected = i32::from(list.next());
+    for _ in 0..count {
+        if i32::from(failed(list, class, moment)?) != expected {
+            bail!("not one more than the one before");
+        }
+        expected = expected.saturating_add(1);
+    }
+    Ok(expected.saturating_sub(1))
+}
+
+/// Starts an invocation as the next one, and its ReturnError is a failure: its identifier.
+fn failed(list: &mut Invocations, class: OperationClass, moment: Moment) -> anyhow::Result<i8> {
+    let next = list.next();
+    let identifier = list.start(class, moment)?;
+    if identifier != next {
+        bail!("not the next one started");
+    }
+    if list.error(identifier) != Outcome::Failure {
+        bail!("the error is no failure");
+    }
+    Ok(identifier)
 }
 
 /// The moment that a text `NOON+N` names.
 fn moment_of(text: &str) -> anyhow::Result<Moment> {
-    let Some(later) = text.strip_prefix("NOON+") else {
-        bail!("{text} is no moment");
-    };
-    let later: u32 = later.parse()?;
-    let Some(moment) = Moment::new(NOON + u64::from(later)) else {
-        bail!("{text} is no moment");
-    };
-    Ok(moment)
+    match text.strip_prefix("NOON+") {
+        Some(later) => Ok(after_noon(later.parse()?)),
+        None => bail!("no moment"),
+    }
 }
 
 /// The class that a text names.
@@ -63,164 +191,39 @@ fn class_of(text: &str) -> anyhow::Result<OperationClass> {
         "class-2" => Ok(OperationClass::Class2),
         "class-3" => Ok(OperationClass::Class3),
         "class-4" => Ok(OperationClass::Class4),
-        _ => bail!("{text} is no class"),
+        _ => bail!("no class"),
     }
 }
 
-/// The identifiers that are active.
-fn active_text(alloc: Global, invocations: &Invocations) -> anyhow::Result<String> {
-    let mut text = String::new(alloc);
+/// Writes what was given, and a list.
+fn push_with(given: &str, list: &Invocations, out: &mut String) -> anyhow::Result<()> {
+    write!(out, "{given}; active")?;
+    push_active(list, out)?;
+    write!(out, "; next {}; due ", list.next())?;
+    push_due(list.next_due(), out)
+}
+
+/// Writes when the first invocation is due.
+fn push_due(due: Option<u64>, out: &mut String) -> anyhow::Result<()> {
+    match due {
+        None => out.push_str("none")?,
+        Some(due) if due >= NOON => write!(out, "NOON+{}", due - NOON)?,
+        Some(due) => write!(out, "{due}, before noon")?,
+    }
+    Ok(())
+}
+
+/// Writes the identifiers of the invocations that are active, each after a blank, or ` none`.
+pub(crate) fn push_active(list: &Invocations, out: &mut String) -> anyhow::Result<()> {
+    let mut is_none = true;
     for identifier in i8::MIN..=i8::MAX {
-        if invocations.active(identifier) {
-            text.push_str(format!(in alloc; " {identifier}")?.as_str())?;
+        if list.active(identifier) {
+            write!(out, " {identifier}")?;
+            is_none = false;
         }
     }
-    if text.is_empty() {
-        text.push_str(" none")?;
+    if is_none {
+        out.push_str(" none")?;
     }
-    Ok(text)
-}
-
-/// The earliest moment at which one is due.
-fn due_text(alloc: Global, invocations: &Invocations) -> anyhow::Result<String> {
-    let text = match invocations.next_due() {
-        None => format!(in alloc; "none")?,
-        Some(due) if due >= NOON => format!(in alloc; "NOON+{}", due - NOON)?,
-        Some(due) => format!(in alloc; "{due}, before noon")?,
-    };
-    Ok(text)
-}
-
-/// What a case gave, and the list behind it.
-fn with_list(alloc: Global, given: &str, invocations: &Invocations) -> anyhow::Result<String> {
-    let active = active_text(alloc, invocations)?;
-    let due = due_text(alloc, invocations)?;
-    Ok(format!(in alloc;
-        "{given}; active{active}; next {}; due {due}",
-        invocations.next()
-    )?)
-}
-
-/// What a component means, and the list behind it.
-fn with_outcome(
-    alloc: Global,
-    outcome: Outcome,
-    invocations: &Invocations,
-) -> anyhow::Result<String> {
-    let given = format!(in alloc; "{outcome:?}")?;
-    with_list(alloc, given.as_str(), invocations)
-}
-
-/// An invocation starts.
-fn start(
-    alloc: Global,
-    invocations: &mut Invocations,
-    class: OperationClass,
-    moment: Moment,
-) -> anyhow::Result<String> {
-    let given = match invocations.start(class, moment) {
-        Ok(identifier) => format!(in alloc; "{identifier}")?,
-        Err(full) => format!(in alloc; "{full}")?,
-    };
-    with_list(alloc, given.as_str(), invocations)
-}
-
-/// An invocation starts as the next one, and its ReturnError is a failure: its identifier.
-fn failed(
-    invocations: &mut Invocations,
-    class: OperationClass,
-    moment: Moment,
-) -> anyhow::Result<i8> {
-    let next = invocations.next();
-    let identifier = invocations.start(class, moment)?;
-    if identifier != next {
-        bail!("{identifier} started, and {next} was next");
-    }
-    let outcome = invocations.error(identifier);
-    if outcome != Outcome::Failure {
-        bail!("the error of {identifier} is {outcome:?}");
-    }
-    Ok(identifier)
-}
-
-/// So many invocations start and fail, one after the other, and their identifiers rise by one.
-fn fail(
-    alloc: Global,
-    invocations: &mut Invocations,
-    count: u8,
-    class: OperationClass,
-    moment: Moment,
-) -> anyhow::Result<String> {
-    let first = invocations.next();
-    let mut expected = i32::from(first);
-    for _ in 0..count {
-        let identifier = failed(invocations, class, moment)?;
-        if i32::from(identifier) != expected {
-            bail!("{identifier} started, and {expected} is one more than the one before");
-        }
-        expected = expected.saturating_add(1);
-    }
-    let last = expected.saturating_sub(1);
-    let given = format!(in alloc; "{first} to {last}, each Failure")?;
-    with_list(alloc, given.as_str(), invocations)
-}
-
-/// What a case about the list gives, by the words behind `ism`.
-fn of_list(alloc: Global, invocations: &mut Invocations, words: &[&str]) -> anyhow::Result<String> {
-    match words {
-        ["new"] => {
-            *invocations = Invocations::new();
-            with_list(alloc, "new", invocations)
-        }
-        ["start", class, moment] => {
-            start(alloc, invocations, class_of(class)?, moment_of(moment)?)
-        }
-        ["result", identifier, "last"] => {
-            let outcome = invocations.result(identifier.parse()?, true);
-            with_outcome(alloc, outcome, invocations)
-        }
-        ["result", identifier, "not-last"] => {
-            let outcome = invocations.result(identifier.parse()?, false);
-            with_outcome(alloc, outcome, invocations)
-        }
-        ["error", identifier] => {
-            let outcome = invocations.error(identifier.parse()?);
-            with_outcome(alloc, outcome, invocations)
-        }
-        ["reject", identifier] => {
-            let outcome = invocations.reject(identifier.parse()?);
-            with_outcome(alloc, outcome, invocations)
-        }
-        ["due", moment] => {
-            let count = invocations.due(moment_of(moment)?);
-            let given = format!(in alloc; "{count}")?;
-            with_list(alloc, given.as_str(), invocations)
-        }
-        ["fail", count, class, moment] => fail(
-            alloc,
-            invocations,
-            count.parse()?,
-            class_of(class)?,
-            moment_of(moment)?,
-        ),
-        _ => bail!("no such case"),
-    }
-}
-
-/// What a case of this module gives.
-pub(crate) fn case(
-    alloc: Global,
-    scene: &mut Scene,
-    words: &[&str],
-) -> anyhow::Result<Option<String>> {
-    let text = match words {
-        ["ism", "keep"] => {
-            scene.kept = scene.invocations;
-            with_list(alloc, "kept", &scene.kept)?
-        }
-        ["ism", "kept"] => with_list(alloc, "kept", &scene.kept)?,
-        ["ism", words @ ..] => of_list(alloc, &mut scene.invocations, words)?,
-        _ => return Ok(None),
-    };
-    Ok(Some(text))
+    Ok(())
 }

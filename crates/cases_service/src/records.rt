@@ -1,35 +1,38 @@
 //! Files of records: what they hold, what is wrong with them, and the rule that a call gets.
 //!
-//! A FILE is parts that stand one behind the other, none or more of them: `TEXT`, `COUNT*TEXT`, which is the text so
+//! A FILE is parts that stand one after the other, none or more of them: `TEXT`, `COUNT*TEXT`, which is the text so
 //! many times, or `FIRST..LAST*COUNT*TEXT`, which is the same for each number from the first to the last one, with the
-//! number in front of each text. In a text `\n`, `\r`, `\s` (a blank) and `\xHH` stand for an octet.
+//! number before each text. In a text `\n`, `\r`, `\s` (a blank) and `\xHH` stand for an octet.
 //!
-//! DIGITS are hexadecimal, or `empty`. CALLING is the digits of a calling number, or `none` where there is none. A
+//! DIGITS are hexadecimal, or `empty`. CALLING is the digits of a calling number, or `none` if there is none. A
 //! MOMENT is `2024-05-06T11:00:00Z` or with milliseconds `2024-05-06T11:00:00.000Z`.
 //!
 //! | Case | What it gives |
 //! |---|---|
 //! | `file FILE` | the service key, and how many numbers and rules there are, or the fault; the next cases are about this file |
 //! | `other-file FILE` | the same for a second file, for `same-record` |
-//! | `find NATURE DIGITS` | the record of a called number, `national` or `international`: its rule where it has just one, else `several rules`; or `no record` |
+//! | `find NATURE DIGITS` | the record of a called number, `national` or `international`: its rule if it has just one, else `several rules`; or `no record` |
 //! | `choose CALLED CALLING MOMENT BIRTH` | the rule that a call gets, or `no rule`, or `no record` |
 //! | `holds CALLED HH:MM` | whether the window of the number's only rule holds this minute |
 //! | `same-record CALLED` | whether the two files say the same of a number, asked of the one and of the other |
 //! | `destinations TEXT` | these destinations of a rule, and again without the first, and so on: the first, and those that are left |
 //! | `same-destinations TEXT TEXT` | whether two rules have the same destinations, asked of the one and of the other |
-//! | `fault memory` | the text of a want of memory |
+//! | `fault memory` | the text of the fault that no memory is left |
 
 mod files;
-mod moments;
-mod texts;
+mod only;
+mod rules;
 
-use crate::numbers::{national_number_of, number_of};
 use crate::records::files::file_of;
-use crate::records::moments::moment_of;
-use crate::records::texts::{destinations_text, digits_text, record_text, rule_text};
+use crate::records::rules::push_rule;
+use crate::values::{national_number_of, number_of, push_digits, push_text};
 use anyhow::bail;
+use cases::first_word;
 use fp_digits::{Moment, NatureOfAddress, Number};
-use fp_records::{Action, Destinations, RecordsFault, Rule, Table};
+use fp_records::{Action, Destinations, Record, RecordsFault, Rule, Table};
+use jiff::Timestamp;
+pub(crate) use only::{only_rule, routed_to};
+pub(crate) use rules::push_destinations;
 use std::alloc::Global;
 
 /// What the cases before have left for the next ones.
@@ -41,258 +44,244 @@ pub(crate) struct Scene {
 
 impl Scene {
     /// That of the first case.
-    pub(crate) fn new(_alloc: Global) -> anyhow::Result<Scene> {
-        Ok(Scene {
+    pub(crate) fn new() -> Scene {
+        Scene {
             file: None,
             other_file: None,
-        })
+        }
+    }
+
+    /// Writes what a case of this module gives; `false` if it is none.
+    pub(crate) fn answer(
+        &mut self,
+        alloc: Global,
+        input: &str,
+        out: &mut String,
+    ) -> anyhow::Result<bool> {
+        let (word, text) = first_word(input);
+        let written = match word {
+            "file" => read(alloc, &mut self.file, text, out),
+            "other-file" => read(alloc, &mut self.other_file, text, out),
+            "find" => find(&self.file, text, out),
+            "choose" => choose(&self.file, text, out),
+            "holds" => holds(&self.file, text, out),
+            "same-record" => same_record(&self.file, &self.other_file, text, out),
+            "destinations" => in_turn(alloc, text, out),
+            "same-destinations" => same_destinations(alloc, text, out),
+            "fault" => push_fault(RecordsFault::Memory, out),
+            _ => return Ok(false),
+        };
+        written?;
+        Ok(true)
     }
 }
 
-/// What a table holds.
-fn table_text(alloc: Global, table: &Table) -> anyhow::Result<String> {
-    let (numbers, rules) = table.counts();
-    Ok(format!(in alloc; "key {}, numbers {numbers}, rules {rules}", table.key())?)
-}
-
-/// Reads a file into the place of a table, which is empty where the file has a fault.
-fn read(alloc: Global, place: &mut Option<Table>, parts: &[&str]) -> anyhow::Result<String> {
+/// Reads a file into the place of a table, which is empty if the file has a fault.
+fn read(
+    alloc: Global,
+    place: &mut Option<Table>,
+    text: &str,
+    out: &mut String,
+) -> anyhow::Result<()> {
     *place = None;
-    let file = file_of(alloc, parts)?;
+    let file = file_of(alloc, text)?;
     match Table::read(alloc, file.as_slice()) {
         Ok(table) => {
-            let text = table_text(alloc, &table)?;
             *place = Some(table);
-            Ok(text)
+            push_counts(place, out)
         }
-        Err(fault) => Ok(fault.to_string(alloc)?),
+        Err(fault) => push_fault(fault, out),
     }
+}
+
+/// Writes what is wrong with a file.
+fn push_fault(fault: RecordsFault, out: &mut String) -> anyhow::Result<()> {
+    write!(out, "{fault}")?;
+    Ok(())
+}
+
+/// Writes what a table holds.
+fn push_counts(place: &Option<Table>, out: &mut String) -> anyhow::Result<()> {
+    let table = table_in(place)?;
+    let (numbers, rules) = table.counts();
+    write!(out, "key {}, numbers {numbers}, rules {rules}", table.key())?;
+    Ok(())
 }
 
 /// The table of the file that was read.
 fn table_in(place: &Option<Table>) -> anyhow::Result<&Table> {
-    let Some(table) = place else {
-        bail!("no file was read");
-    };
-    Ok(table)
+    match place {
+        Some(table) => Ok(table),
+        None => bail!("no file was read"),
+    }
 }
 
-/// The calling number, or `None` where there is none.
+/// Writes what a table has of a called number.
+fn find(place: &Option<Table>, text: &str, out: &mut String) -> anyhow::Result<()> {
+    let (nature, digits) = first_word(text);
+    let nature = match nature {
+        "national" => NatureOfAddress::NATIONAL,
+        "international" => NatureOfAddress::INTERNATIONAL,
+        _ => bail!("no nature of address"),
+    };
+    let called = number_of(nature, digits)?;
+    let Some(record) = table_in(place)?.find(&called) else {
+        return push_text("no record", out);
+    };
+    match record.only_rule() {
+        Some(rule) => push_rule(out, rule),
+        None => push_text("several rules", out),
+    }
+}
+
+/// The calling number, or `None` if there is none.
 fn calling_of(text: &str) -> anyhow::Result<Option<Number>> {
     if text == "none" {
         return Ok(None);
     }
-    let number = national_number_of(text)?;
-    Ok(Some(number))
+    Ok(Some(national_number_of(text)?))
 }
 
-/// What a table has of a called number.
-fn find(alloc: Global, table: &Table, called: &Number) -> anyhow::Result<String> {
-    match table.find(called) {
-        Some(record) => record_text(alloc, record),
-        None => Ok(format!(in alloc; "no record")?),
+/// The moment that a text names.
+fn moment_of(text: &str) -> anyhow::Result<Moment> {
+    let instant: Timestamp = text.parse()?;
+    match Moment::new(u64::try_from(instant.as_millisecond())?) {
+        Some(moment) => Ok(moment),
+        None => bail!("no moment"),
     }
 }
 
-/// The rule that a call gets.
-fn choose(
-    alloc: Global,
-    table: &Table,
-    called: &Number,
-    calling: Option<&Number>,
-    moment: Moment,
-    birth: u64,
-) -> anyhow::Result<String> {
-    let Some(record) = table.find(called) else {
-        return Ok(format!(in alloc; "no record")?);
-    };
-    match record.choose(calling, moment, birth) {
-        Some(rule) => rule_text(alloc, rule),
-        None => Ok(format!(in alloc; "no rule")?),
+/// Writes the rule that a call gets.
+fn choose(place: &Option<Table>, text: &str, out: &mut String) -> anyhow::Result<()> {
+    let (called, call) = first_word(text);
+    let called = national_number_of(called)?;
+    match table_in(place)?.find(&called) {
+        Some(record) => choose_in(record, call, out),
+        None => push_text("no record", out),
     }
 }
 
-/// The only rule of a number.
-fn only_rule<'a>(table: &'a Table, called: &Number) -> anyhow::Result<&'a Rule> {
-    let Some(record) = table.find(called) else {
-        bail!("no record");
-    };
-    let Some(rule) = record.only_rule() else {
-        bail!("several rules");
-    };
-    Ok(rule)
+/// Writes the rule of a record that a call gets.
+fn choose_in(record: &Record, call: &str, out: &mut String) -> anyhow::Result<()> {
+    let (calling, rest) = first_word(call);
+    let (moment, birth) = first_word(rest);
+    let calling = calling_of(calling)?;
+    let moment = moment_of(moment)?;
+    match record.choose(calling.as_ref(), moment, birth.parse()?) {
+        Some(rule) => push_rule(out, rule),
+        None => push_text("no rule", out),
+    }
 }
 
 /// The minute of the day that a text `HH:MM` names.
 fn minute_of(text: &str) -> anyhow::Result<u16> {
     let Some((hour, minute)) = text.split_once(':') else {
-        bail!("{text} is no minute");
+        bail!("no minute");
     };
     let hour: u8 = hour.parse()?;
     let minute: u8 = minute.parse()?;
     Ok(60 * u16::from(hour) + u16::from(minute))
 }
 
-/// Whether the window of the only rule of a number holds a minute.
-fn holds(alloc: Global, rule: &Rule, minute: u16) -> anyhow::Result<String> {
-    if rule.window.holds(minute) {
-        Ok(format!(in alloc; "yes")?)
+/// Writes whether the window of a number's only rule holds a minute.
+fn holds(place: &Option<Table>, text: &str, out: &mut String) -> anyhow::Result<()> {
+    let (called, minute) = first_word(text);
+    let minute = minute_of(minute)?;
+    let rule = only_rule(table_in(place)?, called)?;
+    let answer = if rule.window.holds(minute) {
+        "yes"
     } else {
-        Ok(format!(in alloc; "no")?)
-    }
+        "no"
+    };
+    push_text(answer, out)
 }
 
-/// Whether two are the same, asked of the one and of the other.
-fn same_text(alloc: Global, one: bool, other: bool) -> anyhow::Result<String> {
+/// Writes whether two are the same, asked of the one and of the other.
+fn push_same(one: bool, other: bool, out: &mut String) -> anyhow::Result<()> {
     let text = match (one, other) {
         (true, true) => "the same",
         (false, false) => "not the same",
         _ => "the same if one is asked, and not if the other is",
     };
-    Ok(format!(in alloc; "{text}")?)
+    push_text(text, out)
 }
 
-/// Whether two files say the same of a number.
+/// Writes whether two files say the same of a number.
 fn same_record(
-    alloc: Global,
-    table: &Table,
-    other: &Table,
-    called: &Number,
-) -> anyhow::Result<String> {
-    let Some(record) = table.find(called) else {
+    place: &Option<Table>,
+    other: &Option<Table>,
+    called: &str,
+    out: &mut String,
+) -> anyhow::Result<()> {
+    let called = national_number_of(called)?;
+    let Some(record) = table_in(place)?.find(&called) else {
         bail!("no record");
     };
-    let Some(other) = other.find(called) else {
+    let Some(other) = table_in(other)?.find(&called) else {
         bail!("no record in the other file");
     };
-    same_text(alloc, record == other, other == record)
+    push_same(record == other, other == record, out)
 }
 
-/// A table of one number, 5, whose only rule routes to the destinations that a text writes.
-fn routed_to(alloc: Global, text: &str) -> anyhow::Result<Table> {
-    let file = format!(in alloc; "key,1,0\n5,,1,00:00,24:00,1,route,{text}\n")?;
-    Ok(Table::read(alloc, file.as_str().as_bytes())?)
+/// Writes whether two texts spell the same destinations.
+fn same_destinations(alloc: Global, text: &str, out: &mut String) -> anyhow::Result<()> {
+    let (one, other) = first_word(text);
+    let one = routed_to(alloc, one)?;
+    let other = routed_to(alloc, other)?;
+    same_routes(only_rule(&one, "5")?, only_rule(&other, "5")?, out)
 }
 
-/// The first of some destinations, and those that are left, and so on with those.
-fn one_after_another(alloc: Global, destinations: Destinations) -> anyhow::Result<String> {
-    let mut text = String::new(alloc);
+/// Writes whether two rules have the same destinations.
+fn same_routes(rule: &Rule, other: &Rule, out: &mut String) -> anyhow::Result<()> {
+    let Action::Route(one) = rule.action else {
+        bail!("no destinations");
+    };
+    let Action::Route(other) = other.action else {
+        bail!("no destinations");
+    };
+    push_same(one == other, other == one, out)
+}
+
+/// Writes the first of the destinations that a text spells and those that are left, and so on with those.
+fn in_turn(alloc: Global, text: &str, out: &mut String) -> anyhow::Result<()> {
+    let table = routed_to(alloc, text)?;
+    push_in_turn(only_rule(&table, "5")?, out)
+}
+
+/// Writes the first of a rule's destinations and those that are left, and so on with those.
+fn push_in_turn(rule: &Rule, out: &mut String) -> anyhow::Result<()> {
+    let Action::Route(destinations) = rule.action else {
+        bail!("no destinations");
+    };
     let mut left = Some(destinations);
     for _ in 0..4 {
         let Some(list) = left else {
-            return Ok(text);
+            break;
         };
-        let split = list.split_first();
-        let all = destinations_text(alloc, &list)?;
-        let first = digits_text(alloc, split.first.as_slice())?;
-        let rest = left_text(alloc, split.left)?;
-        if !text.is_empty() {
-            text.push_str("; ")?;
-        }
-        text.push_str(format!(in alloc; "[{all}]: {first} and {rest}")?.as_str())?;
-        left = split.left;
+        push_split(&list, out)?;
+        left = list.split_first().left;
     }
-    Ok(text)
+    Ok(())
 }
 
-/// The destinations that are left.
-fn left_text(alloc: Global, left: Option<Destinations>) -> anyhow::Result<String> {
+/// Writes some destinations, the first of them, and those that are left, after a semicolon if there is more.
+fn push_split(list: &Destinations, out: &mut String) -> anyhow::Result<()> {
+    let split = list.split_first();
+    if !out.is_empty() {
+        out.push_str("; ")?;
+    }
+    out.push('[')?;
+    push_destinations(out, list)?;
+    out.push_str("]: ")?;
+    push_digits(out, split.first.as_slice())?;
+    push_left(&split.left, out)
+}
+
+/// Writes the destinations that are left.
+fn push_left(left: &Option<Destinations>, out: &mut String) -> anyhow::Result<()> {
+    out.push_str(" and ")?;
     match left {
-        Some(destinations) => destinations_text(alloc, &destinations),
-        None => Ok(format!(in alloc; "none")?),
+        Some(left) => push_destinations(out, left),
+        None => push_text("none", out),
     }
-}
-
-/// The destinations of a rule, one after the other.
-fn tried_in_turn(alloc: Global, rule: &Rule) -> anyhow::Result<String> {
-    let Action::Route(destinations) = rule.action else {
-        bail!("no destinations");
-    };
-    one_after_another(alloc, destinations)
-}
-
-/// The destinations that a text writes, one after the other.
-fn tried(alloc: Global, text: &str) -> anyhow::Result<String> {
-    let table = routed_to(alloc, text)?;
-    let called = national_number_of("5")?;
-    tried_in_turn(alloc, only_rule(&table, &called)?)
-}
-
-/// Whether two rules have the same destinations.
-fn same_routes(alloc: Global, rule: &Rule, other: &Rule) -> anyhow::Result<String> {
-    let Action::Route(destinations) = rule.action else {
-        bail!("no destinations");
-    };
-    let Action::Route(others) = other.action else {
-        bail!("no destinations");
-    };
-    same_text(alloc, destinations == others, others == destinations)
-}
-
-/// Whether two texts write the same destinations.
-fn same_destinations(alloc: Global, text: &str, other: &str) -> anyhow::Result<String> {
-    let table = routed_to(alloc, text)?;
-    let other_table = routed_to(alloc, other)?;
-    let called = national_number_of("5")?;
-    let rule = only_rule(&table, &called)?;
-    same_routes(alloc, rule, only_rule(&other_table, &called)?)
-}
-
-/// What a case about the file that was read gives.
-fn of_table(alloc: Global, table: &Table, words: &[&str]) -> anyhow::Result<Option<String>> {
-    let text = match words {
-        ["find", "national", digits] => {
-            let called = national_number_of(digits)?;
-            find(alloc, table, &called)?
-        }
-        ["find", "international", digits] => {
-            let called = number_of(NatureOfAddress::INTERNATIONAL, digits)?;
-            find(alloc, table, &called)?
-        }
-        ["choose", called, calling, moment, birth] => {
-            let called = national_number_of(called)?;
-            let calling = calling_of(calling)?;
-            let moment = moment_of(alloc, moment)?;
-            choose(
-                alloc,
-                table,
-                &called,
-                calling.as_ref(),
-                moment,
-                birth.parse()?,
-            )?
-        }
-        ["holds", called, minute] => {
-            let called = national_number_of(called)?;
-            holds(alloc, only_rule(table, &called)?, minute_of(minute)?)?
-        }
-        _ => return Ok(None),
-    };
-    Ok(Some(text))
-}
-
-/// What a case of this module gives.
-pub(crate) fn case(
-    alloc: Global,
-    scene: &mut Scene,
-    words: &[&str],
-) -> anyhow::Result<Option<String>> {
-    let text = match words {
-        ["file", parts @ ..] => read(alloc, &mut scene.file, parts)?,
-        ["other-file", parts @ ..] => read(alloc, &mut scene.other_file, parts)?,
-        ["find" | "choose" | "holds", ..] => {
-            return of_table(alloc, table_in(&scene.file)?, words);
-        }
-        ["same-record", called] => {
-            let called = national_number_of(called)?;
-            let table = table_in(&scene.file)?;
-            let other = table_in(&scene.other_file)?;
-            same_record(alloc, table, other, &called)?
-        }
-        ["destinations", text] => tried(alloc, text)?,
-        ["same-destinations", text, other] => same_destinations(alloc, text, other)?,
-        ["fault", "memory"] => RecordsFault::Memory.to_string(alloc)?,
-        _ => return Ok(None),
-    };
-    Ok(Some(text))
 }

@@ -1,7 +1,7 @@
-//! What the calls of a book answer, as text.
+//! What the calls of a book answer, as a log writes it.
 
-use fp_book::{Given, Posted, Ticked, Totals};
-use std::alloc::Global;
+use fp_book::{Given, Posted, Totals};
+use std::fmt::Write;
 
 /// What became of a message, in one letter.
 pub(crate) fn letter_of(posted: Posted) -> &'static str {
@@ -14,20 +14,20 @@ pub(crate) fn letter_of(posted: Posted) -> &'static str {
     }
 }
 
-/// What became of a message.
-pub(crate) fn posted_text(alloc: Global, posted: Posted) -> anyhow::Result<String> {
-    let letter = letter_of(posted);
-    let text = match posted {
-        Posted::Opened(local) => format!(in alloc; "{letter}{local:08X}")?,
-        Posted::Accepted(count) => format!(in alloc; "{letter}{count}")?,
-        Posted::Aborted(cause) => format!(in alloc; "{letter}{}", cause.code())?,
-        Posted::Ended | Posted::Discarded => String::from_str(alloc, letter)?,
-    };
-    Ok(text)
+/// Writes what became of a message.
+pub(crate) fn push_posted(out: &mut String, posted: Posted) -> anyhow::Result<()> {
+    out.push_str(letter_of(posted))?;
+    match posted {
+        Posted::Opened(local) => write!(out, "{local:08X}")?,
+        Posted::Accepted(count) => write!(out, "{count}")?,
+        Posted::Aborted(cause) => write!(out, "{}", cause.code())?,
+        Posted::Ended | Posted::Discarded => {}
+    }
+    Ok(())
 }
 
-/// What became of a request.
-pub(crate) fn given_text(given: Given) -> &'static str {
+/// What became of a request, in one letter.
+pub(crate) fn given_letter(given: Given) -> &'static str {
     match given {
         Given::Silent => "S",
         Given::Queued => "Q",
@@ -35,15 +35,13 @@ pub(crate) fn given_text(given: Given) -> &'static str {
     }
 }
 
-/// How many dialogues were given a Clock, and how many were left.
-pub(crate) fn ticked_text(alloc: Global, ticked: Ticked) -> anyhow::Result<String> {
-    Ok(format!(in alloc; "{} {}", ticked.added, ticked.wanting)?)
-}
-
-/// What was counted.
-pub(crate) fn totals_text(alloc: Global, totals: Totals) -> anyhow::Result<String> {
-    Ok(format!(in alloc;
-        "accepted {} served {} sent {}",
-        totals.accepted, totals.served, totals.sent
-    )?)
+/// Writes what was counted.
+pub(crate) fn push_totals(out: &mut String, totals: Totals) -> anyhow::Result<()> {
+    let Totals {
+        accepted,
+        served,
+        sent,
+    } = totals;
+    write!(out, "accepted {accepted} served {served} sent {sent}")?;
+    Ok(())
 }

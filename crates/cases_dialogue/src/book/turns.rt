@@ -1,120 +1,102 @@
-//! Turns of a book that a case has out.
+//! Turns and parcels of a book that a case has out.
 
-use super::texts::given_text;
-use crate::texts::word;
-use crate::token::{Named, Token, find, keep, serve, show};
-use anyhow::bail;
-use fp_book::{Book, Given, Taken};
-use fp_row::{Done, Turn};
+use super::texts::given_letter;
+use crate::held::{Held, Named, find, find_parcel, find_served, keep, push_parcel};
+use fp_book::{Book, Picked, Taken};
 use std::alloc::Global;
+use std::fmt::Write;
 
-/// Takes the next turn, and keeps it. Why there is none, or `None` where it was kept.
-fn taken(book: &mut Book, turns: &mut Vec<Named>, name: u8) -> Option<&'static str> {
-    match book.take() {
-        Taken::Nothing => Some("nothing"),
-        Taken::NoRoom => Some("no room"),
-        Taken::Memory => Some("no memory"),
-        Taken::Turn(turn) => {
-            keep(turns, name, Token::Turn(turn));
-            None
-        }
-    }
-}
-
-/// The dialogue and the place of the turn of a name.
-fn place_text(alloc: Global, turns: &[Named], name: u8) -> anyhow::Result<String> {
-    let Some(named) = turns.iter().find(|named| named.name == name) else {
-        bail!("no turn of this name");
-    };
-    let turn = named.token.turn();
-    Ok(format!(in alloc; "{:08X} {}", turn.local(), turn.position())?)
-}
-
-/// Takes the next turn.
-fn take(
-    alloc: Global,
+/// Takes the next turn, and keeps it.
+pub(super) fn take(
     book: &mut Book,
     turns: &mut Vec<Named>,
     name: u8,
-) -> anyhow::Result<String> {
-    match taken(book, turns, name) {
-        Some(reason) => word(alloc, reason),
-        None => place_text(alloc, turns.as_slice(), name),
-    }
-}
-
-/// Gives what was served back, or keeps it.
-fn give_done(book: &mut Book, turns: &mut Vec<Named>, name: u8, done: Done) -> Option<Given> {
-    match book.give(done) {
-        Ok(given) => Some(given),
-        Err(done) => {
-            keep(turns, name, Token::Done(done));
-            None
+    out: &mut String,
+) -> anyhow::Result<()> {
+    match book.take() {
+        Taken::Nothing => out.push_str("nothing")?,
+        Taken::NoRoom => out.push_str("no room")?,
+        Taken::Memory => out.push_str("no memory")?,
+        Taken::Turn(turn) => {
+            let (local, position) = (turn.local(), turn.position());
+            keep(turns, name, Held::Turn(turn));
+            write!(out, "{local:08X} {position}")?;
         }
     }
+    Ok(())
 }
 
 /// Serves the turn of a name, if it wasn't, and gives it back.
-fn give(
+pub(super) fn give(
     alloc: Global,
     book: &mut Book,
     turns: &mut Vec<Named>,
     name: u8,
 ) -> anyhow::Result<&'static str> {
-    serve(alloc, turns, name)?;
-    match find(turns, name) {
-        Some(Token::Done(done)) => match give_done(book, turns, name, done) {
-            Some(given) => Ok(given_text(given)),
-            None => Ok("strange"),
-        },
-        Some(token) => {
-            token.abandon();
-            bail!("no memory");
-        }
-        None => bail!("no memory"),
-    }
-}
-
-/// Puts a turn back, or keeps it.
-fn put_turn_back(book: &mut Book, turns: &mut Vec<Named>, name: u8, turn: Turn) -> &'static str {
-    match book.put_back(turn) {
-        Ok(()) => "back",
-        Err(turn) => {
-            keep(turns, name, Token::Turn(turn));
-            "strange"
+    let done = find_served(alloc, turns, name)?;
+    match book.give(done) {
+        Ok(given) => Ok(given_letter(given)),
+        Err(done) => {
+            keep(turns, name, Held::Done(done));
+            Ok("strange")
         }
     }
 }
 
 /// Puts the turn of a name back.
-fn put_back(book: &mut Book, turns: &mut Vec<Named>, name: u8) -> anyhow::Result<&'static str> {
-    match find(turns, name) {
-        Some(Token::Turn(turn)) => Ok(put_turn_back(book, turns, name, turn)),
-        Some(token) => {
-            token.abandon();
-            bail!("it was served");
-        }
-        None => bail!("no turn of this name"),
-    }
-}
-
-/// A step about a turn.
-pub(super) fn step(
-    alloc: Global,
+pub(super) fn put_back(
     book: &mut Book,
     turns: &mut Vec<Named>,
-    verb: &str,
     name: u8,
-) -> anyhow::Result<String> {
-    match verb {
-        "take" => take(alloc, book, turns, name),
-        "show" => show(alloc, turns.as_slice(), name),
-        "serve" => {
-            serve(alloc, turns, name)?;
-            word(alloc, "served")
+) -> anyhow::Result<&'static str> {
+    let held = match find(turns, name)? {
+        Held::Turn(turn) => match book.put_back(turn) {
+            Ok(()) => return Ok("back"),
+            Err(turn) => Held::Turn(turn),
+        },
+        held => held,
+    };
+    keep(turns, name, held);
+    Ok("strange")
+}
+
+/// Picks what is sent next, and keeps it.
+pub(super) fn pick(
+    book: &mut Book,
+    parcels: &mut Vec<Named>,
+    name: u8,
+    out: &mut String,
+) -> anyhow::Result<()> {
+    match book.pick() {
+        Picked::Busy => out.push_str("busy")?,
+        Picked::Nothing => out.push_str("nothing")?,
+        Picked::Parcel(parcel) => {
+            let written = push_parcel(out, &parcel);
+            keep(parcels, name, Held::Parcel(parcel));
+            written?;
         }
-        "give" => word(alloc, give(alloc, book, turns, name)?),
-        "put-back" => word(alloc, put_back(book, turns, name)?),
-        _ => bail!("no step: {verb}"),
+    }
+    Ok(())
+}
+
+/// Reports the parcel of a name sent, or unsent.
+pub(super) fn report(
+    book: &mut Book,
+    parcels: &mut Vec<Named>,
+    name: u8,
+    is_sent: bool,
+) -> anyhow::Result<&'static str> {
+    let parcel = find_parcel(parcels, name)?;
+    let reported = if is_sent {
+        book.sent(parcel)
+    } else {
+        book.unsent(parcel)
+    };
+    match reported {
+        Ok(()) => Ok(if is_sent { "sent" } else { "unsent" }),
+        Err(parcel) => {
+            keep(parcels, name, Held::Parcel(parcel));
+            Ok("strange")
+        }
     }
 }

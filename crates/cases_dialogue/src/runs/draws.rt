@@ -14,7 +14,7 @@ impl Draws {
         }
     }
 
-    /// The next number, from 0 and below this bound, or 0 where the bound is 0.
+    /// The next number, from 0 and below this bound, or 0 if the bound is 0.
     pub(super) fn below(&mut self, bound: u32) -> u32 {
         // Multiplier and increment of Knuth's MMIX; its high bits are the good ones.
         self.state = self

@@ -2,36 +2,22 @@
 
 use fp_book::{Given, Posted};
 use fp_steps::{Output, Step};
-use std::alloc::Global;
+use std::fmt::Write;
 
-/// How many kinds of steps there are.
-const STEPS: usize = 10;
+/// The kinds of steps, by their numbers from 0.
+const STEPS: &str = "post, lost, tick, take, give, put-back, pick, sent, unsent, down";
 
-/// How many kinds of outputs there are.
-const OUTPUTS: usize = 20;
+/// The kinds of outputs, by their numbers from 0.
+const OUTPUTS: &str = "opened, accepted, aborted, ended, discarded, silent, queued, dropped, \
+    ticked none, ticked some, took, no room, back, picked an Abort, picked a frame, busy, sent, \
+    unsent, down, nothing";
 
 /// How many of each kind there were.
-#[derive(Drop)]
+#[derive(Clone, Copy)]
 pub(super) struct Tally {
-    steps: Vec<u32>,
-    outputs: Vec<u32>,
+    steps: [u32; 10],
+    outputs: [u32; 20],
     compared: u32,
-}
-
-/// The name of a kind of steps.
-fn step_name(kind: usize) -> &'static str {
-    match kind {
-        0 => "post",
-        1 => "lost",
-        2 => "tick",
-        3 => "take",
-        4 => "give",
-        5 => "put-back",
-        6 => "pick",
-        7 => "sent",
-        8 => "unsent",
-        _ => "down",
-    }
 }
 
 /// The kind of a step.
@@ -47,32 +33,6 @@ fn step_kind(step: &Step) -> usize {
         Step::Sent => 7,
         Step::Unsent => 8,
         Step::Down => 9,
-    }
-}
-
-/// The name of a kind of outputs.
-fn output_name(kind: usize) -> &'static str {
-    match kind {
-        0 => "opened",
-        1 => "accepted",
-        2 => "aborted",
-        3 => "ended",
-        4 => "discarded",
-        5 => "silent",
-        6 => "queued",
-        7 => "dropped",
-        8 => "ticked none",
-        9 => "ticked some",
-        10 => "took",
-        11 => "no room",
-        12 => "back",
-        13 => "picked an Abort",
-        14 => "picked a frame",
-        15 => "busy",
-        16 => "sent",
-        17 => "unsent",
-        18 => "down",
-        _ => "nothing",
     }
 }
 
@@ -96,26 +56,18 @@ fn given_kind(given: Given) -> usize {
     }
 }
 
-/// The kind of a tick, by how many dialogues were given a Clock.
-fn ticked_kind(added: u32) -> usize {
-    if added == 0 { 8 } else { 9 }
-}
-
-/// The kind of a parcel, by its dialogue.
-fn picked_kind(local: u32) -> usize {
-    if local == 0 { 13 } else { 14 }
-}
-
 /// The kind of an output.
 fn output_kind(output: &Output) -> usize {
     match output {
         Output::Posted { answer, .. } => posted_kind(*answer),
         Output::Gave { given, .. } => given_kind(*given),
-        Output::Ticked { added, .. } => ticked_kind(*added),
+        Output::Ticked { added: 0, .. } => 8,
+        Output::Ticked { .. } => 9,
         Output::Took { .. } => 10,
         Output::NoRoom => 11,
         Output::WentBack => 12,
-        Output::Picked { local, .. } => picked_kind(*local),
+        Output::Picked { local: 0, .. } => 13,
+        Output::Picked { .. } => 14,
         Output::Busy => 15,
         Output::Sent => 16,
         Output::Unsent => 17,
@@ -131,50 +83,27 @@ fn count_one(counts: &mut [u32], kind: usize) {
     }
 }
 
-/// So many counts, each 0.
-fn zeros(alloc: Global, count: usize) -> anyhow::Result<Vec<u32>> {
-    let mut counts = Vec::new(alloc);
-    for _ in 0..count {
-        counts.push(0)?;
+/// Writes how many of each kind there were.
+fn push_counts(out: &mut String, names: &str, counts: &[u32]) -> anyhow::Result<()> {
+    let mut is_first = true;
+    for (name, count) in names.split(", ").zip(counts) {
+        if !is_first {
+            out.push_str(", ")?;
+        }
+        write!(out, "{name} {count}")?;
+        is_first = false;
     }
-    Ok(counts)
-}
-
-/// Puts a count behind the others, behind its name.
-fn add_count(alloc: Global, text: &mut String, name: &str, count: u32) -> anyhow::Result<()> {
-    if !text.is_empty() {
-        text.push_str(", ")?;
-    }
-    text.push_str(format!(in alloc; "{name} {count}")?.as_str())?;
     Ok(())
 }
 
-/// How many steps of each kind there were.
-fn steps_text(alloc: Global, counts: &[u32]) -> anyhow::Result<String> {
-    let mut text = String::new(alloc);
-    for (kind, count) in counts.iter().enumerate() {
-        add_count(alloc, &mut text, step_name(kind), *count)?;
-    }
-    Ok(text)
-}
-
-/// How many outputs of each kind there were.
-fn outputs_text(alloc: Global, counts: &[u32]) -> anyhow::Result<String> {
-    let mut text = String::new(alloc);
-    for (kind, count) in counts.iter().enumerate() {
-        add_count(alloc, &mut text, output_name(kind), *count)?;
-    }
-    Ok(text)
-}
-
 impl Tally {
-    /// One without steps and outputs.
-    pub(super) fn new(alloc: Global) -> anyhow::Result<Tally> {
-        Ok(Tally {
-            steps: zeros(alloc, STEPS)?,
-            outputs: zeros(alloc, OUTPUTS)?,
+    /// No steps and no outputs.
+    pub(super) fn new() -> Tally {
+        Tally {
+            steps: [0; 10],
+            outputs: [0; 20],
             compared: 0,
-        })
+        }
     }
 
     /// One more step, and its output.
@@ -183,15 +112,17 @@ impl Tally {
         count_one(&mut self.outputs, output_kind(output));
     }
 
-    /// So many frames more were compared with an earlier one of their dialogue.
+    /// More frames were compared with an earlier one of their dialogue.
     pub(super) fn add_compared(&mut self, compared: u32) {
         self.compared = self.compared.saturating_add(compared);
     }
 
-    /// How many of each kind there were.
-    pub(super) fn text(&self, alloc: Global) -> anyhow::Result<String> {
-        let steps = steps_text(alloc, self.steps.as_slice())?;
-        let outputs = outputs_text(alloc, self.outputs.as_slice())?;
-        Ok(format!(in alloc; "{steps}; {outputs}; compared {}", self.compared)?)
+    /// Writes how many of each kind there were.
+    pub(super) fn push_to(&self, out: &mut String) -> anyhow::Result<()> {
+        push_counts(out, STEPS, &self.steps)?;
+        out.push_str("; ")?;
+        push_counts(out, OUTPUTS, &self.outputs)?;
+        write!(out, "; compared {}", self.compared)?;
+        Ok(())
     }
 }

@@ -3,55 +3,76 @@
 use crate::messages::frame_of;
 use crate::texts::{local_of, moment_after};
 use anyhow::bail;
-use fp_digits::Moment;
+use cases::Words;
 use fp_steps::Step;
 use std::alloc::Global;
 
-/// The steps of a script so far.
+/// How many steps a call of `calls` has.
+pub(super) const STEPS_OF_A_CALL: usize = 7;
+
+/// What a part of a script must answer.
+#[derive(Clone, Copy)]
+pub(super) enum Asked {
+    /// A moment, in milliseconds after noon.
+    Moment(u32),
+    /// What the outputs before it come to.
+    Totals,
+    /// The number of outputs, the first and the last.
+    Ends,
+    /// The last outputs, of this number.
+    Last(usize),
+}
+
+/// A part of a script: what it must answer, and how many steps the script has up to its end.
+#[derive(Clone, Copy)]
+pub(super) struct Part {
+    pub(super) asked: Asked,
+    pub(super) end: usize,
+}
+
+/// The steps and the parts of a script so far.
 #[derive(Drop)]
-struct Making {
-    steps: Vec<Step>,
-    // How many milliseconds after noon it is.
+pub(super) struct Making {
+    pub(super) steps: Vec<Step>,
+    pub(super) parts: Vec<Part>,
+    alloc: Global,
+    // The time, in milliseconds after noon.
     now: u32,
-    // The first local identifier of the link has the serial 0.
+    // The local identifier of the link that would have the serial 0.
     first: u32,
 }
 
-/// The step of a message that came.
-fn message_step(alloc: Global, moment: Moment, text: &str, is_lost: bool) -> anyhow::Result<Step> {
-    let frame = frame_of(alloc, text)?;
-    if is_lost {
-        Ok(Step::Lost(frame, moment))
-    } else {
-        Ok(Step::Post(frame, moment))
-    }
+/// The local identifier of a link that would have the serial 0.
+pub(super) fn first_of(link: u8) -> u32 {
+    u32::from(link % 8) * 0x2000_0000
 }
 
-/// A step without a message.
-fn plain_step(alloc: Global, moment: Moment, words: &[&str]) -> anyhow::Result<Step> {
-    match words {
-        ["tick"] => Ok(Step::Tick(moment)),
-        ["take"] => Ok(Step::Take),
-        ["give", local] => Ok(Step::Give(local_of(alloc, local)?)),
-        ["put-back", local] => Ok(Step::PutBack(local_of(alloc, local)?)),
-        ["pick"] => Ok(Step::Pick),
-        ["sent"] => Ok(Step::Sent),
-        ["unsent"] => Ok(Step::Unsent),
-        ["down"] => Ok(Step::Down),
-        _ => bail!("no step"),
-    }
-}
-
-/// A step.
-fn step_of(alloc: Global, moment: Moment, words: &[&str]) -> anyhow::Result<Step> {
-    match words {
-        ["post", text] => message_step(alloc, moment, text, false),
-        ["lost", text] => message_step(alloc, moment, text, true),
-        _ => plain_step(alloc, moment, words),
+/// A step without a message or a moment.
+fn plain_step(verb: &str, words: &mut Words) -> anyhow::Result<Step> {
+    match verb {
+        "take" => Ok(Step::Take),
+        "give" => Ok(Step::Give(local_of(words)?)),
+        "put-back" => Ok(Step::PutBack(local_of(words)?)),
+        "pick" => Ok(Step::Pick),
+        "sent" => Ok(Step::Sent),
+        "unsent" => Ok(Step::Unsent),
+        "down" => Ok(Step::Down),
+        _ => bail!("no step: {verb}"),
     }
 }
 
 impl Making {
+    /// A script without steps, on this link.
+    pub(super) fn new(alloc: Global, link: u8) -> Making {
+        Making {
+            steps: Vec::new(alloc),
+            parts: Vec::new(alloc),
+            alloc,
+            now: 0,
+            first: first_of(link),
+        }
+    }
+
     /// One step more.
     fn add(&mut self, step: Step) -> anyhow::Result<()> {
         self.steps.push(step)?;
@@ -59,20 +80,28 @@ impl Making {
     }
 
     /// A message that comes now.
-    fn post(&mut self, alloc: Global, text: &str) -> anyhow::Result<()> {
-        let step = message_step(alloc, moment_after(self.now)?, text, false)?;
-        self.add(step)
+    fn post(&mut self, text: &str) -> anyhow::Result<()> {
+        let frame = frame_of(self.alloc, text)?;
+        let moment = moment_after(self.now)?;
+        self.add(Step::Post(frame, moment))
     }
 
-    /// The same message, so many times.
-    fn posts(&mut self, alloc: Global, count: u32, text: &str) -> anyhow::Result<()> {
+    /// A message that comes now, and can't be read since memory runs out.
+    fn lose(&mut self, text: &str) -> anyhow::Result<()> {
+        let frame = frame_of(self.alloc, text)?;
+        let moment = moment_after(self.now)?;
+        self.add(Step::Lost(frame, moment))
+    }
+
+    /// The same message `count` times.
+    fn posts(&mut self, count: u32, text: &str) -> anyhow::Result<()> {
         for _ in 0..count {
-            self.post(alloc, text)?;
+            self.post(text)?;
         }
         Ok(())
     }
 
-    /// So many turns of a dialogue.
+    /// Turns of a dialogue.
     fn turns(&mut self, count: u32, local: u32) -> anyhow::Result<()> {
         for _ in 0..count {
             self.add(Step::Take)?;
@@ -81,27 +110,20 @@ impl Making {
         Ok(())
     }
 
-    /// So many times a message, and its turns.
-    fn rounds(
-        &mut self,
-        alloc: Global,
-        count: u32,
-        turns: u32,
-        local: u32,
-        text: &str,
-    ) -> anyhow::Result<()> {
+    /// `count` times a message and turns of a dialogue.
+    fn rounds(&mut self, count: u32, turns: u32, local: u32, text: &str) -> anyhow::Result<()> {
         for _ in 0..count {
-            self.post(alloc, text)?;
+            self.post(text)?;
             self.turns(turns, local)?;
         }
         Ok(())
     }
 
-    /// So many times a Begin, its turns and its frame.
-    fn calls(&mut self, alloc: Global, count: u32, serial: u32, text: &str) -> anyhow::Result<()> {
+    /// `count` times a Begin, its turns and its frame.
+    fn calls(&mut self, count: u32, serial: u32, text: &str) -> anyhow::Result<()> {
         for index in 0..count {
             let local = self.first.saturating_add(serial).saturating_add(index);
-            self.post(alloc, text)?;
+            self.post(text)?;
             self.turns(2, local)?;
             self.add(Step::Pick)?;
             self.add(Step::Sent)?;
@@ -109,51 +131,68 @@ impl Making {
         Ok(())
     }
 
-    /// What a part of a script asks for.
-    fn part(&mut self, alloc: Global, words: &[&str]) -> anyhow::Result<()> {
-        match words {
-            ["at", milliseconds] => {
-                self.now = milliseconds.parse()?;
-                Ok(())
+    /// Adds many steps, and says what they must answer.
+    fn add_many(&mut self, verb: &str, count: u32, words: &mut Words) -> anyhow::Result<Asked> {
+        match verb {
+            "posts" => {
+                self.posts(count, words.next()?)?;
+                Ok(Asked::Ends)
             }
-            ["totals"] => Ok(()),
-            ["posts", count, text] => self.posts(alloc, count.parse()?, text),
-            ["rounds", count, turns, local, text] => {
-                let local = local_of(alloc, local)?;
-                self.rounds(alloc, count.parse()?, turns.parse()?, local, text)
-            }
-            ["calls", count, serial, text] => {
-                self.calls(alloc, count.parse()?, serial.parse()?, text)
+            "rounds" => {
+                let turns = words.number()?;
+                let local = local_of(words)?;
+                self.rounds(count, turns, local, words.next()?)?;
+                Ok(Asked::Last(1))
             }
             _ => {
-                let step = step_of(alloc, moment_after(self.now)?, words)?;
+                let serial = words.number()?;
+                self.calls(count, serial, words.next()?)?;
+                Ok(Asked::Last(STEPS_OF_A_CALL))
+            }
+        }
+    }
+
+    /// Adds one step.
+    fn add_one(&mut self, verb: &str, words: &mut Words) -> anyhow::Result<()> {
+        match verb {
+            "post" => self.post(words.next()?),
+            "lost" => self.lose(words.next()?),
+            "tick" => {
+                let moment = moment_after(self.now)?;
+                self.add(Step::Tick(moment))
+            }
+            _ => {
+                let step = plain_step(verb, words)?;
                 self.add(step)
             }
         }
     }
 
-    /// What all parts of a script ask for.
-    fn parts(&mut self, alloc: Global, script: &str) -> anyhow::Result<()> {
+    /// Adds what a part of a script asks for, and says what it must answer.
+    fn add_part(&mut self, mut words: Words) -> anyhow::Result<Asked> {
+        match words.next()? {
+            "at" => {
+                self.now = words.number()?;
+                Ok(Asked::Moment(self.now))
+            }
+            "totals" => Ok(Asked::Totals),
+            verb @ ("posts" | "rounds" | "calls") => {
+                self.add_many(verb, words.number()?, &mut words)
+            }
+            verb => {
+                self.add_one(verb, &mut words)?;
+                Ok(Asked::Last(1))
+            }
+        }
+    }
+
+    /// Adds what a script asks for.
+    pub(super) fn add_script(&mut self, script: &str) -> anyhow::Result<()> {
         for part in script.split(';') {
-            let words: Vec<&str> = part.split_whitespace().collect(alloc)?;
-            self.part(alloc, words.as_slice())?;
+            let asked = self.add_part(Words::new(part.trim_start()))?;
+            let end = self.steps.len();
+            self.parts.push(Part { asked, end })?;
         }
         Ok(())
     }
-}
-
-/// The least local identifier of a link, less one.
-pub(super) fn first_of(link: u8) -> u32 {
-    u32::from(link % 8) * 0x2000_0000
-}
-
-/// The steps of a script.
-pub(super) fn steps_of(alloc: Global, link: u8, script: &str) -> anyhow::Result<Vec<Step>> {
-    let mut making = Making {
-        steps: Vec::new(alloc),
-        now: 0,
-        first: first_of(link),
-    };
-    making.parts(alloc, script)?;
-    Ok(making.steps)
 }

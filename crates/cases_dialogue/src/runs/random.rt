@@ -1,39 +1,24 @@
 //! Runs that are drawn from a seed, and the check of what their steps answer.
 
-use super::drawn::{Drawn, Known, draw_steps};
+use super::drawn::{Drawn, draw_steps};
 use super::draws::Draws;
 use super::kinds::Tally;
 use super::making::first_of;
 use super::outputs_of;
-use super::texts::{output_text, totals_of};
+use super::texts::{push_output, totals_of};
 use super::watch::Watch;
 use anyhow::bail;
+use cases::Words;
 use fp_records::Table;
-use fp_steps::{Output, Step};
+use fp_steps::Output;
 use std::alloc::Global;
+use std::fmt::Write;
 
-/// Fails, and says what an output is that it shouldn't be.
-fn tell(alloc: Global, place: usize, output: &Output) -> anyhow::Result<()> {
-    let text = output_text(alloc, output)?;
+/// Fails, and says which output is wrong.
+fn fail(alloc: Global, place: usize, output: &Output) -> anyhow::Result<()> {
+    let mut text = String::new(alloc);
+    push_output(&mut text, output)?;
     bail!("output {place}, {text}, is wrong")
-}
-
-/// Checks an output, and counts it and its step.
-fn check_one(
-    alloc: Global,
-    watch: &mut Watch,
-    tally: &mut Tally,
-    place: usize,
-    step: &Step,
-    known: Known,
-    output: &Output,
-) -> anyhow::Result<()> {
-    tally.add(step, output);
-    if watch.is_right(step, known, output)? {
-        Ok(())
-    } else {
-        tell(alloc, place, output)
-    }
 }
 
 /// Checks each output, and counts it and its step.
@@ -48,7 +33,10 @@ fn check_each(
         let (Some(step), Some(known)) = (drawn.steps.get(place), drawn.known.get(place)) else {
             bail!("too many outputs");
         };
-        check_one(alloc, watch, tally, place, step, *known, output)?;
+        tally.add(step, output);
+        if !watch.is_right(step, *known, output)? {
+            return fail(alloc, place, output);
+        }
     }
     Ok(())
 }
@@ -87,30 +75,29 @@ fn one(
     check(alloc, tally, link, &drawn, outputs.as_slice())
 }
 
-/// Which link a run is on.
+/// The link of a run.
 fn link_of(run: u32) -> u8 {
     u8::try_from(run % 8).unwrap_or(0)
 }
 
-/// Makes so many runs of so many steps, and checks them.
-fn all(alloc: Global, table: &Table, seed: u32, runs: u32, steps: u32) -> anyhow::Result<String> {
-    let mut draws = Draws::new(seed);
-    let mut tally = Tally::new(alloc)?;
+/// Makes runs that are drawn, checks them, and writes how many steps and outputs there were.
+pub(crate) fn answer(
+    alloc: Global,
+    table: &Table,
+    numbers: &str,
+    out: &mut String,
+) -> anyhow::Result<()> {
+    let mut words = Words::new(numbers);
+    let mut draws = Draws::new(words.number()?);
+    let runs = words.number()?;
+    let steps = words.number()?;
+    let mut tally = Tally::new();
     for run in 0..runs {
-        match one(alloc, table, &mut draws, &mut tally, link_of(run), steps) {
-            Ok(()) => {}
-            Err(error) => return Ok(format!(in alloc; "run {run}: {error}")?),
+        if let Err(error) = one(alloc, table, &mut draws, &mut tally, link_of(run), steps) {
+            write!(out, "run {run}: {error}")?;
+            return Ok(());
         }
     }
-    let counts = tally.text(alloc)?;
-    Ok(format!(in alloc; "{runs} runs; {counts}")?)
-}
-
-/// What a case answers that draws its runs.
-pub(crate) fn random(alloc: Global, table: &Table, numbers: &str) -> anyhow::Result<String> {
-    let words: Vec<&str> = numbers.split_whitespace().collect(alloc)?;
-    match words.as_slice() {
-        [seed, runs, steps] => all(alloc, table, seed.parse()?, runs.parse()?, steps.parse()?),
-        _ => bail!("no seed, runs and steps"),
-    }
+    write!(out, "{runs} runs; ")?;
+    tally.push_to(out)
 }

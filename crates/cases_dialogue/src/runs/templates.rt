@@ -1,7 +1,7 @@
-//! Messages of a drawn run, as hexadecimal text with the identifiers left open.
+//! Messages of a drawn run, as hexadecimal text with the identifiers left open, and what is known of each.
 
-use crate::texts::word;
 use std::alloc::Global;
+use std::fmt::Write;
 
 /// The identifiers of a message to a dialogue: of its sender, of the dialogue, and of its first component.
 #[derive(Clone, Copy)]
@@ -11,57 +11,74 @@ pub(super) struct Aimed {
     pub(super) number: u32,
 }
 
-/// A message, how many entries it has, and how many of them come from components.
-#[derive(Drop)]
-pub(super) struct Template {
-    pub(super) text: String,
+/// What is known of a message from its making.
+#[derive(Clone, Copy)]
+pub(super) struct Known {
+    /// Whether it is a Begin that can be read.
+    pub(super) is_begin: bool,
+    /// The identifier of its sender, 0 if it has none.
+    pub(super) peer: u32,
+    /// The identifier that it is aimed at, 0 if it has none.
+    pub(super) aim: u32,
+    /// How many entries it has.
     pub(super) entries: u32,
+    /// How many of them come from components.
     pub(super) components: u32,
 }
 
+/// What is known of a step without a message.
+pub(super) const NOTHING: Known = Known {
+    is_begin: false,
+    peer: 0,
+    aim: 0,
+    entries: 0,
+    components: 0,
+};
+
 /// A Begin with an InitialDP, for the number 80012345 and this digit.
-pub(super) fn begin_text(alloc: Global, peer: u32, digit: u32) -> anyhow::Result<String> {
-    Ok(format!(in alloc;
-        "622D4804{peer:08X}6C25A123020101020100301B8001648207831008103254{digit:02X}83078313032143650785010A9C0103"
-    )?)
+pub(super) fn push_begin(out: &mut String, peer: u32, digit: u32) -> anyhow::Result<Known> {
+    write!(out, "622D4804{peer:08X}6C25")?;
+    write!(out, "A123020101020100301B8001648207831008103254{digit:02X}")?;
+    out.push_str("83078313032143650785010A9C0103")?;
+    Ok(Known {
+        is_begin: true,
+        peer,
+        aim: 0,
+        entries: 2,
+        components: 1,
+    })
 }
 
-/// A result of an invocation that isn't active.
-fn result_text(alloc: Global, number: u32) -> anyhow::Result<String> {
-    Ok(format!(in alloc; "A2030201{number:02X}")?)
-}
-
-/// Two of them.
-fn two_results_text(alloc: Global, number: u32) -> anyhow::Result<String> {
-    let next = number.saturating_add(1);
-    Ok(format!(in alloc; "A2030201{number:02X}A2030201{next:02X}")?)
-}
-
-/// An Invoke of an operation that isn't known.
-fn unknown_text(alloc: Global, number: u32) -> anyhow::Result<String> {
-    Ok(format!(in alloc; "A1060201{number:02X}02017D")?)
+/// Results of an invocation that isn't active.
+fn push_results(out: &mut String, count: u32, number: u32) -> anyhow::Result<()> {
+    for index in 0..count {
+        write!(out, "A2030201{:02X}", number.saturating_add(index))?;
+    }
+    Ok(())
 }
 
 /// An EventReportBCSM: of the event 5, busy, a request; of the others, a notification.
-fn event_text(alloc: Global, number: u32, event: u32) -> anyhow::Result<String> {
-    let notification = if event == 5 { "00" } else { "01" };
-    Ok(format!(in alloc;
-        "A1150201{number:02X}020118300D8001{event:02X}A303810102A4038001{notification}"
-    )?)
+fn push_event(out: &mut String, number: u32, event: u32) -> anyhow::Result<()> {
+    write!(
+        out,
+        "A1150201{number:02X}020118300D8001{event:02X}A303810102A4038001"
+    )?;
+    out.push_str(if event == 5 { "00" } else { "01" })?;
+    Ok(())
 }
 
-/// The component portion of a Continue, without its tag and length.
-fn components_text(alloc: Global, draw: u32, number: u32) -> anyhow::Result<String> {
+/// The components of a Continue: none, results, an Invoke of an unknown operation, an event, or a ReturnError.
+fn push_components(out: &mut String, draw: u32, number: u32) -> anyhow::Result<()> {
     match draw {
-        0 => word(alloc, ""),
-        1..=3 => result_text(alloc, number),
-        4..=9 => two_results_text(alloc, number),
-        10 => unknown_text(alloc, number),
-        11 | 12 => event_text(alloc, number, 5),
-        13 => event_text(alloc, number, 7),
-        14 => event_text(alloc, number, 9),
-        _ => word(alloc, "A306020102020106"),
+        0 => {}
+        1..=9 => push_results(out, components_of(draw), number)?,
+        10 => write!(out, "A1060201{number:02X}02017D")?,
+        11 | 12 => push_event(out, number, 5)?,
+        13 => push_event(out, number, 7)?,
+        14 => push_event(out, number, 9)?,
+        _ => out.push_str("A306020102020106")?,
     }
+    Ok(())
 }
 
 /// How many components these are.
@@ -73,44 +90,53 @@ fn components_of(draw: u32) -> u32 {
     }
 }
 
-/// A component portion, or nothing where there is no component.
-fn portion_text(alloc: Global, components: &str) -> anyhow::Result<String> {
-    if components.is_empty() {
-        return word(alloc, "");
-    }
-    let length = components.len() / 2;
-    Ok(format!(in alloc; "6C{length:02X}{components}")?)
-}
-
 /// A Continue.
-pub(super) fn continue_of(alloc: Global, draw: u32, aimed: Aimed) -> anyhow::Result<Template> {
+pub(super) fn push_continue(
+    alloc: Global,
+    out: &mut String,
+    draw: u32,
+    aimed: Aimed,
+) -> anyhow::Result<Known> {
     let Aimed { peer, aim, number } = aimed;
-    let components = components_text(alloc, draw, number)?;
-    let portion = portion_text(alloc, components.as_str())?;
-    let length = (portion.len() / 2).saturating_add(12);
-    let text = format!(in alloc; "65{length:02X}4804{peer:08X}4904{aim:08X}{portion}")?;
-    Ok(Template {
-        text,
+    let mut components = String::new(alloc);
+    push_components(&mut components, draw, number)?;
+    let length = components.len() / 2;
+    let portion = if length == 0 {
+        0
+    } else {
+        length.saturating_add(2)
+    };
+    write!(
+        out,
+        "65{:02X}4804{peer:08X}4904{aim:08X}",
+        portion.saturating_add(12)
+    )?;
+    if length > 0 {
+        write!(out, "6C{length:02X}{components}")?;
+    }
+    Ok(Known {
+        is_begin: false,
+        peer,
+        aim,
         entries: components_of(draw),
         components: components_of(draw),
     })
 }
 
 /// An End without components, one with a result, an Abort of the user, or one of the provider.
-fn ending_text(alloc: Global, draw: u32, aim: u32, number: u32) -> anyhow::Result<String> {
+pub(super) fn push_ending(out: &mut String, draw: u32, aimed: Aimed) -> anyhow::Result<Known> {
+    let Aimed { peer, aim, number } = aimed;
     match draw {
-        0 => Ok(format!(in alloc; "64064904{aim:08X}")?),
-        1 => Ok(format!(in alloc; "640D4904{aim:08X}6C05A2030201{number:02X}")?),
-        2 => Ok(format!(in alloc; "67064904{aim:08X}")?),
-        _ => Ok(format!(in alloc; "67094904{aim:08X}4A0101")?),
+        0 => write!(out, "64064904{aim:08X}")?,
+        1 => write!(out, "640D4904{aim:08X}6C05A2030201{number:02X}")?,
+        2 => write!(out, "67064904{aim:08X}")?,
+        _ => write!(out, "67094904{aim:08X}4A0101")?,
     }
-}
-
-/// The end of a dialogue by its peer.
-pub(super) fn ending_of(alloc: Global, draw: u32, aimed: Aimed) -> anyhow::Result<Template> {
     let components = if draw == 1 { 1 } else { 0 };
-    Ok(Template {
-        text: ending_text(alloc, draw, aimed.aim, aimed.number)?,
+    Ok(Known {
+        is_begin: false,
+        peer,
+        aim,
         entries: components + 1,
         components,
     })
@@ -118,16 +144,22 @@ pub(super) fn ending_of(alloc: Global, draw: u32, aimed: Aimed) -> anyhow::Resul
 
 /// What is refused, or isn't looked at: an unknown tag, a Continue with an element too many, one that is cut, an End
 /// with an element too many, a Begin that is cut, a Unidirectional, and octets that are nothing at all.
-pub(super) fn bad_text(alloc: Global, draw: u32, aimed: Aimed) -> anyhow::Result<String> {
-    let Aimed { peer, aim, .. } = aimed;
+pub(super) fn push_bad(out: &mut String, draw: u32, peer: u32, aim: u32) -> anyhow::Result<Known> {
     match draw {
-        0 => Ok(format!(in alloc; "660C4804{peer:08X}4904{aim:08X}")?),
-        1 => Ok(format!(in alloc; "650E4804{peer:08X}4904{aim:08X}0500")?),
-        2 => Ok(format!(in alloc; "65254804{peer:08X}4904{aim:08X}6C17A1")?),
-        3 => Ok(format!(in alloc; "64084904{aim:08X}0500")?),
-        4 => Ok(format!(in alloc; "622D4804{peer:08X}6C25")?),
-        5 => word(alloc, "61026C00"),
-        6 => word(alloc, "622D48040000"),
-        _ => word(alloc, "FF"),
+        0 => write!(out, "660C4804{peer:08X}4904{aim:08X}")?,
+        1 => write!(out, "650E4804{peer:08X}4904{aim:08X}0500")?,
+        2 => write!(out, "65254804{peer:08X}4904{aim:08X}6C17A1")?,
+        3 => write!(out, "64084904{aim:08X}0500")?,
+        4 => write!(out, "622D4804{peer:08X}6C25")?,
+        5 => out.push_str("61026C00")?,
+        6 => out.push_str("622D48040000")?,
+        _ => out.push_str("FF")?,
     }
+    let peer = if draw <= 2 || draw == 4 { peer } else { 0 };
+    let aim = if draw <= 3 { aim } else { 0 };
+    Ok(Known {
+        peer,
+        aim,
+        ..NOTHING
+    })
 }

@@ -1,31 +1,16 @@
 //! What the steps of a run answer, as text.
 
-use crate::book::texts::{given_text, letter_of, posted_text};
-use crate::texts::{add_answer, word};
+use super::making::{Asked, Part};
+use crate::book::loops::push_posts;
+use crate::book::texts::{given_letter, letter_of, push_posted, push_totals};
 use anyhow::bail;
-use fp_book::{Given, Posted, Totals};
+use cases::push_octets;
+use fp_book::{Posted, Totals};
 use fp_steps::Output;
-use std::alloc::Global;
+use std::fmt::Write;
 
-/// A turn that was given back.
-fn gave_text(alloc: Global, local: u32, position: u64, given: Given) -> anyhow::Result<String> {
-    Ok(format!(in alloc; "gave {local:08X} {position} {}", given_text(given))?)
-}
-
-/// A parcel that is out.
-fn picked_text(alloc: Global, local: u32, frame: &[u8]) -> anyhow::Result<String> {
-    let octets = hex::encode_upper(alloc, frame)?;
-    Ok(format!(in alloc; "picked {local:08X} {octets}")?)
-}
-
-/// What became of a message.
-fn message_text(alloc: Global, answer: Posted, components: u32) -> anyhow::Result<String> {
-    let answer = posted_text(alloc, answer)?;
-    Ok(format!(in alloc; "{answer} {components}")?)
-}
-
-/// An output without numbers.
-fn plain_text(output: &Output) -> &'static str {
+/// The word of an output that has no more to say.
+fn word_of(output: &Output) -> &'static str {
     match output {
         Output::NoRoom => "no room",
         Output::WentBack => "back",
@@ -37,31 +22,37 @@ fn plain_text(output: &Output) -> &'static str {
     }
 }
 
-/// What a step answers.
-pub(super) fn output_text(alloc: Global, output: &Output) -> anyhow::Result<String> {
+/// Writes what became of a message.
+fn push_message(out: &mut String, answer: Posted, components: u32) -> anyhow::Result<()> {
+    push_posted(out, answer)?;
+    write!(out, " {components}")?;
+    Ok(())
+}
+
+/// Writes a parcel that is out.
+fn push_parcel(out: &mut String, local: u32, frame: &[u8]) -> anyhow::Result<()> {
+    write!(out, "picked {local:08X} ")?;
+    push_octets(out, frame)
+}
+
+/// Writes what a step answers.
+pub(super) fn push_output(out: &mut String, output: &Output) -> anyhow::Result<()> {
     match output {
-        Output::Posted { answer, components } => message_text(alloc, *answer, *components),
-        Output::Ticked { added, wanting } => Ok(format!(in alloc; "ticked {added} {wanting}")?),
-        Output::Took { local, position } => Ok(format!(in alloc; "took {local:08X} {position}")?),
+        Output::Posted { answer, components } => push_message(out, *answer, *components)?,
+        Output::Ticked { added, wanting } => write!(out, "ticked {added} {wanting}")?,
+        Output::Took { local, position } => write!(out, "took {local:08X} {position}")?,
         Output::Gave {
             local,
             position,
             given,
-        } => gave_text(alloc, *local, *position, *given),
-        Output::Picked { local, frame } => picked_text(alloc, *local, frame.as_slice()),
-        _ => word(alloc, plain_text(output)),
+        } => write!(out, "gave {local:08X} {position} {}", given_letter(*given))?,
+        Output::Picked { local, frame } => push_parcel(out, *local, frame.as_slice())?,
+        _ => out.push_str(word_of(output))?,
     }
+    Ok(())
 }
 
-/// How many components an output accepts.
-fn components_of(output: &Output) -> u64 {
-    match output {
-        Output::Posted { components, .. } => u64::from(*components),
-        _ => 0,
-    }
-}
-
-/// Of which dialogue the parcel is that is out behind this output, 0 for an Abort of the provider and where none is.
+/// The dialogue of the parcel that is out after this output, 0 for an Abort of the provider and for none.
 fn out_after(output: &Output, out: u32) -> u32 {
     match output {
         Output::Picked { local, .. } => *local,
@@ -70,9 +61,16 @@ fn out_after(output: &Output, out: u32) -> u32 {
     }
 }
 
-/// Whether the output tells that the frame of a dialogue was sent, where the parcel that is out is of this one.
-fn is_sent(output: &Output, out: u32) -> bool {
-    matches!(output, Output::Sent) && out != 0
+/// Counts an output. The parcel that was out before it is of the dialogue `out`.
+fn count(totals: &mut Totals, output: &Output, out: u32) {
+    match output {
+        Output::Posted { components, .. } => {
+            totals.accepted = totals.accepted.saturating_add(u64::from(*components));
+        }
+        Output::Gave { .. } => totals.served = totals.served.saturating_add(1),
+        Output::Sent if out != 0 => totals.sent = totals.sent.saturating_add(1),
+        _ => {}
+    }
 }
 
 /// What these outputs come to.
@@ -84,123 +82,86 @@ pub(super) fn totals_of(outputs: &[Output]) -> Totals {
     };
     let mut out: u32 = 0;
     for output in outputs {
-        totals.accepted = totals.accepted.saturating_add(components_of(output));
-        if let Output::Gave { .. } = output {
-            totals.served = totals.served.saturating_add(1);
-        }
-        if is_sent(output, out) {
-            totals.sent = totals.sent.saturating_add(1);
-        }
+        count(&mut totals, output, out);
         out = out_after(output, out);
     }
     totals
 }
 
-/// The last one of these outputs.
-fn last_text(alloc: Global, outputs: &[Output]) -> anyhow::Result<String> {
-    match outputs.last() {
-        Some(output) => output_text(alloc, output),
-        None => word(alloc, "no output"),
-    }
-}
-
-/// These outputs.
-fn outputs_text(alloc: Global, outputs: &[Output]) -> anyhow::Result<String> {
-    let mut text = String::new(alloc);
+/// Writes these outputs.
+fn push_outputs(out: &mut String, outputs: &[Output]) -> anyhow::Result<()> {
+    let mut is_first = true;
     for output in outputs {
-        if !text.is_empty() {
-            text.push_str(", ")?;
+        if !is_first {
+            out.push_str(", ")?;
         }
-        text.push_str(output_text(alloc, output)?.as_str())?;
+        push_output(out, output)?;
+        is_first = false;
     }
-    Ok(text)
+    Ok(())
 }
 
-/// What became of a message, of which this is the output.
-fn posted_of(output: &Output) -> anyhow::Result<Posted> {
+/// What became of a message, from its output.
+fn posted_of(output: Option<&Output>) -> anyhow::Result<Posted> {
     match output {
-        Output::Posted { answer, .. } => Ok(*answer),
+        Some(Output::Posted { answer, .. }) => Ok(*answer),
         _ => bail!("no message"),
     }
 }
 
-/// Several messages: the first answer and the last.
-fn posts_text(alloc: Global, outputs: &[Output]) -> anyhow::Result<String> {
-    let (Some(first), Some(last)) = (outputs.first(), outputs.last()) else {
-        bail!("no message");
-    };
-    let first = posted_of(first)?;
+/// Writes the answers of several messages: how many, the first and the last. All have the same letter.
+fn push_ends(out: &mut String, outputs: &[Output]) -> anyhow::Result<()> {
+    let first = posted_of(outputs.first())?;
     for output in outputs {
-        if letter_of(posted_of(output)?) != letter_of(first) {
+        if letter_of(posted_of(Some(output))?) != letter_of(first) {
             bail!("answers of two kinds");
         }
     }
-    let first = posted_text(alloc, first)?;
-    let last = posted_text(alloc, posted_of(last)?)?;
-    Ok(format!(in alloc; "{} {first} to {last}", outputs.len())?)
+    let count = u32::try_from(outputs.len())?;
+    push_posts(out, count, first, posted_of(outputs.last())?)
 }
 
-/// How many steps a part of a script asks for.
-fn steps_asked(words: &[&str]) -> anyhow::Result<usize> {
-    match words {
-        ["at", _] | ["totals"] => Ok(0),
-        ["posts", count, _] => Ok(count.parse()?),
-        ["rounds", count, turns, _, _] => {
-            let count: usize = count.parse()?;
-            let turns: usize = turns.parse()?;
-            Ok(count.saturating_mul(turns.saturating_mul(2).saturating_add(1)))
-        }
-        ["calls", count, _, _] => {
-            let count: usize = count.parse()?;
-            Ok(count.saturating_mul(STEPS_OF_A_CALL))
-        }
-        _ => Ok(1),
-    }
-}
-
-/// How many steps one of `calls` has.
-const STEPS_OF_A_CALL: usize = 7;
-
-/// What a part of a script answers, of these outputs before it and its own.
-fn part_text(
-    alloc: Global,
-    words: &[&str],
+/// Writes what a part of a script answers, from the outputs before it and its own.
+fn push_part(
+    out: &mut String,
+    asked: Asked,
     before: &[Output],
     own: &[Output],
-) -> anyhow::Result<String> {
-    match words {
-        ["at", milliseconds] => word(alloc, milliseconds),
-        ["totals"] => crate::book::texts::totals_text(alloc, totals_of(before)),
-        ["posts", _, _] => posts_text(alloc, own),
-        ["calls", _, _, _] => {
-            let start = own.len().saturating_sub(STEPS_OF_A_CALL);
-            let (_, last) = own.split_at(start);
-            outputs_text(alloc, last)
+) -> anyhow::Result<()> {
+    match asked {
+        Asked::Moment(milliseconds) => {
+            write!(out, "{milliseconds}")?;
+            Ok(())
         }
-        _ => last_text(alloc, own),
+        Asked::Totals => push_totals(out, totals_of(before)),
+        Asked::Ends => push_ends(out, own),
+        Asked::Last(count) => {
+            let (_, last) = own.split_at(own.len().saturating_sub(count));
+            push_outputs(out, last)
+        }
     }
 }
 
-/// What all parts of a script answer.
-pub(super) fn answers_text(
-    alloc: Global,
-    script: &str,
+/// Writes what all parts of a script answer.
+pub(super) fn push_answers(
+    out: &mut String,
+    parts: &[Part],
     outputs: &[Output],
-) -> anyhow::Result<String> {
-    let mut text = String::new(alloc);
+) -> anyhow::Result<()> {
     let mut place: usize = 0;
-    for part in script.split(';') {
-        let words: Vec<&str> = part.split_whitespace().collect(alloc)?;
-        let end = place.saturating_add(steps_asked(words.as_slice())?);
+    for part in parts {
+        if !out.is_empty() {
+            out.push_str("; ")?;
+        }
+        let Part { asked, end } = *part;
         let (Some(before), Some(own)) = (outputs.get(..place), outputs.get(place..end)) else {
             bail!("too few outputs");
         };
-        let answer = part_text(alloc, words.as_slice(), before, own)?;
-        add_answer(&mut text, answer.as_str())?;
+        push_part(out, asked, before, own)?;
         place = end;
     }
     if place != outputs.len() {
         bail!("too many outputs");
     }
-    Ok(text)
+    Ok(())
 }

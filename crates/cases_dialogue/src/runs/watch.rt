@@ -1,38 +1,22 @@
-//! What each output of a run must be after those before it, as far as somebody knows who sees the steps and the
-//! outputs alone.
+//! What each output of a run must be after those before it, as far as the steps and the outputs alone say.
 //!
 //! * Each Begin that is accepted gets the next local identifier of the link. A message is accepted, or ends a dialogue,
-//!   only where it is aimed at one that was opened. As many components are accepted as it has.
+//!   only if it is aimed at one that was opened. As many components are accepted as it has.
 //! * The turns of a dialogue are given at the places 0, 1, 2 and so on, and it has one turn out at a time.
-//! * Behind a request that was dropped none of its dialogue is queued.
+//! * After a request that was dropped none of its dialogue is queued.
 //! * A frame carries the identifiers of its dialogue; a dialogue has never more frames picked than queued; and the
 //!   Rejects of its components go out in the order in which these came.
 //! * Aborts of the provider are picked in the order in which they were answered, each to the sender of its message.
 //! * One parcel is out at a time, and it alone is sent.
-//! * Behind the end of the link nothing is accepted, taken, queued and picked.
+//! * After the end of the link nothing is accepted, taken, queued and picked.
 //! * What the outputs come to is what was counted here.
 
-use super::drawn::Known;
+use super::octets::is_refusal;
+use super::seen::Seen;
+use super::templates::Known;
 use fp_book::{Given, Posted, Totals};
 use fp_steps::{Output, Step};
 use std::alloc::Global;
-
-/// What was seen of a dialogue.
-#[derive(Clone, Copy)]
-struct Seen {
-    local: u32,
-    peer: u32,
-    // How many turns it gave.
-    gave: u64,
-    queued: u32,
-    picked: u32,
-    is_out: bool,
-    was_dropped: bool,
-    // The invoke identifier that the last frame rejected which rejects one.
-    rejected: u8,
-    // How many frames of it rejected one, behind another such frame.
-    compared: u32,
-}
 
 /// An Abort of the provider that was answered.
 #[derive(Clone, Copy)]
@@ -56,146 +40,8 @@ pub(super) struct Watch {
     totals: Totals,
 }
 
-/// A dialogue that was opened.
-fn opened(local: u32, peer: u32) -> Seen {
-    Seen {
-        local,
-        peer,
-        gave: 0,
-        queued: 0,
-        picked: 0,
-        is_out: false,
-        was_dropped: false,
-        rejected: 0,
-        compared: 0,
-    }
-}
-
-/// Where a dialogue is.
-fn index_of(dialogues: &[Seen], local: u32) -> Option<usize> {
-    dialogues.iter().position(|seen| seen.local == local)
-}
-
-/// Whether the turn of a dialogue is out.
-fn is_out(dialogues: &[Seen], local: u32) -> bool {
-    dialogues
-        .iter()
-        .any(|seen| seen.local == local && seen.is_out)
-}
-
-/// Whether a frame is one of the provider, with this identifier and cause.
-fn is_refusal(frame: &[u8], refusal: Refusal) -> bool {
-    match frame {
-        [0, 0, 0, 11, 0x67, 9, 0x49, 4, a, b, c, d, 0x4A, 1, cause] => {
-            u32::from_be_bytes([*a, *b, *c, *d]) == refusal.peer && *cause == refusal.cause
-        }
-        _ => false,
-    }
-}
-
-/// Whether a frame of a dialogue carries these identifiers: a Continue both, an End and an Abort that of the peer.
-fn carries(frame: &[u8], local: u32, peer: u32) -> bool {
-    match frame {
-        [
-            _,
-            _,
-            _,
-            _,
-            0x65,
-            _,
-            0x48,
-            4,
-            a,
-            b,
-            c,
-            d,
-            0x49,
-            4,
-            e,
-            f,
-            g,
-            h,
-            ..
-        ] => {
-            u32::from_be_bytes([*a, *b, *c, *d]) == local
-                && u32::from_be_bytes([*e, *f, *g, *h]) == peer
-        }
-        [_, _, _, _, 0x64 | 0x67, _, 0x49, 4, e, f, g, h, ..] => {
-            u32::from_be_bytes([*e, *f, *g, *h]) == peer
-        }
-        _ => false,
-    }
-}
-
-/// The invoke identifier that a frame rejects, if it ends with a Reject of an Invoke or a result.
-fn rejected_by(frame: &[u8]) -> Option<u8> {
-    match frame {
-        [.., 0xA4, 6, 2, 1, number, 0x81 | 0x82, 1, _] => Some(*number),
-        _ => None,
-    }
-}
-
-impl Seen {
-    /// Its turn is taken.
-    fn take(&mut self, position: u64) -> bool {
-        let is_right = !self.is_out && position == self.gave;
-        self.is_out = true;
-        is_right
-    }
-
-    /// Its turn is put back.
-    fn put_back(&mut self) -> bool {
-        let is_right = self.is_out;
-        self.is_out = false;
-        is_right
-    }
-
-    /// What becomes of its request.
-    fn request(&mut self, given: Given, is_down: bool) -> bool {
-        match given {
-            Given::Silent => true,
-            Given::Queued => {
-                self.queued = self.queued.saturating_add(1);
-                !is_down && !self.was_dropped
-            }
-            Given::Dropped => {
-                self.was_dropped = true;
-                true
-            }
-        }
-    }
-
-    /// Its turn is given.
-    fn give(&mut self, position: u64, given: Given, is_down: bool) -> bool {
-        let is_right = self.is_out && position == self.gave;
-        self.is_out = false;
-        self.gave = self.gave.saturating_add(1);
-        self.request(given, is_down) && is_right
-    }
-
-    /// The invoke identifier that its frame rejects is above those before.
-    fn reject(&mut self, number: Option<u8>) -> bool {
-        let Some(number) = number else {
-            return true;
-        };
-        let is_right = number > self.rejected;
-        if self.rejected > 0 {
-            self.compared = self.compared.saturating_add(1);
-        }
-        self.rejected = number;
-        is_right
-    }
-
-    /// Its frame is picked.
-    fn pick(&mut self, frame: &[u8]) -> bool {
-        self.picked = self.picked.saturating_add(1);
-        let is_right = self.picked <= self.queued && carries(frame, self.local, self.peer);
-        self.reject(rejected_by(frame)) && is_right
-    }
-}
-
 impl Watch {
-    /// One that begins, where this local identifier would have the serial 0.
+    /// A run that begins, on the link where this local identifier would have the serial 0.
     pub(super) fn new(alloc: Global, first: u32) -> Watch {
         Watch {
             first,
@@ -226,7 +72,25 @@ impl Watch {
         count
     }
 
-    /// How many components were accepted.
+    /// What was seen of a dialogue.
+    fn seen(&mut self, local: u32) -> Option<&mut Seen> {
+        let index = self.dialogues.iter().position(|seen| seen.local == local)?;
+        self.dialogues.get_mut(index)
+    }
+
+    /// Whether the turn of a dialogue is out.
+    fn is_out(&self, local: u32) -> bool {
+        self.dialogues
+            .iter()
+            .any(|seen| seen.local == local && seen.is_out)
+    }
+
+    /// Whether an Abort of the provider waits.
+    fn has_refusal(&self) -> bool {
+        self.refusals_picked < self.refusals.len()
+    }
+
+    /// Components were accepted.
     fn accept(&mut self, known: Known, components: u32) -> bool {
         self.totals.accepted = self.totals.accepted.saturating_add(u64::from(components));
         !self.is_down && components == known.components
@@ -236,7 +100,7 @@ impl Watch {
     fn open(&mut self, known: Known, local: u32, components: u32) -> anyhow::Result<bool> {
         let count = u32::try_from(self.dialogues.len())?;
         let next = self.first.saturating_add(count).saturating_add(1);
-        self.dialogues.push(opened(local, known.peer))?;
+        self.dialogues.push(Seen::opened(local, known.peer))?;
         Ok(known.is_begin && local == next && self.accept(known, components))
     }
 
@@ -246,9 +110,9 @@ impl Watch {
         Ok(!self.is_down && peer != 0)
     }
 
-    /// Whether the message is aimed at a dialogue that was opened.
+    /// Whether a message is aimed at a dialogue that was opened.
     fn is_aimed(&self, known: Known) -> bool {
-        !known.is_begin && index_of(self.dialogues.as_slice(), known.aim).is_some()
+        !known.is_begin && self.dialogues.iter().any(|seen| seen.local == known.aim)
     }
 
     /// What became of a message.
@@ -266,48 +130,35 @@ impl Watch {
         }
     }
 
-    /// What became of a message that was read.
-    fn read(&mut self, known: Known, output: &Output) -> anyhow::Result<bool> {
-        match output {
-            Output::Posted { answer, components } => self.post(known, *answer, *components),
-            _ => Ok(false),
-        }
-    }
-
-    /// What became of a message for which memory was wanting: it isn't accepted.
-    fn lose(&mut self, known: Known, output: &Output) -> anyhow::Result<bool> {
-        match output {
-            Output::Posted {
-                answer: Posted::Opened(_) | Posted::Accepted(_),
-                ..
-            } => Ok(false),
-            _ => self.read(known, output),
+    /// What became of a message. One that was lost isn't accepted.
+    fn read(&mut self, known: Known, output: &Output, is_lost: bool) -> anyhow::Result<bool> {
+        let Output::Posted { answer, components } = output else {
+            return Ok(false);
+        };
+        match answer {
+            Posted::Opened(_) | Posted::Accepted(_) if is_lost => Ok(false),
+            _ => self.post(known, *answer, *components),
         }
     }
 
     /// Time went by.
     fn tick(&self, output: &Output) -> bool {
-        match output {
-            Output::Ticked { added, wanting } => {
-                let most = if self.is_down {
-                    0
-                } else {
-                    self.dialogues.len()
-                };
-                u64::from(*added) <= u64::try_from(most).unwrap_or(0) && *wanting == 0
-            }
-            _ => false,
-        }
+        let Output::Ticked { added, wanting } = output else {
+            return false;
+        };
+        let most = if self.is_down {
+            0
+        } else {
+            self.dialogues.len()
+        };
+        usize::try_from(*added).is_ok_and(|added| added <= most) && *wanting == 0
     }
 
     /// A turn was taken.
     fn took(&mut self, local: u32, position: u64) -> bool {
-        let is_down = self.is_down;
-        let Some(index) = index_of(self.dialogues.as_slice(), local) else {
-            return false;
-        };
-        match self.dialogues.get_mut(index) {
-            Some(seen) => seen.take(position) && !is_down,
+        let is_up = !self.is_down;
+        match self.seen(local) {
+            Some(seen) => seen.take(position) && is_up,
             None => false,
         }
     }
@@ -325,10 +176,7 @@ impl Watch {
     fn gave(&mut self, local: u32, position: u64, given: Given) -> bool {
         self.totals.served = self.totals.served.saturating_add(1);
         let is_down = self.is_down;
-        let Some(index) = index_of(self.dialogues.as_slice(), local) else {
-            return false;
-        };
-        match self.dialogues.get_mut(index) {
+        match self.seen(local) {
             Some(seen) => seen.give(position, given, is_down),
             None => false,
         }
@@ -342,51 +190,34 @@ impl Watch {
                 position,
                 given,
             } => self.gave(*local, *position, *given) && *local == asked,
-            Output::Nothing => !is_out(self.dialogues.as_slice(), asked),
+            Output::Nothing => !self.is_out(asked),
             _ => false,
         }
     }
 
-    /// A turn was put back.
-    fn went_back(&mut self, local: u32) -> bool {
-        let Some(index) = index_of(self.dialogues.as_slice(), local) else {
-            return false;
-        };
-        match self.dialogues.get_mut(index) {
-            Some(seen) => seen.put_back(),
-            None => false,
-        }
-    }
-
-    /// What a put_back answers.
+    /// What a put-back answers.
     fn put_back(&mut self, asked: u32, output: &Output) -> bool {
         match output {
-            Output::WentBack => self.went_back(asked),
-            Output::Nothing => !is_out(self.dialogues.as_slice(), asked),
+            Output::WentBack => self.seen(asked).is_some_and(|seen| seen.put_back()),
+            Output::Nothing => !self.is_out(asked),
             _ => false,
         }
     }
 
     /// An Abort of the provider was picked: the oldest that waits.
     fn picked_refusal(&mut self, frame: &[u8]) -> bool {
-        let oldest = self.refusals.get(self.refusals_picked);
-        let is_right = oldest.is_some_and(|refusal| is_refusal(frame, *refusal));
+        let oldest = self.refusals.get(self.refusals_picked).copied();
         self.refusals_picked = self.refusals_picked.saturating_add(1);
-        is_right
-    }
-
-    /// Whether an Abort of the provider waits.
-    fn has_refusal(&self) -> bool {
-        self.refusals_picked < self.refusals.len()
+        match oldest {
+            Some(Refusal { peer, cause }) => is_refusal(frame, peer, cause),
+            None => false,
+        }
     }
 
     /// The frame of a dialogue was picked, while no Abort of the provider waits.
     fn picked_frame(&mut self, local: u32, frame: &[u8]) -> bool {
         let has_refusal = self.has_refusal();
-        let Some(index) = index_of(self.dialogues.as_slice(), local) else {
-            return false;
-        };
-        match self.dialogues.get_mut(index) {
+        match self.seen(local) {
             Some(seen) => seen.pick(frame) && !has_refusal,
             None => false,
         }
@@ -396,12 +227,11 @@ impl Watch {
     fn picked(&mut self, local: u32, frame: &[u8]) -> bool {
         let is_free = self.parcel.is_none() && !self.is_down;
         self.parcel = Some(local);
-        let is_right = if local == 0 {
-            self.picked_refusal(frame)
+        if local == 0 {
+            self.picked_refusal(frame) && is_free
         } else {
-            self.picked_frame(local, frame)
-        };
-        is_right && is_free
+            self.picked_frame(local, frame) && is_free
+        }
     }
 
     /// What a pick answers.
@@ -415,28 +245,23 @@ impl Watch {
     }
 
     /// The parcel was sent.
-    fn send(&mut self, output: &Output) -> bool {
-        match output {
-            Output::Sent => match self.parcel.take() {
-                Some(local) => {
-                    if local != 0 {
-                        self.totals.sent = self.totals.sent.saturating_add(1);
-                    }
-                    true
-                }
-                None => false,
-            },
-            Output::Nothing => self.parcel.is_none(),
-            _ => false,
+    fn sent(&mut self) -> bool {
+        let parcel = self.parcel.take();
+        if let Some(local) = parcel
+            && local != 0
+        {
+            self.totals.sent = self.totals.sent.saturating_add(1);
         }
+        parcel.is_some()
     }
 
-    /// The parcel wasn't sent.
-    fn unsend(&mut self, output: &Output) -> bool {
+    /// What a report answers.
+    fn report(&mut self, output: &Output, is_sent: bool) -> bool {
         match output {
+            Output::Sent => self.sent() && is_sent,
             Output::Unsent => {
                 self.is_down = true;
-                self.parcel.take().is_some()
+                self.parcel.take().is_some() && !is_sent
             }
             Output::Nothing => self.parcel.is_none(),
             _ => false,
@@ -457,15 +282,15 @@ impl Watch {
         output: &Output,
     ) -> anyhow::Result<bool> {
         match step {
-            Step::Post(..) => self.read(known, output),
-            Step::Lost(..) => self.lose(known, output),
+            Step::Post(..) => self.read(known, output, false),
+            Step::Lost(..) => self.read(known, output, true),
             Step::Tick(_) => Ok(self.tick(output)),
             Step::Take => Ok(self.take(output)),
             Step::Give(local) => Ok(self.give(*local, output)),
             Step::PutBack(local) => Ok(self.put_back(*local, output)),
             Step::Pick => Ok(self.pick(output)),
-            Step::Sent => Ok(self.send(output)),
-            Step::Unsent => Ok(self.unsend(output)),
+            Step::Sent => Ok(self.report(output, true)),
+            Step::Unsent => Ok(self.report(output, false)),
             Step::Down => Ok(self.end(output)),
         }
     }

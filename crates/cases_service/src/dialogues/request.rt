@@ -8,7 +8,7 @@
 //! | `abort abrt` | an Abort with an ABRT |
 //! | `abort aare name-not-supported NAME`, `abort aare no-common-version NAME` | an Abort with an AARE that refuses the dialogue |
 //!
-//! Behind a Continue or an End stand up to two components, each behind a comma:
+//! After a Continue or an End come up to two components, each after a comma:
 //!
 //! | Component | What it is |
 //! |---|---|
@@ -16,62 +16,216 @@
 //! | `error ID ERROR` | a ReturnError |
 //! | `reject ID PROBLEM`, `reject ? PROBLEM` | a Reject |
 
-use crate::numbers::national_number_of;
-use crate::steps::arrival::name_of;
-use crate::words::joined;
+use crate::kinds::identifier_of;
+use crate::records::{only_rule, routed_to};
+use crate::values::name_of;
+use anyhow::bail;
+use cases::{first_word, octets_of};
+use fp_apdu::Name;
 use fp_digits::Cause;
 use fp_inap::OperationError;
 use fp_q773::{
     AbortCause, GeneralProblem, InvokeProblem, Problem, ReturnErrorProblem, ReturnResultProblem,
     Tid,
 };
-use fp_records::{Action, Destination, Record, Table};
+use fp_records::{Action, Rule};
 use fp_service::{AbortPortion, Component, Components, Instruction, Request};
 use std::alloc::Global;
 
 /// The transaction identifier of these one to four octets.
-pub(super) fn peer_of(alloc: Global, text: &str) -> anyhow::Result<Tid> {
-    let octets = hex::decode(alloc, text)?;
-    let Some(peer) = Tid::new(octets.as_slice()) else {
-        anyhow::bail!("no identifier: {text}");
-    };
-    Ok(peer)
+pub(crate) fn peer_of(alloc: Global, text: &str) -> anyhow::Result<Tid> {
+    let octets = octets_of(alloc, text)?;
+    match Tid::new(octets.as_slice()) {
+        Some(peer) => Ok(peer),
+        None => bail!("no identifier"),
+    }
 }
 
 /// Why the provider aborts a dialogue.
-pub(super) fn abort_cause_of(text: &str) -> anyhow::Result<AbortCause> {
+pub(crate) fn abort_cause_of(text: &str) -> anyhow::Result<AbortCause> {
     match text {
         "UnrecognizedMessageType" => Ok(AbortCause::UnrecognizedMessageType),
         "UnrecognizedTransactionIdentifier" => Ok(AbortCause::UnrecognizedTransactionIdentifier),
         "BadlyFormattedTransactionPortion" => Ok(AbortCause::BadlyFormattedTransactionPortion),
         "ResourceLimitation" => Ok(AbortCause::ResourceLimitation),
-        _ => anyhow::bail!("no cause: {text}"),
+        _ => bail!("no cause"),
     }
 }
 
-/// The only destination of a record.
-fn destination_in(record: &Record) -> anyhow::Result<Destination> {
-    let Some(rule) = record.only_rule() else {
-        anyhow::bail!("more than one rule");
+/// The request that a text spells.
+pub(crate) fn request_of(alloc: Global, text: &str) -> anyhow::Result<Request> {
+    let (head, components) = text.split_once(", ").unwrap_or((text, ""));
+    let (word, portion) = first_word(head);
+    match word {
+        "continue" => continue_of(alloc, portion, components),
+        "end" => end_of(alloc, portion, components),
+        "abort" => abort_of(alloc, portion),
+        _ => bail!("no request"),
+    }
+}
+
+/// A Continue.
+fn continue_of(alloc: Global, portion: &str, components: &str) -> anyhow::Result<Request> {
+    let acceptance = acceptance_of(alloc, portion)?;
+    let components = components_of(alloc, components)?;
+    Ok(Request::Continue {
+        acceptance,
+        components,
+    })
+}
+
+/// An End.
+fn end_of(alloc: Global, portion: &str, components: &str) -> anyhow::Result<Request> {
+    let acceptance = acceptance_of(alloc, portion)?;
+    let components = components_of(alloc, components)?;
+    Ok(Request::End {
+        acceptance,
+        components,
+    })
+}
+
+/// The application context name that an AARE accepts, if there is one.
+fn acceptance_of(alloc: Global, text: &str) -> anyhow::Result<Option<Name>> {
+    if text.is_empty() {
+        return Ok(None);
+    }
+    match text.strip_prefix("aare accepted ") {
+        Some(name) => Ok(Some(name_of(alloc, name)?)),
+        None => bail!("no AARE that accepts"),
+    }
+}
+
+/// An Abort.
+fn abort_of(alloc: Global, text: &str) -> anyhow::Result<Request> {
+    match text {
+        "" => Ok(Request::Abort(AbortPortion::Absent)),
+        "abrt" => Ok(Request::Abort(AbortPortion::Abrt)),
+        _ => refusal_of(alloc, text),
+    }
+}
+
+/// An Abort with an AARE that refuses the dialogue.
+fn refusal_of(alloc: Global, text: &str) -> anyhow::Result<Request> {
+    let Some((aare, name)) = text.rsplit_once(' ') else {
+        bail!("no dialogue portion");
     };
+    let name = name_of(alloc, name)?;
+    match aare {
+        "aare name-not-supported" => Ok(Request::Abort(AbortPortion::NoName(name))),
+        "aare no-common-version" => Ok(Request::Abort(AbortPortion::NoVersion(name))),
+        _ => bail!("no AARE that refuses"),
+    }
+}
+
+/// The components that a text spells.
+fn components_of(alloc: Global, text: &str) -> anyhow::Result<Components> {
+    let mut first = None;
+    let mut second = None;
+    for part in text.split(", ") {
+        if part.is_empty() {
+            break;
+        }
+        if first.is_some() {
+            read_component(alloc, part, &mut second)?;
+        } else {
+            read_component(alloc, part, &mut first)?;
+        }
+    }
+    Ok(built(&first, &second))
+}
+
+/// Puts the component of a text in a place.
+fn read_component(alloc: Global, text: &str, place: &mut Option<Component>) -> anyhow::Result<()> {
+    if place.is_some() {
+        bail!("more than two components");
+    }
+    *place = Some(component_of(alloc, text)?);
+    Ok(())
+}
+
+/// The components that were read.
+fn built(first: &Option<Component>, second: &Option<Component>) -> Components {
+    match (first, second) {
+        (Some(first), Some(second)) => Components::two(*first, *second),
+        (Some(only), None) => Components::one(*only),
+        _ => Components::none(),
+    }
+}
+
+/// The component that a text spells.
+fn component_of(alloc: Global, text: &str) -> anyhow::Result<Component> {
+    let (word, rest) = first_word(text);
+    match word {
+        "invoke" => invoke_of(alloc, rest),
+        "error" => return_error_of(rest),
+        "reject" => reject_of(rest),
+        _ => bail!("no component"),
+    }
+}
+
+/// An Invoke.
+fn invoke_of(alloc: Global, text: &str) -> anyhow::Result<Component> {
+    let (identifier, rest) = first_word(text);
+    let identifier = identifier.parse()?;
+    let instruction = instruction_of(alloc, rest)?;
+    Ok(Component::Invoke {
+        identifier,
+        instruction,
+    })
+}
+
+/// A ReturnError.
+fn return_error_of(text: &str) -> anyhow::Result<Component> {
+    let (identifier, error) = first_word(text);
+    let identifier = identifier.parse()?;
+    let error = error_of(error)?;
+    Ok(Component::ReturnError { identifier, error })
+}
+
+/// A Reject.
+fn reject_of(text: &str) -> anyhow::Result<Component> {
+    let (identifier, problem) = first_word(text);
+    let identifier = identifier_of(identifier)?;
+    let problem = problem_of(problem)?;
+    Ok(Component::Reject {
+        identifier,
+        problem,
+    })
+}
+
+/// The instruction that a text spells.
+fn instruction_of(alloc: Global, text: &str) -> anyhow::Result<Instruction> {
+    let (word, rest) = first_word(text);
+    match word {
+        "Connect" => connect_of(alloc, rest),
+        "ReleaseCall" => release_of(rest),
+        "RequestReportBCSMEvent" => Ok(Instruction::RequestReportBcsmEvent),
+        "Continue" => Ok(Instruction::Continue),
+        _ => bail!("no instruction"),
+    }
+}
+
+/// A Connect to these digits.
+fn connect_of(alloc: Global, digits: &str) -> anyhow::Result<Instruction> {
+    let table = routed_to(alloc, digits)?;
+    connect_in(only_rule(&table, "5")?)
+}
+
+/// A Connect to the only destination of a rule.
+fn connect_in(rule: &Rule) -> anyhow::Result<Instruction> {
     let Action::Route(destinations) = rule.action else {
-        anyhow::bail!("no route");
+        bail!("no route");
     };
     match destinations.as_slice() {
-        [only] => Ok(*only),
-        _ => anyhow::bail!("more than one destination"),
+        [only] => Ok(Instruction::Connect(*only)),
+        _ => bail!("more than one destination"),
     }
 }
 
-/// The destination of these digits, as the records of a number have it.
-fn destination_of(alloc: Global, digits: &str) -> anyhow::Result<Destination> {
-    let text = format!(in alloc; "key,0,0\n5,,1234567,00:00,24:00,1,route,{digits}\n")?;
-    let table = Table::read(alloc, text.as_bytes())?;
-    let called = national_number_of("5")?;
-    let Some(record) = table.find(&called) else {
-        anyhow::bail!("no record");
-    };
-    destination_in(record)
+/// A ReleaseCall of this cause.
+fn release_of(cause: &str) -> anyhow::Result<Instruction> {
+    let cause = cause_of(cause)?;
+    Ok(Instruction::ReleaseCall(cause))
 }
 
 /// The cause of this name.
@@ -81,7 +235,7 @@ fn cause_of(text: &str) -> anyhow::Result<Cause> {
         "UserBusy" => Ok(Cause::UserBusy),
         "NoAnswerFromUser" => Ok(Cause::NoAnswerFromUser),
         "CallRejected" => Ok(Cause::CallRejected),
-        _ => anyhow::bail!("no cause: {text}"),
+        _ => bail!("no cause"),
     }
 }
 
@@ -92,7 +246,7 @@ fn error_of(text: &str) -> anyhow::Result<OperationError> {
         "MissingParameter" => Ok(OperationError::MissingParameter),
         "UnexpectedComponentSequence" => Ok(OperationError::UnexpectedComponentSequence),
         "UnexpectedDataValue" => Ok(OperationError::UnexpectedDataValue),
-        _ => anyhow::bail!("no error: {text}"),
+        _ => bail!("no error"),
     }
 }
 
@@ -103,7 +257,7 @@ fn invoke_problem_of(text: &str) -> anyhow::Result<InvokeProblem> {
         "Invoke(MistypedParameter)" => Ok(InvokeProblem::MistypedParameter),
         "Invoke(UnrecognizedLinkedIdentifier)" => Ok(InvokeProblem::UnrecognizedLinkedIdentifier),
         "Invoke(LinkedResponseUnexpected)" => Ok(InvokeProblem::LinkedResponseUnexpected),
-        _ => anyhow::bail!("no problem: {text}"),
+        _ => bail!("no problem"),
     }
 }
 
@@ -126,125 +280,4 @@ fn problem_of(text: &str) -> anyhow::Result<Problem> {
         }
         _ => Problem::Invoke(invoke_problem_of(text)?),
     })
-}
-
-/// The instruction of these words.
-fn instruction_of(alloc: Global, words: &[&str]) -> anyhow::Result<Instruction> {
-    match words {
-        ["Connect", digits] => Ok(Instruction::Connect(destination_of(alloc, digits)?)),
-        ["ReleaseCall", cause] => Ok(Instruction::ReleaseCall(cause_of(cause)?)),
-        ["RequestReportBCSMEvent"] => Ok(Instruction::RequestReportBcsmEvent),
-        ["Continue"] => Ok(Instruction::Continue),
-        _ => anyhow::bail!("no instruction"),
-    }
-}
-
-/// The component of these words.
-fn component_of(alloc: Global, text: &str) -> anyhow::Result<Component> {
-    let words: Vec<&str> = text.split_whitespace().collect(alloc)?;
-    match words.as_slice() {
-        ["invoke", identifier, instruction @ ..] => Ok(Component::Invoke {
-            identifier: identifier.parse()?,
-            instruction: instruction_of(alloc, instruction)?,
-        }),
-        ["error", identifier, error] => Ok(Component::ReturnError {
-            identifier: identifier.parse()?,
-            error: error_of(error)?,
-        }),
-        ["reject", "?", problem] => Ok(Component::Reject {
-            identifier: None,
-            problem: problem_of(problem)?,
-        }),
-        ["reject", identifier, problem] => Ok(Component::Reject {
-            identifier: Some(identifier.parse()?),
-            problem: problem_of(problem)?,
-        }),
-        _ => anyhow::bail!("no component: {text}"),
-    }
-}
-
-/// Puts the component of these words in a place.
-fn read_component(alloc: Global, text: &str, place: &mut Option<Component>) -> anyhow::Result<()> {
-    *place = Some(component_of(alloc, text)?);
-    Ok(())
-}
-
-/// The components that were read.
-fn built(first: &Option<Component>, second: &Option<Component>) -> Components {
-    match (first, second) {
-        (Some(first), Some(second)) => Components::two(*first, *second),
-        (Some(only), None) => Components::one(*only),
-        _ => Components::none(),
-    }
-}
-
-/// The components of these texts.
-fn components_of(alloc: Global, texts: &[&str]) -> anyhow::Result<Components> {
-    let mut first = None;
-    let mut second = None;
-    match texts {
-        [] => {}
-        [only] => read_component(alloc, only, &mut first)?,
-        [one, other] => {
-            read_component(alloc, one, &mut first)?;
-            read_component(alloc, other, &mut second)?;
-        }
-        _ => anyhow::bail!("more than two components"),
-    }
-    Ok(built(&first, &second))
-}
-
-/// The Abort of these words.
-fn abort_of(alloc: Global, words: &[&str]) -> anyhow::Result<Request> {
-    let portion = match words {
-        ["abort"] => AbortPortion::Absent,
-        ["abort", "abrt"] => AbortPortion::Abrt,
-        ["abort", "aare", "name-not-supported", name] => {
-            AbortPortion::NoName(name_of(alloc, name)?)
-        }
-        ["abort", "aare", "no-common-version", name] => {
-            AbortPortion::NoVersion(name_of(alloc, name)?)
-        }
-        _ => anyhow::bail!("no request"),
-    };
-    Ok(Request::Abort(portion))
-}
-
-/// The request whose head is these words, with these components.
-fn headed(alloc: Global, head: &[&str], components: &[&str]) -> anyhow::Result<Request> {
-    match head {
-        ["continue"] => Ok(Request::Continue {
-            acceptance: None,
-            components: components_of(alloc, components)?,
-        }),
-        ["continue", "aare", "accepted", name] => Ok(Request::Continue {
-            acceptance: Some(name_of(alloc, name)?),
-            components: components_of(alloc, components)?,
-        }),
-        ["end"] => Ok(Request::End {
-            acceptance: None,
-            components: components_of(alloc, components)?,
-        }),
-        ["end", "aare", "accepted", name] => Ok(Request::End {
-            acceptance: Some(name_of(alloc, name)?),
-            components: components_of(alloc, components)?,
-        }),
-        _ => abort_of(alloc, head),
-    }
-}
-
-/// The request whose parts are these texts, its head first.
-fn parted(alloc: Global, parts: &[&str]) -> anyhow::Result<Request> {
-    let [head, components @ ..] = parts else {
-        anyhow::bail!("no request");
-    };
-    let head: Vec<&str> = head.split_whitespace().collect(alloc)?;
-    headed(alloc, head.as_slice(), components)
-}
-
-/// The request that these words tell.
-pub(super) fn request_of(alloc: Global, words: &[&str]) -> anyhow::Result<Request> {
-    let text = joined(alloc, words)?;
-    let parts: Vec<&str> = text.as_str().split(", ").collect(alloc)?;
-    parted(alloc, parts.as_slice())
 }

@@ -2,7 +2,7 @@
 //!
 //! A core is its state, the identifiers of the invocations that are active, the identifier of the next one, and the
 //! earliest moment at which the clock does something, in milliseconds after noon:
-//! `waiting 32, active 1 2, next 3, due 10000`. Behind `waiting` stand the destinations that are left; with no
+//! `waiting 32, active 1 2, next 3, due 10000`. After `waiting` come the destinations that are left; with no
 //! invocation it is `active none`.
 //!
 //! | Request | What it is |
@@ -20,182 +20,169 @@
 //! | `error ID ERROR` | a ReturnError |
 //! | `reject ID PROBLEM`, `reject ? PROBLEM` | a Reject |
 
-use crate::steps::NOON;
+use crate::entries::push_name;
+use crate::invocations::push_active;
+use crate::records::push_destinations;
+use crate::values::{NOON, push_digits, push_text};
 use fp_apdu::Name;
+use fp_digits::Cause;
+use fp_inap::OperationError;
+use fp_ism::Invocations;
+use fp_q773::Problem;
 use fp_records::{Destination, Destinations};
 use fp_service::{AbortPortion, Component, Core, Instruction, Request, Stage, State};
-use std::alloc::Global;
 
-/// The digits of a destination.
-fn digits_text(alloc: Global, destination: &Destination) -> anyhow::Result<String> {
-    let mut text = String::new(alloc);
-    for digit in destination.as_slice() {
-        text.push_str(format!(in alloc; "{digit}")?.as_str())?;
-    }
-    Ok(text)
-}
-
-/// The destinations that are left.
-fn waiting_text(alloc: Global, left: &Option<Destinations>) -> anyhow::Result<String> {
-    let mut text = format!(in alloc; "waiting")?;
-    let Some(left) = left else {
-        return Ok(text);
-    };
-    for destination in left.as_slice() {
-        let digits = digits_text(alloc, destination)?;
-        text.push_str(" ")?;
-        text.push_str(digits.as_str())?;
-    }
-    Ok(text)
-}
-
-/// A state.
-fn state_text(alloc: Global, state: &State) -> anyhow::Result<String> {
-    match state {
-        State::Live(Stage::Fresh) => Ok(format!(in alloc; "fresh")?),
-        State::Live(Stage::Waiting { left }) => waiting_text(alloc, left),
-        State::Over => Ok(format!(in alloc; "over")?),
-    }
-}
-
-/// The identifiers of the invocations that are active, each behind a blank, or `none`.
-fn active_text(alloc: Global, core: &Core) -> anyhow::Result<String> {
-    let invocations = core.invocations();
-    let mut text = String::new(alloc);
-    for number in 1u8..128 {
-        let identifier = number as i8;
-        if invocations.active(identifier) {
-            text.push_str(format!(in alloc; " {identifier}")?.as_str())?;
-        }
-    }
-    if text.is_empty() {
-        text.push_str(" none")?;
-    }
-    Ok(text)
-}
-
-/// A core.
-pub(super) fn core_text(alloc: Global, core: &Core) -> anyhow::Result<String> {
+/// Writes a core.
+pub(crate) fn push_core(core: &Core, out: &mut String) -> anyhow::Result<()> {
     let state = core.state();
     if core.is_over() != state.is_over() {
         anyhow::bail!("a core that is over in part");
     }
-    let state = state_text(alloc, &state)?;
-    let active = active_text(alloc, core)?;
-    let next = core.invocations().next();
-    let due = core.next_due().saturating_sub(NOON);
-    Ok(format!(in alloc; "{state}, active{active}, next {next}, due {due}")?)
+    push_state(&state, out)?;
+    push_invocations(&core.invocations(), out)?;
+    write!(out, ", due {}", core.next_due().saturating_sub(NOON))?;
+    Ok(())
 }
 
-/// An application context name.
-fn name_text(alloc: Global, name: &Name) -> anyhow::Result<String> {
-    Ok(hex::encode_upper(alloc, name.as_slice())?)
-}
-
-/// The AARE in a Continue or an End, if there is one.
-fn acceptance_text(alloc: Global, acceptance: &Option<Name>) -> anyhow::Result<String> {
-    let Some(name) = acceptance else {
-        return Ok(String::new(alloc));
-    };
-    let name = name_text(alloc, name)?;
-    Ok(format!(in alloc; " aare accepted {name}")?)
-}
-
-/// An instruction for the switch.
-fn instruction_text(alloc: Global, instruction: &Instruction) -> anyhow::Result<String> {
-    Ok(match instruction {
-        Instruction::Connect(destination) => {
-            let digits = digits_text(alloc, destination)?;
-            format!(in alloc; "Connect {digits}")?
-        }
-        Instruction::ReleaseCall(cause) => format!(in alloc; "ReleaseCall {cause:?}")?,
-        Instruction::RequestReportBcsmEvent => format!(in alloc; "RequestReportBCSMEvent")?,
-        Instruction::Continue => format!(in alloc; "Continue")?,
-    })
-}
-
-/// A component.
-fn component_text(alloc: Global, component: &Component) -> anyhow::Result<String> {
-    Ok(match component {
-        Component::Invoke {
-            identifier,
-            instruction,
-        } => {
-            let instruction = instruction_text(alloc, instruction)?;
-            format!(in alloc; "invoke {identifier} {instruction}")?
-        }
-        Component::ReturnError { identifier, error } => {
-            format!(in alloc; "error {identifier} {error:?}")?
-        }
-        Component::Reject {
-            identifier: Some(identifier),
-            problem,
-        } => format!(in alloc; "reject {identifier} {problem:?}")?,
-        Component::Reject {
-            identifier: None,
-            problem,
-        } => format!(in alloc; "reject ? {problem:?}")?,
-    })
-}
-
-/// Components, each behind a comma.
-fn components_text(alloc: Global, components: &[Component]) -> anyhow::Result<String> {
-    let mut text = String::new(alloc);
-    for component in components {
-        let component = component_text(alloc, component)?;
-        text.push_str(", ")?;
-        text.push_str(component.as_str())?;
+/// Writes a state.
+fn push_state(state: &State, out: &mut String) -> anyhow::Result<()> {
+    match state {
+        State::Live(Stage::Fresh) => push_text("fresh", out),
+        State::Live(Stage::Waiting { left }) => push_waiting(left, out),
+        State::Over => push_text("over", out),
     }
-    Ok(text)
 }
 
-/// The dialogue portion of an Abort.
-fn abort_text(alloc: Global, portion: &AbortPortion) -> anyhow::Result<String> {
-    Ok(match portion {
-        AbortPortion::Absent => format!(in alloc; "abort")?,
-        AbortPortion::Abrt => format!(in alloc; "abort abrt")?,
-        AbortPortion::NoName(name) => {
-            let name = name_text(alloc, name)?;
-            format!(in alloc; "abort aare name-not-supported {name}")?
-        }
-        AbortPortion::NoVersion(name) => {
-            let name = name_text(alloc, name)?;
-            format!(in alloc; "abort aare no-common-version {name}")?
-        }
-    })
+/// Writes the invocations of a core.
+fn push_invocations(invocations: &Invocations, out: &mut String) -> anyhow::Result<()> {
+    out.push_str(", active")?;
+    push_active(invocations, out)?;
+    write!(out, ", next {}", invocations.next())?;
+    Ok(())
 }
 
-/// A Continue or an End.
-fn answer_text(
-    alloc: Global,
-    kind: &str,
-    acceptance: &Option<Name>,
-    components: &[Component],
-) -> anyhow::Result<String> {
-    let acceptance = acceptance_text(alloc, acceptance)?;
-    let components = components_text(alloc, components)?;
-    Ok(format!(in alloc; "{kind}{acceptance}{components}")?)
+/// Writes the destinations that are left.
+fn push_waiting(left: &Option<Destinations>, out: &mut String) -> anyhow::Result<()> {
+    out.push_str("waiting")?;
+    if let Some(left) = left {
+        out.push(' ')?;
+        push_destinations(out, left)?;
+    }
+    Ok(())
 }
 
-/// A request.
-fn request_text(alloc: Global, request: &Request) -> anyhow::Result<String> {
+/// Writes the core after an entry and what is asked for.
+pub(crate) fn push_served(
+    core: &Core,
+    request: &Option<Request>,
+    out: &mut String,
+) -> anyhow::Result<()> {
+    push_core(core, out)?;
+    out.push_str(": ")?;
+    match request {
+        Some(request) => push_request(request, out),
+        None => push_text("none", out),
+    }
+}
+
+/// Writes a request.
+fn push_request(request: &Request, out: &mut String) -> anyhow::Result<()> {
     match request {
         Request::Continue {
             acceptance,
             components,
-        } => answer_text(alloc, "continue", acceptance, components.as_slice()),
+        } => push_answer("continue", acceptance, components.as_slice(), out),
         Request::End {
             acceptance,
             components,
-        } => answer_text(alloc, "end", acceptance, components.as_slice()),
-        Request::Abort(portion) => abort_text(alloc, portion),
+        } => push_answer("end", acceptance, components.as_slice(), out),
+        Request::Abort(portion) => push_abort(portion, out),
     }
 }
 
-/// What is asked for.
-pub(super) fn asked_text(alloc: Global, request: &Option<Request>) -> anyhow::Result<String> {
-    match request {
-        Some(request) => request_text(alloc, request),
-        None => Ok(format!(in alloc; "none")?),
+/// Writes a Continue or an End.
+fn push_answer(
+    word: &str,
+    acceptance: &Option<Name>,
+    components: &[Component],
+    out: &mut String,
+) -> anyhow::Result<()> {
+    out.push_str(word)?;
+    push_acceptance(acceptance, out)?;
+    for component in components {
+        out.push_str(", ")?;
+        push_component(component, out)?;
     }
+    Ok(())
+}
+
+/// Writes the AARE in a Continue or an End, if there is one.
+fn push_acceptance(acceptance: &Option<Name>, out: &mut String) -> anyhow::Result<()> {
+    match acceptance {
+        Some(name) => push_name(" aare accepted ", name, out),
+        None => Ok(()),
+    }
+}
+
+/// Writes the dialogue portion of an Abort.
+fn push_abort(portion: &AbortPortion, out: &mut String) -> anyhow::Result<()> {
+    match portion {
+        AbortPortion::Absent => push_text("abort", out),
+        AbortPortion::Abrt => push_text("abort abrt", out),
+        AbortPortion::NoName(name) => push_name("abort aare name-not-supported ", name, out),
+        AbortPortion::NoVersion(name) => push_name("abort aare no-common-version ", name, out),
+    }
+}
+
+/// Writes a component.
+fn push_component(component: &Component, out: &mut String) -> anyhow::Result<()> {
+    match component {
+        Component::Invoke {
+            identifier,
+            instruction,
+        } => push_invoke(*identifier, instruction, out),
+        Component::ReturnError { identifier, error } => push_error(*identifier, *error, out),
+        Component::Reject {
+            identifier,
+            problem,
+        } => push_reject(*identifier, *problem, out),
+    }
+}
+
+/// Writes an Invoke.
+fn push_invoke(identifier: i8, instruction: &Instruction, out: &mut String) -> anyhow::Result<()> {
+    write!(out, "invoke {identifier} ")?;
+    match instruction {
+        Instruction::Connect(destination) => push_connect(destination, out),
+        Instruction::ReleaseCall(cause) => push_release(*cause, out),
+        Instruction::RequestReportBcsmEvent => push_text("RequestReportBCSMEvent", out),
+        Instruction::Continue => push_text("Continue", out),
+    }
+}
+
+/// Writes a Connect.
+fn push_connect(destination: &Destination, out: &mut String) -> anyhow::Result<()> {
+    out.push_str("Connect ")?;
+    push_digits(out, destination.as_slice())
+}
+
+/// Writes a ReleaseCall.
+fn push_release(cause: Cause, out: &mut String) -> anyhow::Result<()> {
+    write!(out, "ReleaseCall {cause:?}")?;
+    Ok(())
+}
+
+/// Writes a ReturnError.
+fn push_error(identifier: i8, error: OperationError, out: &mut String) -> anyhow::Result<()> {
+    write!(out, "error {identifier} {error:?}")?;
+    Ok(())
+}
+
+/// Writes a Reject.
+fn push_reject(identifier: Option<i8>, problem: Problem, out: &mut String) -> anyhow::Result<()> {
+    match identifier {
+        Some(identifier) => write!(out, "reject {identifier} {problem:?}")?,
+        None => write!(out, "reject ? {problem:?}")?,
+    }
+    Ok(())
 }

@@ -1,0 +1,39 @@
+//! Worked cases of whole runs of the program: a command line and the lines of standard input, against the exit status,
+//! standard output and standard error.
+//!
+//! | Case | What it gives |
+//! |---|---|
+//! | `scp WORD .. \| LINE \| ..` | the run with these words and this input: `STATUS, OUTPUT, ERRORS` |
+//! | `torn scp ..` | the same, with an interruption before each octet of the input, and a failure after the last one |
+//! | `full ROOM scp ..` | the same if standard output has room for so many octets, and takes one at a time |
+//! | `unflushed ROOM scp ..` | the same, and it can't be flushed |
+//! | `as FILE scp ..` | the run, with the name of a file of data/ in place of an output, or of errors, that is this file octet by octet |
+//! | `mute CASE` | one of these if standard error takes nothing |
+//! | `paced scp ..` | the run, and how many lines were written and flushed before each line, and before the end, was read |
+//! | `failing reads scp ..` | runs whose first, second, .. read of an octet fails: how many end early, and the first that doesn't |
+//! | `failing writes scp ..` | the same with the writes of an octet each |
+//! | `fronts FIRST LAST scp ..` | runs with the first FIRST, .., LAST octets of the message: how many come to the same as the first of them, before one that doesn't, and what |
+//!
+//! A run of `failing` ends early if its status is 1, what it wrote is a front of what a whole run writes, and its line on
+//! standard error names the device that failed.
+//!
+//! | Module | What it has |
+//! |---|---|
+//! | `asked` | what a case asks for |
+//! | `command_line` | the words and the input of a run |
+//! | `devices` | readers and writers that fail, or note how they are used |
+//! | `outcome` | what a run came to, as text |
+//! | `runs` | the runs |
+#![tactic(auto)]
+
+mod asked;
+mod command_line;
+mod devices;
+mod outcome;
+mod runs;
+
+use crate::runs::Runs;
+
+fn main(rt: HostRuntime) -> anyhow::Result<()> {
+    cases::run(&rt, &mut Runs { rt: &rt })
+}

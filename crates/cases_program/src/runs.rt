@@ -1,0 +1,214 @@
+//! The runs of a case.
+
+use crate::asked::{Asked, Device, Kind, Limits, asked_by};
+use crate::command_line::CommandLine;
+use crate::devices::{Failing, Paced, Shown, Sink, Torn};
+use crate::outcome::Outcome;
+use anyhow::bail;
+use cases::Answers;
+use scp::program;
+use std::cell::Cell;
+use std::fs;
+use std::io::Read;
+use std::rt::Files;
+
+/// What answers the cases.
+#[derive(Drop)]
+pub(crate) struct Runs<'a, H> {
+    /// What opens the files.
+    pub(crate) rt: &'a H,
+}
+
+impl<H: Files + AllocGlobal> Answers for Runs<'_, H> {
+    fn answer(&mut self, input: &str, out: &mut String) -> anyhow::Result<()> {
+        let asked = asked_by(input)?;
+        let line = CommandLine::read(self.rt.alloc(), asked.text)?;
+        write_answer(self.rt, &asked, &line, out)
+    }
+}
+
+/// Adds what a case gives.
+fn write_answer<H: Files + AllocGlobal>(
+    rt: &H,
+    asked: &Asked<'_>,
+    line: &CommandLine,
+    out: &mut String,
+) -> anyhow::Result<()> {
+    let input = line.input.as_slice();
+    match asked.kind {
+        Kind::Once => outcome(rt, line, input, asked.limits).write(out),
+        Kind::Torn => outcome(rt, line, Torn::new(input), asked.limits).write(out),
+        Kind::Beside(file) => write_beside(rt, line, asked.limits, file, out),
+        Kind::Paced => write_paced(rt, line, out),
+        Kind::Failing(device) => write_failing(rt, line, device, out),
+        Kind::Fronts(first, last) => write_fronts(rt, line, first, last, out),
+    }
+}
+
+/// What a run comes to.
+fn outcome<H: Files + AllocGlobal, R: Read + Drop>(
+    rt: &H,
+    line: &CommandLine,
+    input: R,
+    limits: Limits,
+) -> Outcome {
+    let mut output = Sink::new(rt.alloc(), limits.output, limits.is_flushed);
+    let mut errors = Sink::new(rt.alloc(), limits.errors, true);
+    let status = program(rt, line.words.as_slice(), input, &mut output, &mut errors);
+    Outcome {
+        status,
+        output: output.octets,
+        errors: errors.octets,
+    }
+}
+
+/// Adds what a run comes to, beside a file.
+fn write_beside<H: Files + AllocGlobal>(
+    rt: &H,
+    line: &CommandLine,
+    limits: Limits,
+    file: &str,
+    out: &mut String,
+) -> anyhow::Result<()> {
+    let octets = fs::read(rt, file)?;
+    let outcome = outcome(rt, line, line.input.as_slice(), limits);
+    outcome.write_beside(file, octets.as_slice(), out)
+}
+
+/// What a run comes to whose lines are read one at a time, and what was flushed before each of them.
+fn paced_outcome<H: Files + AllocGlobal>(
+    rt: &H,
+    line: &CommandLine,
+    notes: &mut Vec<usize>,
+) -> Outcome {
+    let flushed = Cell::new(0);
+    let input = Paced::new(line.input.as_slice(), &flushed, notes);
+    let mut output = Shown::new(rt.alloc(), &flushed);
+    let mut errors = Sink::new(rt.alloc(), usize::MAX, true);
+    let status = program(rt, line.words.as_slice(), input, &mut output, &mut errors);
+    Outcome {
+        status,
+        output: output.octets,
+        errors: errors.octets,
+    }
+}
+
+/// Adds what a run comes to whose lines are read one at a time, and what was flushed before each of them.
+fn write_paced<H: Files + AllocGlobal>(
+    rt: &H,
+    line: &CommandLine,
+    out: &mut String,
+) -> anyhow::Result<()> {
+    let mut notes = Vec::new(rt.alloc());
+    paced_outcome(rt, line, &mut notes).write(out)?;
+    out.push(',')?;
+    for count in &notes {
+        write!(out, " {count}")?;
+    }
+    Ok(())
+}
+
+impl Device {
+    /// The line that reports its failure.
+    fn fault(self) -> &'static str {
+        match self {
+            Device::Input => "input: cannot be read\n",
+            Device::Output => "output: cannot be written\n",
+        }
+    }
+}
+
+/// What a run comes to if a device fails after so many octets.
+fn failed_outcome<H: Files + AllocGlobal>(
+    rt: &H,
+    line: &CommandLine,
+    device: Device,
+    octets: usize,
+) -> Outcome {
+    let mut limits = Limits::NONE;
+    let mut input = Failing {
+        octets: line.input.as_slice(),
+        reads: usize::MAX,
+    };
+    match device {
+        Device::Input => input.reads = octets,
+        Device::Output => limits.output = octets,
+    }
+    outcome(rt, line, input, limits)
+}
+
+/// How many runs end early if the device fails after no octet, one, two, ..
+fn early_ends<H: Files + AllocGlobal>(
+    rt: &H,
+    line: &CommandLine,
+    device: Device,
+    whole: &Outcome,
+) -> usize {
+    for octets in 0..usize::MAX {
+        let outcome = failed_outcome(rt, line, device, octets);
+        if !outcome.ended_early(whole, device.fault()) {
+            return octets;
+        }
+    }
+    usize::MAX
+}
+
+/// Adds how many runs end early, and what the first comes to that doesn't.
+fn write_failing<H: Files + AllocGlobal>(
+    rt: &H,
+    line: &CommandLine,
+    device: Device,
+    out: &mut String,
+) -> anyhow::Result<()> {
+    let whole = failed_outcome(rt, line, device, usize::MAX);
+    let ends = early_ends(rt, line, device, &whole);
+    write!(out, "{ends}, then ")?;
+    failed_outcome(rt, line, device, ends).write(out)
+}
+
+/// What the run with the first octets of the message comes to.
+fn front_outcome<H: Files + AllocGlobal>(
+    rt: &H,
+    line: &CommandLine,
+    octets: usize,
+) -> anyhow::Result<Outcome> {
+    let Some(digits) = line.input.as_slice().get(..octets.saturating_mul(2)) else {
+        bail!("no such front");
+    };
+    let mut front = Vec::new(rt.alloc());
+    front.extend_from_slice(digits)?;
+    front.push(b'\n')?;
+    Ok(outcome(rt, line, front.as_slice(), Limits::NONE))
+}
+
+/// How many fronts come to the same, one after the other.
+fn like_fronts<H: Files + AllocGlobal>(
+    rt: &H,
+    line: &CommandLine,
+    first: usize,
+    last: usize,
+    wanted: &Outcome,
+) -> anyhow::Result<u32> {
+    let mut count: u32 = 0;
+    for octets in first..=last {
+        if !front_outcome(rt, line, octets)?.is_like(wanted) {
+            break;
+        }
+        count = count.saturating_add(1);
+    }
+    Ok(count)
+}
+
+/// Adds how many fronts come to the same, and what.
+fn write_fronts<H: Files + AllocGlobal>(
+    rt: &H,
+    line: &CommandLine,
+    first: usize,
+    last: usize,
+    out: &mut String,
+) -> anyhow::Result<()> {
+    let wanted = front_outcome(rt, line, first)?;
+    let count = like_fronts(rt, line, first, last, &wanted)?;
+    write!(out, "{count} times ")?;
+    wanted.write(out)
+}
