@@ -50,7 +50,7 @@ pub enum Asked<'a> {
         /// The text of the list of application contexts, which has not been read, where there is one.
         contexts: Option<&'a str>,
     },
-    /// This text, which tells how to use the program.
+    /// The help or the version: this text.
     Help(String),
     /// Nothing that there is: this text says so.
     Refused(String),
@@ -58,6 +58,9 @@ pub enum Asked<'a> {
 
 /// The name of the program, in its texts too, whatever its file is called.
 const PROGRAM: &str = "scp";
+
+/// The version of the program.
+const VERSION: &str = "0.9.0";
 
 /// The name of the subcommand that counts.
 const CHECK: &str = "check";
@@ -264,6 +267,7 @@ fn serve_command<'a>(alloc: Global) -> Result<Command<'a>, AllocError> {
 fn command<'a>(alloc: Global) -> Result<Command<'a>, AllocError> {
     Command::new(alloc, PROGRAM)
         .bin_name(PROGRAM)?
+        .version(VERSION)
         .about("A service control point for freephone numbers")
         .after_help(EXAMPLES)
         .subcommand_required(true)
