@@ -64,10 +64,19 @@ impl Scene {
         Ok(true)
     }
 
-    /// A dialogue begins.
+    /// A dialogue begins, and its core is written.
     fn fresh(&mut self, text: &str, out: &mut String) -> anyhow::Result<()> {
-        self.core = core_of(text)?;
+        self.begin(if text.is_empty() { "1 0" } else { text })?;
         push_core(&self.core, out)
+    }
+
+    /// A dialogue begins: which of its link, and when.
+    fn begin(&mut self, text: &str) -> anyhow::Result<()> {
+        let (birth, milliseconds) = first_word(text);
+        let birth = birth.parse()?;
+        let moment = after_noon(milliseconds.parse()?);
+        self.core = Core::new(birth, moment);
+        Ok(())
     }
 
     /// An entry comes.
@@ -105,16 +114,6 @@ impl Scene {
         out.push_str(text)?;
         Ok(())
     }
-}
-
-/// The core of a dialogue that begins: of the first of its link at noon, or of another as the text says.
-fn core_of(text: &str) -> anyhow::Result<Core> {
-    if text.is_empty() {
-        return Ok(Core::new(1, after_noon(0)));
-    }
-    let (birth, milliseconds) = first_word(text);
-    let birth = birth.parse()?;
-    Ok(Core::new(birth, after_noon(milliseconds.parse()?)))
 }
 
 /// How two cores compare, whichever is asked about the other.
