@@ -53,16 +53,18 @@ fn push_words(alloc: Global, words: &mut Vec<String>, text: &str) -> anyhow::Res
 
 /// Adds a line.
 fn push_line(input: &mut Vec<u8>, text: &str) -> anyhow::Result<()> {
-    let mut end = "\n";
+    let mut is_ended = true;
     for word in text.split_whitespace() {
         match word {
             "SP" => input.push(b' ')?,
             "CR" => input.push(b'\r')?,
-            "CUT" => end = "",
+            "CUT" => is_ended = false,
             _ => push_word(input, word)?,
         }
     }
-    input.extend_from_slice(end.as_bytes())?;
+    if is_ended {
+        input.push(b'\n')?;
+    }
     Ok(())
 }
 
