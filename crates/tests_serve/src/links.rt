@@ -9,7 +9,7 @@ use crate::talk::{
     begin, long_begin,
 };
 use crowd::{make_all_calls, never_read};
-use fp_hub::OpenGate;
+use fp_hub::{Gate, OpenGate};
 use fp_serve::ServeFault;
 use run::{Outcome, Told, served};
 use std::alloc::Global;
@@ -93,11 +93,7 @@ fn one_waits_and_the_other_serves(rt: HostRuntime) -> Result<(), Fail> {
     let told = Told::new(alloc);
     let is_answered = AtomicBool::new(false);
     let gate = SecondFirst::new(&rt, 0, &is_answered);
-    let (outcome, given) = thread::join(
-        &rt,
-        || served(&rt, alloc, 1, &gate, &listener, &told, ALL),
-        || two_calls(&rt, alloc, &told, &is_answered),
-    );
+    let (outcome, given) = run_through(&rt, alloc, &gate, &listener, &told, &is_answered);
     let (first, second) = given.ok_or("no answer")?;
     assert_eq!(rt; first.as_str(), answer(alloc, 0x2B)?.as_str());
     assert_eq!(rt; second.as_str(), answer(alloc, 0x2A)?.as_str());
@@ -105,6 +101,22 @@ fn one_waits_and_the_other_serves(rt: HostRuntime) -> Result<(), Fail> {
     assert_eq!(rt; gate.seen(), EACH_ONCE);
     assert_told(&rt, outcome, "link 0 accepted 2 served 4 sent 2\n")?;
     Ok(())
+}
+
+/// Runs one link through a gate, and beside it makes two calls.
+fn run_through<'x, R: Threads + Wait + Clock + Net<Stream = TcpStream> + Sync, G: Gate + Sync>(
+    rt: &'x R,
+    alloc: Global,
+    gate: &'x G,
+    listener: &'x TcpListener,
+    told: &'x Told,
+    is_answered: &'x AtomicBool,
+) -> (Option<Outcome>, Option<(String, String)>) {
+    thread::join(
+        rt,
+        move || served(rt, alloc, 1, gate, listener, told, ALL),
+        move || two_calls(rt, alloc, told, is_answered),
+    )
 }
 
 /// Makes two calls at once, marks that the first answer came, and gives both.
