@@ -6,7 +6,7 @@ use Rattle.fp_book.specs.Shelf.{Shelf}
 use Rattle.fp_hub.specs.declared.next.Next.{Next}
 use Rattle.fp_hub.specs.declared.next.Next.TheVariants.{Parcel, Down, Nothing}
 
--- where the link is up, what a pick hands out; where it is down, nothing is picked
+-- if the link is up, what a pick hands out; if it is down, nothing is picked
 abbrev pub Finds : Shelf → Next → Shelf → Type 0
 Finds old (Parcel parcel) new = (old.is_down ≡ false) × Hands old (answers.Parcel parcel) new
 Finds old Nothing new = (old.is_down ≡ false) × (Hands old answers.Busy new ⊎ Hands old answers.Nothing new)

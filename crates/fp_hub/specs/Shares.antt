@@ -1,5 +1,6 @@
 -- What a seat has of the three ledgers of its link, and what the link's calls add to it.
 use Rattle.std.specs.Prelude.{◌≡◌, ℕ, ◌+◌, ◌≤◌, Result, Ok, Err}
+use Rattle.std.specs.declared.sync.ledger.Blank.{Blank}
 use Rattle.fp_book.specs.declared.answers.Posted.{Posted}
 use Rattle.fp_book.specs.declared.answers.Posted.TheVariants.{Opened, Accepted, Aborted, Ended, Discarded}
 use Rattle.fp_book.specs.declared.parcel.Content.{Content}
@@ -19,11 +20,11 @@ pub record Shares : Type 0 where
   -- the frames of dialogues that were sent
   pub sent : ℕ
 
--- so many parts, and no amounts
+-- this number of parts, and no amounts
 abbrev pub blank : ℕ → Shares
 blank parts = record { parts = parts; accepted = 0; served = 0; sent = 0 }
 
--- what another seat has comes on top
+-- what another seat has is added
 abbrev pub joined : Shares → Shares → Shares
 joined s other = record {
   parts = s.parts + other.parts;
@@ -38,6 +39,18 @@ pub record Whole (accepted served sent : ℕ) : Type 0 where
   pub served_parts : served ≡ 64
   pub sent_parts : sent ≡ 64
 
+-- a blank opens the ledger of this name and this number of parts
+pub record Opens (blank : Blank) (name parts : ℕ) : Type 0 where
+  pub name_is : blank.name ≡ name
+  pub parts_are : blank.parts ≡ parts
+
+-- three blanks open the three ledgers of a link, whose names and numbers of parts are these
+pub record AreBlanks (blanks : Blank × Blank × Blank) (accepted_name accepted_parts served_name served_parts sent_name sent_parts : ℕ) : Type 0 where
+  pub accepted : Opens blanks.0 accepted_name accepted_parts
+  pub served : Opens blanks.1 served_name served_parts
+  pub sent : Opens blanks.2 sent_name sent_parts
+  pub whole : Whole accepted_parts served_parts sent_parts
+
 -- the amounts of a seat are at most what its link has counted
 pub record Within (s : Shares) (totals : Totals) : Type 0 where
   pub accepted : s.accepted ≤ totals.accepted
@@ -48,7 +61,7 @@ pub record Within (s : Shares) (totals : Totals) : Type 0 where
 abbrev pub amounts : Shares → Totals
 amounts s = record { accepted = s.accepted; served = s.served; sent = s.sent }
 
--- so many components, where the answer is that the message was accepted
+-- the count if the message was accepted, and else 0
 abbrev pub if_accepted : Posted → ℕ → ℕ
 if_accepted (Opened local) count = count
 if_accepted (Accepted entries) count = count
@@ -56,11 +69,11 @@ if_accepted (Aborted cause) count = 0
 if_accepted Ended count = 0
 if_accepted Discarded count = 0
 
--- the seat after a message was posted: more by its components, where it was accepted
+-- the seat after a message was posted: more by its components, if it was accepted
 abbrev pub after_post : Shares → Prepared → Posted → Shares
 after_post s came answer = record s { accepted = s.accepted + if_accepted answer (components_of came) }
 
--- one, where nothing comes back
+-- one, if nothing comes back
 abbrev pub one_if_ok : {T E : Type 0} → Result T E → ℕ
 one_if_ok (Ok x) = 1
 one_if_ok (Err e) = 0
@@ -69,7 +82,7 @@ one_if_ok (Err e) = 0
 abbrev pub after_give : {T E : Type 0} → Shares → Result T E → Shares
 after_give s result = record s { served = s.served + one_if_ok result }
 
--- one for the frame of a dialogue, none for an Abort of the provider
+-- one for the frame of a dialogue, 0 for an Abort of the provider
 abbrev pub frames_of : Content → ℕ
 frames_of (content.Abort frame) = 0
 frames_of (content.Frame waiting) = 1
@@ -79,6 +92,6 @@ abbrev pub frames_if_ok : {T E : Type 0} → Content → Result T E → ℕ
 frames_if_ok parcel (Ok x) = frames_of parcel
 frames_if_ok parcel (Err e) = 0
 
--- the seat after a parcel was reported sent: more by one frame where it was a dialogue's, unless it comes back
+-- the seat after a parcel was reported sent: more by one frame if it was a dialogue's, unless it comes back
 abbrev pub after_sent : {T E : Type 0} → Shares → Parcel → Result T E → Shares
 after_sent s parcel result = record s { sent = s.sent + frames_if_ok parcel.content result }

@@ -1,4 +1,4 @@
-//! What stands between taking a turn and serving it.
+//! What comes between taking a turn and serving it.
 
 /// What a worker passes between taking a turn and serving it, with no lock held: tests hold a worker there.
 pub trait Gate {

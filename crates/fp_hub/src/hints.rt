@@ -1,10 +1,10 @@
 //! Hints to workers that there may be a turn to take.
 
 use crate::Looks;
-use crate::waiting::{await_hint, hold};
+use crate::waiting::{await_hint, take_lock};
 use crossbeam_channel::{Receiver, Sender, unbounded};
 use std::alloc::{AllocError, Global};
-use std::sync::atomic::{AtomicUsize, Ordering};
+use std::sync::atomic::{AtomicBool, AtomicUsize, Ordering};
 use std::sync::{Mutex, Wait};
 
 /// A worker's end of the hint channel.
@@ -25,13 +25,15 @@ impl Hints {
 /// The hint channel of a link.
 #[derive(Drop)]
 pub(crate) struct HintChannel {
-    // What hints go in by. `None`: it is closed. Its lock is held while hints are counted and one is added, so that no
-    // two of them are added for one place.
+    // Whether hints are still sent.
+    is_open: AtomicBool,
+    // `None`: the channel is closed. The lock is held while hints are counted and one is added, so that no two of them
+    // are added for one place.
     sender: Mutex<Option<Sender<()>>>,
-    // An end that nobody waits on: further ends are copied from it, and it keeps the channel open for hints while no
-    // worker has an end yet, or no longer.
+    // An end that nobody waits on: the workers' ends are copied from it, and it keeps the channel open for hints while
+    // no worker has an end.
     receiver: Receiver<()>,
-    // How many ends were handed to workers.
+    // How many ends were given to workers.
     workers: AtomicUsize,
     // How often the lock, and a worker, looks before it sleeps.
     looks: Looks,
@@ -42,6 +44,7 @@ impl HintChannel {
     pub(crate) fn new(alloc: Global, looks: Looks) -> Result<HintChannel, AllocError> {
         let (sender, receiver) = unbounded(alloc)?;
         Ok(HintChannel {
+            is_open: AtomicBool::new(true),
             sender: Mutex::new(Some(sender)),
             receiver,
             workers: AtomicUsize::new(0),
@@ -59,25 +62,40 @@ impl HintChannel {
         })
     }
 
-    /// How many hints may wait: one for each worker, and one where there is no worker yet.
+    /// How many hints may wait: one for each worker, and one if there is no worker yet.
     fn most(&self) -> usize {
         self.workers.load(Ordering::SeqCst).max(1)
     }
 
-    /// Sends a hint, unless as many wait as there are workers. `false`: the channel is closed, or memory was wanting.
+    /// Whether as many hints wait as may.
+    fn is_full(&self) -> bool {
+        self.receiver.len() >= self.most()
+    }
+
+    /// Sends a hint, unless as many wait as there are workers. `false`: the channel is closed, or memory ran out.
     ///
     /// A hint that waits is as good as a new one: it says that there may be a turn, and no more. Each worker that takes
-    /// it takes turns until none is ready, and does so after this call, so it finds what was ready before it. Where as
-    /// many hints wait as there are workers, each worker has yet to do so; a further hint would wake nobody else.
+    /// it takes turns until none is ready, and does so after this call, so it finds what was ready before it. If as many
+    /// hints wait as there are workers, each worker has yet to do so, and a further hint would wake nobody else. That
+    /// needs no lock to be seen.
     pub(crate) fn hint<R: Wait>(&self, rt: &R) -> bool {
-        match &*hold(rt, &self.sender, self.looks) {
+        if !self.is_open.load(Ordering::SeqCst) {
+            return false;
+        }
+        self.is_full() || self.add(rt)
+    }
+
+    /// Sends a hint, unless as many wait by now as there are workers. `false`: as for [`hint`](Self::hint).
+    fn add<R: Wait>(&self, rt: &R) -> bool {
+        match &*take_lock(rt, &self.sender, self.looks) {
             None => false,
-            Some(sender) => sender.len() >= self.most() || sender.try_send(rt, ()).is_ok(),
+            Some(sender) => self.is_full() || sender.try_send(rt, ()).is_ok(),
         }
     }
 
     /// No hint is sent from now on. Those that wait are still taken, and then each worker's wait ends.
     pub(crate) fn close<R: Wait>(&self, rt: &R) {
-        let _ = hold(rt, &self.sender, self.looks).take();
+        self.is_open.store(false, Ordering::SeqCst);
+        let _ = take_lock(rt, &self.sender, self.looks).take();
     }
 }

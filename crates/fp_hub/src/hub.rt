@@ -2,12 +2,13 @@
 
 ghost use Rattle.std.specs.Prelude.{◌≡◌, ◌<◌, IfErr, IfOk, vec_capacity};
 ghost use Rattle.fp_hub.specs.Lines.{KeepsFront};
-ghost use Rattle.fp_hub.specs.Shares.{Whole, after_give, after_post, after_sent, blank};
+ghost use Rattle.fp_hub.specs.Shares.{AreBlanks, after_give, after_post, after_sent, blank};
 
 use crate::hints::HintChannel;
+use crate::hold::Hold;
 use crate::next::Next;
 use crate::resting::Resting;
-use crate::waiting::hold;
+use crate::waiting::take_lock;
 use crate::{Hints, Kept, Looks, Seat};
 use fp_book::{Given, Line, Parcel, Picked, Posted, Taken, Ticked};
 use fp_digits::Moment;
@@ -17,22 +18,22 @@ use fp_tids::LocalIds;
 use std::alloc::{AllocError, Global};
 use std::sync::atomic::{AtomicBool, Ordering};
 use std::sync::ledger::{Blank, Ledger};
-use std::sync::{Condvar, Mutex, MutexGuard, Wait};
+use std::sync::{Condvar, Mutex, Wait};
 use std::thread;
 use std::time::Duration;
 
 /// The book of a link under its lock, which all threads of the link share.
 ///
-/// After [`Hub::new`] nothing but [`Hub::post`], [`Hub::tick`], [`Hub::take`], [`Hub::hints`] and [`Hub::hint`] takes
-/// memory, and [`Hub::await_parcel`] where it hints.
+/// After [`Hub::new`] only [`Hub::post`], [`Hub::tick`], [`Hub::take`], [`Hub::hints`] and [`Hub::hint`] take memory,
+/// and [`Hub::await_parcel`] if it hints.
 #[derive(Drop)]
 pub struct Hub<A: Ledger, B: Ledger, C: Ledger> {
     kept: Mutex<Kept<A, B, C>>,
     // How often a thread looks again before it sleeps.
     looks: Looks,
-    // A parcel may have come to be picked, or the link went down, since this was last looked at.
+    // There may be a parcel to pick, or the link went down, since this was last looked at.
     is_moved: AtomicBool,
-    // Who sleeps until then.
+    // The sending thread sleeps here until then.
     moved: Condvar,
     hints: HintChannel,
     // A take found no place for a frame, and no worker was hinted for it since.
@@ -40,9 +41,14 @@ pub struct Hub<A: Ledger, B: Ledger, C: Ledger> {
     resting: Resting,
 }
 
+/// Whether a mark is set, which is cleared then. It is read before it is written, since it is mostly not set.
+fn take_mark(mark: &AtomicBool) -> bool {
+    mark.load(Ordering::SeqCst) && mark.swap(false, Ordering::SeqCst)
+}
+
 impl<A: Ledger, B: Ledger, C: Ledger> Hub<A, B, C> {
-    /// The hub of a link, 0 to 7, which is up, and its first seat, which has all parts. Its threads look so often before
-    /// they sleep. After want of memory the blanks are spent.
+    /// The hub of a link, 0 to 7, which is up, and its first seat, which has all parts. `looks` says how often its threads
+    /// look again before they sleep. If memory runs out, the blanks are spent.
     pub fn new(
         alloc: Global,
         link: u8,
@@ -50,13 +56,7 @@ impl<A: Ledger, B: Ledger, C: Ledger> Hub<A, B, C> {
         blanks: (Blank, Blank, Blank),
     ) -> Result<(Hub<A, B, C>, Seat<A, B, C>), AllocError>
         requires link { link < LocalIds.LINKS }
-        requires accepted_name { blanks.0.name ≡ A.name }
-        requires served_name { blanks.1.name ≡ B.name }
-        requires sent_name { blanks.2.name ≡ C.name }
-        requires accepted_parts { blanks.0.parts ≡ A.parts }
-        requires served_parts { blanks.1.parts ≡ B.parts }
-        requires sent_parts { blanks.2.parts ≡ C.parts }
-        requires whole { Whole A.parts B.parts C.parts }
+        requires blanks { AreBlanks blanks A.name A.parts B.name B.parts C.name C.parts }
         ensures { IfOk result (λ made. made.1 ≡ blank 64) }
     {
         let hints = HintChannel::new(alloc, looks)?;
@@ -74,17 +74,23 @@ impl<A: Ledger, B: Ledger, C: Ledger> Hub<A, B, C> {
     }
 
     /// Takes the lock of the link.
-    fn hold<R: Wait>(&self, rt: &R) -> MutexGuard<'_, Kept<A, B, C>> {
-        hold(rt, &self.kept, self.looks)
+    fn hold<R: Wait>(&self, rt: &R) -> Hold<'_, A, B, C> {
+        Hold::new(take_lock(rt, &self.kept, self.looks), &self.resting)
     }
 
-    /// Tells whoever waits for a parcel that one may have come, or that the link went down.
-    fn tell(&self) {
+    /// Wakes the sending thread: there may be a parcel to pick, or the link went down.
+    fn notify(&self) {
         self.is_moved.store(true, Ordering::SeqCst);
         self.moved.notify_all();
     }
 
-    /// Posts a message, as [`Kept::post`]: where it is accepted, the seat has its components more.
+    /// Wakes the sending thread and the resting one: the link went down.
+    fn notify_down(&self) {
+        self.notify();
+        self.resting.wake();
+    }
+
+    /// Posts a message, as [`Kept::post`]: if it is accepted, the seat grows by its components.
     pub fn post<R: Wait>(
         &self,
         rt: &R,
@@ -94,77 +100,57 @@ impl<A: Ledger, B: Ledger, C: Ledger> Hub<A, B, C> {
     ) -> Posted
         ensures grows { seat.new ≡ after_post seat.old came result }
     {
-        let answer = self.hold(rt).post(alloc, seat, came);
+        let answer = self.hold(rt).kept.post(alloc, seat, came);
         if let Posted::Aborted(_) = answer {
-            self.tell();
+            self.notify();
         }
-        self.resting.count();
         answer
     }
 
     /// Time goes by, as for [`Kept::tick`].
     pub fn tick<R: Wait>(&self, rt: &R, moment: Moment) -> Ticked {
-        let ticked = self.hold(rt).tick(moment);
-        if ticked.added > 0 || ticked.wanting > 0 {
-            self.resting.count();
-        }
-        ticked
+        self.hold(rt).kept.tick(moment)
     }
 
     /// Hands out a turn, as [`Kept::take`]. After `NoRoom` a worker is hinted when a parcel is awaited next.
     pub fn take<R: Wait>(&self, rt: &R) -> Taken {
-        let mut kept = self.hold(rt);
-        let taken = kept.take();
+        let mut hold = self.hold(rt);
+        let taken = hold.kept.take();
         if let Taken::NoRoom = &taken {
             self.lacks_room.store(true, Ordering::SeqCst);
-        }
-        drop(kept);
-        if let Taken::Turn(_) = &taken {
-            self.resting.count();
         }
         taken
     }
 
-    /// Takes a turn back that was served, as [`Kept::give`]: the seat has one served entry more. A strange turn comes
-    /// back, and nothing changes; the caller has to spend it, as by [`Done::abandon`]. Takes no memory.
+    /// Takes back a turn that was served, as [`Kept::give`]: the seat grows by one served entry. A stale or foreign turn
+    /// comes back, and nothing changes; the caller has to spend it, as by [`Done::abandon`]. Takes no memory.
     pub fn give<R: Wait>(&self, rt: &R, seat: &mut Seat<A, B, C>, done: Done) -> Result<Given, Done>
         ensures same { IfErr result (λ back. back ≡ done) }
         ensures grows { seat.new ≡ after_give seat.old result }
     {
-        let given = self.hold(rt).give(seat, done);
+        let given = self.hold(rt).kept.give(seat, done);
         if let Ok(Given::Queued) = &given {
-            self.tell();
-        }
-        if given.is_ok() {
-            self.resting.count();
+            self.notify();
         }
         given
     }
 
-    /// Takes a turn back that wasn't served, as [`Kept::put_back`]. A strange turn comes back, and nothing changes; the
-    /// caller has to spend it, as by [`Turn::abandon`]. Takes no memory.
+    /// Takes back a turn that wasn't served, as [`Kept::put_back`]. A stale or foreign turn comes back, and nothing
+    /// changes; the caller has to spend it, as by [`Turn::abandon`]. Takes no memory.
     pub fn put_back<R: Wait>(&self, rt: &R, turn: Turn) -> Result<(), Turn>
         ensures { IfErr result (λ back. back ≡ turn) }
     {
-        let back = self.hold(rt).put_back(turn);
-        if back.is_ok() {
-            self.resting.count();
-        }
-        back
+        self.hold(rt).kept.put_back(turn)
     }
 
     /// Hands out what is sent next, as [`Kept::pick`]. Takes no memory.
     pub fn pick<R: Wait>(&self, rt: &R) -> Picked {
-        let picked = self.hold(rt).pick();
-        if let Picked::Parcel(_) = &picked {
-            self.resting.count();
-        }
-        picked
+        self.hold(rt).kept.pick()
     }
 
-    /// Takes the parcel back that was sent, as [`Kept::sent`]: the seat has one sent frame more, where it is that of a
-    /// dialogue; an Abort of the provider isn't counted. A strange parcel comes back, and nothing changes; the caller
-    /// has to spend it, as by [`Parcel::abandon`]. Takes no memory.
+    /// Takes back the parcel that was sent, as [`Kept::sent`]: the seat grows by one sent frame if it is that of a
+    /// dialogue; an Abort of the provider isn't counted. A stale or foreign parcel comes back, and nothing changes; the
+    /// caller has to spend it, as by [`Parcel::abandon`]. Takes no memory.
     pub fn sent<R: Wait>(
         &self,
         rt: &R,
@@ -174,105 +160,88 @@ impl<A: Ledger, B: Ledger, C: Ledger> Hub<A, B, C> {
         ensures same { IfErr result (λ back. back ≡ parcel) }
         ensures grows { seat.new ≡ after_sent seat.old parcel result }
     {
-        let sent = self.hold(rt).sent(seat, parcel);
+        let sent = self.hold(rt).kept.sent(seat, parcel);
         if sent.is_ok() {
-            self.tell();
-            self.resting.count();
+            self.notify();
         }
         sent
     }
 
-    /// Takes the parcel back that couldn't be sent, as [`Kept::unsent`]: the link goes down. A strange parcel comes
-    /// back, and nothing changes; the caller has to spend it, as by [`Parcel::abandon`]. Takes no memory.
+    /// Takes back the parcel that couldn't be sent, as [`Kept::unsent`]: the link goes down. A stale or foreign parcel
+    /// comes back, and nothing changes; the caller has to spend it, as by [`Parcel::abandon`]. Takes no memory.
     pub fn unsent<R: Wait>(&self, rt: &R, parcel: Parcel) -> Result<(), Parcel>
         ensures { IfErr result (λ back. back ≡ parcel) }
     {
-        let unsent = self.hold(rt).unsent(parcel);
+        let unsent = self.hold(rt).kept.unsent(parcel);
         if unsent.is_ok() {
-            self.tell_down();
+            self.notify_down();
         }
         unsent
     }
 
     /// The link goes down, as by [`Kept::down`]. Takes no memory.
     pub fn down<R: Wait>(&self, rt: &R) {
-        self.hold(rt).down();
-        self.tell_down();
+        self.hold(rt).kept.down();
+        self.notify_down();
     }
 
-    /// Tells whoever waits for a parcel, and whoever rests, that the link went down.
-    fn tell_down(&self) {
-        self.tell();
-        self.resting.count();
-        self.resting.wake();
-    }
-
-    /// Moves the oldest lines of the log behind others, as [`Kept::drain`]. Takes no memory.
+    /// Moves the oldest lines of the log to the end of `lines`, as [`Kept::drain`]. Takes no memory.
     pub fn drain<R: Wait>(&self, rt: &R, lines: &mut Vec<Line>)
         ensures behind { KeepsFront lines.old.items lines.new.items }
         ensures capacity { vec_capacity lines.new ≡ vec_capacity lines.old }
     {
-        let count = lines.len();
-        let mut kept = self.hold(rt);
-        kept.drain(lines);
-        if lines.len() < lines.capacity() {
-            self.resting.count_anew();
-        } else {
-            self.resting.count_less(lines.len().saturating_sub(count));
-        }
+        self.hold(rt).kept.drain(lines);
     }
 
     /// Whether the link is down.
     pub fn is_down<R: Wait>(&self, rt: &R) -> bool {
-        self.hold(rt).is_down()
+        self.hold(rt).kept.is_down()
     }
 
-    /// Rests so long, or until about half of the places for lines of the log are taken, or the link goes down. It may
-    /// return sooner. What wakes it is a hint and no promise: each line is counted after its call let the lock go, so that
-    /// one may be counted that was just drained. It comes with the line that takes the half: where a drain leaves more, no
-    /// later line wakes it. One thread at a time may rest, the one that runs the clock and drains the log; where nobody
-    /// rests, the next rest ends at once. Doesn't take the lock of the link.
+    /// Rests for this time, or until half of the places for lines of the log are taken, or the link goes down. It may
+    /// return sooner. The line that takes the half wakes it: if a drain leaves more, no later line does. One thread at a
+    /// time may rest, the one that runs the clock and drains the log; if none rests, the next rest ends at once. Doesn't
+    /// take the lock of the link.
     pub fn rest<R: Wait>(&self, rt: &R, time: Duration) {
         self.resting.rest(rt, time);
     }
 
-    /// Whether about five eighths of the places for lines of the log are taken, so that whoever puts lines in had better
-    /// drain some. It is a hint, counted as for [`Hub::rest`]. Doesn't take the lock of the link.
+    /// Whether five eighths of the places for lines of the log are taken, so that a thread that adds lines had better
+    /// drain some. Doesn't take the lock of the link: it is as the lock was last released.
     pub fn is_log_filling(&self) -> bool {
         self.resting.is_log_filling()
     }
 
-    /// A worker's end of the hint channel. The ends of all workers are to be taken before the first hint: as many hints
-    /// wait at most as there are workers then.
+    /// A worker's end of the hint channel. The ends of all workers are to be taken before the first hint: at most as many
+    /// hints wait as there are workers then.
     pub fn hints(&self) -> Result<Hints, AllocError> {
         self.hints.listen()
     }
 
-    /// Tells a worker that there may be a turn to take. No hint is added where as many wait already as the link has
-    /// workers. `false`: the hub is closed, or memory was wanting. Doesn't take the lock of the link.
+    /// Hints to a worker that there may be a turn to take. No hint is added if as many wait already as the link has
+    /// workers. `false`: the hub is closed, or memory ran out. Doesn't take the lock of the link.
     pub fn hint<R: Wait>(&self, rt: &R) -> bool {
         self.hints.hint(rt)
     }
 
-    /// No worker is told of turns any more: each ends once it has taken the hints that wait. Doesn't take the lock of
-    /// the link.
+    /// No worker is hinted from now on: each ends once it has taken the hints that wait. Doesn't take the lock of the
+    /// link.
     pub fn close<R: Wait>(&self, rt: &R) {
         self.hints.close(rt);
     }
 
-    /// Waits until there is something to be sent, and hands it out. `None`: the link is down. Where a take found no place
-    /// for a frame, a worker is hinted first: what was sent before may have freed one.
+    /// Waits until there is something to be sent, and hands it out. `None`: the link is down. If a take found no place for
+    /// a frame, a worker is hinted first: what was sent before may have freed one.
     pub fn await_parcel<R: Wait>(&self, rt: &R) -> Option<Parcel> {
-        if self.lacks_room.swap(false, Ordering::SeqCst) {
+        if take_mark(&self.lacks_room) {
             self.hint(rt);
         }
         for _ in 0..self.looks.for_parcel() {
-            if self.is_moved.swap(false, Ordering::SeqCst) {
-                match self.hold(rt).next() {
-                    Next::Parcel(parcel) => {
-                        self.resting.count();
-                        return Some(parcel);
-                    }
+            if take_mark(&self.is_moved) {
+                // The lock is released before the answer is looked at.
+                let next = self.hold(rt).kept.next();
+                match next {
+                    Next::Parcel(parcel) => return Some(parcel),
                     Next::Down => return None,
                     Next::Nothing => {}
                 }
@@ -282,34 +251,23 @@ impl<A: Ledger, B: Ledger, C: Ledger> Hub<A, B, C> {
         self.sleep_for_parcel(rt)
     }
 
-    /// What the lock kept, once no thread shares the hub any more.
-    pub(crate) fn into_kept(self) -> Kept<A, B, C> {
-        let Hub {
-            kept,
-            looks: _,
-            is_moved: _,
-            moved: _,
-            hints: _,
-            lacks_room: _,
-            resting: _,
-        } = self;
-        kept.into_inner()
-    }
-
     /// Sleeps until there is something to be sent, and hands it out. `None`: the link is down.
     fn sleep_for_parcel<R: Wait>(&self, rt: &R) -> Option<Parcel> {
-        let mut kept = self.hold(rt);
+        let mut hold = self.hold(rt);
         for _ in rt.forever() {
-            match kept.next() {
-                Next::Parcel(parcel) => {
-                    self.resting.count();
-                    return Some(parcel);
-                }
+            match hold.kept.next() {
+                Next::Parcel(parcel) => return Some(parcel),
                 Next::Down => return None,
                 Next::Nothing => {}
             }
-            kept = self.moved.wait(rt, kept);
+            hold = hold.wait(rt, &self.moved);
         }
         unreachable!()
+    }
+
+    /// What the lock kept, once no thread shares the hub any more.
+    pub(crate) fn into_kept(self) -> Kept<A, B, C> {
+        let Hub { kept, .. } = self;
+        kept.into_inner()
     }
 }

@@ -8,11 +8,11 @@ ghost use Rattle.fp_book.specs.Shelf.{Sound, empty_shelf};
 ghost use Rattle.fp_entry.specs.Entries.{component_count};
 ghost use Rattle.fp_entry.specs.Prepared.{components_of};
 ghost use Rattle.fp_hub.specs.Next.{Finds};
-ghost use Rattle.fp_hub.specs.Shares.{Whole, Within, after_give, after_post, after_sent, amounts, blank, if_accepted};
+ghost use Rattle.fp_hub.specs.Shares.{AreBlanks, Whole, Within, after_give, after_post, after_sent, amounts, blank, if_accepted};
 
 use crate::next::Next;
 use crate::{PARTS, Seat};
-use fp_book::{Book, Given, Line, Parcel, Picked, Posted, Taken, Ticked, Totals};
+use fp_book::{Book, Given, Line, Log, Parcel, Picked, Posted, Taken, Ticked, Totals};
 use fp_digits::Moment;
 use fp_entry::Prepared;
 use fp_row::{Done, Turn};
@@ -27,10 +27,12 @@ use std::sync::ledger::{Blank, Ledger};
 /// book. Contracts see it as its book.
 ///
 /// Each call is the book's call of the same name, and says of the book what that says. Three of them are lent the seat
-/// of the thread that calls: what the book counts in such a call, the seat's share counts, too.
+/// of the calling thread: what the book counts in such a call, the seat's share counts too.
 #[derive(Drop)]
 pub struct Kept<A: Ledger, B: Ledger, C: Ledger> {
     book: Book,
+    // How many lines the book's log has.
+    line_count: usize,
     accepted: ledger::Book<A>,
     served: ledger::Book<B>,
     sent: ledger::Book<C>,
@@ -64,7 +66,7 @@ fn components_of(came: &Prepared) -> u64
     }
 }
 
-/// So many, where the answer is that the message was accepted, and else none.
+/// The count if the message was accepted, and else 0.
 fn if_accepted(answer: Posted, count: u64) -> u64
     ensures { result ≡ if_accepted answer count }
 {
@@ -74,21 +76,25 @@ fn if_accepted(answer: Posted, count: u64) -> u64
     }
 }
 
+/// The number of lines in a log that had this number before a call: one more if the call is logged. A full log counts
+/// the line in the gap at its end.
+fn count_after(line_count: usize, is_logged: bool) -> usize {
+    if is_logged && line_count < Log::MOST {
+        line_count + 1
+    } else {
+        line_count
+    }
+}
+
 impl<A: Ledger, B: Ledger, C: Ledger> Kept<A, B, C> {
-    /// The book of a link, 0 to 7, and its first seat, which has all parts. After want of memory the blanks are spent.
+    /// The book of a link, 0 to 7, and its first seat, which has all parts. If memory runs out, the blanks are spent.
     pub fn new(
         alloc: Global,
         link: u8,
         blanks: (Blank, Blank, Blank),
     ) -> Result<(Kept<A, B, C>, Seat<A, B, C>), AllocError>
         requires link { link < LocalIds.LINKS }
-        requires accepted_name { blanks.0.name ≡ A.name }
-        requires served_name { blanks.1.name ≡ B.name }
-        requires sent_name { blanks.2.name ≡ C.name }
-        requires accepted_parts { blanks.0.parts ≡ A.parts }
-        requires served_parts { blanks.1.parts ≡ B.parts }
-        requires sent_parts { blanks.2.parts ≡ C.parts }
-        requires whole { Whole A.parts B.parts C.parts }
+        requires blanks { AreBlanks blanks A.name A.parts B.name B.parts C.name C.parts }
         ensures empty { IfOk result (λ made. made.0 ≡ empty_shelf link) }
         ensures sound { IfOk result (λ made. Sound made.0) }
         ensures seat { IfOk result (λ made. made.1 ≡ blank 64) }
@@ -100,6 +106,7 @@ impl<A: Ledger, B: Ledger, C: Ledger> Kept<A, B, C> {
         let (sent, all_sent) = for_sent.open::<C>();
         let kept = Kept {
             book,
+            line_count: 0,
             accepted,
             served,
             sent,
@@ -137,6 +144,7 @@ impl<A: Ledger, B: Ledger, C: Ledger> Kept<A, B, C> {
         let answer = self.book.post(alloc, came);
         let count = if_accepted(answer, components);
         self.accepted.add(&mut seat.accepted, count);
+        self.line_count = count_after(self.line_count, true);
         answer
     }
 
@@ -145,7 +153,10 @@ impl<A: Ledger, B: Ledger, C: Ledger> Kept<A, B, C> {
         ensures ticks { Ticks self.old moment result.added result.wanting self.new }
         ensures sound { Sound self.new }
     {
-        self.book.tick(moment)
+        let ticked = self.book.tick(moment);
+        let is_logged = ticked.added > 0 || ticked.wanting > 0;
+        self.line_count = count_after(self.line_count, is_logged);
+        ticked
     }
 
     /// Hands out a turn, as [`Book::take`].
@@ -154,10 +165,13 @@ impl<A: Ledger, B: Ledger, C: Ledger> Kept<A, B, C> {
         ensures none { NoneReady result self.old }
         ensures sound { Sound self.new }
     {
-        self.book.take()
+        let taken = self.book.take();
+        let is_logged = matches!(&taken, Taken::Turn(_));
+        self.line_count = count_after(self.line_count, is_logged);
+        taken
     }
 
-    /// Takes a turn back that was served, as [`Book::give`].
+    /// Takes back a turn that was served, as [`Book::give`].
     pub fn give(&mut self, seat: &mut Seat<A, B, C>, done: Done) -> Result<Given, Done>
         ensures ok { IfOk result (λ given. GivesDone self.old done given self.new) }
         ensures err { IfErr result (λ back. (back ≡ done) × (self.new ≡ self.old)) }
@@ -170,20 +184,23 @@ impl<A: Ledger, B: Ledger, C: Ledger> Kept<A, B, C> {
         match self.book.give(done) {
             Ok(given) => {
                 self.served.add(&mut seat.served, 1);
+                self.line_count = count_after(self.line_count, true);
                 Ok(given)
             }
-            Err(strange) => Err(strange),
+            Err(foreign) => Err(foreign),
         }
     }
 
-    /// Takes a turn back that wasn't served, as [`Book::put_back`].
+    /// Takes back a turn that wasn't served, as [`Book::put_back`].
     pub fn put_back(&mut self, turn: Turn) -> Result<(), Turn>
         ensures ok { OnOk result (PutsTurnBack self.old turn self.new) }
         ensures err { IfErr result (λ back. (back ≡ turn) × (self.new ≡ self.old)) }
         ensures known { IsOk result ↔ (turn_of (get self.old.rows turn.local) ≡ Some turn) }
         ensures sound { Sound self.new }
     {
-        self.book.put_back(turn)
+        let back = self.book.put_back(turn);
+        self.line_count = count_after(self.line_count, back.is_ok());
+        back
     }
 
     /// Hands out what is sent next, as [`Book::pick`].
@@ -191,10 +208,13 @@ impl<A: Ledger, B: Ledger, C: Ledger> Kept<A, B, C> {
         ensures hands { Hands self.old result self.new }
         ensures sound { Sound self.new }
     {
-        self.book.pick()
+        let picked = self.book.pick();
+        let is_logged = matches!(&picked, Picked::Parcel(_));
+        self.line_count = count_after(self.line_count, is_logged);
+        picked
     }
 
-    /// Takes the parcel back that was sent, as [`Book::sent`].
+    /// Takes back the parcel that was sent, as [`Book::sent`].
     pub fn sent(&mut self, seat: &mut Seat<A, B, C>, parcel: Parcel) -> Result<(), Parcel>
         ensures ok { OnOk result (Sends self.old parcel.content self.new) }
         ensures err { IfErr result (λ back. (back ≡ parcel) × (self.new ≡ self.old)) }
@@ -208,20 +228,23 @@ impl<A: Ledger, B: Ledger, C: Ledger> Kept<A, B, C> {
         match self.book.sent(parcel) {
             Ok(()) => {
                 self.sent.add(&mut seat.sent, count);
+                self.line_count = count_after(self.line_count, true);
                 Ok(())
             }
-            Err(strange) => Err(strange),
+            Err(foreign) => Err(foreign),
         }
     }
 
-    /// Takes the parcel back that couldn't be sent, as [`Book::unsent`].
+    /// Takes back the parcel that couldn't be sent, as [`Book::unsent`].
     pub fn unsent(&mut self, parcel: Parcel) -> Result<(), Parcel>
         ensures ok { OnOk result (Unsends self.old parcel self.new) }
         ensures err { IfErr result (λ back. (back ≡ parcel) × (self.new ≡ self.old)) }
         ensures known { IsOk result ↔ IsOut self.old parcel }
         ensures sound { Sound self.new }
     {
-        self.book.unsent(parcel)
+        let unsent = self.book.unsent(parcel);
+        self.line_count = count_after(self.line_count, unsent.is_ok());
+        unsent
     }
 
     /// The link goes down, as by [`Book::down`].
@@ -230,15 +253,28 @@ impl<A: Ledger, B: Ledger, C: Ledger> Kept<A, B, C> {
         ensures sound { Sound self.new }
     {
         self.book.down();
+        self.line_count = count_after(self.line_count, true);
     }
 
-    /// Moves the oldest lines of the log, as [`Book::drain`].
+    /// Moves the oldest lines of the log to the end of `lines`, as [`Book::drain`].
     pub fn drain(&mut self, lines: &mut Vec<Line>)
         ensures drains { DrainsBook self.old lines.old.items (vec_capacity lines.old - vec_len lines.old) self.new lines.new.items }
         ensures capacity { vec_capacity lines.new ≡ vec_capacity lines.old }
         ensures sound { Sound self.new }
     {
+        let had = lines.len();
         self.book.drain(lines);
+        self.line_count = if lines.len() < lines.capacity() {
+            0
+        } else {
+            self.line_count
+                .saturating_sub(lines.len().saturating_sub(had))
+        };
+    }
+
+    /// How many lines the log has.
+    pub(crate) fn line_count(&self) -> usize {
+        self.line_count
     }
 
     /// Whether the link is down, as [`Book::is_down`].

@@ -9,8 +9,8 @@ use std::sync::ledger::{Ledger, Share};
 /// How many parts the first seat of a link has. Each thread of the link needs one.
 pub const PARTS: u64 = 64;
 
-/// What a thread has of the three ledgers of its link: so many of the 64 parts of each, and in each what it counted
-/// itself, components accepted, entries served and frames sent. Contracts see it as [`Shares`](crate).
+/// What a thread has of the three ledgers of its link: some of the 64 parts of each, and in each what it counted itself
+/// (components accepted, entries served, frames sent). Contracts see it as [`Shares`](crate).
 ///
 /// A seat that is dropped is lost with its parts and its amounts.
 #[derive(Drop)]
@@ -40,7 +40,7 @@ impl<A: Ledger, B: Ledger, C: Ledger> Seat<A, B, C> {
         self.parts == PARTS
     }
 
-    /// A seat of one part for another thread, or `None` where one part is left. Amounts stay here. Takes no memory.
+    /// A seat of one part for another thread, or `None` if only one part is left. Amounts stay here. Takes no memory.
     pub fn split(&mut self) -> Option<Seat<A, B, C>>
         ensures some { IsSome result ↔ (1 < self.old.parts) }
         ensures apart { IfSome result (λ seat. seat ≡ blank 1) }

@@ -1,55 +1,26 @@
 //! The frames of a link that came.
 
 use crate::Service;
-use crate::link_log::LinkLog;
-use crate::log::Log;
+use crate::link::Link;
 use crate::moment::now;
 use fp_entry::Prepared;
 use fp_frames::Frame;
-use fp_hub::{Hub, Seat};
-use fp_linkio::Inbox;
+use fp_hub::Seat;
+use fp_linkio::{Counted, Inbox, receive};
 use fp_streams::LinkWrite;
 use std::rt::Clock;
 use std::sync::Wait;
 use std::sync::ledger::Ledger;
 
-/// Puts the frames of a link into its book, and tells its workers.
-pub(crate) struct Arrivals<
-    'x,
-    R: Wait + Clock,
-    L: LinkWrite + Drop,
-    A: Ledger,
-    B: Ledger,
-    C: Ledger,
-> {
-    pub(crate) rt: &'x R,
-    pub(crate) service: Service<'x>,
-    pub(crate) hub: &'x Hub<A, B, C>,
-    pub(crate) lines: &'x LinkLog,
-    pub(crate) log: &'x Log<L>,
-    pub(crate) seat: Seat<A, B, C>,
-}
+/// How many reads a link may make.
+const MOST_READS: u64 = 1 << 40;
 
-impl<R: Wait + Clock, L: LinkWrite + Drop, A: Ledger, B: Ledger, C: Ledger> Arrivals<
-    '_,
-    R,
-    L,
-    A,
-    B,
-    C,
-> {
-    /// What was counted, once no frame comes any more.
-    pub(crate) fn into_seat(self) -> Seat<A, B, C> {
-        let Arrivals {
-            rt: _,
-            service: _,
-            hub: _,
-            lines: _,
-            log: _,
-            seat,
-        } = self;
-        seat
-    }
+/// Puts the frames of a link into its book, and hints to its workers.
+#[derive(Drop)]
+struct Arrivals<'x, R, L: LinkWrite + Drop, A: Ledger, B: Ledger, C: Ledger> {
+    link: Link<'x, R, L, A, B, C>,
+    service: Service<'x>,
+    seat: Seat<A, B, C>,
 }
 
 impl<R: Wait + Clock, L: LinkWrite + Drop, A: Ledger, B: Ledger, C: Ledger> Inbox
@@ -60,9 +31,31 @@ impl<R: Wait + Clock, L: LinkWrite + Drop, A: Ledger, B: Ledger, C: Ledger> Inbo
             table,
             contexts,
         } = self.service;
-        let came = Prepared::read(alloc, table, contexts, frame, now(self.rt));
-        self.hub.post(self.rt, alloc, &mut self.seat, came);
-        self.hub.hint(self.rt);
-        self.lines.write_if_many(self.rt, self.hub, self.log);
+        let rt = self.link.rt;
+        let came = Prepared::read(alloc, table, contexts, frame, now(rt));
+        self.link.hub.post(rt, alloc, &mut self.seat, came);
+        self.link.hub.hint(rt);
+        self.link.write_lines_if_many();
     }
+}
+
+/// Receives until the link ends. Returns the seat, with what was counted.
+pub(crate) fn receive_all<
+    'x,
+    R: Wait + Clock,
+    L: LinkWrite + Drop,
+    A: Ledger,
+    B: Ledger,
+    C: Ledger,
+>(link: Link<'x, R, L, A, B, C>, service: Service<'x>, seat: Seat<A, B, C>) -> Seat<A, B, C> {
+    let mut arrivals = Arrivals {
+        link,
+        service,
+        seat,
+    };
+    let mut reader = Counted::new(link.stream);
+    receive(service.alloc, &mut reader, MOST_READS, &mut arrivals);
+    link.end();
+    let Arrivals { seat, .. } = arrivals;
+    seat
 }

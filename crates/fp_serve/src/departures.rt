@@ -1,64 +1,52 @@
 //! The parcels of a link that go out.
 
-use crate::link_log::LinkLog;
-use crate::log::Log;
+use crate::link::Link;
 use fp_book::Parcel;
-use fp_hub::{Hub, Seat};
-use fp_linkio::Outlet;
+use fp_hub::Seat;
+use fp_linkio::{Counted, Outlet, send_loop};
 use fp_streams::LinkWrite;
 use std::rt::Clock;
 use std::sync::Wait;
 use std::sync::ledger::Ledger;
 
-/// Takes the parcels of a link out of its book, and tells it what became of each.
-pub(crate) struct Departures<
-    'x,
-    R: Wait + Clock,
-    L: LinkWrite + Drop,
-    A: Ledger,
-    B: Ledger,
-    C: Ledger,
-> {
-    pub(crate) rt: &'x R,
-    pub(crate) hub: &'x Hub<A, B, C>,
-    pub(crate) lines: &'x LinkLog,
-    pub(crate) log: &'x Log<L>,
-    pub(crate) seat: Seat<A, B, C>,
-}
+/// How many parcels a link may send.
+const MOST_PARCELS: u64 = 1 << 40;
 
-impl<R: Wait + Clock, L: LinkWrite + Drop, A: Ledger, B: Ledger, C: Ledger> Departures<
-    '_,
-    R,
-    L,
-    A,
-    B,
-    C,
-> {
-    /// What was counted, once no parcel goes out any more.
-    pub(crate) fn into_seat(self) -> Seat<A, B, C> {
-        let Departures {
-            rt: _,
-            hub: _,
-            lines: _,
-            log: _,
-            seat,
-        } = self;
-        seat
-    }
+/// Takes the parcels of a link out of its book, and reports to it what became of each.
+#[derive(Drop)]
+struct Departures<'x, R, L: LinkWrite + Drop, A: Ledger, B: Ledger, C: Ledger> {
+    link: Link<'x, R, L, A, B, C>,
+    seat: Seat<A, B, C>,
 }
 
 impl<R: Wait + Clock, L: LinkWrite + Drop, A: Ledger, B: Ledger, C: Ledger> Outlet
     for Departures<'_, R, L, A, B, C> {
     fn pick(&mut self) -> Option<Parcel> {
-        self.lines.write_if_many(self.rt, self.hub, self.log);
-        self.hub.await_parcel(self.rt)
+        self.link.write_lines_if_many();
+        self.link.hub.await_parcel(self.link.rt)
     }
 
     fn sent(&mut self, parcel: Parcel) -> Result<(), Parcel> {
-        self.hub.sent(self.rt, &mut self.seat, parcel)
+        self.link.hub.sent(self.link.rt, &mut self.seat, parcel)
     }
 
     fn unsent(&mut self, parcel: Parcel) -> Result<(), Parcel> {
-        self.hub.unsent(self.rt, parcel)
+        self.link.hub.unsent(self.link.rt, parcel)
     }
+}
+
+/// Sends until the link ends. Returns the seat, with what was counted.
+pub(crate) fn send_all<R: Wait + Clock, L: LinkWrite + Drop, A: Ledger, B: Ledger, C: Ledger>(
+    link: Link<'_, R, L, A, B, C>,
+    seat: Seat<A, B, C>,
+) -> Seat<A, B, C> {
+    let mut departures = Departures { link, seat };
+    send_loop(
+        &mut Counted::new(link.stream),
+        MOST_PARCELS,
+        &mut departures,
+    );
+    link.end();
+    let Departures { seat, .. } = departures;
+    seat
 }

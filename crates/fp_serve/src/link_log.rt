@@ -23,14 +23,14 @@ const MOST_LINES: usize = fp_book::Log::MOST;
 /// How often the book is emptied before the clock of the link is looked at again.
 const MOST_ROUNDS: u32 = 8;
 
-/// How many octets of text are written at once, or a line more.
+/// How many octets of text are written at once, or one line more.
 const TEXT_AT_ONCE: usize = 65_536;
 
-/// How many octets no line has, with its line feed.
+/// More octets than any line has, with its line feed.
 const LONGER_THAN_A_LINE: usize = 8_301;
 
-/// How many milliseconds a thread waits for another one that writes lines, before it takes the device for one that
-/// hangs: longer than a thread waits for a processor.
+/// How many milliseconds a thread waits for another one that writes lines, before it assumes that the device hangs:
+/// longer than a thread waits for a processor.
 const MOST_WAITS: u32 = 500;
 
 /// Room in which lines become text.
@@ -43,8 +43,8 @@ struct Room {
 }
 
 impl Room {
-    /// Moves the lines of a book to the log, all that it has now, or many of them. The book is emptied before the first
-    /// of them becomes text, so that it has its places again soon.
+    /// Moves all lines that a book has now, or many of them, to the log. The book is emptied before the first of them
+    /// becomes text, so that it has its places again soon.
     fn write<R: Wait, L: LinkWrite + Drop, A: Ledger, B: Ledger, C: Ledger>(
         &mut self,
         rt: &R,
@@ -63,7 +63,7 @@ impl Room {
         self.text.clear();
     }
 
-    /// Moves the lines of a book here, all that it has now, or as many as there are places for.
+    /// Moves all lines that a book has now here, or as many as there are places for.
     fn empty<R: Wait, A: Ledger, B: Ledger, C: Ledger>(&mut self, rt: &R, hub: &Hub<A, B, C>) {
         for _ in 0..MOST_LINES / LINES_AT_ONCE {
             hub.drain(rt, &mut self.moved);
@@ -74,7 +74,7 @@ impl Room {
         }
     }
 
-    /// Puts the lines that are here behind the text, and writes that where it is long enough.
+    /// Adds the lines that are here to the text, and writes that when it is long enough.
     fn put<R: Wait, L: LinkWrite + Drop>(&mut self, rt: &R, log: &Log<L>) {
         for line in self.lines.iter() {
             if write_line(line, &mut self.text).is_err() {
@@ -92,14 +92,14 @@ impl Room {
     }
 }
 
-/// The way of a link's lines to the log. Its clock writes them once a second, and where about half of the places for
-/// them may be taken. Where that isn't enough, since it has to wait for a processor, whoever puts lines in writes some.
+/// The way of a link's lines to the log. Its clock writes them once a second, and when half of the places for them are
+/// taken. If that isn't enough, since the clock has to wait for a processor, the threads that add lines write some.
 #[derive(Drop)]
 pub(crate) struct LinkLog {
-    // Its room is had once, so that writing needs no memory while calls are served. Its lock is held from where lines
-    // are moved out of the book to where they are written, so that they stay in their order.
+    // Its room is allocated once, so that writing needs no memory while calls are served. Its lock is held from the time
+    // that lines are moved out of the book until they are written, so that they stay in their order.
     room: Mutex<Room>,
-    // Whether a thread waited in vain for another one to have written its lines: the device may hang.
+    // Whether a thread waited in vain for another one to write its lines: the device may hang.
     is_held_up: AtomicBool,
 }
 
@@ -129,9 +129,9 @@ impl LinkLog {
         room.write(rt, hub, log);
     }
 
-    /// Writes lines where more than half of the places for them may be taken. Waits while another thread writes some,
-    /// but not for longer than half a second, and then no more until somebody has written his: calls are answered though
-    /// the device hangs, and the lines that find no place are counted in a gap.
+    /// Writes lines if five eighths of the places for them are taken. Waits while another thread writes some, but not for
+    /// longer than half a second, and then no more until a thread has written its lines: calls are answered though the
+    /// device hangs, and the lines that find no place are counted in a gap.
     pub(crate) fn write_if_many<
         R: Wait + Clock,
         L: LinkWrite + Drop,

@@ -28,10 +28,10 @@ const TURNS: u64 = 1_099_511_627_776;
 
 /// Runs the program with these words, of which the first names it, and returns its status.
 ///
-/// 0: all was answered, or help was asked for and written to `output`. 2: the words were refused,
-/// and a text on `errors` says why. 1: one line on `errors` names the fault. Faults are found in
-/// this order: the words, the moment, the application contexts, the records, the opening of the log, then those of the
-/// lines. What cannot be written to `errors` is left out, and the status stays.
+/// 0: all was answered, or help was asked for and written to `output`. 2: the words were refused, and a text on `errors`
+/// says why. 1: one line on `errors` names the fault. Faults are found in this order: the words, the moment, the
+/// application contexts, the records, the opening of the log, then those of the lines. What cannot be written to `errors`
+/// is left out, and the status stays.
 ///
 /// It is handed no network. So words that ask for `serve` and aren't refused get status 1 and the line
 /// `listen: cannot listen`, before the application contexts, the records and the log are looked at:
@@ -89,7 +89,7 @@ where
     status_of(outcome, errors)
 }
 
-/// Says on `errors` why the words could not be had, and returns the status.
+/// Says on `errors` why the words could not be read, and returns the status.
 pub fn refuse_words<E: Write>(error: &io::Error, errors: &mut E) -> u8
     ensures least { 1 ≤ result }
     ensures most { result ≤ 2 }
@@ -101,7 +101,7 @@ pub fn refuse_words<E: Write>(error: &io::Error, errors: &mut E) -> u8
     2
 }
 
-/// 0, or 1 behind the line of the fault.
+/// 0, or 1 after the line of the fault.
 pub(crate) fn status_of<E: Write>(outcome: Result<(), RunFault>, errors: &mut E) -> u8
     ensures { result ≡ (if is_ok outcome then 0 else 1) }
 {
@@ -120,7 +120,7 @@ fn show<W: Write>(text: &str, output: &mut W) -> Result<(), RunFault> {
     Ok(())
 }
 
-/// Tells what the records of a file hold.
+/// Writes what the records of a file hold.
 fn check_file<H: Files + AllocGlobal, W: Write>(
     rt: &H,
     records: &str,
@@ -165,7 +165,7 @@ where
     Ok(())
 }
 
-/// Makes the steps of the log in a file again, from the records of another.
+/// Replays the log in a file from the records of another.
 fn replay_file<H, W>(
     rt: &H,
     records: &str,
@@ -200,8 +200,8 @@ where
     Ok(())
 }
 
-/// The application contexts that are accepted: those of the list, or none where there is no list. `None` where it is no
-/// list of names.
+/// The application contexts that are accepted: those of the list, or none if there is no list. `None`: it is no list of
+/// names.
 pub(crate) fn accepted(
     alloc: Global,
     contexts: Option<&str>,
@@ -246,7 +246,7 @@ fn answer_lines<R: Read, W: Write>(
     ask(alloc, table, contexts, moment, TURNS, reader, writer)
 }
 
-/// Makes the steps of a log again, and says of readers and writers whose octets are known what [`replay`] says.
+/// Replays a log, and says of readers and writers whose octets are known what [`replay`] says.
 fn replay_lines<R: Read, W: Write>(
     alloc: Global,
     table: &Table,

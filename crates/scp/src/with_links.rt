@@ -19,12 +19,12 @@ use std::rt::{Clock, Files};
 use std::sync::Wait;
 use std::thread::Threads;
 
-/// Runs the program as [`program`](crate::program) does, and serves links where the words ask for that. Faults of
-/// `serve` are found in this order: the words, the application contexts, the records, the opening of the log, the
-/// address, the emptying of the log, then those of the run.
+/// Runs the program as [`program`](crate::program) does, and serves links if the words ask for that. Faults of `serve`
+/// are found in this order: the words, the application contexts, the records, the opening of the log, the address, the
+/// emptying of the log, then those of the run.
 ///
-/// A log that can't be opened is told before the address is looked at, as `log: cannot be opened`. One that can't be
-/// emptied is told behind it, as one that can't be written: `log: cannot be written`. A text that is no address, and an
+/// A log that can't be opened is reported before the address is looked at, as `log: cannot be opened`. One that can't be
+/// emptied is reported after it, as one that can't be written: `log: cannot be written`. A text that is no address, and an
 /// address where no connections can be awaited, are `listen: cannot listen`.
 pub fn program_with_links<H, R, W, E>(
     rt: &H,
@@ -102,7 +102,7 @@ where
     Ok(())
 }
 
-/// Opens the log to write it. What it holds stays until the address is had, so that a second run which is refused the
+/// Opens the log to write it. What it holds stays until the address is bound, so that a second run which is refused the
 /// address of the first leaves its log alone.
 fn opened_log<H: Files<File = File>>(rt: &H, path: &str) -> Result<File, RunFault>
     ensures fault { IfErr result (λ fault. (fault ≡ UnopenedLog) ⊎ (fault ≡ Serve Memory)) }
@@ -116,7 +116,7 @@ fn opened_log<H: Files<File = File>>(rt: &H, path: &str) -> Result<File, RunFaul
     }
 }
 
-/// A listener at the IP address and port that a text tells.
+/// A listener at the IP address and port that a text gives.
 fn listener_at<H: Net<Listener = TcpListener, Stream = TcpStream>>(
     rt: &H,
     listen: &str,
@@ -133,8 +133,8 @@ fn listener_at<H: Net<Listener = TcpListener, Stream = TcpStream>>(
     }
 }
 
-/// Empties the log where it holds something. A device such as `/dev/null` holds nothing, and can't be emptied. A log
-/// that can't be emptied can't be written as it has to be.
+/// Empties the log if it holds something. A device such as `/dev/null` holds nothing, and can't be emptied. A log that
+/// can't be emptied can't be written as it has to be.
 fn empty(file: &File) -> Result<(), ServeFault>
     ensures fault { IfErr result (λ fault. fault ≡ UnwrittenLog) }
 {

@@ -1,7 +1,6 @@
 //! One thread makes each call of a hub in turn.
 
-ghost use Rattle.std.specs.Prelude.{◌≡◌};
-ghost use Rattle.fp_hub.specs.Shares.{Whole};
+ghost use Rattle.fp_hub.specs.Shares.{AreBlanks};
 
 mod caller;
 
@@ -37,20 +36,14 @@ struct Walked {
 }
 
 /// Makes the calls of a walk with a hub whose ledgers are these.
-fn walk_over<A: Ledger, B: Ledger, C: Ledger, R: Wait + Clock>(
+fn walk_over<R: Wait + Clock, A: Ledger, B: Ledger, C: Ledger>(
     rt: &R,
     alloc: Global,
     blanks: (Blank, Blank, Blank),
     table: &Table,
     walk: Walk,
 ) -> Option<Walked>
-    requires accepted_name { blanks.0.name ≡ A.name }
-    requires served_name { blanks.1.name ≡ B.name }
-    requires sent_name { blanks.2.name ≡ C.name }
-    requires accepted_parts { blanks.0.parts ≡ A.parts }
-    requires served_parts { blanks.1.parts ≡ B.parts }
-    requires sent_parts { blanks.2.parts ≡ C.parts }
-    requires whole { Whole A.parts B.parts C.parts }
+    requires { AreBlanks blanks A.name A.parts B.name B.parts C.name C.parts }
 {
     let (hub, seat) = Hub::<A, B, C>::new(alloc, 0, Looks::FEW, blanks).ok()?;
     let (words, seat) = make_walk(rt, alloc, &hub, seat, table, walk);
@@ -63,7 +56,7 @@ fn walk_over<A: Ledger, B: Ledger, C: Ledger, R: Wait + Clock>(
 /// Makes the calls of a walk, and finishes the link. `None`: out of memory.
 fn walk_link<R: Wait + Clock>(rt: &R, alloc: Global, table: &Table, walk: Walk) -> Option<Walked> {
     let blanks = (Blank::new(PARTS), Blank::new(PARTS), Blank::new(PARTS));
-    walk_over::<Brand, Brand, Brand, R>(rt, alloc, blanks, table, walk)
+    walk_over::<R, Brand, Brand, Brand>(rt, alloc, blanks, table, walk)
 }
 
 /// Asserts that the calls of a walk answer these words, and that as much is counted.

@@ -1,7 +1,6 @@
 //! A link whose messages come out of a list, and whose answers go into one.
 
-ghost use Rattle.std.specs.Prelude.{◌≡◌};
-ghost use Rattle.fp_hub.specs.Shares.{Whole};
+ghost use Rattle.fp_hub.specs.Shares.{AreBlanks, Whole};
 
 use crate::MOST_WAITS;
 use crate::messages::{STRANGE, begin, frame_of};
@@ -108,7 +107,7 @@ impl Marks {
 }
 
 /// Keeps what a parcel holds, and reports it sent.
-fn send<A: Ledger, B: Ledger, C: Ledger, R: Wait>(
+fn send<R: Wait, A: Ledger, B: Ledger, C: Ledger>(
     rt: &R,
     alloc: Global,
     hub: &Hub<A, B, C>,
@@ -122,14 +121,14 @@ fn send<A: Ledger, B: Ledger, C: Ledger, R: Wait>(
     if let Ok(octets) = parcel.octets().to_vec(alloc) {
         let _ = sent.answers.push(octets);
     }
-    if let Err(strange) = hub.sent(rt, &mut sent.seat, parcel) {
-        strange.abandon();
+    if let Err(foreign) = hub.sent(rt, &mut sent.seat, parcel) {
+        foreign.abandon();
     }
     marks.sent.fetch_add(1, Ordering::SeqCst);
 }
 
 /// Sends until so many parcels were sent, or too long nothing was to be sent.
-fn send_picked<A: Ledger, B: Ledger, C: Ledger, R: Wait + Clock>(
+fn send_picked<R: Wait + Clock, A: Ledger, B: Ledger, C: Ledger>(
     rt: &R,
     alloc: Global,
     hub: &Hub<A, B, C>,
@@ -158,7 +157,7 @@ fn send_picked<A: Ledger, B: Ledger, C: Ledger, R: Wait + Clock>(
 }
 
 /// Sends until the link is down.
-fn send_awaited<A: Ledger, B: Ledger, C: Ledger, R: Wait>(
+fn send_awaited<R: Wait, A: Ledger, B: Ledger, C: Ledger>(
     rt: &R,
     alloc: Global,
     hub: &Hub<A, B, C>,
@@ -188,7 +187,7 @@ struct Load<'x> {
 }
 
 /// Posts a message.
-fn post<A: Ledger, B: Ledger, C: Ledger, R: Wait>(
+fn post<R: Wait, A: Ledger, B: Ledger, C: Ledger>(
     rt: &R,
     hub: &Hub<A, B, C>,
     seat: &mut Seat<A, B, C>,
@@ -202,7 +201,7 @@ fn post<A: Ledger, B: Ledger, C: Ledger, R: Wait>(
 
 /// Posts the messages of a plan, and hints. `false`: one didn't open the dialogue that it should, or a hint failed, or
 /// the stranger wasn't refused.
-fn post_all<A: Ledger, B: Ledger, C: Ledger, R: Wait + Clock>(
+fn post_all<R: Wait + Clock, A: Ledger, B: Ledger, C: Ledger>(
     rt: &R,
     hub: &Hub<A, B, C>,
     seat: &mut Seat<A, B, C>,
@@ -240,7 +239,7 @@ fn await_sent<R: Clock>(rt: &R, marks: &Marks, count: u32) {
 
 /// Posts the messages of a plan, waits until all were answered, and takes the link down. Gives whether all was posted
 /// as it should be, and the seat.
-fn post_until_sent<A: Ledger, B: Ledger, C: Ledger, R: Wait + Clock>(
+fn post_until_sent<R: Wait + Clock, A: Ledger, B: Ledger, C: Ledger>(
     rt: &R,
     hub: &Hub<A, B, C>,
     seat: Seat<A, B, C>,
@@ -256,10 +255,10 @@ fn post_until_sent<A: Ledger, B: Ledger, C: Ledger, R: Wait + Clock>(
 /// Sends, and posts on another thread, until the link is down. Both seats come back in one.
 fn post_and_send<
     'x,
+    R: Threads + Wait + Clock + Sync,
     A: Ledger + Send + Sync,
     B: Ledger + Send + Sync,
     C: Ledger + Send + Sync,
-    R: Threads + Wait + Clock + Sync,
 >(rt: &'x R, hub: &'x Hub<A, B, C>, seat: Seat<A, B, C>, load: Load<'x>) -> (bool, Sent<A, B, C>)
     requires whole { Whole A.parts B.parts C.parts }
 {
@@ -289,11 +288,11 @@ fn post_and_send<
 /// Runs the threads of a link: its workers, one that posts and one that sends. All seats come back in one.
 fn run_roles<
     'x,
+    R: Threads + Wait + Clock + Sync,
+    G: Gate + Sync,
     A: Ledger + Send + Sync,
     B: Ledger + Send + Sync,
     C: Ledger + Send + Sync,
-    R: Threads + Wait + Clock + Sync,
-    G: Gate + Sync,
 >(
     rt: &'x R,
     hub: &'x Hub<A, B, C>,
@@ -332,7 +331,7 @@ fn run_roles<
 }
 
 /// How many lines the log has. `None`: out of memory.
-fn line_count<A: Ledger, B: Ledger, C: Ledger, R: Wait>(
+fn line_count<R: Wait, A: Ledger, B: Ledger, C: Ledger>(
     rt: &R,
     alloc: Global,
     hub: &Hub<A, B, C>,
@@ -344,19 +343,13 @@ fn line_count<A: Ledger, B: Ledger, C: Ledger, R: Wait>(
 
 /// Puts the messages of a plan through a link whose ledgers are these.
 fn run_link<
+    R: Threads + Wait + Clock + Sync,
+    G: Gate + Sync,
     A: Ledger + Send + Sync,
     B: Ledger + Send + Sync,
     C: Ledger + Send + Sync,
-    R: Threads + Wait + Clock + Sync,
-    G: Gate + Sync,
 >(rt: &R, blanks: (Blank, Blank, Blank), gate: &G, load: Load<'_>) -> Option<Relayed>
-    requires accepted_name { blanks.0.name ≡ A.name }
-    requires served_name { blanks.1.name ≡ B.name }
-    requires sent_name { blanks.2.name ≡ C.name }
-    requires accepted_parts { blanks.0.parts ≡ A.parts }
-    requires served_parts { blanks.1.parts ≡ B.parts }
-    requires sent_parts { blanks.2.parts ≡ C.parts }
-    requires whole { Whole A.parts B.parts C.parts }
+    requires { AreBlanks blanks A.name A.parts B.name B.parts C.name C.parts }
 {
     let Load { alloc, plan, .. } = load;
     if plan.link >= 8 {
@@ -389,5 +382,5 @@ pub(crate) fn relay<R: Threads + Wait + Clock + Sync, G: Gate + Sync>(
         marks,
         plan,
     };
-    run_link::<Brand, Brand, Brand, R, G>(rt, blanks, gate, load)
+    run_link::<R, G, Brand, Brand, Brand>(rt, blanks, gate, load)
 }

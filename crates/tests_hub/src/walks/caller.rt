@@ -91,9 +91,9 @@ impl<R: Wait + Clock, A: Ledger, B: Ledger, C: Ledger> Caller<'_, R, A, B, C> {
             Ok(Given::Silent) => "silent",
             Ok(Given::Queued) => "queued",
             Ok(Given::Dropped) => "dropped",
-            Err(strange) => {
-                strange.abandon();
-                "strange"
+            Err(foreign) => {
+                foreign.abandon();
+                "foreign"
             }
         }
     }
@@ -115,9 +115,9 @@ impl<R: Wait + Clock, A: Ledger, B: Ledger, C: Ledger> Caller<'_, R, A, B, C> {
         }
         match self.hub.put_back(self.rt, turn) {
             Ok(()) => "back",
-            Err(strange) => {
-                strange.abandon();
-                "strange"
+            Err(foreign) => {
+                foreign.abandon();
+                "foreign"
             }
         }
     }
@@ -153,9 +153,9 @@ impl<R: Wait + Clock, A: Ledger, B: Ledger, C: Ledger> Caller<'_, R, A, B, C> {
         };
         match reported {
             Ok(()) => word,
-            Err(strange) => {
-                strange.abandon();
-                "strange"
+            Err(foreign) => {
+                foreign.abandon();
+                "foreign"
             }
         }
     }
@@ -167,9 +167,9 @@ impl<R: Wait + Clock, A: Ledger, B: Ledger, C: Ledger> Caller<'_, R, A, B, C> {
         };
         match self.hub.sent(self.rt, &mut self.seat, parcel) {
             Ok(()) => "sent",
-            Err(strange) => {
-                strange.abandon();
-                "strange"
+            Err(foreign) => {
+                foreign.abandon();
+                "foreign"
             }
         }
     }
@@ -352,7 +352,7 @@ impl<R: Wait + Clock, A: Ledger, B: Ledger, C: Ledger> Caller<'_, R, A, B, C> {
 }
 
 /// Makes the calls of a walk, and gives their words and the seat.
-pub(crate) fn make_walk<'x, A: Ledger, B: Ledger, C: Ledger, R: Wait + Clock>(
+pub(crate) fn make_walk<'x, R: Wait + Clock, A: Ledger, B: Ledger, C: Ledger>(
     rt: &'x R,
     alloc: Global,
     hub: &'x Hub<A, B, C>,
@@ -378,13 +378,7 @@ pub(crate) fn make_walk<'x, A: Ledger, B: Ledger, C: Ledger, R: Wait + Clock>(
         Walk::AllPlaces => caller.fill_places(&mut words),
         Walk::Hints => caller.hint_workers(&mut words),
     }
-    let Caller {
-        rt: _,
-        alloc: _,
-        hub: _,
-        seat,
-        table: _,
-    } = caller;
+    let Caller { seat, .. } = caller;
     let Words { text } = words;
     (text, seat)
 }

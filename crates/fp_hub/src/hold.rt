@@ -1,0 +1,55 @@
+//! A hold of the lock of a link.
+
+use crate::Kept;
+use crate::resting::Resting;
+use std::sync::ledger::Ledger;
+use std::sync::{Condvar, MutexGuard, Wait};
+
+/// The lock of a link, held. When it is released, those that don't hold it learn how full the log is then.
+pub(crate) struct Hold<'a, A: Ledger, B: Ledger, C: Ledger> {
+    pub(crate) kept: MutexGuard<'a, Kept<A, B, C>>,
+    // How many lines the log had when the lock was taken.
+    line_count: usize,
+    resting: &'a Resting,
+}
+
+impl<'a, A: Ledger, B: Ledger, C: Ledger> Hold<'a, A, B, C> {
+    /// The lock, which was just taken.
+    pub(crate) fn new(
+        kept: MutexGuard<'a, Kept<A, B, C>>,
+        resting: &'a Resting,
+    ) -> Hold<'a, A, B, C> {
+        let line_count = kept.line_count();
+        Hold {
+            kept,
+            line_count,
+            resting,
+        }
+    }
+
+    /// Releases the lock until the next notification, and takes it again. No line was added since it was taken.
+    pub(crate) fn wait<R: Wait>(self, rt: &R, moved: &Condvar) -> Hold<'a, A, B, C> {
+        let Hold {
+            kept,
+            line_count: _,
+            resting,
+        } = self;
+        Hold::new(moved.wait(rt, kept), resting)
+    }
+}
+
+impl<A: Ledger, B: Ledger, C: Ledger> Drop for Hold<'_, A, B, C> {
+    fn drop(self) {
+        let Hold {
+            kept,
+            line_count,
+            resting,
+        } = self;
+        let is_half_full = resting.publish(line_count, kept.line_count());
+        // Nobody waits for the lock while the resting thread is woken.
+        drop(kept);
+        if is_half_full {
+            resting.wake();
+        }
+    }
+}
