@@ -131,15 +131,17 @@ some_line [] link = omega arith
 some_line (step ∷ steps) link = omega arith
 
 pub logs_replayed : LogsOfRunsAreReplayed
-logs_replayed contents contexts link steps outputs run are =
-    let h = run.0 in
-    let told = run.6 in
+logs_replayed contents contexts link steps outputs log run is_log =
+    let h = run.history in
+    let told = run.retold in
     let lines = newest_first link (lines_told h) in
     let links = links_are link (lines_told h) in
+    let log_so : log ≡ log_of link h = is_log.lines_are contents contexts h run.tells run.answers in
+    let are : AllByRecursion IsLine (log_of link h) = subst (AllByRecursion IsLine) log_so is_log.in_range in
     record {
       lines = lines;
       begun = some_line (lines_told h) link;
-      text = ap file_of (log_is link h) ∙ same_text lines;
+      text = ap file_of (log_so ∙ log_is link h) ∙ same_text lines;
       good = record {
         fit = all_fit link (lines_told h) (all_back link (lines_told h) are.1) are.0;
         history = only link told.history;
@@ -148,6 +150,6 @@ logs_replayed contents contexts link steps outputs run are =
       report_is =
           ap (λ l. l ++ report_line link (totals_of outputs)) (same_below link (λ before. []) (only link told.history) (λ other below. sym (only_other link told.history other (apart_below link other below))))
           ∙ ap (λ t. report_of link (only link told.history) ++ report_line link t)
-          (ap totals_of (sym run.1.outputs_are) ∙ sym told.totals ∙ ap totals_in (sym (only_own link told.history)))
+          (ap totals_of (sym run.tells.outputs_are) ∙ sym told.totals ∙ ap totals_in (sym (only_own link told.history)))
           ∙ sym (ap (λ n. report_of n (only link told.history)) (links ∙ add-one link));
     }

@@ -1,11 +1,9 @@
 -- The text of the lines of a log (own): fields with single blanks between them. Numbers are decimal, without leading
--- zeros; octets are two hexadecimal digits each, in upper case.
-use Rattle.std.specs.Prelude.{ℕ, ◌^◌, ◌≤◌, ◌<◌, List, [], ◌∷◌, ◌++◌, length, codes, decimal, ⊤}
+-- zeros; octets are two hexadecimal digits each, in upper case. What a line may hold is said by IsLine of fp_steps.
+use Rattle.std.specs.Prelude.{ℕ, List, [], ◌∷◌, ◌++◌, codes, decimal}
 use Rattle.std.specs.Int.{w32, to_be_bytes}
 use Rattle.std.specs.List.{join_with_byte}
-use Rattle.hex.specs.Hex.{IsBytes, encode_upper}
-use Rattle.fp_digits.specs.declared.moment.TheConstants.Moment.{END}
-use Rattle.fp_frames.specs.Frame.{IsMessageLength}
+use Rattle.hex.specs.Hex.{encode_upper}
 use Rattle.fp_q773.specs.ProviderAbort.{cause_code}
 use Rattle.fp_book.specs.declared.answers.Given.{Given}
 use Rattle.fp_book.specs.declared.answers.Given.TheVariants.{Dropped, Queued, Silent}
@@ -15,6 +13,7 @@ use Rattle.fp_book.specs.declared.line.Line.{Line}
 use Rattle.fp_book.specs.declared.line.Line.TheVariants.{Head, Step}
 use Rattle.fp_book.specs.declared.line.LoggedStep.{LoggedStep}
 use Rattle.fp_book.specs.declared.line.LoggedStep.TheVariants.{Down, Gap, Give, Lost, Pick, Post, PutBack, Sent, Take, Tick, Unsent}
+pub use Rattle.fp_steps.specs.LogLines.{IsLine, IsPosted, IsPosting, IsStep}
 
 -- a local transaction identifier: its four octets
 abbrev pub identifier_text : ℕ → List ℕ
@@ -53,38 +52,3 @@ fields_of (Gap lost) = codes "Z" ∷ decimal lost ∷ []
 abbrev pub text_of : Line → List ℕ
 text_of (Head links) = join_with_byte 32 (codes "fplog" ∷ codes "1" ∷ decimal links ∷ [])
 text_of (Step link step) = join_with_byte 32 (decimal link ∷ fields_of step)
-
--- the numbers of an answer have at most 32 bits
-abbrev pub IsPosted : Posted → Type 0
-IsPosted (Opened local) = local < 2 ^ 32
-IsPosted (Accepted entries) = entries < 2 ^ 32
-IsPosted (Aborted cause) = ⊤
-IsPosted Ended = ⊤
-IsPosted Discarded = ⊤
-
--- a message of 1 to 4,096 octets that came before the year 2100, and its answer
-pub record IsPosting (moment : ℕ) (message : List ℕ) (answer : Posted) : Type 0 where
-  pub in_time : moment < END
-  pub size : IsMessageLength (length message)
-  pub octets : IsBytes message
-  pub numbers : IsPosted answer
-
--- what a step may hold: moments before the year 2100, identifiers and numbers of dialogues of at most 32 bits,
--- positions and numbers of lost steps of at most 64
-abbrev pub IsStep : LoggedStep → Type 0
-IsStep (Post moment message answer) = IsPosting moment message answer
-IsStep (Lost moment message answer) = IsPosting moment message answer
-IsStep (Tick moment added wanting) = (moment < END) × (added < 2 ^ 32) × (wanting < 2 ^ 32)
-IsStep (Take local position) = (local < 2 ^ 32) × (position < 2 ^ 64)
-IsStep (Give local position given) = (local < 2 ^ 32) × (position < 2 ^ 64)
-IsStep (PutBack local position) = (local < 2 ^ 32) × (position < 2 ^ 64)
-IsStep (Pick local) = local < 2 ^ 32
-IsStep (Sent local) = local < 2 ^ 32
-IsStep (Unsent local) = local < 2 ^ 32
-IsStep Down = ⊤
-IsStep (Gap lost) = lost < 2 ^ 64
-
--- a line of a log: there are one to eight links, and a step is of one of eight
-abbrev pub IsLine : Line → Type 0
-IsLine (Head links) = (1 ≤ links) × (links ≤ 8)
-IsLine (Step link step) = (link < 8) × IsStep step

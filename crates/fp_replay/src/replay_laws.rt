@@ -17,9 +17,8 @@ pub fn logs_have_one_report()
     lines_are_retold_once();
 }
 
-/// The log of a run, its lines written one after the other, is replayed by the records and names of the run: the report
-/// has the run's totals on its link, and nothing on the links before it. The law asks that the lines are of the format, as
-/// those of a program are, whose numbers have so many bits and whose messages fit their frames.
+/// The log of a run, as [`lines_of`](fp_steps::lines_of) gives it, its lines written one after the other, is replayed by
+/// the records and names of the run: the report has the run's totals on its link, and nothing on the links before it.
 pub fn logs_of_runs_are_replayed()
     ensures { LogsOfRunsAreReplayed }
 {}

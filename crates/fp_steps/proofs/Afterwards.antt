@@ -1,8 +1,6 @@
 -- What a step makes of a history that leads to its book.
-use Rattle.std.proofs.Common.{◌≡◌, ℕ, Bool, true, false, cond, Option, Some, None, List, [], ◌∷◌, ◌++◌, length, refl, sym, ◌∙◌, ap, subst}
-use Rattle.std.specs.Prelude.{map as map_list, option_to_list, reverse}
-use Rattle.std.proofs.lemmas.Grind.{reverse_onto}
-use Rattle.std.proofs.lemmas.List.{reverse-reverse}
+use Rattle.std.proofs.Common.{◌≡◌, ℕ, Bool, true, false, cond, Option, Some, None, List, [], ◌∷◌, ◌++◌, refl, sym, ◌∙◌, ap, subst}
+use Rattle.std.specs.Prelude.{option_to_list}
 use Rattle.fp_book.specs.declared.line.Line.{Line}
 use Rattle.fp_book.specs.declared.line.LoggedStep.{LoggedStep}
 use Rattle.fp_book.specs.Lines.{SevenLinesDecide}
@@ -12,28 +10,23 @@ use Rattle.fp_row.specs.Laws.{RowsKeepTheirOrder}
 use Rattle.fp_entry.specs.declared.prepared.Prepared.{Prepared}
 use Rattle.fp_steps.specs.declared.output.Output.{Output}
 use Rattle.fp_steps.specs.declared.step.Step.{Step}
-use Rattle.fp_steps.specs.Accepted.{positions, served}
-use Rattle.fp_steps.specs.After.{AreCounted, Follows, IsAfter, LeadsTo}
+use Rattle.fp_steps.specs.After.{Follows, IsAfter, LeadsTo}
 use Rattle.fp_steps.specs.Answers.{AllAnswered, IsAnswer}
-use Rattle.fp_steps.specs.Births.{births}
 use Rattle.fp_steps.specs.Headline.{Headline}
 use Rattle.fp_steps.specs.History.{AtEachMoment, Event, IsCame, outputs_of}
 use Rattle.fp_steps.specs.Lined.{Lined}
 use Rattle.fp_steps.specs.Makes.{Drained, MakesOf, TakesLine, TriesTo, is_wanting, told_by}
 use Rattle.fp_steps.specs.Retold.{Retells}
-use Rattle.fp_steps.specs.Sending.{out}
 use Rattle.fp_steps.specs.Tied.{Tied}
-use Rattle.fp_steps.specs.Totals.{AddUp, local_out}
-use Rattle.fp_steps.proofs.Added.{Counted, add_up, adds_drained, counted_more, counted_none, local_in, local_more}
+use Rattle.fp_steps.specs.Totals.{AddUp, totals_of}
+use Rattle.fp_steps.proofs.Added.{add_up_next, none_few}
 use Rattle.fp_steps.proofs.Answering.{answer_drained, link_drained}
-use Rattle.fp_steps.proofs.Births.{sum_to_same}
 use Rattle.fp_steps.proofs.Idle.{idle_is_done, idle_none}
 use Rattle.fp_steps.proofs.Lines.{left_is}
 use Rattle.fp_steps.proofs.Made.{Tied-makes, Tied-none, came_anew, headline}
 use Rattle.fp_steps.proofs.Nexts.{Tied-drained}
 use Rattle.fp_steps.proofs.Posted.{decided}
 use Rattle.fp_steps.proofs.Tellings.{line_is, line_step, made, unwritten_is}
-use Rattle.fp_steps.proofs.Totalled.{counted_next}
 use Rattle.fp_steps.proofs.Waits.{Lined-drained, Lined-makes, Lined-none}
 use Rattle.fp_steps.specs.Told.{is_written, lines_told, logged, told, written}
 
@@ -41,26 +34,6 @@ use Rattle.fp_steps.specs.Told.{is_written, lines_told, logged, told, written}
 pub at_the_end : (h : List Event) → AtEachMoment Headline h → Headline h
 at_the_end [] k = k
 at_the_end (e ∷ h) k = k.0
-
--- the outputs in order, with one more
-pub outputs_more : (h : List Event) (e : Event) → outputs_of (e ∷ h) ≡ outputs_of h ++ e.output ∷ []
-outputs_more h e = reverse_onto (map_list (λ (e : Event). e.output) h) e.output []
-
--- what is out, as the outputs tell it
-pub locals : (h : List Event) → local_out (map_list (λ (e : Event). e.output) h) ≡ local_in (out h)
-locals [] = refl
-locals (e ∷ h) = local_more e.output (out h) (local_out (map_list (λ (e : Event). e.output) h)) (locals h)
-
-local_is : (h : List Event) → local_out (reverse (outputs_of h)) ≡ local_in (out h)
-local_is h = ap local_out (reverse-reverse (map_list (λ (e : Event). e.output) h)) ∙ locals h
-
-counted_of : (h : List Event) → AddUp (outputs_of h) h → Headline h → Counted (outputs_of h) h
-counted_of h k l = record {
-  accepted = k.accepted;
-  served = k.served ∙ sum_to_same (births h) (λ d. length (served h d)) (λ d. length (positions h d)) (λ d from to. l.each_there d);
-  sent = k.sent;
-  local = local_is h;
-}
 
 -- what was made of the book, behind a line that was taken
 drained : (contents : Contents) (contexts : List (List ℕ)) (step : Step) (came : Option Prepared) (output : Output) (old mid new : Shelf) (taken : Option Line) → Sound (record old { log = [] }) → MakesOf step came output (record old { log = [] }) mid
@@ -102,9 +75,12 @@ next law seven contents contexts step came output old mid new taken m h f =
     let answer : IsAnswer new.link h step came output =
     subst (λ n. IsAnswer n h step came output) (sym link) (answer_drained law h step came output old new f.tied f.lined (decided seven contents contexts step came is) makes_all)
     in
-    let all : outputs_of (e ∷ h) ≡ outputs_of h ++ output ∷ [] = outputs_more h e in
     let first : Headline (e ∷ h) = headline law (e ∷ h) new tied in
-    let lined : Lined (e ∷ h) new = Lined-makes h e old new (came_anew contents contexts step came is) f.tied f.lined makes_all tied m.then in
+    let anew = came_anew contents contexts step came is in
+    let lined : Lined (e ∷ h) new = Lined-makes h e old new anew f.tied f.lined makes_all tied m.then in
+    let sums : AddUp (outputs_of (e ∷ h)) (e ∷ h) × (new.totals ≡ totals_of (outputs_of (e ∷ h))) =
+    add_up_next law h e old new anew f.tied makes_all m.then (at_the_end h f.moments) first f.adds_up f.counted
+    in
     record {
       answer = answer;
       line_is = line_is contents contexts h step came output (record old { log = [] }) mid new taken (Tied-drained h old [] f.tied) m.sound refl is m.makes m.takes;
@@ -112,11 +88,9 @@ next law seven contents contexts step came output old mid new taken m h f =
         messages = (is, f.messages);
         answers = (answer, subst (λ n. AllAnswered n h) (sym link) f.answers);
         moments = (first, f.moments);
-        idle = λ n. (idle_is_done law (e ∷ h) new n tied lined m.then first, f.idle n);
-        adds_up = subst (λ os. AddUp os (e ∷ h)) (sym all)
-            (add_up (outputs_of h ++ output ∷ []) (e ∷ h)
-            (counted_more (outputs_of h) h e (counted_of h f.adds_up (at_the_end h f.moments)) (adds_drained h e old new (came_anew contents contexts step came is) f.tied makes_all)) first);
-        counted = subst (λ os. AreCounted os new.totals) (sym all) (counted_next (outputs_of h) h e old new f.tied (local_is h) makes_all f.counted);
+        idle = (idle_is_done law (e ∷ h) new tied lined m.then first, f.idle);
+        adds_up = sums.0;
+        counted = sums.1;
         tied = tied;
         lined = lined;
       };
@@ -215,9 +189,9 @@ after_none law contents contexts link =
       messages = tt;
       answers = tt;
       moments = first;
-      idle = λ n. idle_none n;
-      adds_up = add_up [] [] counted_none first;
-      counted = record { accepted = refl; served = refl; sent = refl };
+      idle = idle_none;
+      adds_up = record { totals = refl; few = none_few };
+      counted = refl;
       tied = Tied-none link;
       lined = Lined-none link;
     }

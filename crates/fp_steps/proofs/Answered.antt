@@ -38,7 +38,7 @@ use Rattle.fp_steps.specs.Waiting.{how_many, is_sending}
 use Rattle.fp_steps.proofs.Births.{AreBorn, how_many_is, sum_births, sum_to_same}
 use Rattle.fp_steps.specs.Totals.{sum_to}
 use Rattle.fp_steps.proofs.Dialogues.{named_of, tied_of}
-use Rattle.fp_steps.proofs.Served.{IsTurn, turn_is}
+use Rattle.fp_steps.proofs.Served.{IsTurn, out_by, turn_is}
 use Rattle.fp_steps.proofs.Stories.{core_tied, length-numbers}
 use Rattle.fp_steps.proofs.Ticked.{due_at_is}
 
@@ -72,10 +72,6 @@ given_by None None frame = refl
 given_by None (Some request) frame = refl
 given_by (Some ending) None frame = refl
 given_by (Some ending) (Some request) frame = refl
-
-out_by : (b : Bool) (o : Option Turn) (turn : Turn) → cond b o None ≡ Some turn → b ≡ true
-out_by true o turn e = refl
-out_by false o turn e = absurd (cc)
 
 -- what is requested at the entry of the turn that is out
 requested_at : (h : List Event) (row : Row) (turn : Turn) (d : ℕ) → IsTied d (story h d) row → IsTurn row turn → next_request h d ≡ request_of turn.before turn.entry
@@ -121,18 +117,9 @@ gave_to h old new local l position given t k line is g =
     ∙ subst (λ n. outputs.Gave n g.0.turn.position given ≡ gave h n (named h n)) g.1 (gave_done h old new g.0 given t k line g.3)
 
 pub answer_give : RowsKeepTheirOrder → (h : List Event) (local : ℕ) (output : Output) (old new : Shelf) → Tied h old → Sound old → Lined h old → GivesTo local output old new → output ≡ gave h local (named h local)
-answer_give law h local (outputs.Posted answer components) old new t k line g = absurd g
-answer_give law h local (outputs.Ticked added wanting) old new t k line g = absurd g
-answer_give law h local (outputs.Took l position) old new t k line g = absurd g
-answer_give law h local outputs.NoRoom old new t k line g = absurd g
 answer_give law h local (outputs.Gave l position given) old new t k line g = gave_to h old new local l position given t k line g.0 g.1
-answer_give law h local outputs.WentBack old new t k line g = absurd g
-answer_give law h local (outputs.Picked l frame) old new t k line g = absurd g
-answer_give law h local outputs.Busy old new t k line g = absurd g
-answer_give law h local outputs.Sent old new t k line g = absurd g
-answer_give law h local outputs.Unsent old new t k line g = absurd g
-answer_give law h local outputs.Down old new t k line g = absurd g
 answer_give law h local outputs.Nothing old new t k line g = gave_none law h old local (named h local) t refl g.0
+answer_give law h local output old new t k line g = absurd g
 
 -- PUT BACK
 
@@ -146,18 +133,9 @@ back_done h old new turn t k g =
     sym (ap (put_back h) (named_of h old turn.local g.before t k g.was) ∙ ap (λ x. cond x outputs.WentBack outputs.Nothing) there)
 
 pub answer_put_back : RowsKeepTheirOrder → (h : List Event) (local : ℕ) (output : Output) (old new : Shelf) → Tied h old → Sound old → PutsBackTo local output old new → output ≡ put_back h (named h local)
-answer_put_back law h local (outputs.Posted answer components) old new t k g = absurd g
-answer_put_back law h local (outputs.Ticked added wanting) old new t k g = absurd g
-answer_put_back law h local (outputs.Took l position) old new t k g = absurd g
-answer_put_back law h local outputs.NoRoom old new t k g = absurd g
-answer_put_back law h local (outputs.Gave l position given) old new t k g = absurd g
 answer_put_back law h local outputs.WentBack old new t k g = subst (λ l. outputs.WentBack ≡ put_back h (named h l)) g.1 (back_done h old new g.0 t k g.2)
-answer_put_back law h local (outputs.Picked l frame) old new t k g = absurd g
-answer_put_back law h local outputs.Busy old new t k g = absurd g
-answer_put_back law h local outputs.Sent old new t k g = absurd g
-answer_put_back law h local outputs.Unsent old new t k g = absurd g
-answer_put_back law h local outputs.Down old new t k g = absurd g
 answer_put_back law h local outputs.Nothing old new t k g = back_none law h old local (named h local) t refl g.0
+answer_put_back law h local output old new t k g = absurd g
 
 -- SENT, UNSENT
 
@@ -166,54 +144,26 @@ sent_out old (contents.Abort frame) new g = g.was_out
 sent_out old (contents.Frame w) new g = g.was_out
 
 if_there : (h : List Event) (s : Shelf) (content : Content) (output : Output) → Tied h s → s.outbox.out ≡ Some content → output ≡ if_out (out h) output
-if_there h s content output t was = sym (ap (λ o. if_out o output) (t.is_out ∙ ap (option_map handed) was))
+if_there h s content output t was = sym (ap (λ o. if_out o output) (t.is_out ∙ ap (option_map (handed h)) was))
 
 if_none : (h : List Event) (s : Shelf) (output : Output) → Tied h s → s.outbox.out ≡ None → outputs.Nothing ≡ if_out (out h) output
-if_none h s output t was = sym (ap (λ o. if_out o output) (t.is_out ∙ ap (option_map handed) was))
+if_none h s output t was = sym (ap (λ o. if_out o output) (t.is_out ∙ ap (option_map (handed h)) was))
 
 pub answer_sent : (h : List Event) (output : Output) (old new : Shelf) → Tied h old → SendsTo output old new → output ≡ if_out (out h) outputs.Sent
-answer_sent h (outputs.Posted answer components) old new t g = absurd g
-answer_sent h (outputs.Ticked added wanting) old new t g = absurd g
-answer_sent h (outputs.Took l position) old new t g = absurd g
-answer_sent h outputs.NoRoom old new t g = absurd g
-answer_sent h (outputs.Gave l position given) old new t g = absurd g
-answer_sent h outputs.WentBack old new t g = absurd g
-answer_sent h (outputs.Picked l frame) old new t g = absurd g
-answer_sent h outputs.Busy old new t g = absurd g
 answer_sent h outputs.Sent old new t g = if_there h old g.0 outputs.Sent t (sent_out old g.0 new g.1)
-answer_sent h outputs.Unsent old new t g = absurd g
-answer_sent h outputs.Down old new t g = absurd g
 answer_sent h outputs.Nothing old new t g = if_none h old outputs.Sent t g.0
+answer_sent h output old new t g = absurd g
 
 pub answer_unsent : (h : List Event) (output : Output) (old new : Shelf) → Tied h old → UnsendsTo output old new → output ≡ if_out (out h) outputs.Unsent
-answer_unsent h (outputs.Posted answer components) old new t g = absurd g
-answer_unsent h (outputs.Ticked added wanting) old new t g = absurd g
-answer_unsent h (outputs.Took l position) old new t g = absurd g
-answer_unsent h outputs.NoRoom old new t g = absurd g
-answer_unsent h (outputs.Gave l position given) old new t g = absurd g
-answer_unsent h outputs.WentBack old new t g = absurd g
-answer_unsent h (outputs.Picked l frame) old new t g = absurd g
-answer_unsent h outputs.Busy old new t g = absurd g
-answer_unsent h outputs.Sent old new t g = absurd g
 answer_unsent h outputs.Unsent old new t g = if_there h old g.0.content outputs.Unsent t g.1.was_out
-answer_unsent h outputs.Down old new t g = absurd g
 answer_unsent h outputs.Nothing old new t g = if_none h old outputs.Unsent t g.0
+answer_unsent h output old new t g = absurd g
 
 -- DOWN
 
 pub answer_down : (output : Output) (old new : Shelf) → GoesDownTo output old new → output ≡ outputs.Down
-answer_down (outputs.Posted answer components) old new g = absurd g
-answer_down (outputs.Ticked added wanting) old new g = absurd g
-answer_down (outputs.Took l position) old new g = absurd g
-answer_down outputs.NoRoom old new g = absurd g
-answer_down (outputs.Gave l position given) old new g = absurd g
-answer_down outputs.WentBack old new g = absurd g
-answer_down (outputs.Picked l frame) old new g = absurd g
-answer_down outputs.Busy old new g = absurd g
-answer_down outputs.Sent old new g = absurd g
-answer_down outputs.Unsent old new g = absurd g
 answer_down outputs.Down old new g = refl
-answer_down outputs.Nothing old new g = absurd g
+answer_down output old new g = absurd g
 
 -- TICK
 
@@ -237,15 +187,5 @@ ticked_is h old new moment added wanting t k none g =
     ap (λ n. outputs.Ticked n wanting) is ∙ ap (λ n. outputs.Ticked (how_many (births h) (is_due h moment)) n) none
 
 pub answer_tick : (h : List Event) (moment : ℕ) (output : Output) (old new : Shelf) → Tied h old → Sound old → TicksTo moment output old new → output ≡ ticked h moment
-answer_tick h moment (outputs.Posted answer components) old new t k g = absurd g
 answer_tick h moment (outputs.Ticked added wanting) old new t k g = ticked_is h old new moment added wanting t k g.0 g.1
-answer_tick h moment (outputs.Took l position) old new t k g = absurd g
-answer_tick h moment outputs.NoRoom old new t k g = absurd g
-answer_tick h moment (outputs.Gave l position given) old new t k g = absurd g
-answer_tick h moment outputs.WentBack old new t k g = absurd g
-answer_tick h moment (outputs.Picked l frame) old new t k g = absurd g
-answer_tick h moment outputs.Busy old new t k g = absurd g
-answer_tick h moment outputs.Sent old new t k g = absurd g
-answer_tick h moment outputs.Unsent old new t k g = absurd g
-answer_tick h moment outputs.Down old new t k g = absurd g
-answer_tick h moment outputs.Nothing old new t k g = absurd g
+answer_tick h moment output old new t k g = absurd g

@@ -7,15 +7,13 @@ use Rattle.std.specs.FinMap as map
 use Rattle.fp_book.proofs.Changes.{count}
 use Rattle.fp_book.proofs.Queue.{count-cons, count_first, eqb_swap}
 use Rattle.fp_book.proofs.Sums.{amount}
-use Rattle.fp_book.proofs.Turns.{frames_at}
-use Rattle.fp_book.proofs.Unsent.{first_own}
 use Rattle.fp_book.specs.declared.parcel.Content.{Content}
 use Rattle.fp_book.specs.declared.parcel.Content.TheVariants as contents
 use Rattle.fp_book.specs.declared.parcel.Waiting.{Waiting}
 use Rattle.fp_book.specs.Calls.{PicksParcel, TakesTurn}
-use Rattle.fp_book.specs.Outbox.{places_out}
+use Rattle.fp_book.specs.Outbox.{places_out, Outbox}
 use Rattle.fp_book.specs.Parcel.{local_of, octets_of}
-use Rattle.fp_book.specs.Shelf.{Shelf, Sound, frame_out, frames_for, one_if, places_held, turns_of}
+use Rattle.fp_book.specs.Shelf.{Shelf, Sound, one_if, places_held, turns_of}
 use Rattle.fp_book.specs.Totals.{sum_of}
 use Rattle.fp_reply.specs.ProviderAbort.{frame_octets}
 use Rattle.fp_row.specs.declared.row.Row.{Row}
@@ -24,7 +22,7 @@ use Rattle.fp_tids.specs.Identifiers.{identifier}
 use Rattle.fp_steps.specs.declared.output.Output.{Output}
 use Rattle.fp_steps.specs.declared.output.Output.TheVariants as outputs
 use Rattle.fp_steps.specs.Answers.{IsLongestReady, IsNext, IsPicked, IsTaken}
-use Rattle.fp_steps.specs.Births.{births}
+use Rattle.fp_steps.specs.Births.{births, local_of as opened_with}
 use Rattle.fp_steps.specs.History.{Event}
 use Rattle.fp_steps.specs.Lined.{ByAge, Lined, Sorted, as_waiting}
 use Rattle.fp_steps.specs.Makes.{PicksTo, TakesTo}
@@ -35,26 +33,19 @@ use Rattle.fp_steps.specs.Waiting.{QueuedFrame, aborts_waiting, how_many, places
 use Rattle.fp_steps.proofs.Answered.{born}
 use Rattle.fp_steps.proofs.Births.{how_many_is, sum_births, sum_to_same}
 use Rattle.fp_steps.specs.Totals.{sum_to}
-use Rattle.fp_book.specs.Outbox.{Outbox}
-use Rattle.fp_steps.proofs.Dialogues.{apart, tied_of}
-use Rattle.fp_steps.proofs.Lining.{First, first_of}
+use Rattle.fp_steps.proofs.Dialogues.{apart, local_is, tied_of}
+use Rattle.fp_steps.proofs.Lining.{First, first_held, first_of}
 use Rattle.fp_steps.proofs.Order.{all_at, in_queue, queued_own, queued_ready, ready_at, ready_is, stands_not}
-use Rattle.fp_steps.proofs.Parcels.{frame_local, none_here}
+use Rattle.fp_steps.proofs.Parcels.{frame_local, none_at}
 use Rattle.fp_steps.proofs.Served.{IsTurn, turn_is}
 use Rattle.fp_steps.proofs.Stories.{length-numbers}
 
 -- the places that are held
 
-pub none_at : (s : Shelf) (w : Waiting) (o : Option Row) → Sound s → s.outbox.out ≡ Some (contents.Frame w) → map.get s.rows w.local ≡ o → (row : Row) × (map.get s.rows w.local ≡ Some row)
-none_at s w (Some row) k is was = (row, was)
-none_at s w None k is was =
-    let here : frame_out w.local s.outbox.out ≡ w.frame ∷ [] = ap (frame_out w.local) is ∙ first_own w.local w [] refl in
-    absurd (none_here [] (frames_for w.local s.outbox.frames) w.frame (ap (λ r. r ++ frames_for w.local s.outbox.frames) (sym here) ∙ frames_at s w.local None k was))
-
 abbrev place_of : Option Handed → ℕ
 place_of o = option_map_or (λ (handed : Handed). cond {A = ℕ} (eqb handed.local 0) 0 1) o 0
 
-out_place : (h : List Event) (s : Shelf) (o : Option Content) → Tied h s → Sound s → s.outbox.out ≡ o → place_of (option_map handed o) ≡ places_out o
+out_place : (h : List Event) (s : Shelf) (o : Option Content) → Tied h s → Sound s → s.outbox.out ≡ o → place_of (option_map (handed h) o) ≡ places_out o
 out_place h s None t k is = refl
 out_place h s (Some (contents.Abort frame)) t k is = refl
 out_place h s (Some (contents.Frame w)) t k is =
@@ -78,7 +69,7 @@ places_are h s t k l =
 
 -- TAKE
 
-longest_is : (h : List Event) (old new : Shelf) (turn : Turn) → Tied h old → Sound old → Lined h old → TakesTurn old turn new → IsLongestReady old.link h turn.local turn.position
+longest_is : (h : List Event) (old new : Shelf) (turn : Turn) → Tied h old → Sound old → Lined h old → TakesTurn old turn new → IsLongestReady h turn.local turn.position
 longest_is h old new turn t k l g =
     let lo = turn.local in
     let b = g.before.birth in
@@ -88,7 +79,7 @@ longest_is h old new turn t k l g =
     let order : Sorted (ByAge old.link h) (lo ∷ g.rest) = subst (Sorted (ByAge old.link h)) g.first l.order in
     record {
       dialogue = b;
-      local_is = place;
+      local_is = sym (local_is h old lo g.before t g.was);
       stands = ready_is h old b t ∙ ap (λ n. ready_at (map.get old.rows n)) (sym place) ∙ ap ready_at g.was ∙ g.takes.was_ready;
       longest = λ c r ne.
           let there : count (identifier old.link c) old.ready ≡ 1 = in_queue h old c t k ∙ ap one_if r in
@@ -110,22 +101,14 @@ some_ready h s (x ∷ xs) t k is some =
 none_ready : (h : List Event) (s : Shelf) → Tied h s → Sound s → s.ready ≡ [] → (d : ℕ) → is_ready h d ≡ false
 none_ready h s t k is d = stands_not (is_ready h d) (count (identifier s.link d) s.ready) (in_queue h s d t k) (ap (count (identifier s.link d)) is)
 
-pub answer_take : (h : List Event) (output : Output) (old new : Shelf) → Tied h old → Sound old → Lined h old → TakesTo output old new → IsTaken old.link h output
-answer_take h (outputs.Posted answer components) old new t k l g = absurd g
-answer_take h (outputs.Ticked added wanting) old new t k l g = absurd g
+pub answer_take : (h : List Event) (output : Output) (old new : Shelf) → Tied h old → Sound old → Lined h old → TakesTo output old new → IsTaken h output
 answer_take h (outputs.Took local position) old new t k l g = (
-  subst (λ n. IsLongestReady old.link h n position) g.1 (subst (λ n. IsLongestReady old.link h g.0.local n) g.2 (longest_is h old new g.0 t k l g.3)),
+  subst (λ n. IsLongestReady h n position) g.1 (subst (λ n. IsLongestReady h g.0.local n) g.2 (longest_is h old new g.0 t k l g.3)),
   (let room : places_held old < 8192 = g.3.room in omega (arith, room, places_are h old t k l)),
 )
 answer_take h outputs.NoRoom old new t k l g = (some_ready h old old.ready t k refl g.0, (let full : 8192 ≤ places_held old = g.1 in omega (arith, full, places_are h old t k l)))
-answer_take h (outputs.Gave lo position given) old new t k l g = absurd g
-answer_take h outputs.WentBack old new t k l g = absurd g
-answer_take h (outputs.Picked lo frame) old new t k l g = absurd g
-answer_take h outputs.Busy old new t k l g = absurd g
-answer_take h outputs.Sent old new t k l g = absurd g
-answer_take h outputs.Unsent old new t k l g = absurd g
-answer_take h outputs.Down old new t k l g = absurd g
 answer_take h outputs.Nothing old new t k l g = none_ready h old t k g.0
+answer_take h output old new t k l g = absurd g
 
 -- PICK
 
@@ -143,32 +126,25 @@ none_waits : (link : ℕ) (xs : List QueuedFrame) → map_list (as_waiting link)
 none_waits link [] e = refl
 none_waits link (x ∷ xs) e = absurd (let clash : as_waiting link x ∷ map_list (as_waiting link) xs ≡ [] = e in cc)
 
-next_is : (h : List Event) (old new : Shelf) (content : Content) → Tied h old → Sound old → Lined h old → PicksParcel old content new → IsNext old.link (aborts_waiting h) (waiting h) (local_of content) (octets_of content)
+next_is : (h : List Event) (old new : Shelf) (content : Content) → Tied h old → Sound old → Lined h old → PicksParcel old content new → IsNext h (aborts_waiting h) (waiting h) (local_of content) (octets_of content)
 next_is h old new (contents.Abort frame) t k l g =
-    subst (λ xs. IsNext old.link xs (waiting h) 0 (frame_octets frame)) (sym (aborts_wait h old t k l ∙ ap (map_list frame_octets) g.next.0)) (refl, refl)
+    subst (λ xs. IsNext h xs (waiting h) 0 (frame_octets frame)) (sym (aborts_wait h old t k l ∙ ap (map_list frame_octets) g.next.0)) (refl, refl)
 next_is h old new (contents.Frame w) t k l g =
     let f : First old.link (waiting h) w g.rest.frames = first_of old.link (waiting h) w g.rest.frames (l.frames ∙ g.next.2) in
-    subst (λ xs. IsNext old.link xs (waiting h) w.local w.frame) (sym (aborts_wait h old t k l ∙ ap (map_list frame_octets) g.next.0))
-    (subst (λ xs. IsNext old.link [] xs w.local w.frame) (sym f.is) (ap (λ (w : Waiting). w.local) (sym f.first_is), ap (λ (w : Waiting). w.frame) (sym f.first_is)))
+    let row = first_held h old w g.rest.frames f t k g.next.2 in
+    subst (λ xs. IsNext h xs (waiting h) w.local w.frame) (sym (aborts_wait h old t k l ∙ ap (map_list frame_octets) g.next.0))
+    (subst (λ xs. IsNext h [] xs w.local w.frame) (sym f.is) (sym (local_is h old w.local row.0 t row.1) ∙ ap (opened_with h) row.2, ap (λ (w : Waiting). w.frame) (sym f.first_is)))
 
-some_handed : (o : Option Content) → is_some o ≡ true → is_some (option_map handed o) ≡ true
-some_handed None e = e
-some_handed (Some content) e = refl
+some_handed : (h : List Event) (o : Option Content) → is_some o ≡ true → is_some (option_map (handed h) o) ≡ true
+some_handed h None e = e
+some_handed h (Some content) e = refl
 
-pub answer_pick : (h : List Event) (output : Output) (old new : Shelf) → Tied h old → Sound old → Lined h old → PicksTo output old new → IsPicked old.link h output
-answer_pick h (outputs.Posted answer components) old new t k l g = absurd g
-answer_pick h (outputs.Ticked added wanting) old new t k l g = absurd g
-answer_pick h (outputs.Took lo position) old new t k l g = absurd g
-answer_pick h outputs.NoRoom old new t k l g = absurd g
-answer_pick h (outputs.Gave lo position given) old new t k l g = absurd g
-answer_pick h outputs.WentBack old new t k l g = absurd g
+pub answer_pick : (h : List Event) (output : Output) (old new : Shelf) → Tied h old → Sound old → Lined h old → PicksTo output old new → IsPicked h output
 answer_pick h (outputs.Picked local frame) old new t k l g = (
-  t.is_out ∙ ap (option_map handed) g.3.none_out,
-  subst (λ n. IsNext old.link (aborts_waiting h) (waiting h) n frame) g.1 (subst (IsNext old.link (aborts_waiting h) (waiting h) (local_of g.0)) g.2 (next_is h old new g.0 t k l g.3)),
+  t.is_out ∙ ap (option_map (handed h)) g.3.none_out,
+  subst (λ n. IsNext h (aborts_waiting h) (waiting h) n frame) g.1 (subst (IsNext h (aborts_waiting h) (waiting h) (local_of g.0)) g.2 (next_is h old new g.0 t k l g.3)),
 )
-answer_pick h outputs.Busy old new t k l g = ap is_some t.is_out ∙ some_handed old.outbox.out g.0
-answer_pick h outputs.Sent old new t k l g = absurd g
-answer_pick h outputs.Unsent old new t k l g = absurd g
-answer_pick h outputs.Down old new t k l g = absurd g
+answer_pick h outputs.Busy old new t k l g = ap is_some t.is_out ∙ some_handed h old.outbox.out g.0
 answer_pick h outputs.Nothing old new t k l g =
-    (t.is_out ∙ ap (λ (o : Outbox). option_map handed o.out) g.0, aborts_wait h old t k l ∙ ap (λ (o : Outbox). map_list frame_octets o.aborts) g.0, none_waits old.link (waiting h) (l.frames ∙ ap (λ (o : Outbox). o.frames) g.0))
+    (t.is_out ∙ ap (λ (o : Outbox). option_map (handed h) o.out) g.0, aborts_wait h old t k l ∙ ap (λ (o : Outbox). map_list frame_octets o.aborts) g.0, none_waits old.link (waiting h) (l.frames ∙ ap (λ (o : Outbox). o.frames) g.0))
+answer_pick h output old new t k l g = absurd g

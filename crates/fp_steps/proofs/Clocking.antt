@@ -11,22 +11,18 @@ use Rattle.fp_book.specs.Shelf.{Shelf, Sound}
 use Rattle.fp_entry.specs.declared.prepared.Prepared.{Prepared}
 use Rattle.fp_row.specs.declared.row.Row.{Row}
 use Rattle.fp_row.specs.Row.{has_clock, is_admitted, waits as row_waits}
-use Rattle.fp_service.specs.declared.dialogue.Core.{Core}
 use Rattle.fp_service.specs.Dialogue.{next_due}
 use Rattle.fp_tids.specs.Identifiers.{identifier}
 use Rattle.fp_steps.specs.declared.output.Output.TheVariants as outputs
 use Rattle.fp_steps.specs.declared.step.Step.TheVariants as steps
-use Rattle.fp_steps.specs.Accepted.{core_of}
-use Rattle.fp_steps.specs.Births.{births}
 use Rattle.fp_steps.specs.History.{Event}
 use Rattle.fp_steps.specs.Lined.{ByAge, Lined, Sorted}
-use Rattle.fp_steps.specs.Tied.{IsTied, Tied, TiedAt, story}
-use Rattle.fp_steps.specs.Turns.{is_ready, ready_for}
+use Rattle.fp_steps.specs.Tied.{Tied}
+use Rattle.fp_steps.specs.Turns.{due_of, is_ready, ready_for}
 use Rattle.fp_steps.specs.Waiting.{picked}
 use Rattle.fp_steps.proofs.Lining.{Moves, event, still_few}
-use Rattle.fp_steps.proofs.Order.{Joins, due_stays, goes_on, in_queue, not_at_all, not_out_by, queued_own, queued_ready, ready_at, ready_is, sorted_same, stands_not}
-use Rattle.fp_steps.proofs.Queue.{ByDeadline, anew_by, comes_first, cores_ticked, deadline_by, outs_ticked, sorted_filter}
-use Rattle.fp_steps.proofs.Stories.{core_tied}
+use Rattle.fp_steps.proofs.Order.{Joins, due_is, due_stays, goes_on, in_queue, not_at_all, not_out_by, queued_own, queued_ready, ready_at, ready_is, sorted_same, stands_not}
+use Rattle.fp_steps.proofs.Queue.{ByDeadline, anew_by, cores_ticked, deadline_by, outs_ticked, sorted_filter}
 use Rattle.fp_steps.proofs.Ticked.{among, clock_birth}
 
 -- the identifiers of those that are due
@@ -34,16 +30,15 @@ abbrev locals_of : List Due → List ℕ
 locals_of due = map_list (λ (d : Due). d.1) due
 
 -- what is due next of a dialogue is its deadline
-due_next : (h : List Event) (s : Shelf) (moment : ℕ) (d : Due) (c : ℕ) → Tied h s → IsDue s moment d → d.1 ≡ identifier s.link c → next_due (core_of h c) ≡ d.0
+due_next : (h : List Event) (s : Shelf) (moment : ℕ) (d : Due) (c : ℕ) → Tied h s → IsDue s moment d → d.1 ≡ identifier s.link c → due_of h c ≡ d
 due_next h s moment d c t g place =
-    let was : map.get s.rows (identifier s.link c) ≡ Some g.row = ap (map.get s.rows) (sym place) ∙ g.was in
-    let k : IsTied c (story h c) g.row = subst (TiedAt (births h) c (story h c)) was (t.rows c) in
-    ap (λ (x : Core). next_due x) (core_tied c (story h c) g.row k) ∙ deadline_by (is_admitted g.row && not (has_clock g.row)) (next_due g.row.core) d.0 g.deadline
+    let make : ℕ → ℕ → Due = λ next local. (next, local) in
+    due_is h s c g.row t (ap (map.get s.rows) (sym place) ∙ g.was)
+    ∙ ap (λ n. make n (identifier s.link c)) (deadline_by (is_admitted g.row && not (has_clock g.row)) (next_due g.row.core) d.0 g.deadline) ∙ ap (make d.0) (sym place)
 
 two_due : (h : List Event) (s : Shelf) (moment : ℕ) (d e : Due) → Tied h s → IsDue s moment d → IsDue s moment e → ComesFirst d e → ByDeadline s.link h d.1 e.1
 two_due h s moment d e t a b first c x at_c at_x =
-    comes_first s.link (next_due (core_of h c)) (next_due (core_of h x)) d.0 e.0 c x (due_next h s moment d c t a at_c) (due_next h s moment e x t b at_x)
-    (subst (λ n. ComesFirst (d.0, n) (e.0, identifier s.link x)) at_c (subst (λ n. ComesFirst (d.0, d.1) (e.0, n)) at_x first))
+    subst (λ (p : Due). ComesFirst p (due_of h x)) (sym (due_next h s moment d c t a at_c)) (subst (λ (p : Due). ComesFirst d p) (sym (due_next h s moment e x t b at_x)) first)
 
 all_map : (P : ℕ → Type 0) (due : List Due) → AllByRecursion (λ (d : Due). P d.1) due → AllByRecursion P (locals_of due)
 all_map P [] a = tt
@@ -77,7 +72,7 @@ joins_ticked h e old new moment added wanting t k u m l g =
     goes_on e h d (now y d is c)
     ∙ ap suc (not_at_all h d (stands_not (is_ready h d) (count (identifier link d) old.ready) (in_queue h old d t k) (ap (λ n. count n old.ready) (sym is) ∙ anew y c)))
     in
-    let core : (y d : ℕ) → y ≡ identifier link d → 0 < count y join → core_of (e ∷ h) d ≡ core_of h d = λ y d is c.
+    let due : (y d : ℕ) → y ≡ identifier link d → 0 < count y join → due_of (e ∷ h) d ≡ due_of h d = λ y d is c.
     let after = queued_own (e ∷ h) new y u m (in_new y c) in
     let before = ticked_before old new moment added wanting g y after.0 after.1.0 in
     let free : after.0.is_out ≡ false =
@@ -99,8 +94,7 @@ joins_ticked h e old new moment added wanting t k u m l g =
           (λ x y cx cy first c d is_c is_d.
           inr (
             one x c is_c cx ∙ sym (one y d is_d cy),
-            subst (λ (z : Core). ComesFirst (next_due z, c) (next_due (core_of (e ∷ h) d), d)) (sym (core x c is_c cx))
-                (subst (λ (z : Core). ComesFirst (next_due (core_of h c), c) (next_due z, d)) (sym (core y d is_d cy)) (first c d is_c is_d)),
+            subst (λ (z : Due). ComesFirst z (due_of (e ∷ h) d)) (sym (due x c is_c cx)) (subst (λ (z : Due). ComesFirst (due_of h c) z) (sym (due y d is_d cy)) (first c d is_c is_d)),
           ))
           (sorted_filter (ByDeadline link h) (λ local. is_idle (map.get old.rows local)) (locals_of g.due) (due_sorted h old moment g.due t g.in_order g.are_due));
       cores = cores_ticked old new moment added wanting g;

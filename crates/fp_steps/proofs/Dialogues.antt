@@ -2,6 +2,7 @@
 use Rattle.std.proofs.Common.{◌≡◌, ℕ, ◌<◌, ◌≤◌, true, false, eqb, Option, Some, List, ◌∷◌, sym, ◌∙◌, ap, subst, arith, ⊎_elim}
 use Rattle.std.proofs.lemmas.Bool.{cases_Bool, eqb-true, eq-eqb}
 use Rattle.std.specs.FinMap as map
+use Rattle.std.specs.Option.{option_map_or}
 use Rattle.fp_book.proofs.Changes.{by_held, by_local, left_by, not_held}
 use Rattle.fp_book.proofs.Sums.{OneChanges, left_of}
 use Rattle.fp_book.specs.Shelf.{IsOwn, Shelf, Sound}
@@ -9,9 +10,9 @@ use Rattle.fp_row.specs.declared.row.Row.{Row}
 use Rattle.fp_row.specs.Laws.{RowsKeepTheirOrder}
 use Rattle.fp_row.specs.Row.{is_held}
 use Rattle.fp_tids.specs.Identifiers.{identifier}
-use Rattle.fp_steps.specs.Births.{births, named}
+use Rattle.fp_steps.specs.Births.{Beginning, births, local_of, named}
 use Rattle.fp_steps.specs.History.{Event}
-use Rattle.fp_steps.specs.Tied.{IsTied, Story, Tied, TiedAt, story}
+use Rattle.fp_steps.specs.Tied.{IsTied, Story, Tied, TiedAt, beginning_of, story}
 use Rattle.fp_steps.proofs.Stories.{gone_tied}
 
 -- another dialogue has another identifier
@@ -22,17 +23,19 @@ apart link c d ne =
     absurd (let clash : true ≡ false = sym (eq-eqb c d (omega (arith, same))) ∙ ne in cc))
     (λ e. e) (cases_Bool (eqb (identifier link c) (identifier link d)))
 
--- a dialogue that is held has its birth's identifier
-pub own_of : (h : List Event) (s : Shelf) (local : ℕ) (row : Row) → Tied h s → map.get s.rows local ≡ Some row → local ≡ identifier s.link row.birth
-own_of h s local row t was = t.own local row was
-
--- and its birth's story
+-- a dialogue that is held has its birth's story
 pub tied_of : (h : List Event) (s : Shelf) (local : ℕ) (row : Row) → Tied h s → map.get s.rows local ≡ Some row → IsTied row.birth (story h row.birth) row
 tied_of h s local row t was =
     let here : map.get s.rows (identifier s.link row.birth) ≡ Some row = ap (map.get s.rows) (sym (t.own local row was)) ∙ was in
     subst (TiedAt (births h) row.birth (story h row.birth)) here (t.rows row.birth)
 
--- its identifier names it
+-- it was opened with its identifier
+pub local_is : (h : List Event) (s : Shelf) (local : ℕ) (row : Row) → Tied h s → map.get s.rows local ≡ Some row → local_of h row.birth ≡ local
+local_is h s local row t was =
+    let k : IsTied row.birth (story h row.birth) row = tied_of h s local row t was in
+    ap (λ o. option_map_or (λ (b : Beginning). b.local) o 0) k.begins ∙ t.begins row.birth (beginning_of row) k.begins ∙ sym (t.own local row was)
+
+-- that names it
 pub named_of : (h : List Event) (s : Shelf) (local : ℕ) (row : Row) → Tied h s → Sound s → map.get s.rows local ≡ Some row → named h local ≡ Some row.birth
 named_of h s local row t k was =
     let own : IsOwn s local row = k.own local row was in

@@ -1,8 +1,7 @@
 -- The end of a link keeps the tie between a book and its history.
-use Rattle.std.proofs.Common.{◌≡◌, ℕ, ◌<◌, ◌≤◌, Bool, true, false, cond, ◌&&◌, Option, Some, None, List, [], ◌∷◌, ◌++◌, refl, sym, ◌∙◌, ap, subst, arith, append-nil, add-zero, ⊎_elim}
+use Rattle.std.proofs.Common.{◌≡◌, ℕ, ◌<◌, ◌≤◌, Bool, true, false, cond, ◌&&◌, Option, Some, None, List, [], ◌∷◌, ◌++◌, refl, sym, ◌∙◌, ap, subst, arith, append-nil, add-zero}
 use Rattle.std.specs.Prelude.{nat_le, nat_lt}
-use Rattle.std.proofs.lemmas.Bool.{and_right, lt-leb}
-use Rattle.std.proofs.lemmas.Bool.Decides.{leb_tells}
+use Rattle.std.proofs.lemmas.Bool.{and_right, le-leb, lt-leb, true≢false}
 use Rattle.std.specs.FinMap as map
 use Rattle.fp_book.proofs.Changes.{left_by}
 use Rattle.fp_book.specs.declared.line.LoggedStep.{LoggedStep}
@@ -97,14 +96,8 @@ closed_birth sending (Some before) row c =
     let same : c.after ≡ row = (left_by (is_held c.after) c.after row (sym c.left_is)).1 in
     (before, (refl, ap (λ (r : Row). r.birth) (sym same) ∙ c.ends.same.birth))
 
-true≢false : true ≡ false → ⊥
-true≢false e = cc
-
-at_most : (a b : ℕ) → a ≤ b → nat_le a b ≡ true
-at_most a b le = ⊎_elim (λ h. h.0) (λ h. absurd (let more : b < a = h.1 in omega (arith, le, more))) (leb_tells a b)
-
 born_by : (h : List Event) (s : Shelf) (local : ℕ) (row : Row) → Tied h s → Sound s → map.get s.rows local ≡ Some row → nat_le row.birth (births h) ≡ true
-born_by h s local row t k was = let last : row.birth ≤ s.births = (k.own local row was).born.1 in at_most row.birth (births h) (omega (arith, last, t.births_are))
+born_by h s local row t k was = let last : row.birth ≤ s.births = (k.own local row was).born.1 in le-leb row.birth (births h) (omega (arith, last, t.births_are))
 
 -- what an event tells that ends all dialogues
 abbrev EndsAll : List Event → Event → Type 0
@@ -151,10 +144,8 @@ Tied-down law h step came old new t k g =
     let next : Next h e old then =
     record {
       link_is = refl;
-      births_stay = refl;
+      opens_none = refl;
       born = refl;
-      names_stay = λ local. refl;
-      beginnings_stay = λ d. refl;
       entries = add-zero (entry_count h) ∙ t.entries_are;
       rows = rows_closed law h e old new old.outbox.out line.Down t k g told;
       own = own_closed h old new old.outbox.out line.Down t g;
@@ -191,10 +182,8 @@ Tied-unsends law h step came old new parcel t k u =
     let next : Next h e old then =
     record {
       link_is = refl;
-      births_stay = refl;
+      opens_none = refl;
       born = refl;
-      names_stay = λ local. refl;
-      beginnings_stay = λ d. refl;
       entries = add-zero (entry_count h) ∙ t.entries_are;
       rows = rows_closed law h e old new None logs t k g told;
       own = own_closed h old new None logs t g;

@@ -2,8 +2,7 @@
 -- others where a request is accepted for sending, and those of a dialogue go where it is ended.
 use Rattle.std.proofs.Common.{◌≡◌, ℕ, ◌<◌, ◌≤◌, ◌+◌, Bool, true, false, cond, eqb, ◌&&◌, List, [], ◌∷◌, ◌++◌, refl, sym, ◌∙◌, ap, subst, arith, suc, add-zero, ⊎_elim}
 use Rattle.std.specs.Prelude.{⊤, filter, nat_le}
-use Rattle.std.proofs.lemmas.Bool.{and_right, cases_Bool, eqb-true, eq-eqb, lt-leb}
-use Rattle.std.proofs.lemmas.Bool.Decides.{leb_tells}
+use Rattle.std.proofs.lemmas.Bool.{and_parts, and_right, cases_Bool, eq-eqb, eqb-true, le-leb, leb-false, leb-true, lt-leb}
 use Rattle.fp_book.proofs.Queue.{eqb_swap}
 use Rattle.fp_steps.specs.Waiting.{QueuedFrame}
 
@@ -67,19 +66,6 @@ numbered-snoc f (b ∷ xs) a n is = (
 abbrev pub waits_by : (ℕ → Bool) → (ℕ → ℕ) → QueuedFrame → Bool
 waits_by sends k a = sends a.dialogue && nat_le (k a.dialogue) a.place
 
-at_most : (a b : ℕ) → a ≤ b → nat_le a b ≡ true
-at_most a b le = ⊎_elim (λ h. h.0) (λ h. absurd (let more : b < a = h.1 in omega (arith, le, more))) (leb_tells a b)
-
-is_most : (a b : ℕ) → nat_le a b ≡ true → a ≤ b
-is_most a b e = ⊎_elim (λ h. h.1) (λ h. absurd (let clash : true ≡ false = sym e ∙ h.0 in cc)) (leb_tells a b)
-
-is_less : (a b : ℕ) → nat_le a b ≡ false → b < a
-is_less a b e = ⊎_elim (λ h. absurd (let clash : true ≡ false = sym h.0 ∙ e in cc)) (λ h. h.1) (leb_tells a b)
-
-right_of : (a b : Bool) → (a && b) ≡ true → b ≡ true
-right_of true b e = e
-right_of false b e = absurd (cc)
-
 filter_both : (p q : QueuedFrame → Bool) (a : QueuedFrame) (xs : List QueuedFrame) (b : Bool) → p a ≡ b → q a ≡ b → filter p xs ≡ filter q xs → filter p (a ∷ xs) ≡ filter q (a ∷ xs)
 filter_both p q a xs b x y e =
     ap (λ b. cond b (a ∷ filter p xs) (filter p xs)) (x ∙ sym y) ∙ ap (λ r. cond (q a) (a ∷ r) r) e
@@ -97,8 +83,8 @@ stay_all sends k d g (a ∷ xs) n lt =
     let same : c ≡ d = eqb-true c d e in
     let kc : k c ≡ k d = ap k same in
     let gc : g c ≡ g d = ap g same in
-    let one : nat_le (k c) a.place ≡ true = at_most (k c) a.place (omega (arith, place, kc, gc, lt)) in
-    let two : nat_le (bump d k c) a.place ≡ true = at_most (bump d k c) a.place (omega (arith, bump_own d c k e, place, kc, gc, lt)) in
+    let one : nat_le (k c) a.place ≡ true = le-leb (k c) a.place (omega (arith, place, kc, gc, lt)) in
+    let two : nat_le (bump d k c) a.place ≡ true = le-leb (bump d k c) a.place (omega (arith, bump_own d c k e, place, kc, gc, lt)) in
     filter_both (waits_by sends (bump d k)) (waits_by sends k) a xs (sends c && true) (ap (λ b. sends c && b) two) (ap (λ b. sends c && b) one) rest)
     (λ e. filter_both (waits_by sends (bump d k)) (waits_by sends k) a xs (waits_by sends k a) (ap (λ n. sends c && nat_le n a.place) (bump_other d c k e)) refl rest)
     (cases_Bool (eqb c d))
@@ -121,7 +107,7 @@ first_here : (sends : ℕ → Bool) (k f : ℕ → ℕ) (a : QueuedFrame) (xs : 
 first_here sends k f a xs n few w =
     let d = a.dialogue in
     let place : a.place ≡ f d = n.0 in
-    let le : k d ≤ a.place = is_most (k d) a.place (right_of (sends d) (nat_le (k d) a.place) w) in
+    let le : k d ≤ a.place = leb-true (k d) a.place (and_parts (sends d) (nat_le (k d) a.place) w).1 in
     let alive : sends d ≡ true = left_of (sends d) (nat_le (k d) a.place) w in
     let most : f d ≤ k d = few alive in
     let own : eqb d d ≡ true = eq-eqb d d refl in
@@ -144,7 +130,7 @@ still_few sends k f a place few w c alive =
     (λ e.
     let same : c ≡ a.dialogue = eqb-true c a.dialogue e in
     let lives : sends a.dialogue ≡ true = ap sends (sym same) ∙ alive in
-    let less : a.place < k a.dialogue = is_less (k a.dialogue) a.place (ap (λ b. b && nat_le (k a.dialogue) a.place) (sym lives) ∙ w) in
+    let less : a.place < k a.dialogue = leb-false (k a.dialogue) a.place (ap (λ b. b && nat_le (k a.dialogue) a.place) (sym lives) ∙ w) in
     let kc : k c ≡ k a.dialogue = ap k same in
     let fc : f c ≡ f a.dialogue = ap f same in
     omega (arith, bump_own a.dialogue c f e, less, place, kc, fc))
@@ -156,7 +142,7 @@ stays_gone sends k d a w =
     let c = a.dialogue in
     ⊎_elim
     (λ alive.
-    let less : a.place < k c = is_less (k c) a.place (ap (λ b. b && nat_le (k c) a.place) (sym alive) ∙ w) in
+    let less : a.place < k c = leb-false (k c) a.place (ap (λ b. b && nat_le (k c) a.place) (sym alive) ∙ w) in
     and_right (sends c) (nat_le (bump d k c) a.place) (lt-leb (bump d k c) a.place (omega (arith, less, bump_more d c k))))
     (λ dead. ap (λ b. b && nat_le (bump d k c) a.place) dead)
     (cases_Bool (sends c))

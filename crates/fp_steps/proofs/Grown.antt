@@ -5,6 +5,7 @@ use Rattle.std.specs.Option.{option_and_then, option_map_or}
 use Rattle.std.proofs.lemmas.Bool.{cases_Bool, eq-eqb, eqb-true, eqb-false, ne_eqb}
 use Rattle.std.proofs.lemmas.Bool.Decides.{leb_tells}
 use Rattle.std.specs.FinMap as map
+use Rattle.std.proofs.lemmas.Option.{same_Some}
 use Rattle.fp_book.proofs.Changes.{by_local}
 use Rattle.fp_book.proofs.Sums.{OneChanges, inserted, kept, left_of}
 use Rattle.fp_book.specs.declared.answers.Posted.{Posted}
@@ -37,11 +38,15 @@ use Rattle.fp_steps.specs.Sending.{queued, sent}
 use Rattle.fp_steps.specs.Tied.{IsTied, Story, Tied, TiedAt, beginning_of, core_in, story, untold}
 use Rattle.fp_steps.proofs.Dialogues.{apart, left_birth, left_tied, named_of, own_one, rows_one, tied_of}
 use Rattle.fp_steps.proofs.Downs.{tied_ends, with_end}
-use Rattle.fp_steps.proofs.Nexts.{Next, Tied-next}
+use Rattle.fp_steps.proofs.Nexts.{Next, Tied-next, handed_still}
 use Rattle.fp_steps.proofs.Refused.{names_taker, number_in, own_named_takes, posts, takes_by}
-use Rattle.fp_steps.proofs.Served.{aborts_stay, later_other, the_same}
+use Rattle.fp_steps.proofs.Served.{aborts_stay, later_other}
 use Rattle.fp_steps.proofs.Stories.{for_other, for_own, is_other, same_beginning, same_story, stays}
+use Rattle.fp_steps.proofs.Parcels.{none_at}
 use Rattle.fp_book.proofs.Tells.{names_by}
+use Rattle.fp_book.specs.declared.parcel.Content.{Content}
+use Rattle.fp_book.specs.declared.parcel.Content.TheVariants as contents
+use Rattle.fp_book.specs.Parcel.{local_of}
 
 -- the story of a dialogue with more entries
 abbrev pub with_more : Story → List Entry → Story
@@ -110,13 +115,11 @@ Tied-extends law h step came answer components old new local t k names no_end g 
     let next : Next h e old then =
     record {
       link_is = refl;
-      births_stay = refl;
+      opens_none = refl;
       born = refl;
-      names_stay = λ local. refl;
-      beginnings_stay = λ d. refl;
       entries = ap (λ n. n + length (entries_in came)) t.entries_are;
       rows = rows_one h e old then local g.before (Some g.after) t one (subst (λ s. IsTied b s g.after) (sym told) tied) others;
-      own = own_one h old then local g.before (Some g.after) t one (λ row is. ap (λ (r : Row). r.birth) (sym (the_same g.after row is)) ∙ g.extends.same.birth);
+      own = own_one h old then local g.before (Some g.after) t one (λ row is. ap (λ (r : Row). r.birth) (sym (same_Some g.after row is)) ∙ g.extends.same.birth);
       later = λ d past. others d (later_other d b (births h) past (let last : b ≤ old.births = (k.own local g.before g.was).born.1 in omega (arith, last, t.births_are)));
       is_out = t.is_out;
       aborts = aborts_stay h e old then t.aborts_are refl refl refl refl refl;
@@ -161,10 +164,8 @@ Tied-ends law h step came answer components old new local by t k names is_end by
     let next : Next h e old then =
     record {
       link_is = refl;
-      births_stay = refl;
+      opens_none = refl;
       born = refl;
-      names_stay = λ local. refl;
-      beginnings_stay = λ d. refl;
       entries = ap (λ n. n + length (entries_in came)) t.entries_are;
       rows = rows_one h e old then local g.before (left_of g.after) t one
           (subst (λ s. TiedAt (births h) b s (left_of g.after)) (sym told) (left_tied law (births h) b (with_end (with_more (story h b) (entries_in came)) (Some ByPeer)) g.after tied)) others;
@@ -197,14 +198,20 @@ at_more d n t None ne k = record {
 none_taken : (xs : List (List ℕ)) (n : ℕ) → n ≡ 0 → take n xs ≡ []
 none_taken xs n e = ap (λ n. take n xs) e
 
-the_number : (a b : ℕ) → Some a ≡ Some b → a ≡ b
-the_number a b e = cc
-
 the_beginning : (a b : Beginning) → Some a ≡ Some b → a ≡ b
 the_beginning a b e = cc
 
 below_more : (d n : ℕ) → d ≤ n + 1 → (d ≡ n + 1 → ⊥) → d ≤ n
 below_more d n le other = ⊎_elim (λ h. h.1) (λ h. absurd (let lt : n < d = h.1 in other (omega (arith, le, lt)))) (leb_tells d n)
+
+-- what is out isn't of the dialogue that is opened
+none_of_new : (h : List Event) (s : Shelf) (l : ℕ) (content : Content) → Tied h s → Sound s → l ≡ identifier s.link (births h + 1) → s.outbox.out ≡ Some content → eqb (local_of content) l ≡ false
+none_of_new h s l (contents.Abort frame) t k place is = ne_eqb 0 l (λ same. omega (arith, same, place))
+none_of_new h s l (contents.Frame w) t k place is =
+    let row = none_at s w (map.get s.rows w.local) k is refl in
+    let own : w.local ≡ identifier s.link row.0.birth = t.own w.local row.0 row.1 in
+    let last : row.0.birth ≤ s.births = (k.own w.local row.0 row.1).born.1 in
+    ne_eqb w.local l (λ same. omega (arith, same, place, own, last, t.births_are))
 
 -- a dialogue is opened
 pub Tied-opens : RowsKeepTheirOrder → (h : List Event) (step : Step) (came : Prepared) (answer : Posted) (components : ℕ) (old new : Shelf) (peer : Tid) → Tied h old → Sound old
@@ -277,13 +284,13 @@ Tied-opens law h step came answer components old new peer t k orig g =
           (subst (TiedAt b d (story h d)) (sym there) (at_more d n (story h d) (map.get old.rows (identifier old.link d)) ne (t.rows d))));
       own = λ local row was.
           by_local local l (λ local. map.get then.rows local ≡ Some row → local ≡ identifier old.link row.birth)
-          (λ is. place ∙ ap (identifier old.link) (sym (ap (λ (r : Row). r.birth) (sym (the_same g.after row (sym one.there ∙ is))) ∙ born)))
+          (λ is. place ∙ ap (identifier old.link) (sym (ap (λ (r : Row). r.birth) (sym (same_Some g.after row (sym one.there ∙ is))) ∙ born)))
           (λ ne is. t.own local row (sym (one.others local ne) ∙ is))
           was;
       names = λ local d is.
           by_local local l (λ local. named (e ∷ h) local ≡ Some d → (local ≡ identifier old.link d) × (0 < d) × (d ≤ b))
           (λ is.
-          let same : b ≡ d = the_number b d (ap (λ y. cond y (Some b) (named h l)) (sym (eq-eqb l l refl)) ∙ is) in
+          let same : b ≡ d = same_Some b d (ap (λ y. cond y (Some b) (named h l)) (sym (eq-eqb l l refl)) ∙ is) in
           (place ∙ ap (identifier old.link) same, omega (arith, same), omega (arith, same)))
           (λ ne is.
           let was : (local ≡ identifier old.link d) × (0 < d) × (d ≤ n) = t.names local d (ap (λ y. cond y (Some b) (named h local)) (sym ne) ∙ is) in
@@ -303,7 +310,7 @@ Tied-opens law h step came answer components old new peer t k orig g =
           (λ ne is. t.begins d start_d (ap (λ y. cond y (Some start) (beginning h d)) (sym ne) ∙ is))
           is;
       later = λ d past. others d (ne_eqb d b (λ same. omega (arith, past, same))) ∙ t.later d (omega (arith, past));
-      is_out = t.is_out;
+      is_out = t.is_out ∙ handed_still h e old.outbox.out (λ content is. ap (λ y. cond y (Some b) (named h (local_of content))) (none_of_new h old l content t k place is));
       aborts_are = aborts_stay h e old then t.aborts_are refl refl refl refl refl;
     }
     in

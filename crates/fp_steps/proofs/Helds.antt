@@ -27,11 +27,10 @@ use Rattle.fp_steps.specs.Tied.{Tied, TiedAt, handed, story}
 use Rattle.fp_steps.specs.Turns.{turn_out, waits}
 use Rattle.fp_steps.specs.Waiting.{QueuedFrame, frame_is_out, has_frame, held, how_many, is_held, waiting}
 use Rattle.fp_steps.proofs.Answered.{born}
-use Rattle.fp_steps.proofs.Asked.{none_at}
 use Rattle.fp_steps.proofs.Births.{how_many_is, sum_births, sum_to_same}
 use Rattle.fp_steps.specs.Totals.{sum_to}
 use Rattle.fp_steps.proofs.Dialogues.{apart, named_of}
-use Rattle.fp_steps.proofs.Parcels.{none_named}
+use Rattle.fp_steps.proofs.Parcels.{none_at, none_named}
 use Rattle.fp_steps.proofs.Refused.{admits_is}
 use Rattle.fp_steps.proofs.Stories.{is_other, is_own, waits_tied}
 
@@ -62,13 +61,13 @@ any_none link d (a ∷ xs) e =
 
 -- or is out to be sent
 
-abbrev out_of : List Event → ℕ → Option Handed → Bool
-out_of h d o = option_map_or (λ (handed : Handed). is_one (named h handed.local) d) o false
+abbrev out_of : ℕ → Option Handed → Bool
+out_of d o = option_map_or (λ (handed : Handed). is_one handed.dialogue d) o false
 
 -- both ways
 record OutIs (h : List Event) (link d : ℕ) (o : Option Content) : Type 0 where
-  none : frame_out (identifier link d) o ≡ [] → out_of h d (option_map handed o) ≡ false
-  no : out_of h d (option_map handed o) ≡ false → frame_out (identifier link d) o ≡ []
+  none : frame_out (identifier link d) o ≡ [] → out_of d (option_map (handed h) o) ≡ false
+  no : out_of d (option_map (handed h) o) ≡ false → frame_out (identifier link d) o ≡ []
 
 out_own : (h : List Event) (link d b : ℕ) (w : Waiting) (x : Bool) → eqb b d ≡ x → w.local ≡ identifier link b → named h w.local ≡ Some b → OutIs h link d (Some (contents.Frame w))
 out_own h link d b w true e place name =
@@ -101,7 +100,7 @@ gone_at h s d t k l was =
     let lo = identifier s.link d in
     let parts = both_none (frame_out lo s.outbox.out) (frames_for lo s.outbox.frames) (frames_at s lo None k was) in
     let o : OutIs h s.link d s.outbox.out = out_is h s d s.outbox.out t k refl in
-    (none_any s.link d (waiting h) (ap (frames_for lo) l.frames ∙ parts.1), ap (out_of h d) t.is_out ∙ o.none parts.0)
+    (none_any s.link d (waiting h) (ap (frames_for lo) l.frames ∙ parts.1), ap (out_of d) t.is_out ∙ o.none parts.0)
 
 -- of one that isn't, a frame that is kept and wasn't sent waits, or is out
 left_at : RowsKeepTheirOrder → (h : List Event) (s : Shelf) (d : ℕ) (row : Row) → Tied h s → Sound s → Lined h s → map.get s.rows (identifier s.link d) ≡ Some row → nat_lt row.sent row.kept ≡ true → (has_frame h d || frame_is_out h d) ≡ true
@@ -112,7 +111,7 @@ left_at law h s d row t k l was less =
     ⊎_elim (λ e. e)
     (λ e.
     let parts = or_parts (has_frame h d) (frame_is_out h d) e in
-    let none_out : frame_out lo s.outbox.out ≡ [] = o.no (ap (out_of h d) (sym t.is_out) ∙ parts.1) in
+    let none_out : frame_out lo s.outbox.out ≡ [] = o.no (ap (out_of d) (sym t.is_out) ∙ parts.1) in
     let none_wait : frames_for lo s.outbox.frames ≡ [] = ap (frames_for lo) (sym l.frames) ∙ any_none s.link d (waiting h) parts.0 in
     let none : unsent_for lo s.outbox ≡ [] = ap (λ r. r ++ frames_for lo s.outbox.frames) none_out ∙ none_wait in
     let all : sent_of row ≡ kept_of row = sym (append-nil (sent_of row)) ∙ ap (λ r. sent_of row ++ r) (sym none) ∙ frames_at s lo (Some row) k was in

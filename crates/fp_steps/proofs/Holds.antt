@@ -1,12 +1,12 @@
 -- The tokens that a run keeps are those that its book handed out.
-use Rattle.std.proofs.Common.{◌≡◌, ℕ, ◌<◌, ◌≤◌, ◌+◌, Bool, true, false, not, ◌&&◌, cond, eqb, nat_lt, Option, Some, None, List, [], ◌∷◌, ◌++◌, length, take, drop, slice_index_or, refl, sym, ◌∙◌, ap, subst, arith, suc, ⊎_elim, append-nil, add-one, inl, inr}
+use Rattle.std.proofs.Common.{◌≡◌, ℕ, ◌<◌, ◌≤◌, ◌+◌, Bool, true, false, not, cond, eqb, nat_lt, Option, Some, None, List, [], ◌∷◌, ◌++◌, length, take, drop, slice_index_or, refl, sym, ◌∙◌, ap, subst, arith, suc, ⊎_elim, append-nil, add-one, inl, inr}
 use Rattle.std.specs.Prelude.{filter, option_to_list, option_map, remove, slice_get}
 use Rattle.std.specs.List.{position, position_or_len}
 use Rattle.std.specs.FinMap as map
 use Rattle.std.proofs.lemmas.Option.{cond_some}
 use Rattle.std.proofs.lemmas.List.Elements.{filter-append}
 use Rattle.std.proofs.lemmas.List.Sums.{split_at_first, passes_at_first}
-use Rattle.std.proofs.lemmas.Bool.{cases_Bool, eqb-true, eq-eqb, ltb-true, ltb-false}
+use Rattle.std.proofs.lemmas.Bool.{and_parts, cases_Bool, eq-eqb, eqb-true, ltb-false, ltb-true, not-true}
 use Rattle.fp_book.proofs.Changes.{by_held, by_local, not_held}
 use Rattle.fp_book.proofs.Queue.{eqb_swap}
 use Rattle.fp_book.proofs.Sums.{OneChanges, inserted, kept, left_of}
@@ -31,7 +31,7 @@ use Rattle.fp_q773.specs.declared.tid.Tid.{Tid}
 use Rattle.fp_row.specs.declared.done.Done.{Done}
 use Rattle.fp_row.specs.declared.row.Row.{Row}
 use Rattle.fp_row.specs.declared.turn.Turn.{Turn}
-use Rattle.fp_row.specs.Row.{is_ready, turn_out, waits}
+use Rattle.fp_row.specs.Row.{turn_out, waits}
 use Rattle.fp_row.specs.Row as row
 use Rattle.fp_tids.specs.Identifiers.{identifier}
 use Rattle.fp_steps.specs.Tokens.{Holds, ParcelIs, turns_at}
@@ -218,15 +218,11 @@ none_out turns s k = k.parcel_is
 
 -- turns
 
-not_out_by : (out waits : Bool) → (not out && waits) ≡ true → out ≡ false
-not_out_by true waits e = absurd (cc)
-not_out_by false waits e = refl
-
 pub holds_takes : (turns : List Turn) (parcel : Option Parcel) (old new : Shelf) (turn : Turn) → TakesTurn old turn new → Holds turns parcel old → Holds (turns ++ turn ∷ []) parcel new
 holds_takes turns parcel old new turn g k =
     let l = turn.local in
     let one : OneChanges old.rows (map.insert old.rows l g.after) l (Some g.before) (Some g.after) = inserted old.rows l (Some g.before) g.after g.was in
-    let free : turn_out g.before ≡ None = no_turn g.before (not_out_by g.before.is_out (waits g.before) g.takes.was_ready) in
+    let free : turn_out g.before ≡ None = no_turn g.before (not-true g.before.is_out (and_parts (not g.before.is_out) (waits g.before) g.takes.was_ready).0) in
     let rows_are : (d : ℕ) → turn_of (map.get new.rows d) ≡ turn_of (map.get (map.insert old.rows l g.after) d) = λ d. ap (λ (s : Shelf). turn_of (map.get s.rows d)) g.new_is in
     record {
       turns_are = λ d.

@@ -71,9 +71,9 @@ served_all h d k none live =
 -- FRAMES
 
 -- nothing is out to be sent
-none_handed : (o : Option Content) → option_map handed o ≡ None → o ≡ None
-none_handed None e = refl
-none_handed (Some content) e = absurd (cc)
+none_handed : (h : List Event) (o : Option Content) → option_map (handed h) o ≡ None → o ≡ None
+none_handed h None e = refl
+none_handed h (Some content) e = absurd (cc)
 
 not_ended : (ended : Option Ending) → is_some ended ≡ false → ended ≡ None
 not_ended None e = refl
@@ -100,9 +100,9 @@ aborts_all h s t k l up none_out none_waits =
 
 -- ALL OF IT
 
-pub idle_is_done : RowsKeepTheirOrder → (h : List Event) (s : Shelf) (link : ℕ) → Tied h s → Lined h s → Sound s → Headline h → IdleIsDone link h
-idle_is_done law h s link t l k head idle =
-    let out_none : s.outbox.out ≡ None = none_handed s.outbox.out (sym t.is_out ∙ idle.no_pick.0) in
+pub idle_is_done : RowsKeepTheirOrder → (h : List Event) (s : Shelf) → Tied h s → Lined h s → Sound s → Headline h → IdleIsDone h
+idle_is_done law h s t l k head idle =
+    let out_none : s.outbox.out ≡ None = none_handed h s.outbox.out (sym t.is_out ∙ idle.no_pick.0) in
     let frames_none : s.outbox.frames ≡ [] = sym l.frames ∙ ap (map_list (as_waiting s.link)) idle.no_pick.2 in
     record {
       all_served = λ d. served_all h d head (ap (λ b. not b && waits h d) (sym (idle.no_turn d)) ∙ idle.no_take d);
@@ -111,5 +111,5 @@ idle_is_done law h s link t l k head idle =
     }
 
 -- and of a link on which nothing came yet
-pub idle_none : (link : ℕ) → IdleIsDone link []
-idle_none link idle = record { all_served = λ d live. refl; all_sent = λ d live. refl; all_aborts = refl }
+pub idle_none : IdleIsDone []
+idle_none idle = record { all_served = λ d live. refl; all_sent = λ d live. refl; all_aborts = refl }

@@ -1,20 +1,19 @@
 -- Lines that are taken out of the log.
-use Rattle.std.proofs.Common.{◌≡◌, ℕ, ◌<◌, true, false, is_some, Option, Some, None, List, [], ◌∷◌, length, inl, inr, not, ◌&&◌, refl, sym, ◌∙◌, ap, arith}
+use Rattle.std.proofs.Common.{◌≡◌, ℕ, ◌<◌, true, false, is_some, Option, Some, None, List, [], ◌∷◌, length, inl, inr, not, ◌&&◌, sym, ◌∙◌, ap, arith}
 use Rattle.fp_book.proofs.Tells.{followed_log}
 use Rattle.std.specs.Prelude.{IfOk, Result, Ok, Err, min}
 use Rattle.fp_book.specs.declared.answers.Posted.{Posted}
-use Rattle.fp_book.specs.declared.answers.Posted.TheVariants.{Opened, Accepted, Aborted, Ended, Discarded}
+use Rattle.fp_book.specs.declared.answers.Posted.TheVariants.{Opened, Accepted}
 use Rattle.fp_entry.specs.Prepared.{components_of}
 use Rattle.fp_book.specs.declared.line.Line.{Line}
 use Rattle.fp_book.specs.declared.line.LoggedStep.{LoggedStep}
 use Rattle.fp_book.specs.Calls.{Follows, Posts as BookPosts, posted_line}
-use Rattle.fp_book.specs.Shelf.{Shelf, Sound}
+use Rattle.fp_book.specs.Shelf.{Shelf}
 use Rattle.fp_book.specs.Verdict.{verdict}
 use Rattle.fp_entry.specs.declared.prepared.Prepared.{Prepared}
 use Rattle.fp_entry.specs.declared.prepared.Prepared.TheVariants as prepared
-use Rattle.fp_steps.specs.declared.output.Output.TheVariants as outputs
 use Rattle.fp_book.specs.Lines.{is_lost}
-use Rattle.fp_steps.specs.Makes.{Drained, Posts, TakesLine, components_by, components_if, is_lost_step, tells_lost}
+use Rattle.fp_steps.specs.Makes.{TakesLine, components_by, components_if, is_lost_step, tells_lost}
 
 -- one was taken
 pub record TookOne (old new : Shelf) : Type 0 where
@@ -67,29 +66,11 @@ posted_by old mid new (prepared.Refused arrival fault) answer line (inr g) taken
     absurd (let lost : tells_lost line ≡ true = told_by mid line new (posted_line (prepared.Lost arrival) answer) taken (followed_log (record old { log = [] }) (prepared.Lost arrival) answer mid g.1) in
     let clash : true ≡ false = sym (ap (λ b. b && true) lost) ∙ none in cc)
 
--- a message was posted, and its line taken out of the log
-pub posted : (old mid new : Shelf) (came : Prepared) (answer : Posted) (components : ℕ) (line : Option Line) → Sound (record old { log = [] }) → BookPosts (record old { log = [] }) came answer mid → TakesLine mid line new
-    → (tells_lost line && not (is_lost came)) ≡ false → components ≡ components_by answer came → Drained (Posts (Some came) (outputs.Posted answer components)) old new
-posted old mid new came answer components line sound g taken none components_are = record {
-  before = [];
-  sound = sound;
-  after = mid;
-  makes = (components_are, posted_by old mid new came answer line g taken none);
-  left = new.log;
-  new_is = left_is mid line new taken;
-}
-
 -- the components of a message that are accepted
 pub components_are : (answer : Posted) (came : Prepared) (all given accepted : ℕ) → accepted ≡ components_if answer given → given ≡ min (components_of came) 4294967295 → accepted ≡ components_by answer came
 components_are (Opened local) came all given accepted is e = is ∙ e
 components_are (Accepted count) came all given accepted is e = is ∙ e
-components_are (Aborted cause) came all given accepted is e = is
-components_are Ended came all given accepted is e = is
-components_are Discarded came all given accepted is e = is
-
--- nothing is taken out of the log
-pub undrained : (does : Shelf → Shelf → Type 0) (old new : Shelf) → Sound old → does old new → Drained does old new
-undrained does old new sound makes = record { before = old.log; sound = sound; after = new; makes = makes; left = new.log; new_is = refl }
+components_are answer came all given accepted is e = is
 
 -- what holds of a value holds of it with more
 pub if_ok : {T E : Type 0} → (P Q : T → Type 0) (r : Result T E) → ((x : T) → P x → Q x) → IfOk r P → IfOk r Q

@@ -1,10 +1,10 @@
 -- Each step keeps what waits in a book as its history tells.
-use Rattle.std.proofs.Common.{◌≡◌, ℕ, ◌<◌, ◌≤◌, ◌+◌, Bool, true, false, cond, eqb, not, ◌&&◌, ◌||◌, Option, Some, None, List, [], ◌∷◌, ◌++◌, length, is_some, refl, sym, ◌∙◌, ap, subst, arith, suc, length-append, ⊎_elim}
+use Rattle.std.proofs.Common.{◌≡◌, ℕ, ◌<◌, ◌≤◌, ◌+◌, true, false, cond, eqb, not, ◌&&◌, ◌||◌, Option, Some, None, List, [], ◌∷◌, ◌++◌, length, is_some, refl, sym, ◌∙◌, ap, subst, arith, suc, length-append, ⊎_elim}
 use Rattle.std.specs.Prelude.{filter, map as map_list, nat_le}
-use Rattle.std.proofs.lemmas.Bool.{cases_Bool, eqb-true}
+use Rattle.std.proofs.lemmas.Bool.{cases_Bool, eqb-true, false_from_ne_true, le-leb}
+use Rattle.std.specs.FinMap as map
 use Rattle.std.proofs.lemmas.List.{map-append}
 use Rattle.std.proofs.lemmas.List.Elements.{filter-append}
-use Rattle.std.proofs.lemmas.Bool.Decides.{leb_tells}
 use Rattle.fp_book.proofs.Changes.{count}
 use Rattle.fp_book.proofs.Queue.{count-cons}
 use Rattle.fp_book.proofs.Sums.{OneChanges, inserted, kept, left_of}
@@ -26,6 +26,7 @@ use Rattle.fp_row.specs.declared.requested.Requested.TheVariants as requested
 use Rattle.fp_row.specs.declared.turn.Turn.{Turn}
 use Rattle.fp_row.specs.Calls.{frames_in, requested_of}
 use Rattle.fp_row.specs.Row.{is_ready as row_is_ready}
+use Rattle.fp_row.specs.declared.row.Row.{Row}
 use Rattle.fp_tids.specs.Identifiers.{identifier}
 use Rattle.fp_steps.specs.declared.output.Output.{Output}
 use Rattle.fp_steps.specs.declared.output.Output.TheVariants as outputs
@@ -43,7 +44,7 @@ use Rattle.fp_steps.proofs.Numbers.{counted, made_of, numbered, zero_of}
 use Rattle.fp_steps.proofs.Order.{CoresStay, Joins, Order-next}
 use Rattle.fp_steps.proofs.Parcels.{held, none_named}
 use Rattle.fp_steps.proofs.Queue.{cores_closed, cores_one, cores_same, joins_none, joins_one, joins_same, left_core, some_core}
-use Rattle.fp_steps.proofs.Served.{queued_asked}
+use Rattle.fp_steps.proofs.Served.{out_by, queued_asked}
 
 -- what a step owes
 pub record Moves (h : List Event) (e : Event) (old new : Shelf) : Type 0 where
@@ -123,13 +124,6 @@ moves_back h step came old new turn l m g =
 
 -- a turn that was served comes back
 
-is_most : (a b : ℕ) → a ≤ b → nat_le a b ≡ true
-is_most a b le = ⊎_elim (λ h. h.0) (λ h. absurd (let more : b < a = h.1 in omega (arith, le, more))) (leb_tells a b)
-
-out_by : (b : Bool) (o : Option Turn) (turn : Turn) → cond b o None ≡ Some turn → b ≡ true
-out_by true o turn e = refl
-out_by false o turn e = absurd (cc)
-
 asked_live : (ended : Option Ending) (frame : Option (List ℕ)) (f : List ℕ) → requested_of ended frame ≡ requested.Frame f → ended ≡ None
 asked_live None frame f e = refl
 asked_live (Some ending) None f e = absurd (cc)
@@ -137,10 +131,6 @@ asked_live (Some ending) (Some frame) f e = absurd (cc)
 
 not_closed : (ended : Option Ending) → ended ≡ None → ended ≡ Some Closed → ⊥
 not_closed ended none closed = let clash : None ≡ Some Closed = sym none ∙ closed in cc
-
-up_by : (b : Bool) → (b ≡ true → ⊥) → b ≡ false
-up_by true bad = absurd (bad refl)
-up_by false bad = refl
 
 one_more : (h : List Event) (link l d : ℕ) (asked : Requested) → l ≡ identifier link d → ((frame : List ℕ) → asked ≡ requested.Frame frame → is_waiting h (made_of h d frame) ≡ true)
     → map_list (as_waiting link) (filter (is_waiting h) (map_list (made_of h d) (frames_in asked))) ≡ waiting_in l asked
@@ -167,10 +157,10 @@ moves_gave h step came old new done given l t k m g =
     let waits : (frame : List ℕ) → g.asked ≡ requested.Frame frame → is_waiting h (made_of h b frame) ≡ true = λ frame is.
     let live : g.before.ended ≡ None = asked_live g.before.ended done.frame frame (sym g.gives.requested_is ∙ is) in
     let not_ended : is_ended h b ≡ false = ap is_some (tied.ends ∙ live) in
-    let up : is_down h ≡ false = up_by (is_down h) (λ down. not_closed g.before.ended live (own.closed (sym l.down ∙ down))) in
+    let up : is_down h ≡ false = false_from_ne_true (is_down h) (λ down. not_closed g.before.ended live (own.closed (sym l.down ∙ down))) in
     let le : picked h b ≤ length (queued h b) = l.few b in
     ap (λ x. not (x || is_ended h b) && nat_le (picked h b) (length (queued h b))) up
-    ∙ ap (λ x. not x && nat_le (picked h b) (length (queued h b))) not_ended ∙ is_most (picked h b) (length (queued h b)) le
+    ∙ ap (λ x. not x && nat_le (picked h b) (length (queued h b))) not_ended ∙ le-leb (picked h b) (length (queued h b)) le
     in
     let more : map_list (as_waiting old.link) (filter (is_waiting h) (frames_by (named h lo) output h)) ≡ waiting_in lo g.asked =
     ap (λ o. map_list (as_waiting old.link) (filter (is_waiting h) (frames_by o output h))) (named_of h old lo g.before t k g.was)
@@ -254,6 +244,13 @@ pub first_of : (link : ℕ) (xs : List QueuedFrame) (w : Waiting) (rest : List W
 first_of link [] w rest e = absurd (let clash : [] ≡ w ∷ rest = e in cc)
 first_of link (x ∷ xs) w rest e = record { first = x; others = xs; is = refl; first_is = (let f : as_waiting link x ∷ map_list (as_waiting link) xs ≡ w ∷ rest = e in cc); others_are = (let f : as_waiting link x ∷ map_list (as_waiting link) xs ≡ w ∷ rest = e in cc) }
 
+-- its dialogue is held
+pub first_held : (h : List Event) (s : Shelf) (w : Waiting) (rest : List Waiting) (f : First s.link (waiting h) w rest) → Tied h s → Sound s → s.outbox.frames ≡ w ∷ rest → (row : Row) × (map.get s.rows w.local ≡ Some row) × (row.birth ≡ f.first.dialogue)
+first_held h s w rest f t k waits =
+    let row = held s w rest k waits in
+    let both : identifier s.link row.0.birth ≡ identifier s.link f.first.dialogue = sym (t.own w.local row.0 row.1) ∙ ap (λ (w : Waiting). w.local) (sym f.first_is) in
+    (row.0, row.1, omega (arith, both))
+
 -- one of a dialogue's frames is picked
 picked_named : (h : List Event) (l d c : ℕ) → named h l ≡ Some d → cond (is_one (named h l) c) (suc (picked h c)) (picked h c) ≡ bump d (picked h) c
 picked_named h l d c name = ap (λ o. cond (is_one o c) (suc (picked h c)) (picked h c)) name
@@ -291,11 +288,8 @@ moves_picked h step came old new (contents.Frame w) frame l t k g =
     let e = event step came (outputs.Picked w.local frame) in
     let f : First old.link (waiting h) w g.rest.frames = first_of old.link (waiting h) w g.rest.frames (l.frames ∙ g.next.2) in
     let d = f.first.dialogue in
-    let row = held old w g.rest.frames k g.next.2 in
-    let place : w.local ≡ identifier old.link row.0.birth = t.own w.local row.0 row.1 in
-    let local : identifier old.link d ≡ w.local = ap (λ (w : Waiting). w.local) f.first_is in
-    let same : row.0.birth ≡ d = let both : identifier old.link row.0.birth ≡ identifier old.link d = sym place ∙ sym local in omega (arith, both) in
-    let name : named h w.local ≡ Some d = named_of h old w.local row.0 t k row.1 ∙ ap Some same in
+    let row = first_held h old w g.rest.frames f t k g.next.2 in
+    let name : named h w.local ≡ Some d = named_of h old w.local row.0 t k row.1 ∙ ap Some row.2 in
     let goes : Goes (is_sending h) (picked h) zero_of (frames h) f.first f.others = first_goes (is_sending h) (picked h) zero_of (frames h) f.first f.others (numbered h) (λ c alive. omega arith) f.is in
     let then : waiting (e ∷ h) ≡ f.others =
     filter_same (is_waiting (e ∷ h)) (waits_by (is_sending h) (bump d (picked h))) (frames h) (λ a. ap (λ n. is_sending h a.dialogue && nat_le n a.place) (picked_named h w.local d a.dialogue name))

@@ -7,22 +7,21 @@ use Rattle.fp_book.specs.declared.verdict.Verdict.{Verdict}
 use Rattle.fp_book.specs.declared.verdict.Verdict.TheVariants.{Discard, Refuse, Open, Extend}
 use Rattle.fp_book.specs.Calls.{Follows}
 use Rattle.fp_book.specs.Verdict.{verdict}
-use Rattle.fp_steps.proofs.Endings.{EndsByPeer, verdict_ends}
-use Rattle.fp_book.specs.declared.answers.Given.{Given}
+use Rattle.fp_steps.proofs.Endings.{Owes, verdict_owes}
 use Rattle.fp_book.specs.declared.answers.Posted.{Posted}
-use Rattle.fp_book.specs.Calls.{GivesDone}
-use Rattle.fp_row.specs.declared.done.Done as done_module
 use Rattle.fp_entry.specs.declared.arrival.Arrival.{Arrival}
 use Rattle.fp_q773.specs.declared.tid.Tid.{Tid}
 use Rattle.fp_q773.specs.declared.kind.Kind.{Kind}
 use Rattle.std.specs.Ordering.{nat_cmp}
 use Rattle.std.proofs.lemmas.Bool.{and_right, lt-leb}
 use Rattle.std.proofs.lemmas.Bool.Decides.{leb_tells}
+use Rattle.std.proofs.lemmas.Option.{same_Some}
+use Rattle.fp_book.specs.Parcel.{local_of}
 use Rattle.fp_book.specs.Shelf.{Shelf, Sound, empty_shelf}
 use Rattle.fp_entry.specs.declared.prepared.Prepared.{Prepared}
 use Rattle.fp_entry.specs.declared.prepared.Prepared.TheVariants as prepared
 use Rattle.fp_entry.specs.Arrival.{IsArrival}
-use Rattle.fp_entry.specs.Prepared.{IsLost, arrival_of}
+use Rattle.fp_entry.specs.Prepared.{IsLost, arrival_of, components_of}
 use Rattle.fp_q773.specs.declared.kind.Kind.TheVariants as kinds
 use Rattle.fp_q773.specs.Ids.{AreIds, AreIdsIn}
 use Rattle.fp_q773.specs.Tid.{octets_of}
@@ -30,221 +29,79 @@ use Rattle.fp_records.specs.Table.{Contents}
 use Rattle.fp_row.specs.declared.row.Row.{Row}
 use Rattle.fp_row.specs.Laws.{RowsKeepTheirOrder}
 use Rattle.fp_tids.specs.Identifiers.{identifier}
-use Rattle.fp_steps.specs.declared.output.Output.{Output}
 use Rattle.fp_steps.specs.declared.output.Output.TheVariants as outputs
 use Rattle.fp_steps.specs.declared.step.Step.{Step}
 use Rattle.fp_steps.specs.declared.step.Step.TheVariants as steps
 use Rattle.fp_steps.specs.Accepted.{entry_count, is_ending}
-use Rattle.fp_steps.specs.Births.{beginning, births, named}
 use Rattle.fp_steps.specs.Headline.{Headline}
 use Rattle.fp_steps.specs.History.{Event, IsCame}
-use Rattle.fp_steps.specs.Makes.{GivesTo, GoesDownTo, Makes, MakesOf, PicksTo, Posts, PutsBackTo, SendsTo, TakesTo, TicksTo, UnsendsTo}
+use Rattle.fp_steps.specs.Makes.{Makes}
 use Rattle.fp_steps.specs.Sending.{abort_out, out}
 use Rattle.fp_steps.specs.Tied.{AbortsTied, IsStraight, Story, Tied, TiedAt, admits_in, story, untold}
+use Rattle.fp_steps.proofs.Cases.{Cases, by_made}
 use Rattle.fp_steps.proofs.Downs.{Tied-down, Tied-unsends}
 use Rattle.fp_steps.proofs.Grown.{Tied-ends, Tied-extends, Tied-opens}
-use Rattle.fp_steps.proofs.Nexts.{Next, Tied-drained, Tied-next}
+use Rattle.fp_steps.proofs.Lining.{event}
+use Rattle.fp_steps.proofs.Nexts.{Tied-drained, Tied-quiet}
 use Rattle.fp_steps.proofs.Parcels.{Tied-picks, Tied-sends}
 use Rattle.fp_steps.proofs.Refused.{Tied-discards, Tied-refuses, posts}
 use Rattle.fp_steps.proofs.Served.{Tied-gives, Tied-puts_back, Tied-takes, aborts_stay}
 use Rattle.fp_steps.proofs.Stories.{stays, straight_tied}
 use Rattle.fp_steps.proofs.Ticked.{Tied-ticks}
+use Rattle.fp_steps.specs.Births.{births, opened_in}
 
 -- nothing is answered by, and nothing changes at, these outputs
 
-quiet_next : (h : List Event) (e : Event) (old : Shelf) → Tied h old → births (e ∷ h) ≡ births h → ((d : ℕ) → beginning (e ∷ h) d ≡ beginning h d) → ((local : ℕ) → named (e ∷ h) local ≡ named h local)
-    → entry_count (e ∷ h) ≡ entry_count h → ((d : ℕ) → story (e ∷ h) d ≡ story h d) → out (e ∷ h) ≡ out h → AbortsTied (e ∷ h) old → Tied (e ∷ h) old
-quiet_next h e old t births_same begins_same named_same entries_same quiet out_same aborts =
-    let next : Next h e old old =
-    record {
-      link_is = refl;
-      births_stay = births_same;
-      born = refl;
-      names_stay = named_same;
-      beginnings_stay = begins_same;
-      entries = entries_same ∙ t.entries_are;
-      rows = λ d. subst (λ s. TiedAt (births h) d s (map.get old.rows (identifier old.link d))) (sym (quiet d)) (t.rows d);
-      own = t.own;
-      later = λ d past. quiet d;
-      is_out = out_same ∙ t.is_out;
-      aborts = aborts;
-    }
-    in
-    Tied-next h e old old t next
+still : (h : List Event) (e : Event) (old new : Shelf) → Tied h old → new ≡ old → opened_in e.output ≡ None → entry_count (e ∷ h) ≡ entry_count h → ((d : ℕ) → story (e ∷ h) d ≡ story h d) → out (e ∷ h) ≡ out h → AbortsTied (e ∷ h) old → Tied (e ∷ h) new
+still h e old new t same none entries quiet is_out aborts = subst (Tied (e ∷ h)) (sym same) (Tied-quiet h e old old t none entries quiet refl refl refl refl (is_out ∙ t.is_out) aborts)
 
-tied_nothing : (h : List Event) (step : Step) (came : Option Prepared) (old : Shelf) → Tied h old → Tied (record { step = step; came = came; output = outputs.Nothing } ∷ h) old
-tied_nothing h step came old t =
-    let e : Event = record { step = step; came = came; output = outputs.Nothing } in
-    quiet_next h e old t refl (λ d. refl) (λ local. refl) (add-zero (entry_count h)) (λ d. stays e h d refl refl refl refl refl refl refl) refl (aborts_stay h e old old t.aborts_are refl refl refl refl refl)
+tied_nothing : (h : List Event) (step : Step) (came : Option Prepared) (old new : Shelf) → Tied h old → new ≡ old → Tied (event step came outputs.Nothing ∷ h) new
+tied_nothing h step came old new t same =
+    let e = event step came outputs.Nothing in
+    still h e old new t same refl (add-zero (entry_count h)) (λ d. stays e h d refl refl refl refl refl refl refl) refl (aborts_stay h e old old t.aborts_are refl refl refl refl refl)
 
-tied_no_room : (h : List Event) (step : Step) (came : Option Prepared) (old : Shelf) → Tied h old → Tied (record { step = step; came = came; output = outputs.NoRoom } ∷ h) old
-tied_no_room h step came old t =
-    let e : Event = record { step = step; came = came; output = outputs.NoRoom } in
-    quiet_next h e old t refl (λ d. refl) (λ local. refl) (add-zero (entry_count h)) (λ d. stays e h d refl refl refl refl refl refl refl) refl (aborts_stay h e old old t.aborts_are refl refl refl refl refl)
+tied_no_room : (h : List Event) (step : Step) (came : Option Prepared) (old new : Shelf) → Tied h old → new ≡ old → Tied (event step came outputs.NoRoom ∷ h) new
+tied_no_room h step came old new t same =
+    let e = event step came outputs.NoRoom in
+    still h e old new t same refl (add-zero (entry_count h)) (λ d. stays e h d refl refl refl refl refl refl refl) refl (aborts_stay h e old old t.aborts_are refl refl refl refl refl)
 
-tied_busy : (h : List Event) (step : Step) (came : Option Prepared) (old : Shelf) → Tied h old → Tied (record { step = step; came = came; output = outputs.Busy } ∷ h) old
-tied_busy h step came old t =
-    let e : Event = record { step = step; came = came; output = outputs.Busy } in
-    quiet_next h e old t refl (λ d. refl) (λ local. refl) (add-zero (entry_count h)) (λ d. stays e h d refl refl refl refl refl refl refl) refl (aborts_stay h e old old t.aborts_are refl refl refl refl refl)
+tied_busy : (h : List Event) (step : Step) (came : Option Prepared) (old new : Shelf) → Tied h old → new ≡ old → Tied (event step came outputs.Busy ∷ h) new
+tied_busy h step came old new t same =
+    let e = event step came outputs.Busy in
+    still h e old new t same refl (add-zero (entry_count h)) (λ d. stays e h d refl refl refl refl refl refl refl) refl (aborts_stay h e old old t.aborts_are refl refl refl refl refl)
 
 -- by the step, and by its answer
 
-made_by : RowsKeepTheirOrder → (h : List Event) (step : Step) (came : Prepared) (answer : Posted) (components : ℕ) (old new : Shelf) (v : Verdict) → Tied h old → Sound old → Tells old came v → EndsByPeer v → Follows v old came answer new
+made_by : RowsKeepTheirOrder → (h : List Event) (step : Step) (came : Prepared) (answer : Posted) (components : ℕ) (old new : Shelf) (v : Verdict) → Tied h old → Sound old → Tells old came v → Owes (components_of came) v → Follows v old came answer new
     → Tied (posts step came answer components ∷ h) new
 made_by law h step came answer components old new Discard t k told peer g = Tied-discards h step came answer components old new t g
 made_by law h step came answer components old new (Refuse cause closes) t k told peer g = Tied-refuses law h step came answer components old new cause closes t k told g
 made_by law h step came answer components old new (Open sender) t k told peer g = Tied-opens law h step came answer components old new sender t k told g
 made_by law h step came answer components old new (Extend local None) t k told peer g = Tied-extends law h step came answer components old new local t k told.0 (ap is_ending told.1) g
 made_by law h step came answer components old new (Extend local (Some ending)) t k told peer g =
-    Tied-ends law h step came answer components old new local ending t k told.0 (⊎_elim (λ kind. ap is_ending kind) (λ kind. ap is_ending kind) told.1) peer g
+    Tied-ends law h step came answer components old new local ending t k told.0 (⊎_elim (λ kind. ap is_ending kind) (λ kind. ap is_ending kind) told.1) peer.1 g
 
-made_post : RowsKeepTheirOrder → (h : List Event) (step : Step) (came : Option Prepared) (output : Output) (old new : Shelf) → Tied h old → Sound old
-    → ((p : Prepared) → came ≡ Some p → BeginsAnew (arrival_of p).ids) → Posts came output old new → Tied (record { step = step; came = came; output = output } ∷ h) new
-made_post law h step None output old new t k anew g = absurd g
-made_post law h step (Some came) (outputs.Posted answer components) old new t k anew g =
-    made_by law h step came answer components old new (verdict old came) t k (verdict_tells old came (anew came refl)) (verdict_ends old came) g.1
-made_post law h step (Some came) (outputs.Ticked added wanting) old new t k anew g = absurd g
-made_post law h step (Some came) (outputs.Took local position) old new t k anew g = absurd g
-made_post law h step (Some came) outputs.NoRoom old new t k anew g = absurd g
-made_post law h step (Some came) (outputs.Gave local position given) old new t k anew g = absurd g
-made_post law h step (Some came) outputs.WentBack old new t k anew g = absurd g
-made_post law h step (Some came) (outputs.Picked local frame) old new t k anew g = absurd g
-made_post law h step (Some came) outputs.Busy old new t k anew g = absurd g
-made_post law h step (Some came) outputs.Sent old new t k anew g = absurd g
-made_post law h step (Some came) outputs.Unsent old new t k anew g = absurd g
-made_post law h step (Some came) outputs.Down old new t k anew g = absurd g
-made_post law h step (Some came) outputs.Nothing old new t k anew g = absurd g
-
-made_tick : RowsKeepTheirOrder → (h : List Event) (came : Option Prepared) (moment : ℕ) (output : Output) (old new : Shelf) → Tied h old → Sound old → TicksTo moment output old new → Tied (record { step = steps.Tick moment; came = came; output = output } ∷ h) new
-made_tick law h came moment (outputs.Posted answer components) old new t k g = absurd g
-made_tick law h came moment (outputs.Ticked added wanting) old new t k g = Tied-ticks h came old new moment added wanting t k g.0 g.1
-made_tick law h came moment (outputs.Took local position) old new t k g = absurd g
-made_tick law h came moment outputs.NoRoom old new t k g = absurd g
-made_tick law h came moment (outputs.Gave l position given) old new t k g = absurd g
-made_tick law h came moment outputs.WentBack old new t k g = absurd g
-made_tick law h came moment (outputs.Picked l frame) old new t k g = absurd g
-made_tick law h came moment outputs.Busy old new t k g = absurd g
-made_tick law h came moment outputs.Sent old new t k g = absurd g
-made_tick law h came moment outputs.Unsent old new t k g = absurd g
-made_tick law h came moment outputs.Down old new t k g = absurd g
-made_tick law h came moment outputs.Nothing old new t k g = absurd g
-
-made_take : RowsKeepTheirOrder → (h : List Event) (came : Option Prepared) (output : Output) (old new : Shelf) → Tied h old → Sound old → TakesTo output old new → Tied (record { step = steps.Take; came = came; output = output } ∷ h) new
-made_take law h came (outputs.Posted answer components) old new t k g = absurd g
-made_take law h came (outputs.Ticked added wanting) old new t k g = absurd g
-made_take law h came (outputs.Took local position) old new t k g = subst (λ l. Tied (record { step = steps.Take; came = came; output = outputs.Took l position } ∷ h) new) g.1 (subst (λ p. Tied (record { step = steps.Take; came = came; output = outputs.Took g.0.local p } ∷ h) new) g.2 (Tied-takes h steps.Take came old new g.0 t k g.3))
-made_take law h came outputs.NoRoom old new t k g = subst (Tied (record { step = steps.Take; came = came; output = outputs.NoRoom } ∷ h)) (sym g.2) (tied_no_room h steps.Take came old t)
-made_take law h came (outputs.Gave l position given) old new t k g = absurd g
-made_take law h came outputs.WentBack old new t k g = absurd g
-made_take law h came (outputs.Picked l frame) old new t k g = absurd g
-made_take law h came outputs.Busy old new t k g = absurd g
-made_take law h came outputs.Sent old new t k g = absurd g
-made_take law h came outputs.Unsent old new t k g = absurd g
-made_take law h came outputs.Down old new t k g = absurd g
-made_take law h came outputs.Nothing old new t k g = subst (Tied (record { step = steps.Take; came = came; output = outputs.Nothing } ∷ h)) (sym g.1) (tied_nothing h steps.Take came old t)
-
-made_gave : RowsKeepTheirOrder → (h : List Event) (came : Option Prepared) (local l position : ℕ) (given : Given) (old new : Shelf) → Tied h old → Sound old → l ≡ local
-    → (done : done_module.Done) × (done.turn.local ≡ local) × (done.turn.position ≡ position) × GivesDone old done given new → Tied (record { step = steps.Give local; came = came; output = outputs.Gave l position given } ∷ h) new
-made_gave law h came local l position given old new t k is g =
-    subst (λ l. Tied (record { step = steps.Give local; came = came; output = outputs.Gave l position given } ∷ h) new) (g.1 ∙ sym is)
-    (subst (λ p. Tied (record { step = steps.Give local; came = came; output = outputs.Gave g.0.turn.local p given } ∷ h) new) g.2 (Tied-gives law h (steps.Give local) came old new g.0 given t k g.3))
-
-made_give : RowsKeepTheirOrder → (h : List Event) (came : Option Prepared) (local : ℕ) (output : Output) (old new : Shelf) → Tied h old → Sound old → GivesTo local output old new → Tied (record { step = steps.Give local; came = came; output = output } ∷ h) new
-made_give law h came local (outputs.Posted answer components) old new t k g = absurd g
-made_give law h came local (outputs.Ticked added wanting) old new t k g = absurd g
-made_give law h came local (outputs.Took l position) old new t k g = absurd g
-made_give law h came local outputs.NoRoom old new t k g = absurd g
-made_give law h came local (outputs.Gave l position given) old new t k g = made_gave law h came local l position given old new t k g.0 g.1
-made_give law h came local outputs.WentBack old new t k g = absurd g
-made_give law h came local (outputs.Picked l frame) old new t k g = absurd g
-made_give law h came local outputs.Busy old new t k g = absurd g
-made_give law h came local outputs.Sent old new t k g = absurd g
-made_give law h came local outputs.Unsent old new t k g = absurd g
-made_give law h came local outputs.Down old new t k g = absurd g
-made_give law h came local outputs.Nothing old new t k g = subst (Tied (record { step = steps.Give local; came = came; output = outputs.Nothing } ∷ h)) (sym g.1) (tied_nothing h (steps.Give local) came old t)
-
-made_put_back : RowsKeepTheirOrder → (h : List Event) (came : Option Prepared) (local : ℕ) (output : Output) (old new : Shelf) → Tied h old → Sound old → PutsBackTo local output old new → Tied (record { step = steps.PutBack local; came = came; output = output } ∷ h) new
-made_put_back law h came local (outputs.Posted answer components) old new t k g = absurd g
-made_put_back law h came local (outputs.Ticked added wanting) old new t k g = absurd g
-made_put_back law h came local (outputs.Took l position) old new t k g = absurd g
-made_put_back law h came local outputs.NoRoom old new t k g = absurd g
-made_put_back law h came local (outputs.Gave l position given) old new t k g = absurd g
-made_put_back law h came local outputs.WentBack old new t k g = subst (λ l. Tied (record { step = steps.PutBack l; came = came; output = outputs.WentBack } ∷ h) new) g.1 (Tied-puts_back law h came old new g.0 t k g.2)
-made_put_back law h came local (outputs.Picked l frame) old new t k g = absurd g
-made_put_back law h came local outputs.Busy old new t k g = absurd g
-made_put_back law h came local outputs.Sent old new t k g = absurd g
-made_put_back law h came local outputs.Unsent old new t k g = absurd g
-made_put_back law h came local outputs.Down old new t k g = absurd g
-made_put_back law h came local outputs.Nothing old new t k g = subst (Tied (record { step = steps.PutBack local; came = came; output = outputs.Nothing } ∷ h)) (sym g.1) (tied_nothing h (steps.PutBack local) came old t)
-
-made_pick : RowsKeepTheirOrder → (h : List Event) (came : Option Prepared) (output : Output) (old new : Shelf) → Tied h old → Sound old → PicksTo output old new → Tied (record { step = steps.Pick; came = came; output = output } ∷ h) new
-made_pick law h came (outputs.Posted answer components) old new t k g = absurd g
-made_pick law h came (outputs.Ticked added wanting) old new t k g = absurd g
-made_pick law h came (outputs.Took local position) old new t k g = absurd g
-made_pick law h came outputs.NoRoom old new t k g = absurd g
-made_pick law h came (outputs.Gave l position given) old new t k g = absurd g
-made_pick law h came outputs.WentBack old new t k g = absurd g
-made_pick law h came (outputs.Picked l frame) old new t k g = Tied-picks h steps.Pick came old new g.0 l frame t k g.1 g.2 g.3
-made_pick law h came outputs.Busy old new t k g = subst (Tied (record { step = steps.Pick; came = came; output = outputs.Busy } ∷ h)) (sym g.1) (tied_busy h steps.Pick came old t)
-made_pick law h came outputs.Sent old new t k g = absurd g
-made_pick law h came outputs.Unsent old new t k g = absurd g
-made_pick law h came outputs.Down old new t k g = absurd g
-made_pick law h came outputs.Nothing old new t k g = subst (Tied (record { step = steps.Pick; came = came; output = outputs.Nothing } ∷ h)) (sym g.1) (tied_nothing h steps.Pick came old t)
-
-made_sent : RowsKeepTheirOrder → (h : List Event) (came : Option Prepared) (output : Output) (old new : Shelf) → Tied h old → Sound old → SendsTo output old new → Tied (record { step = steps.Sent; came = came; output = output } ∷ h) new
-made_sent law h came (outputs.Posted answer components) old new t k g = absurd g
-made_sent law h came (outputs.Ticked added wanting) old new t k g = absurd g
-made_sent law h came (outputs.Took local position) old new t k g = absurd g
-made_sent law h came outputs.NoRoom old new t k g = absurd g
-made_sent law h came (outputs.Gave l position given) old new t k g = absurd g
-made_sent law h came outputs.WentBack old new t k g = absurd g
-made_sent law h came (outputs.Picked l frame) old new t k g = absurd g
-made_sent law h came outputs.Busy old new t k g = absurd g
-made_sent law h came outputs.Sent old new t k g = Tied-sends law h steps.Sent came old new g.0 t k g.1
-made_sent law h came outputs.Unsent old new t k g = absurd g
-made_sent law h came outputs.Down old new t k g = absurd g
-made_sent law h came outputs.Nothing old new t k g = subst (Tied (record { step = steps.Sent; came = came; output = outputs.Nothing } ∷ h)) (sym g.1) (tied_nothing h steps.Sent came old t)
-
-made_unsent : RowsKeepTheirOrder → (h : List Event) (came : Option Prepared) (output : Output) (old new : Shelf) → Tied h old → Sound old → UnsendsTo output old new → Tied (record { step = steps.Unsent; came = came; output = output } ∷ h) new
-made_unsent law h came (outputs.Posted answer components) old new t k g = absurd g
-made_unsent law h came (outputs.Ticked added wanting) old new t k g = absurd g
-made_unsent law h came (outputs.Took local position) old new t k g = absurd g
-made_unsent law h came outputs.NoRoom old new t k g = absurd g
-made_unsent law h came (outputs.Gave l position given) old new t k g = absurd g
-made_unsent law h came outputs.WentBack old new t k g = absurd g
-made_unsent law h came (outputs.Picked l frame) old new t k g = absurd g
-made_unsent law h came outputs.Busy old new t k g = absurd g
-made_unsent law h came outputs.Sent old new t k g = absurd g
-made_unsent law h came outputs.Unsent old new t k g = Tied-unsends law h steps.Unsent came old new g.0 t k g.1
-made_unsent law h came outputs.Down old new t k g = absurd g
-made_unsent law h came outputs.Nothing old new t k g = subst (Tied (record { step = steps.Unsent; came = came; output = outputs.Nothing } ∷ h)) (sym g.1) (tied_nothing h steps.Unsent came old t)
-
-made_down : RowsKeepTheirOrder → (h : List Event) (came : Option Prepared) (output : Output) (old new : Shelf) → Tied h old → Sound old → GoesDownTo output old new → Tied (record { step = steps.Down; came = came; output = output } ∷ h) new
-made_down law h came (outputs.Posted answer components) old new t k g = absurd g
-made_down law h came (outputs.Ticked added wanting) old new t k g = absurd g
-made_down law h came (outputs.Took local position) old new t k g = absurd g
-made_down law h came outputs.NoRoom old new t k g = absurd g
-made_down law h came (outputs.Gave l position given) old new t k g = absurd g
-made_down law h came outputs.WentBack old new t k g = absurd g
-made_down law h came (outputs.Picked l frame) old new t k g = absurd g
-made_down law h came outputs.Busy old new t k g = absurd g
-made_down law h came outputs.Sent old new t k g = absurd g
-made_down law h came outputs.Unsent old new t k g = absurd g
-made_down law h came outputs.Down old new t k g = Tied-down law h steps.Down came old new t k g
-made_down law h came outputs.Nothing old new t k g = absurd g
-
-made : RowsKeepTheirOrder → (h : List Event) (step : Step) (came : Option Prepared) (output : Output) (old new : Shelf) → Tied h old → Sound old → ((p : Prepared) → came ≡ Some p → BeginsAnew (arrival_of p).ids)
-    → MakesOf step came output old new → Tied (record { step = step; came = came; output = output } ∷ h) new
-made law h (steps.Post frame moment) came output old new t k anew g = made_post law h (steps.Post frame moment) came output old new t k anew g
-made law h (steps.Lost frame moment) came output old new t k anew g = made_post law h (steps.Lost frame moment) came output old new t k anew g
-made law h (steps.Tick moment) came output old new t k anew g = made_tick law h came moment output old new t k g
-made law h steps.Take came output old new t k anew g = made_take law h came output old new t k g
-made law h (steps.Give local) came output old new t k anew g = made_give law h came local output old new t k g
-made law h (steps.PutBack local) came output old new t k anew g = made_put_back law h came local output old new t k g
-made law h steps.Pick came output old new t k anew g = made_pick law h came output old new t k g
-made law h steps.Sent came output old new t k anew g = made_sent law h came output old new t k g
-made law h steps.Unsent came output old new t k anew g = made_unsent law h came output old new t k g
-made law h steps.Down came output old new t k anew g = made_down law h came output old new t k g
+made : RowsKeepTheirOrder → (h : List Event) (came : Option Prepared) (old new : Shelf) → Tied h old → Sound old → ((p : Prepared) → came ≡ Some p → BeginsAnew (arrival_of p).ids) → Cases (λ step output. Tied (event step came output ∷ h) new) came old new
+made law h came old new t k anew = record {
+  posted = λ step p answer components is count g.
+      subst (λ c. Tied (event step c (outputs.Posted answer components) ∷ h) new) (sym is) (made_by law h step p answer components old new (verdict old p) t k (verdict_tells old p (anew p is)) (verdict_owes old p) g);
+  ticked = λ moment added wanting none g. Tied-ticks h came old new moment added wanting t k none g;
+  took = λ turn g. Tied-takes h steps.Take came old new turn t k g;
+  no_room = λ some full same. tied_no_room h steps.Take came old new t same;
+  none_taken = λ none same. tied_nothing h steps.Take came old new t same;
+  gave = λ done given g. Tied-gives law h (steps.Give done.turn.local) came old new done given t k g;
+  none_given = λ local none same. tied_nothing h (steps.Give local) came old new t same;
+  went_back = λ turn g. Tied-puts_back law h came old new turn t k g;
+  none_back = λ local none same. tied_nothing h (steps.PutBack local) came old new t same;
+  picked = λ content frame is g. Tied-picks h steps.Pick came old new content (local_of content) frame t k refl is g;
+  busy = λ some same. tied_busy h steps.Pick came old new t same;
+  none_picked = λ none same. tied_nothing h steps.Pick came old new t same;
+  sent = λ content g. Tied-sends law h steps.Sent came old new content t k g;
+  none_sent = λ none same. tied_nothing h steps.Sent came old new t same;
+  unsent = λ parcel g. Tied-unsends law h steps.Unsent came old new parcel t k g;
+  none_unsent = λ none same. tied_nothing h steps.Unsent came old new t same;
+  down = λ g. Tied-down law h steps.Down came old new t k g;
+}
 
 -- a Begin has no destination
 
@@ -263,33 +120,24 @@ anew_by (first ∷ octets) kind orig dest (told, inr none) is = none.2
 pub anew : (octets : List ℕ) (moment : ℕ) (arrival : Arrival) → IsArrival octets moment arrival → BeginsAnew arrival.ids
 anew octets moment arrival is begin = no_octets arrival.ids.dest (anew_by octets arrival.ids.kind (option_map octets_of arrival.ids.orig) (option_map octets_of arrival.ids.dest) is.has_ids begin)
 
-the_prepared : (a b : Prepared) → Some a ≡ Some b → a ≡ b
-the_prepared a b e = cc
-
 lost_arrival : (octets : List ℕ) (moment : ℕ) (came : Prepared) → IsLost octets moment came → IsArrival octets moment (arrival_of came)
 lost_arrival octets moment (prepared.Message arrival incoming) is = absurd is
 lost_arrival octets moment (prepared.Refused arrival fault) is = absurd is
 lost_arrival octets moment (prepared.Lost arrival) is = is
 
 pub came_anew : (contents : Contents) (contexts : List (List ℕ)) (step : Step) (came : Option Prepared) → IsCame contents contexts step came → (p : Prepared) → came ≡ Some p → BeginsAnew (arrival_of p).ids
-came_anew contents contexts (steps.Post frame moment) (Some came) is p same = subst (λ (q : Prepared). BeginsAnew (arrival_of q).ids) (the_prepared came p same) (anew frame moment (arrival_of came) is.0.is_arrival)
-came_anew contents contexts (steps.Lost frame moment) (Some came) is p same = subst (λ (q : Prepared). BeginsAnew (arrival_of q).ids) (the_prepared came p same) (anew frame moment (arrival_of came) (lost_arrival frame moment came is.0))
-came_anew contents contexts (steps.Tick moment) (Some came) is p same = absurd is
-came_anew contents contexts steps.Take (Some came) is p same = absurd is
-came_anew contents contexts (steps.Give local) (Some came) is p same = absurd is
-came_anew contents contexts (steps.PutBack local) (Some came) is p same = absurd is
-came_anew contents contexts steps.Pick (Some came) is p same = absurd is
-came_anew contents contexts steps.Sent (Some came) is p same = absurd is
-came_anew contents contexts steps.Unsent (Some came) is p same = absurd is
-came_anew contents contexts steps.Down (Some came) is p same = absurd is
 came_anew contents contexts step None is p same = absurd (cc)
+came_anew contents contexts (steps.Post frame moment) (Some came) is p same = subst (λ (q : Prepared). BeginsAnew (arrival_of q).ids) (same_Some came p same) (anew frame moment (arrival_of came) is.0.is_arrival)
+came_anew contents contexts (steps.Lost frame moment) (Some came) is p same = subst (λ (q : Prepared). BeginsAnew (arrival_of q).ids) (same_Some came p same) (anew frame moment (arrival_of came) (lost_arrival frame moment came is.0))
+came_anew contents contexts step (Some came) is p same = absurd is
 
 -- each step keeps the tie
 pub Tied-makes : RowsKeepTheirOrder → (contents : Contents) (contexts : List (List ℕ)) (h : List Event) (e : Event) (old new : Shelf) → Tied h old → IsCame contents contexts e.step e.came → Makes old e new → Tied (e ∷ h) new
 Tied-makes law contents contexts h e old new t is g =
     subst (Tied (e ∷ h)) (sym g.new_is)
     (Tied-drained (e ∷ h) g.after g.left
-    (made law h e.step e.came e.output (record old { log = g.before }) g.after (Tied-drained h old g.before t) g.sound (came_anew contents contexts e.step e.came is) g.makes))
+    (by_made (λ step output. Tied (event step e.came output ∷ h) g.after) e.step e.came e.output (record old { log = g.before }) g.after
+    (made law h e.came (record old { log = g.before }) g.after (Tied-drained h old g.before t) g.sound (came_anew contents contexts e.step e.came is)) g.makes))
 
 -- a book on which nothing came yet is tied to no history
 

@@ -1,9 +1,10 @@
 -- Which dialogue an identifier names, and of which a turn may be out, by the answers of a history.
-use Rattle.std.proofs.Common.{◌≡◌, ℕ, ◌≤◌, ◌+◌, Bool, true, false, cond, eqb, Option, Some, None, List, [], ◌∷◌, length, refl, sym, ◌∙◌, ap, arith, ◌⊎◌, inl, inr, ⊎_elim}
+use Rattle.std.proofs.Common.{◌≡◌, ℕ, ◌<◌, ◌≤◌, ◌+◌, Bool, true, false, cond, eqb, Option, Some, None, List, [], ◌∷◌, length, refl, sym, ◌∙◌, ap, arith, ◌⊎◌, inl, inr, ⊎_elim}
 use Rattle.std.specs.Prelude.{is_none}
 use Rattle.std.specs.List.{AllByRecursion}
 use Rattle.std.specs.Option.{option_map_or}
 use Rattle.std.proofs.lemmas.Bool.{cases_Bool, eqb-true, false≢true}
+use Rattle.std.proofs.lemmas.Option.{same_Some}
 use Rattle.fp_book.specs.declared.answers.Posted.{Posted}
 use Rattle.fp_book.specs.declared.answers.Posted.TheVariants as answers
 use Rattle.fp_book.specs.Calls.{abort_for, entries_in}
@@ -20,7 +21,7 @@ use Rattle.fp_steps.specs.declared.step.Step.{Step}
 use Rattle.fp_steps.specs.declared.step.Step.TheVariants as steps
 use Rattle.fp_steps.specs.Accepted.{entry_count}
 use Rattle.fp_steps.specs.Answers.{AllAnswered, IsAnswer, IsLongestReady, gave, if_out, put_back}
-use Rattle.fp_steps.specs.Births.{births, births_after, is_one, named, named_after, opened_in}
+use Rattle.fp_steps.specs.Births.{Beginning, beginning, beginning_after, births, births_after, is_one, local_of, named, named_after, opened_in, sender_of}
 use Rattle.fp_steps.specs.History.{Event}
 use Rattle.fp_steps.specs.Lines.{addressee, answer_by, answer_to, answers_by, begun, first_answer, unserved}
 use Rattle.fp_steps.specs.Sending.{Handed, out}
@@ -56,6 +57,9 @@ first_opens : (next : ℕ) (lines : List (Bool × Posted)) → AllByRecursion (�
 first_opens next [] all = discards next
 first_opens next (line ∷ lines) (one, all) = opens_if next line.0 line.1 (first_answer lines) one (first_opens next lines all)
 
+also : {P Q : Type 0} → P → Q → P × Q
+also p q = (p, q)
+
 -- a message opens no dialogue but the next one
 pub opens : (link : ℕ) (h : List Event) (came : Prepared) → OpensOnly (identifier link (births h + 1)) (answer_to link h came)
 opens link h came =
@@ -67,44 +71,16 @@ opens link h came =
     let none = discards next in
     let refused : (named : Option AbortCause) (b : Bool) → OpensOnly next (answer_by (abort_for waiting named orig) b) = λ named b. refuses next (abort_for waiting named orig) b in
     let goes_on : (b : Bool) (count : ℕ) → OpensOnly next (cond b answers.Discarded (answers.Accepted count)) = λ b count. opens_if next b answers.Discarded (answers.Accepted count) none (accepts next count) in
-    first_opens next
-    (answers_by (is_down h) waiting (is_none (addressee h came)) (is_none (going_on kind (addressee h came))) (unserved h (going_on kind (addressee h came))) (entry_count h) (held h) (births h) (begun link h came) came kind) (
-      none,
-      (
-        none,
-        (
-          refused (Some cause.ResourceLimitation) true,
-          (
-            refused (Some cause.UnrecognizedTransactionIdentifier) true,
-            (
-              refused (Some cause.ResourceLimitation) names_none,
-              (
-                refused None names_none,
-                (
-                  refused (Some cause.UnrecognizedMessageType) names_none,
-                  (
-                    refused (Some cause.BadlyFormattedTransactionPortion) names_none,
-                    (
-                      refused (Some cause.UnrecognizedTransactionIdentifier) true,
-                      (
-                        none,
-                        (
-                          refused (Some cause.ResourceLimitation) (is_none (going_on kind (addressee h came))),
-                          (
-                            begins next orig,
-                            (goes_on names_none (length (entries_in came)), (goes_on names_none (length (entries_in came)), tt)),
-                          ),
-                        ),
-                      ),
-                    ),
-                  ),
-                ),
-              ),
-            ),
-          ),
-        ),
-      ),
-    )
+    let anew = is_none (going_on kind (addressee h came)) in
+    let count = length (entries_in came) in
+    first_opens next (answers_by (is_down h) waiting names_none anew (unserved h (going_on kind (addressee h came))) (entry_count h) (held h) (births h) (begun link h came) came kind)
+    (also none (also none
+    (also (refused (Some cause.ResourceLimitation) true) (also (refused (Some cause.UnrecognizedTransactionIdentifier) true)
+    (also (refused (Some cause.ResourceLimitation) names_none) (also (refused None names_none)
+    (also (refused (Some cause.UnrecognizedMessageType) names_none) (also (refused (Some cause.BadlyFormattedTransactionPortion) names_none)
+    (also (refused (Some cause.UnrecognizedTransactionIdentifier) true) (also none
+    (also (refused (Some cause.ResourceLimitation) anew)
+    (also (begins next orig) (also (goes_on names_none count) (also (goes_on names_none count) tt))))))))))))))
 
 -- WHICH ANSWERS A STEP HAS
 
@@ -152,7 +128,7 @@ answer_is link h steps.Unsent came answer components is local e = absurd (differ
 answer_is link h steps.Down came answer components is local e = absurd (cc)
 
 -- a turn is taken for the dialogue that has been ready longest
-pub took_is : (link : ℕ) (h : List Event) (step : Step) (came : Option Prepared) (local position : ℕ) → IsAnswer link h step came (outputs.Took local position) → IsLongestReady link h local position
+pub took_is : (link : ℕ) (h : List Event) (step : Step) (came : Option Prepared) (local position : ℕ) → IsAnswer link h step came (outputs.Took local position) → IsLongestReady h local position
 took_is link h (steps.Post frame moment) None local position is = absurd is
 took_is link h (steps.Post frame moment) (Some came) local position is = absurd (cc)
 took_is link h (steps.Lost frame moment) None local position is = absurd is
@@ -187,41 +163,59 @@ named_by link h local d (Some l) next rest name =
 
 opened_is : (link : ℕ) (h : List Event) (step : Step) (came : Option Prepared) (output : Output) → IsAnswer link h step came output → (l : ℕ) → opened_in output ≡ Some l → l ≡ identifier link (births h + 1)
 opened_is link h step came (outputs.Posted (answers.Opened n) components) is local e = let same : n ≡ local = cc in sym same ∙ answer_is link h step came (answers.Opened n) components is n refl
-opened_is link h step came (outputs.Posted (answers.Accepted n) components) is local e = absurd (cc)
-opened_is link h step came (outputs.Posted (answers.Aborted cause) components) is local e = absurd (cc)
-opened_is link h step came (outputs.Posted answers.Ended components) is local e = absurd (cc)
-opened_is link h step came (outputs.Posted answers.Discarded components) is local e = absurd (cc)
-opened_is link h step came (outputs.Ticked added wanting) is local e = absurd (cc)
-opened_is link h step came (outputs.Took l position) is local e = absurd (cc)
-opened_is link h step came outputs.NoRoom is local e = absurd (cc)
-opened_is link h step came (outputs.Gave l position given) is local e = absurd (cc)
-opened_is link h step came outputs.WentBack is local e = absurd (cc)
-opened_is link h step came (outputs.Picked l octets) is local e = absurd (cc)
-opened_is link h step came outputs.Busy is local e = absurd (cc)
-opened_is link h step came outputs.Sent is local e = absurd (cc)
-opened_is link h step came outputs.Unsent is local e = absurd (cc)
-opened_is link h step came outputs.Down is local e = absurd (cc)
-opened_is link h step came outputs.Nothing is local e = absurd (cc)
+opened_is link h step came output is local e = absurd (cc)
 
 pub named_is : (link : ℕ) (h : List Event) (local d : ℕ) → AllAnswered link h → named h local ≡ Some d → local ≡ identifier link d
 named_is link [] local d all name = absurd (cc)
 named_is link (e ∷ h) local d (is, all) name = named_by link h local d (opened_in e.output) (opened_is link h e.step e.came e.output is) (named_is link h local d all) name
 
 -- and it was born
-born_by : (h : List Event) (local d : ℕ) (o : Option ℕ) → (named h local ≡ Some d → d ≤ births h) → named_after o (births h + 1) (named h local) local ≡ Some d → d ≤ births_after o (births h)
+born_by : (h : List Event) (local d : ℕ) (o : Option ℕ) → (named h local ≡ Some d → (0 < d) × (d ≤ births h)) → named_after o (births h + 1) (named h local) local ≡ Some d → (0 < d) × (d ≤ births_after o (births h))
 born_by h local d None rest name = rest name
 born_by h local d (Some l) rest name =
     ⊎_elim
     (λ e.
     let one : Some (births h + 1) ≡ Some d = sym (ap (λ b. cond b (Some (births h + 1)) (named h local)) e) ∙ name in
     let same : births h + 1 ≡ d = cc in
-    omega (arith, same))
-    (λ ne. let le : d ≤ births h = rest (sym (ap (λ b. cond b (Some (births h + 1)) (named h local)) ne) ∙ name) in omega (arith, le))
+    (omega (arith, same), omega (arith, same)))
+    (λ ne.
+    let was : (0 < d) × (d ≤ births h) = rest (sym (ap (λ b. cond b (Some (births h + 1)) (named h local)) ne) ∙ name) in
+    let last : d ≤ births h = was.1 in
+    (was.0, omega (arith, last)))
     (cases_Bool (eqb local l))
 
-named_born : (h : List Event) (local d : ℕ) → named h local ≡ Some d → d ≤ births h
+pub named_born : (h : List Event) (local d : ℕ) → named h local ≡ Some d → (0 < d) × (d ≤ births h)
 named_born [] local d name = absurd (cc)
 named_born (e ∷ h) local d name = born_by h local d (opened_in e.output) (named_born h local d) name
+
+-- a dialogue was opened with the identifier of its birth
+begun_by : (link : ℕ) (h : List Event) (d : ℕ) (b : Beginning) (o : Option ℕ) (came : Option Prepared) → ((l : ℕ) → o ≡ Some l → l ≡ identifier link (births h + 1)) → (beginning h d ≡ Some b → b.local ≡ identifier link d)
+    → beginning_after o came (eqb d (births h + 1)) (beginning h d) ≡ Some b → b.local ≡ identifier link d
+begun_by link h d b None came next rest is = rest is
+begun_by link h d b (Some l) None next rest is = rest is
+begun_by link h d b (Some l) (Some came) next rest is =
+    let start : Beginning = record { local = l; peer = sender_of came; moment = (arrival_of came).moment } in
+    ⊎_elim
+    (λ e.
+    let one : Some start ≡ Some b = sym (ap (λ x. cond x (Some start) (beginning h d)) e) ∙ is in
+    ap (λ (b : Beginning). b.local) (sym (same_Some start b one)) ∙ next l refl ∙ ap (identifier link) (sym (eqb-true d (births h + 1) e)))
+    (λ ne. rest (sym (ap (λ x. cond x (Some start) (beginning h d)) ne) ∙ is))
+    (cases_Bool (eqb d (births h + 1)))
+
+begun_is : (link : ℕ) (h : List Event) (d : ℕ) (b : Beginning) → AllAnswered link h → beginning h d ≡ Some b → b.local ≡ identifier link d
+begun_is link [] d b all is = absurd (cc)
+begun_is link (e ∷ h) d b (answer, all) is = begun_by link h d b (opened_in e.output) e.came (opened_is link h e.step e.came e.output answer) (begun_is link h d b all) is
+
+-- so no two were opened with one
+once_by : (link : ℕ) (h : List Event) (c d : ℕ) (o : Option Beginning) → beginning h c ≡ o → AllAnswered link h → 0 < d → local_of h c ≡ identifier link d → c ≡ d
+once_by link h c d None is all first e = absurd (let none : 0 ≡ identifier link d = sym (ap (λ o. option_map_or (λ (b : Beginning). b.local) o 0) is) ∙ e in omega (arith, first, none))
+once_by link h c d (Some b) is all first e =
+    let own : b.local ≡ identifier link c = begun_is link h c b all is in
+    let that : b.local ≡ identifier link d = sym (ap (λ o. option_map_or (λ (b : Beginning). b.local) o 0) is) ∙ e in
+    omega (arith, own, that)
+
+pub opened_once : (link : ℕ) (h : List Event) (c d : ℕ) → AllAnswered link h → 0 < d → local_of h c ≡ identifier link d → c ≡ d
+opened_once link h c d all first e = once_by link h c d (beginning h c) refl all first e
 
 grows : (o : Option ℕ) (n : ℕ) → n ≤ births_after o n
 grows None n = omega arith
@@ -237,27 +231,10 @@ taken_if true before e = inl refl
 taken_if false before e = inr e
 
 out_by : (h : List Event) (output : Output) (step : Step) (d : ℕ) (before : Bool) → (before ≡ true → d ≤ births h) → turn_after output step h d before ≡ true → d ≤ births h
-out_by h (outputs.Posted answer components) step d before was e = was e
-out_by h (outputs.Ticked added wanting) step d before was e = was e
-out_by h (outputs.Took l position) step d before was e = ⊎_elim (λ is. named_born h l d (the_one (named h l) d is)) was (taken_if (is_one (named h l) d) before e)
-out_by h outputs.NoRoom step d before was e = was e
+out_by h (outputs.Took l position) step d before was e = ⊎_elim (λ is. (named_born h l d (the_one (named h l) d is)).1) was (taken_if (is_one (named h l) d) before e)
 out_by h (outputs.Gave l position given) step d before was e = was (turned_if (is_one (named h l) d) before e)
-out_by h outputs.WentBack (steps.Post frame moment) d before was e = was e
-out_by h outputs.WentBack (steps.Lost frame moment) d before was e = was e
-out_by h outputs.WentBack (steps.Tick moment) d before was e = was e
-out_by h outputs.WentBack steps.Take d before was e = was e
-out_by h outputs.WentBack (steps.Give lo) d before was e = was e
 out_by h outputs.WentBack (steps.PutBack lo) d before was e = was (turned_if (is_one (named h lo) d) before e)
-out_by h outputs.WentBack steps.Pick d before was e = was e
-out_by h outputs.WentBack steps.Sent d before was e = was e
-out_by h outputs.WentBack steps.Unsent d before was e = was e
-out_by h outputs.WentBack steps.Down d before was e = was e
-out_by h (outputs.Picked l octets) step d before was e = was e
-out_by h outputs.Busy step d before was e = was e
-out_by h outputs.Sent step d before was e = was e
-out_by h outputs.Unsent step d before was e = was e
-out_by h outputs.Down step d before was e = was e
-out_by h outputs.Nothing step d before was e = was e
+out_by h output step d before was e = was e
 
 pub out_born : (h : List Event) (d : ℕ) → turn_out h d ≡ true → d ≤ births h
 out_born [] d e = absurd (false≢true e)

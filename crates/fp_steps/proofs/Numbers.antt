@@ -91,36 +91,16 @@ numbered_gave h l p given (Some c) name n same =
 
 -- whatever is answered
 counted_by : (h : List Event) (d : ℕ) (output : Output) → n_of d (frames h) ≡ length (queued h d) → n_of d (frames_after output h (frames h)) ≡ length (queued h d ++ queued_in output h d)
-counted_by h d (outputs.Posted answer components) same = same ∙ ap length (sym (append-nil (queued h d)))
-counted_by h d (outputs.Ticked added wanting) same = same ∙ ap length (sym (append-nil (queued h d)))
-counted_by h d (outputs.Took local position) same = same ∙ ap length (sym (append-nil (queued h d)))
-counted_by h d outputs.NoRoom same = same ∙ ap length (sym (append-nil (queued h d)))
 counted_by h d (outputs.Gave l p given) same = counted_gave h l p given d (named h l) refl same
-counted_by h d outputs.WentBack same = same ∙ ap length (sym (append-nil (queued h d)))
-counted_by h d (outputs.Picked local frame) same = same ∙ ap length (sym (append-nil (queued h d)))
-counted_by h d outputs.Busy same = same ∙ ap length (sym (append-nil (queued h d)))
-counted_by h d outputs.Sent same = same ∙ ap length (sym (append-nil (queued h d)))
-counted_by h d outputs.Unsent same = same ∙ ap length (sym (append-nil (queued h d)))
-counted_by h d outputs.Down same = same ∙ ap length (sym (append-nil (queued h d)))
-counted_by h d outputs.Nothing same = same ∙ ap length (sym (append-nil (queued h d)))
+counted_by h d output same = same ∙ ap length (sym (append-nil (queued h d)))
 
 pub counted : (h : List Event) (d : ℕ) → n_of d (frames h) ≡ length (queued h d)
 counted [] d = refl
 counted (e ∷ h) d = counted_by h d e.output (counted h d)
 
 numbered_by : (h : List Event) (output : Output) → Numbered zero_of (frames h) → Numbered zero_of (frames_after output h (frames h))
-numbered_by h (outputs.Posted answer components) n = n
-numbered_by h (outputs.Ticked added wanting) n = n
-numbered_by h (outputs.Took local position) n = n
-numbered_by h outputs.NoRoom n = n
 numbered_by h (outputs.Gave l p given) n = numbered_gave h l p given (named h l) refl n (counted h)
-numbered_by h outputs.WentBack n = n
-numbered_by h (outputs.Picked local frame) n = n
-numbered_by h outputs.Busy n = n
-numbered_by h outputs.Sent n = n
-numbered_by h outputs.Unsent n = n
-numbered_by h outputs.Down n = n
-numbered_by h outputs.Nothing n = n
+numbered_by h output n = n
 
 pub numbered : (h : List Event) → Numbered zero_of (frames h)
 numbered [] = tt

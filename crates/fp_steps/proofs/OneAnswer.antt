@@ -1,8 +1,9 @@
 -- What is answered and retold is one.
-use Rattle.std.proofs.Common.{◌≡◌, ℕ, ◌<◌, ◌≤◌, true, false, eqb, Option, Some, None, List, [], ◌∷◌, length, is_some, refl, sym, ◌∙◌, ap, subst, arith, ⊎_elim, inl, inr}
-use Rattle.std.specs.Prelude.{IfSome, option_map}
+use Rattle.std.proofs.Common.{◌≡◌, ℕ, zero, suc, ◌<◌, ◌≤◌, true, false, eqb, Option, Some, None, List, [], ◌∷◌, length, is_some, refl, sym, ◌∙◌, ap, subst, arith, ⊎_elim, inl, inr}
+use Rattle.std.specs.Prelude.{IfSome, map, option_map, reverse}
+use Rattle.std.specs.List.{AllByRecursion}
+use Rattle.std.proofs.lemmas.List.{reverse-reverse}
 use Rattle.std.proofs.lemmas.Bool.{cases_Bool, eq-eqb, eqb-true, false≢true}
-use Rattle.fp_book.specs.declared.line.LoggedStep.{LoggedStep}
 use Rattle.fp_entry.specs.declared.arrival.Arrival.{Arrival}
 use Rattle.fp_entry.specs.declared.entry.Entry.{Entry}
 use Rattle.fp_entry.specs.declared.incoming.Incoming.{Incoming}
@@ -17,40 +18,38 @@ use Rattle.fp_q773.specs.declared.tid.Tid.{Tid}
 use Rattle.fp_q773.specs.declared.tid.Tid.TheVariants.{One, Two, Three, Four}
 use Rattle.fp_q773.specs.Tid.{octets_of}
 use Rattle.fp_records.specs.Table.{Contents}
-use Rattle.fp_tids.specs.Identifiers.{identifier}
 use Rattle.fp_steps.specs.declared.output.Output.{Output}
 use Rattle.fp_steps.specs.declared.output.Output.TheVariants as outputs
 use Rattle.fp_steps.specs.declared.step.Step.{Step}
 use Rattle.fp_steps.specs.declared.step.Step.TheVariants as steps
 use Rattle.fp_steps.specs.Accepted.{positions}
-use Rattle.fp_steps.specs.Answers.{IsAnswer, IsLongestReady, IsNext, IsPicked, IsPosted, IsTaken}
-use Rattle.fp_steps.specs.History.{AreWhole, Event, IsCame, IsNone, IsWholeTid}
-use Rattle.fp_steps.specs.Laws.{AnswersAreOne, LinesAreRetoldOnce}
+use Rattle.fp_steps.specs.Answers.{AllAnswered, IsAnswer, IsLongestReady, IsNext, IsPicked, IsPosted, IsTaken}
+use Rattle.fp_steps.specs.History.{AreWhole, Event, IsCame, IsNone, IsWholeTid, outputs_of}
+use Rattle.fp_steps.specs.Laws.{AnswersAreOne, LinesAreRetoldOnce, RunsAreOne}
 use Rattle.fp_steps.specs.Retold.{RetellsOne}
 use Rattle.fp_steps.specs.Sending.{out}
 use Rattle.fp_steps.specs.Turns.{IsReadyBefore, ready_for}
 use Rattle.fp_steps.specs.Waiting.{QueuedFrame, aborts_waiting, places, waiting}
 use Rattle.fp_steps.proofs.Posted.{lost_prepared}
+use Rattle.fp_steps.specs.Births.{local_of}
 
 -- WHAT CAME
 
+-- an identifier, by how many octets it has
+abbrev tid_by : ℕ → List ℕ → Tid
+tid_by (suc zero) octets = One octets
+tid_by (suc (suc zero)) octets = Two octets
+tid_by (suc (suc (suc zero))) octets = Three octets
+tid_by count octets = Four octets
+
+tid_back : (a : Tid) → IsWholeTid a → tid_by (length (octets_of a)) (octets_of a) ≡ a
+tid_back (One x) p = ap (λ n. tid_by n x) p
+tid_back (Two x) p = ap (λ n. tid_by n x) p
+tid_back (Three x) p = ap (λ n. tid_by n x) p
+tid_back (Four x) p = ap (λ n. tid_by n x) p
+
 one_tid : (a b : Tid) → IsWholeTid a → IsWholeTid b → octets_of a ≡ octets_of b → a ≡ b
-one_tid (One x) (One y) p q same = ap One same
-one_tid (One x) (Two y) p q same = absurd (let lengths : length x ≡ length y = ap length same in omega (arith, p, q, lengths))
-one_tid (One x) (Three y) p q same = absurd (let lengths : length x ≡ length y = ap length same in omega (arith, p, q, lengths))
-one_tid (One x) (Four y) p q same = absurd (let lengths : length x ≡ length y = ap length same in omega (arith, p, q, lengths))
-one_tid (Two x) (One y) p q same = absurd (let lengths : length x ≡ length y = ap length same in omega (arith, p, q, lengths))
-one_tid (Two x) (Two y) p q same = ap Two same
-one_tid (Two x) (Three y) p q same = absurd (let lengths : length x ≡ length y = ap length same in omega (arith, p, q, lengths))
-one_tid (Two x) (Four y) p q same = absurd (let lengths : length x ≡ length y = ap length same in omega (arith, p, q, lengths))
-one_tid (Three x) (One y) p q same = absurd (let lengths : length x ≡ length y = ap length same in omega (arith, p, q, lengths))
-one_tid (Three x) (Two y) p q same = absurd (let lengths : length x ≡ length y = ap length same in omega (arith, p, q, lengths))
-one_tid (Three x) (Three y) p q same = ap Three same
-one_tid (Three x) (Four y) p q same = absurd (let lengths : length x ≡ length y = ap length same in omega (arith, p, q, lengths))
-one_tid (Four x) (One y) p q same = absurd (let lengths : length x ≡ length y = ap length same in omega (arith, p, q, lengths))
-one_tid (Four x) (Two y) p q same = absurd (let lengths : length x ≡ length y = ap length same in omega (arith, p, q, lengths))
-one_tid (Four x) (Three y) p q same = absurd (let lengths : length x ≡ length y = ap length same in omega (arith, p, q, lengths))
-one_tid (Four x) (Four y) p q same = ap Four same
+one_tid a b p q same = sym (tid_back a p) ∙ ap (λ o. tid_by (length o) o) same ∙ tid_back b q
 
 one_option : (a b : Option Tid) → IfSome a IsWholeTid → IfSome b IsWholeTid → option_map octets_of a ≡ option_map octets_of b → a ≡ b
 one_option None None p q same = refl
@@ -75,20 +74,16 @@ one_incoming a b same =
 -- a message that was read
 one_read : (x y : Prepared) → is_lost x ≡ false → is_lost y ≡ false → AreWhole (arrival_of x).ids → AreWhole (arrival_of y).ids → Answers x y → x ≡ y
 one_read (prepared.Message a i) (prepared.Message b j) r t p q same = ap (λ x. prepared.Message x i) (one_arrival a b p q same.same_arrival) ∙ ap (λ x. prepared.Message b x) (one_incoming i j same.same_reading)
-one_read (prepared.Message a i) (prepared.Refused b g) r t p q same = absurd same.same_reading
-one_read (prepared.Message a i) (prepared.Lost b) r t p q same = absurd (false≢true (sym t))
-one_read (prepared.Refused a f) (prepared.Message b j) r t p q same = absurd same.same_reading
 one_read (prepared.Refused a f) (prepared.Refused b g) r t p q same = ap (λ x. prepared.Refused x f) (one_arrival a b p q same.same_arrival) ∙ ap (λ x. prepared.Refused b x) same.same_reading
-one_read (prepared.Refused a f) (prepared.Lost b) r t p q same = absurd (false≢true (sym t))
 one_read (prepared.Lost a) y r t p q same = absurd (false≢true (sym r))
+one_read x (prepared.Lost b) r t p q same = absurd (false≢true (sym t))
+one_read x y r t p q same = absurd same.same_reading
 
 -- one that wasn't
 one_lost : (octets : List ℕ) (moment : ℕ) (x y : Prepared) → IsLost octets moment x → IsLost octets moment y → AreWhole (arrival_of x).ids → AreWhole (arrival_of y).ids → Answers x y → x ≡ y
-one_lost octets moment (prepared.Message a i) y l m p q same = absurd l
-one_lost octets moment (prepared.Refused a f) y l m p q same = absurd l
-one_lost octets moment (prepared.Lost a) (prepared.Message b i) l m p q same = absurd m
-one_lost octets moment (prepared.Lost a) (prepared.Refused b f) l m p q same = absurd m
 one_lost octets moment (prepared.Lost a) (prepared.Lost b) l m p q same = ap (λ x. prepared.Lost x) (one_arrival a b p q same.same_arrival)
+one_lost octets moment (prepared.Lost a) y l m p q same = absurd m
+one_lost octets moment x y l m p q same = absurd l
 
 no_message : (x y : Option Prepared) → IsNone x → IsNone y → x ≡ y
 no_message None None p q = refl
@@ -103,14 +98,7 @@ came_is_one one contents contexts (steps.Lost frame moment) None y p q = absurd 
 came_is_one one contents contexts (steps.Lost frame moment) (Some a) None p q = absurd q
 came_is_one one contents contexts (steps.Lost frame moment) (Some a) (Some b) p q =
     ap Some (one_lost frame moment a b p.0 q.0 p.1 q.1 (one contents contexts frame moment a b (lost_prepared contents contexts frame moment a p.0) (lost_prepared contents contexts frame moment b q.0)))
-came_is_one one contents contexts (steps.Tick moment) x y p q = no_message x y p q
-came_is_one one contents contexts steps.Take x y p q = no_message x y p q
-came_is_one one contents contexts (steps.Give lo) x y p q = no_message x y p q
-came_is_one one contents contexts (steps.PutBack lo) x y p q = no_message x y p q
-came_is_one one contents contexts steps.Pick x y p q = no_message x y p q
-came_is_one one contents contexts steps.Sent x y p q = no_message x y p q
-came_is_one one contents contexts steps.Unsent x y p q = no_message x y p q
-came_is_one one contents contexts steps.Down x y p q = no_message x y p q
+came_is_one one contents contexts step x y p q = no_message x y p q
 
 -- ANSWERS
 
@@ -124,121 +112,57 @@ never_both h c d (inr (e, inl a)) (inr (f, inr b)) = let g = b.0 in omega (arith
 never_both h c d (inr (e, inr a)) (inr (f, inl b)) = let g = a.0 in omega (arith, b, g)
 never_both h c d (inr (e, inr a)) (inr (f, inr b)) = let g = a.1 in let i = b.1 in omega (arith, g, i)
 
-one_longest : (link : ℕ) (h : List Event) (l p m q : ℕ) → IsLongestReady link h l p → IsLongestReady link h m q → outputs.Took l p ≡ outputs.Took m q
-one_longest link h l p m q a b =
+one_longest : (h : List Event) (l p m q : ℕ) → IsLongestReady h l p → IsLongestReady h m q → outputs.Took l p ≡ outputs.Took m q
+one_longest h l p m q a b =
     let same : a.dialogue ≡ b.dialogue =
     ⊎_elim (λ e. eqb-true a.dialogue b.dialogue e)
     (λ ne. absurd (never_both h b.dialogue a.dialogue (b.longest a.dialogue a.stands ne) (a.longest b.dialogue b.stands (⊎_elim (λ e. absurd (false≢true (sym ne ∙ eq-eqb a.dialogue b.dialogue (sym (eqb-true b.dialogue a.dialogue e))))) (λ n. n) (cases_Bool (eqb b.dialogue a.dialogue))))))
     (cases_Bool (eqb a.dialogue b.dialogue))
     in
-    ap (λ x. outputs.Took x p) (a.local_is ∙ ap (identifier link) same ∙ sym b.local_is) ∙ ap (λ x. outputs.Took m x) (a.next ∙ ap (λ d. length (positions h d)) same ∙ sym b.next)
+    ap (λ x. outputs.Took x p) (a.local_is ∙ ap (local_of h) same ∙ sym b.local_is) ∙ ap (λ x. outputs.Took m x) (a.next ∙ ap (λ d. length (positions h d)) same ∙ sym b.next)
 
-one_taken : (link : ℕ) (h : List Event) (x y : Output) → IsTaken link h x → IsTaken link h y → x ≡ y
-one_taken link h (outputs.Posted answer components) y a b = absurd a
-one_taken link h (outputs.Ticked added wanting) y a b = absurd a
-one_taken link h (outputs.Took l p) (outputs.Posted answer components) a b = absurd b
-one_taken link h (outputs.Took l p) (outputs.Ticked added wanting) a b = absurd b
-one_taken link h (outputs.Took l p) (outputs.Took m q) a b = one_longest link h l p m q a.0 b.0
-one_taken link h (outputs.Took l p) outputs.NoRoom a b = absurd (let lt : places h < 8192 = a.1 in let le : 8192 ≤ places h = b.1 in omega (arith, lt, le))
-one_taken link h (outputs.Took l p) (outputs.Gave m q given) a b = absurd b
-one_taken link h (outputs.Took l p) outputs.WentBack a b = absurd b
-one_taken link h (outputs.Took l p) (outputs.Picked m octets) a b = absurd b
-one_taken link h (outputs.Took l p) outputs.Busy a b = absurd b
-one_taken link h (outputs.Took l p) outputs.Sent a b = absurd b
-one_taken link h (outputs.Took l p) outputs.Unsent a b = absurd b
-one_taken link h (outputs.Took l p) outputs.Down a b = absurd b
-one_taken link h (outputs.Took l p) outputs.Nothing a b = absurd (false≢true (sym (b a.0.dialogue) ∙ a.0.stands))
-one_taken link h outputs.NoRoom (outputs.Posted answer components) a b = absurd b
-one_taken link h outputs.NoRoom (outputs.Ticked added wanting) a b = absurd b
-one_taken link h outputs.NoRoom (outputs.Took m q) a b = absurd (let lt : places h < 8192 = b.1 in let le : 8192 ≤ places h = a.1 in omega (arith, lt, le))
-one_taken link h outputs.NoRoom outputs.NoRoom a b = refl
-one_taken link h outputs.NoRoom (outputs.Gave m q given) a b = absurd b
-one_taken link h outputs.NoRoom outputs.WentBack a b = absurd b
-one_taken link h outputs.NoRoom (outputs.Picked m octets) a b = absurd b
-one_taken link h outputs.NoRoom outputs.Busy a b = absurd b
-one_taken link h outputs.NoRoom outputs.Sent a b = absurd b
-one_taken link h outputs.NoRoom outputs.Unsent a b = absurd b
-one_taken link h outputs.NoRoom outputs.Down a b = absurd b
-one_taken link h outputs.NoRoom outputs.Nothing a b = absurd (false≢true (sym (b a.0.0) ∙ a.0.1))
-one_taken link h (outputs.Gave l position given) y a b = absurd a
-one_taken link h outputs.WentBack y a b = absurd a
-one_taken link h (outputs.Picked l octets) y a b = absurd a
-one_taken link h outputs.Busy y a b = absurd a
-one_taken link h outputs.Sent y a b = absurd a
-one_taken link h outputs.Unsent y a b = absurd a
-one_taken link h outputs.Down y a b = absurd a
-one_taken link h outputs.Nothing (outputs.Posted answer components) a b = absurd b
-one_taken link h outputs.Nothing (outputs.Ticked added wanting) a b = absurd b
-one_taken link h outputs.Nothing (outputs.Took m q) a b = absurd (false≢true (sym (a b.0.dialogue) ∙ b.0.stands))
-one_taken link h outputs.Nothing outputs.NoRoom a b = absurd (false≢true (sym (a b.0.0) ∙ b.0.1))
-one_taken link h outputs.Nothing (outputs.Gave m q given) a b = absurd b
-one_taken link h outputs.Nothing outputs.WentBack a b = absurd b
-one_taken link h outputs.Nothing (outputs.Picked m octets) a b = absurd b
-one_taken link h outputs.Nothing outputs.Busy a b = absurd b
-one_taken link h outputs.Nothing outputs.Sent a b = absurd b
-one_taken link h outputs.Nothing outputs.Unsent a b = absurd b
-one_taken link h outputs.Nothing outputs.Down a b = absurd b
-one_taken link h outputs.Nothing outputs.Nothing a b = refl
+one_taken : (h : List Event) (x y : Output) → IsTaken h x → IsTaken h y → x ≡ y
+one_taken h (outputs.Took l p) (outputs.Took m q) a b = one_longest h l p m q a.0 b.0
+one_taken h (outputs.Took l p) outputs.NoRoom a b = absurd (let lt : places h < 8192 = a.1 in let le : 8192 ≤ places h = b.1 in omega (arith, lt, le))
+one_taken h (outputs.Took l p) outputs.Nothing a b = absurd (false≢true (sym (b a.0.dialogue) ∙ a.0.stands))
+one_taken h outputs.NoRoom (outputs.Took m q) a b = absurd (let lt : places h < 8192 = b.1 in let le : 8192 ≤ places h = a.1 in omega (arith, lt, le))
+one_taken h outputs.NoRoom outputs.NoRoom a b = refl
+one_taken h outputs.NoRoom outputs.Nothing a b = absurd (false≢true (sym (b a.0.0) ∙ a.0.1))
+one_taken h outputs.Nothing (outputs.Took m q) a b = absurd (false≢true (sym (a b.0.dialogue) ∙ b.0.stands))
+one_taken h outputs.Nothing outputs.NoRoom a b = absurd (false≢true (sym (a b.0.0) ∙ b.0.1))
+one_taken h outputs.Nothing outputs.Nothing a b = refl
+one_taken h (outputs.Took l p) y a b = absurd b
+one_taken h outputs.NoRoom y a b = absurd b
+one_taken h outputs.Nothing y a b = absurd b
+one_taken h x y a b = absurd a
 
-one_next : (link : ℕ) (aborts : List (List ℕ)) (frames : List QueuedFrame) (l m : ℕ) (x y : List ℕ) → IsNext link aborts frames l x → IsNext link aborts frames m y → outputs.Picked l x ≡ outputs.Picked m y
-one_next link (abort ∷ aborts) frames l m x y a b = ap (λ n. outputs.Picked n x) (a.0 ∙ sym b.0) ∙ ap (λ o. outputs.Picked m o) (a.1 ∙ sym b.1)
-one_next link [] (first ∷ frames) l m x y a b = ap (λ n. outputs.Picked n x) (a.0 ∙ sym b.0) ∙ ap (λ o. outputs.Picked m o) (a.1 ∙ sym b.1)
-one_next link [] [] l m x y a b = absurd a
+one_next : (h : List Event) (aborts : List (List ℕ)) (frames : List QueuedFrame) (l m : ℕ) (x y : List ℕ) → IsNext h aborts frames l x → IsNext h aborts frames m y → outputs.Picked l x ≡ outputs.Picked m y
+one_next h (abort ∷ aborts) frames l m x y a b = ap (λ n. outputs.Picked n x) (a.0 ∙ sym b.0) ∙ ap (λ o. outputs.Picked m o) (a.1 ∙ sym b.1)
+one_next h [] (first ∷ frames) l m x y a b = ap (λ n. outputs.Picked n x) (a.0 ∙ sym b.0) ∙ ap (λ o. outputs.Picked m o) (a.1 ∙ sym b.1)
+one_next h [] [] l m x y a b = absurd a
 
-none_next : (link : ℕ) (aborts : List (List ℕ)) (frames : List QueuedFrame) (l : ℕ) (x : List ℕ) → IsNext link aborts frames l x → aborts ≡ [] → frames ≡ [] → ⊥
-none_next link (abort ∷ aborts) frames l x a none empty = cc
-none_next link [] (first ∷ frames) l x a none empty = cc
-none_next link [] [] l x a none empty = a
+none_next : (h : List Event) (aborts : List (List ℕ)) (frames : List QueuedFrame) (l : ℕ) (x : List ℕ) → IsNext h aborts frames l x → aborts ≡ [] → frames ≡ [] → ⊥
+none_next h (abort ∷ aborts) frames l x a none empty = cc
+none_next h [] (first ∷ frames) l x a none empty = cc
+none_next h [] [] l x a none empty = a
 
 busy_not : (h : List Event) → is_some (out h) ≡ true → out h ≡ None → ⊥
 busy_not h some none = false≢true (sym (ap (λ o. is_some o) none) ∙ some)
 
-one_picked : (link : ℕ) (h : List Event) (x y : Output) → IsPicked link h x → IsPicked link h y → x ≡ y
-one_picked link h (outputs.Posted answer components) y a b = absurd a
-one_picked link h (outputs.Ticked added wanting) y a b = absurd a
-one_picked link h (outputs.Took l position) y a b = absurd a
-one_picked link h outputs.NoRoom y a b = absurd a
-one_picked link h (outputs.Gave l position given) y a b = absurd a
-one_picked link h outputs.WentBack y a b = absurd a
-one_picked link h (outputs.Picked l octets) (outputs.Posted answer components) a b = absurd b
-one_picked link h (outputs.Picked l octets) (outputs.Ticked added wanting) a b = absurd b
-one_picked link h (outputs.Picked l octets) (outputs.Took m q) a b = absurd b
-one_picked link h (outputs.Picked l octets) outputs.NoRoom a b = absurd b
-one_picked link h (outputs.Picked l octets) (outputs.Gave m q given) a b = absurd b
-one_picked link h (outputs.Picked l octets) outputs.WentBack a b = absurd b
-one_picked link h (outputs.Picked l octets) (outputs.Picked m others) a b = one_next link (aborts_waiting h) (waiting h) l m octets others a.1 b.1
-one_picked link h (outputs.Picked l octets) outputs.Busy a b = absurd (busy_not h b a.0)
-one_picked link h (outputs.Picked l octets) outputs.Sent a b = absurd b
-one_picked link h (outputs.Picked l octets) outputs.Unsent a b = absurd b
-one_picked link h (outputs.Picked l octets) outputs.Down a b = absurd b
-one_picked link h (outputs.Picked l octets) outputs.Nothing a b = absurd (none_next link (aborts_waiting h) (waiting h) l octets a.1 b.1 b.2)
-one_picked link h outputs.Busy (outputs.Posted answer components) a b = absurd b
-one_picked link h outputs.Busy (outputs.Ticked added wanting) a b = absurd b
-one_picked link h outputs.Busy (outputs.Took m q) a b = absurd b
-one_picked link h outputs.Busy outputs.NoRoom a b = absurd b
-one_picked link h outputs.Busy (outputs.Gave m q given) a b = absurd b
-one_picked link h outputs.Busy outputs.WentBack a b = absurd b
-one_picked link h outputs.Busy (outputs.Picked m others) a b = absurd (busy_not h a b.0)
-one_picked link h outputs.Busy outputs.Busy a b = refl
-one_picked link h outputs.Busy outputs.Sent a b = absurd b
-one_picked link h outputs.Busy outputs.Unsent a b = absurd b
-one_picked link h outputs.Busy outputs.Down a b = absurd b
-one_picked link h outputs.Busy outputs.Nothing a b = absurd (busy_not h a b.0)
-one_picked link h outputs.Sent y a b = absurd a
-one_picked link h outputs.Unsent y a b = absurd a
-one_picked link h outputs.Down y a b = absurd a
-one_picked link h outputs.Nothing (outputs.Posted answer components) a b = absurd b
-one_picked link h outputs.Nothing (outputs.Ticked added wanting) a b = absurd b
-one_picked link h outputs.Nothing (outputs.Took m q) a b = absurd b
-one_picked link h outputs.Nothing outputs.NoRoom a b = absurd b
-one_picked link h outputs.Nothing (outputs.Gave m q given) a b = absurd b
-one_picked link h outputs.Nothing outputs.WentBack a b = absurd b
-one_picked link h outputs.Nothing (outputs.Picked m others) a b = absurd (none_next link (aborts_waiting h) (waiting h) m others b.1 a.1 a.2)
-one_picked link h outputs.Nothing outputs.Busy a b = absurd (busy_not h b a.0)
-one_picked link h outputs.Nothing outputs.Sent a b = absurd b
-one_picked link h outputs.Nothing outputs.Unsent a b = absurd b
-one_picked link h outputs.Nothing outputs.Down a b = absurd b
-one_picked link h outputs.Nothing outputs.Nothing a b = refl
+one_picked : (h : List Event) (x y : Output) → IsPicked h x → IsPicked h y → x ≡ y
+one_picked h (outputs.Picked l octets) (outputs.Picked m others) a b = one_next h (aborts_waiting h) (waiting h) l m octets others a.1 b.1
+one_picked h (outputs.Picked l octets) outputs.Busy a b = absurd (busy_not h b a.0)
+one_picked h (outputs.Picked l octets) outputs.Nothing a b = absurd (none_next h (aborts_waiting h) (waiting h) l octets a.1 b.1 b.2)
+one_picked h outputs.Busy (outputs.Picked m others) a b = absurd (busy_not h a b.0)
+one_picked h outputs.Busy outputs.Busy a b = refl
+one_picked h outputs.Busy outputs.Nothing a b = absurd (busy_not h a b.0)
+one_picked h outputs.Nothing (outputs.Picked m others) a b = absurd (none_next h (aborts_waiting h) (waiting h) m others b.1 a.1 a.2)
+one_picked h outputs.Nothing outputs.Busy a b = absurd (busy_not h b a.0)
+one_picked h outputs.Nothing outputs.Nothing a b = refl
+one_picked h (outputs.Picked l octets) y a b = absurd b
+one_picked h outputs.Busy y a b = absurd b
+one_picked h outputs.Nothing y a b = absurd b
+one_picked h x y a b = absurd a
 
 one_posted : (link : ℕ) (h : List Event) (came : Option Prepared) (x y : Output) → IsPosted link h came x → IsPosted link h came y → x ≡ y
 one_posted link h None x y a b = absurd a
@@ -247,39 +171,59 @@ one_posted link h (Some came) x y a b = a ∙ sym b
 one_answer : (link : ℕ) (h : List Event) (step : Step) (came : Option Prepared) (x y : Output) → IsAnswer link h step came x → IsAnswer link h step came y → x ≡ y
 one_answer link h (steps.Post frame moment) came x y a b = one_posted link h came x y a b
 one_answer link h (steps.Lost frame moment) came x y a b = one_posted link h came x y a b
-one_answer link h (steps.Tick moment) came x y a b = a ∙ sym b
-one_answer link h steps.Take came x y a b = one_taken link h x y a b
-one_answer link h (steps.Give lo) came x y a b = a ∙ sym b
-one_answer link h (steps.PutBack lo) came x y a b = a ∙ sym b
-one_answer link h steps.Pick came x y a b = one_picked link h x y a b
-one_answer link h steps.Sent came x y a b = a ∙ sym b
-one_answer link h steps.Unsent came x y a b = a ∙ sym b
-one_answer link h steps.Down came x y a b = a ∙ sym b
+one_answer link h steps.Take came x y a b = one_taken h x y a b
+one_answer link h steps.Pick came x y a b = one_picked h x y a b
+one_answer link h step came x y a b = a ∙ sym b
 
 pub answers_one : PreparedIsOne → AnswersAreOne
 answers_one one contents contexts link h step came other x y p q a b =
     let same : other ≡ came = came_is_one one contents contexts step other came q p in
     one_answer link h step came x y a (subst (λ o. IsAnswer link h step o y) same b)
 
--- WHAT IS RETOLD
+-- HISTORIES
 
-one_event : PreparedIsOne → (contents : Contents) (contexts : List (List ℕ)) (link : ℕ) (line : LoggedStep) (h : List Event) (e f : Event) → RetellsOne contents contexts link line h e → RetellsOne contents contexts link line h f → e ≡ f
-one_event one contents contexts link line h e f a b =
+-- an event is one by its step
+one_event : PreparedIsOne → (contents : Contents) (contexts : List (List ℕ)) (link : ℕ) (h : List Event) (e f : Event) → e.step ≡ f.step → IsCame contents contexts e.step e.came → IsCame contents contexts f.step f.came
+    → IsAnswer link h e.step e.came e.output → IsAnswer link h f.step f.came f.output → e ≡ f
+one_event one contents contexts link h e f same p q a b =
     let make : Step → Option Prepared → Output → Event = λ s c o. record { step = s; came = c; output = o } in
-    let both : Some e.step ≡ Some f.step = sym a.step ∙ b.step in
-    let steps_same : f.step ≡ e.step = cc in
-    let came_then : IsCame contents contexts e.step f.came = subst (λ s. IsCame contents contexts s f.came) steps_same b.came in
-    let answer_then : IsAnswer link h e.step f.came f.output = subst (λ s. IsAnswer link h s f.came f.output) steps_same b.answer in
-    ap (λ s. make s e.came e.output) (sym steps_same) ∙ ap (λ c. make f.step c e.output) (came_is_one one contents contexts e.step e.came f.came a.came came_then)
-    ∙ ap (λ o. make f.step f.came o) (answers_one one contents contexts link h e.step e.came f.came e.output f.output a.came came_then a.answer answer_then)
+    let came_then : IsCame contents contexts e.step f.came = subst (λ s. IsCame contents contexts s f.came) (sym same) q in
+    let answer_then : IsAnswer link h e.step f.came f.output = subst (λ s. IsAnswer link h s f.came f.output) (sym same) b in
+    ap (λ s. make s e.came e.output) same ∙ ap (λ c. make f.step c e.output) (came_is_one one contents contexts e.step e.came f.came p came_then)
+    ∙ ap (λ o. make f.step f.came o) (answers_one one contents contexts link h e.step e.came f.came e.output f.output p came_then a answer_then)
+
+-- a history is one by its steps
+one_history : PreparedIsOne → (contents : Contents) (contexts : List (List ℕ)) (link : ℕ) (g h : List Event) → map (λ (e : Event). e.step) g ≡ map (λ (e : Event). e.step) h
+    → AllByRecursion (λ (e : Event). IsCame contents contexts e.step e.came) g → AllByRecursion (λ (e : Event). IsCame contents contexts e.step e.came) h → AllAnswered link g → AllAnswered link h → g ≡ h
+one_history one contents contexts link [] [] same p q a b = refl
+one_history one contents contexts link [] (f ∷ h) same p q a b = absurd (let clash : [] ≡ f.step ∷ map (λ (e : Event). e.step) h = same in cc)
+one_history one contents contexts link (e ∷ g) [] same p q a b = absurd (let clash : e.step ∷ map (λ (e : Event). e.step) g ≡ [] = same in cc)
+one_history one contents contexts link (e ∷ g) (f ∷ h) same p q a b =
+    let all : e.step ∷ map (λ (e : Event). e.step) g ≡ f.step ∷ map (λ (e : Event). e.step) h = same in
+    let first : e.step ≡ f.step = cc in
+    let others : map (λ (e : Event). e.step) g ≡ map (λ (e : Event). e.step) h = cc in
+    let rest : g ≡ h = one_history one contents contexts link g h others p.1 q.1 a.1 b.1 in
+    ap (λ x. x ∷ g) (one_event one contents contexts link g e f first p.0 q.0 a.0 (subst (λ k. IsAnswer link k f.step f.came f.output) (sym rest) b.0)) ∙ ap (λ k. f ∷ k) rest
+
+pub runs_one : PreparedIsOne → RunsAreOne
+runs_one one contents contexts link steps outputs others r t =
+    let forth = λ (h : List Event). reverse-reverse (map (λ (e : Event). e.step) h) in
+    let same : r.history ≡ t.history =
+    one_history one contents contexts link r.history t.history
+    (sym (forth r.history) ∙ ap reverse (r.tells.steps_are ∙ sym t.tells.steps_are) ∙ forth t.history)
+    r.tells.messages t.tells.messages r.answers t.answers in
+    (sym r.tells.outputs_are ∙ ap outputs_of same ∙ t.tells.outputs_are, same)
+
+-- WHAT IS RETOLD
 
 pub retold_once : PreparedIsOne → LinesAreRetoldOnce
 retold_once one contents contexts link [] [] [] a b = refl
-retold_once one contents contexts link [] [] (f ∷ h) a b = absurd b
-retold_once one contents contexts link [] (e ∷ g) h a b = absurd a
-retold_once one contents contexts link (line ∷ lines) [] h a b = absurd a
-retold_once one contents contexts link (line ∷ lines) (e ∷ g) [] a b = absurd b
 retold_once one contents contexts link (line ∷ lines) (e ∷ g) (f ∷ h) (a, r) (b, t) =
     let rest : h ≡ g = retold_once one contents contexts link lines h g t r in
     let then : RetellsOne contents contexts link line g f = subst (λ k. RetellsOne contents contexts link line k f) rest b in
-    ap (λ x. x ∷ g) (one_event one contents contexts link line g e f a then) ∙ ap (λ k. f ∷ k) (sym rest)
+    let both : Some e.step ≡ Some f.step = sym a.step ∙ b.step in
+    let same : e.step ≡ f.step = cc in
+    ap (λ x. x ∷ g) (one_event one contents contexts link g e f same a.came b.came a.answer then.answer) ∙ ap (λ k. f ∷ k) (sym rest)
+retold_once one contents contexts link [] (e ∷ g) h a b = absurd a
+retold_once one contents contexts link (line ∷ lines) [] h a b = absurd a
+retold_once one contents contexts link lines g h a b = absurd b

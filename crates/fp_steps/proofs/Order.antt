@@ -1,24 +1,24 @@
 -- The queue of a book is in the order in which its dialogues became ready.
 use Rattle.std.proofs.Common.{◌≡◌, ℕ, ◌<◌, Bool, true, false, cond, eqb, not, ◌&&◌, Option, Some, None, List, [], ◌∷◌, ◌++◌, refl, sym, ◌∙◌, ap, subst, arith, zero, suc, ◌⊎◌, inl, inr, ⊎_elim}
 use Rattle.std.specs.List.{AllByRecursion}
-use Rattle.std.proofs.lemmas.Bool.{cases_Bool, eq-eqb, eqb-true, false≢true}
+use Rattle.std.proofs.lemmas.Bool.{and_right, cases_Bool, eq-eqb, eqb-true, false≢true}
 use Rattle.std.specs.FinMap as map
+use Rattle.std.specs.Option.{option_map_or}
 use Rattle.fp_book.proofs.Changes.{count, count_is, ready}
 use Rattle.fp_book.proofs.Queue.{count-append, count-cons}
 use Rattle.fp_book.proofs.Sums.{amount}
-use Rattle.fp_book.specs.Calls.{ComesFirst}
+use Rattle.fp_book.specs.Calls.{ComesFirst, Due}
 use Rattle.fp_book.specs.Shelf.{Shelf, Sound, one_if}
 use Rattle.fp_row.specs.declared.row.Row.{Row}
 use Rattle.fp_row.specs.Row.{is_ready as row_is_ready, waits as row_waits}
 use Rattle.fp_service.specs.declared.dialogue.Core.{Core}
 use Rattle.fp_service.specs.Dialogue.{next_due}
 use Rattle.fp_tids.specs.Identifiers.{identifier}
-use Rattle.fp_steps.specs.Accepted.{core_of}
-use Rattle.fp_steps.specs.Births.{births}
+use Rattle.fp_steps.specs.Births.{Beginning, births, local_of}
 use Rattle.fp_steps.specs.History.{Event}
 use Rattle.fp_steps.specs.Lined.{ByAge, Sorted}
-use Rattle.fp_steps.specs.Tied.{IsTied, Tied, TiedAt, story}
-use Rattle.fp_steps.specs.Turns.{IsReadyBefore, is_ready, ready_for, turn_out, waits}
+use Rattle.fp_steps.specs.Tied.{IsTied, Tied, TiedAt, beginning_of, story}
+use Rattle.fp_steps.specs.Turns.{IsReadyBefore, due_of, is_ready, ready_for, turn_out, waits}
 use Rattle.fp_steps.proofs.Stories.{core_tied, waits_tied}
 
 -- lists
@@ -69,12 +69,8 @@ abbrev pub ready_at : Option Row → Bool
 ready_at None = false
 ready_at (Some row) = row_is_ready row
 
-and_none : (b : Bool) → (b && false) ≡ false
-and_none true = refl
-and_none false = refl
-
 ready_by : (n d : ℕ) (h : List Event) (o : Option Row) → TiedAt n d (story h d) o → is_ready h d ≡ ready_at o
-ready_by n d h None k = ap (λ b. not (turn_out h d) && b) k.waits ∙ and_none (not (turn_out h d))
+ready_by n d h None k = ap (λ b. not (turn_out h d) && b) k.waits ∙ and_right (not (turn_out h d)) false refl
 ready_by n d h (Some row) k = ap (λ b. not b && waits h d) k.outs ∙ ap (λ b. not row.is_out && b) (waits_tied d (story h d) row k)
 
 pub ready_is : (h : List Event) (s : Shelf) (d : ℕ) → Tied h s → is_ready h d ≡ ready_at (map.get s.rows (identifier s.link d))
@@ -143,24 +139,31 @@ pub not_out_by : (out waits : Bool) → (not out && waits) ≡ true → out ≡ 
 not_out_by true waits e = absurd (false≢true e)
 not_out_by false waits e = refl
 
--- what is due next of a dialogue that stays ready is the same
-pub due_stays : (h : List Event) (e : Event) (old new : Shelf) (d : ℕ) (before after : Row) → Tied h old → Tied (e ∷ h) new → new.link ≡ old.link → CoresStay old new → map.get old.rows (identifier old.link d) ≡ Some before
-    → map.get new.rows (identifier old.link d) ≡ Some after → before.is_out ≡ false → core_of (e ∷ h) d ≡ core_of h d
-due_stays h e old new d before after t u link cores was is free =
-    let l = identifier old.link d in
-    let there : map.get new.rows (identifier new.link d) ≡ Some after = ap (λ k. map.get new.rows (identifier k d)) link ∙ is in
-    let k : IsTied d (story h d) before = subst (TiedAt (births h) d (story h d)) was (t.rows d) in
-    let m : IsTied d (story (e ∷ h) d) after = subst (TiedAt (births (e ∷ h)) d (story (e ∷ h) d)) there (u.rows d) in
-    core_tied d (story (e ∷ h) d) after m ∙ cores l before after was is free ∙ sym (core_tied d (story h d) before k)
+abbrev due_by : ℕ → ℕ → Due
+due_by next local = (next, local)
 
-pub stays_before : (h : List Event) (e : Event) (c d : ℕ) → ready_for (e ∷ h) c ≡ suc (ready_for h c) → ready_for (e ∷ h) d ≡ suc (ready_for h d) → core_of (e ∷ h) c ≡ core_of h c → core_of (e ∷ h) d ≡ core_of h d
+-- what is due next of a dialogue that is held, as the book has it
+pub due_is : (h : List Event) (s : Shelf) (d : ℕ) (row : Row) → Tied h s → map.get s.rows (identifier s.link d) ≡ Some row → due_of h d ≡ due_by (next_due row.core) (identifier s.link d)
+due_is h s d row t was =
+    let k : IsTied d (story h d) row = subst (TiedAt (births h) d (story h d)) was (t.rows d) in
+    ap (λ (x : Core). due_by (next_due x) (local_of h d)) (core_tied d (story h d) row k)
+    ∙ ap (due_by (next_due row.core)) (ap (λ o. option_map_or (λ (b : Beginning). b.local) o 0) k.begins ∙ t.begins d (beginning_of row) k.begins)
+
+-- that of a dialogue that stays ready is the same
+pub due_stays : (h : List Event) (e : Event) (old new : Shelf) (d : ℕ) (before after : Row) → Tied h old → Tied (e ∷ h) new → new.link ≡ old.link → CoresStay old new → map.get old.rows (identifier old.link d) ≡ Some before
+    → map.get new.rows (identifier old.link d) ≡ Some after → before.is_out ≡ false → due_of (e ∷ h) d ≡ due_of h d
+due_stays h e old new d before after t u link cores was is free =
+    due_is (e ∷ h) new d after u (ap (λ k. map.get new.rows (identifier k d)) link ∙ is)
+    ∙ ap (λ (x : Core). due_by (next_due x) (identifier new.link d)) (cores (identifier old.link d) before after was is free)
+    ∙ ap (λ k. due_by (next_due before.core) (identifier k d)) link ∙ sym (due_is h old d before t was)
+
+pub stays_before : (h : List Event) (e : Event) (c d : ℕ) → ready_for (e ∷ h) c ≡ suc (ready_for h c) → ready_for (e ∷ h) d ≡ suc (ready_for h d) → due_of (e ∷ h) c ≡ due_of h c → due_of (e ∷ h) d ≡ due_of h d
     → IsReadyBefore h c d → IsReadyBefore (e ∷ h) c d
-stays_before h e c d goes_c goes_d core_c core_d (inl less) = inl (let l : ready_for h d < ready_for h c = less in omega (arith, l, goes_c, goes_d))
-stays_before h e c d goes_c goes_d core_c core_d (inr same) =
+stays_before h e c d goes_c goes_d due_c due_d (inl less) = inl (let l : ready_for h d < ready_for h c = less in omega (arith, l, goes_c, goes_d))
+stays_before h e c d goes_c goes_d due_c due_d (inr same) =
     inr (
       (let s : ready_for h c ≡ ready_for h d = same.0 in omega (arith, s, goes_c, goes_d)),
-      subst (λ (x : Core). ComesFirst (next_due x, c) (next_due (core_of (e ∷ h) d), d)) (sym core_c)
-          (subst (λ (x : Core). ComesFirst (next_due (core_of h c), c) (next_due x, d)) (sym core_d) same.1),
+      subst (λ (x : Due). ComesFirst x (due_of (e ∷ h) d)) (sym due_c) (subst (λ (x : Due). ComesFirst (due_of h c) x) (sym due_d) same.1),
     )
 
 -- it is above nothing
@@ -180,7 +183,7 @@ Order-next h e old new t k u m g =
     let place : (d : ℕ) → identifier new.link d ≡ identifier link d = λ d. ap (λ n. identifier n d) g.link_is in
     let was_ready : (y d : ℕ) → y ≡ identifier link d → 0 < count y old.ready → is_ready h d ≡ true = λ y d is c. queued_ready h old d t k (subst (λ n. 0 < count n old.ready) is c) in
     let now_ready : (y d : ℕ) → y ≡ identifier link d → 0 < count y new.ready → is_ready (e ∷ h) d ≡ true = λ y d is c. queued_ready (e ∷ h) new d u m (subst (λ n. 0 < count n new.ready) (is ∙ sym (place d)) c) in
-    let core : (y d : ℕ) → y ≡ identifier link d → 0 < count y g.stay → core_of (e ∷ h) d ≡ core_of h d = λ y d is c.
+    let due : (y d : ℕ) → y ≡ identifier link d → 0 < count y g.stay → due_of (e ∷ h) d ≡ due_of h d = λ y d is c.
     let before = queued_own h old y t k (g.stayed y c) in
     let after = queued_own (e ∷ h) new y u m (in_new y c) in
     let free : before.0.is_out ≡ false =
@@ -192,7 +195,7 @@ Order-next h e old new t k u m g =
     let stay : Sorted (ByAge link (e ∷ h)) g.stay =
     sorted_same (ByAge link h) (ByAge link (e ∷ h)) g.stay
     (λ x y cx cy age c d is_c is_d.
-    stays_before h e c d (goes_on e h c (now_ready x c is_c (in_new x cx))) (goes_on e h d (now_ready y d is_d (in_new y cy))) (core x c is_c cx) (core y d is_d cy) (age c d is_c is_d))
+    stays_before h e c d (goes_on e h c (now_ready x c is_c (in_new x cx))) (goes_on e h d (now_ready y d is_d (in_new y cy))) (due x c is_c cx) (due y d is_d cy) (age c d is_c is_d))
     g.order
     in
     let behind : (x y : ℕ) → 0 < count x g.stay → 0 < count y g.join → ByAge link (e ∷ h) x y = λ x y cx cy c d is_c is_d.

@@ -19,8 +19,8 @@ use Rattle.fp_steps.specs.Log.{back_by, others, place_in, told_where, turns_afte
 use Rattle.fp_steps.specs.Sending.{Handed, out}
 use Rattle.fp_steps.specs.Told.{told, told_back}
 use Rattle.fp_steps.specs.Turns.{turn_out}
-use Rattle.fp_steps.proofs.Added.{local_in}
-use Rattle.fp_steps.proofs.Names.{named_is, out_born, taken_if, the_one, took_is, turned_if}
+use Rattle.fp_steps.proofs.Tally.{local_in}
+use Rattle.fp_steps.proofs.Names.{named_born, named_is, opened_once, out_born, taken_if, the_one, took_is, turned_if}
 
 -- TURNS
 
@@ -104,7 +104,7 @@ back_stays : (h : List Event) (turns : List TurnOut) (l local d : ℕ) (before :
 back_stays h turns l local d before k name was is =
     others_stay h turns [] l local d k name (sym was ∙ turned_if (is_one (named h l) d) before is) (not_back h l local d name (not_one (is_one (named h l) d) before is)) refl
 
-took_stays : (link : ℕ) (h : List Event) (turns : List TurnOut) (l position local d : ℕ) → AllAnswered link h → IsLongestReady link h l position → AreOut h turns → named h local ≡ Some d → cond (is_one (named h l) d) true (turn_out h d) ≡ true
+took_stays : (link : ℕ) (h : List Event) (turns : List TurnOut) (l position local d : ℕ) → AllAnswered link h → IsLongestReady h l position → AreOut h turns → named h local ≡ Some d → cond (is_one (named h l) d) true (turn_out h d) ≡ true
     → place_in (others l turns ++ record { local = l; position = position } ∷ []) local ≡ Some (length (positions h d ++ []))
 took_stays link h turns l position local d all taken k name is =
     let turn : TurnOut = record { local = l; position = position } in
@@ -112,8 +112,7 @@ took_stays link h turns l position local d all taken k name is =
     ⊎_elim
     (λ e.
     let here : l ≡ local = eqb-true l local e in
-    let place : l ≡ identifier link taken.dialogue = taken.local_is in
-    let same : taken.dialogue ≡ d = omega (arith, here, place, named_so) in
+    let same : taken.dialogue ≡ d = opened_once link h taken.dialogue d all (named_born h local d name).0 (sym taken.local_is ∙ here ∙ named_so) in
     ap (λ n. place_in (others n turns ++ turn ∷ []) local) here ∙ find_own turn local turns e ∙ ap Some (taken.next ∙ ap (λ n. length (positions h n)) same)
     ∙ ap (λ xs. Some (length xs)) (sym (append-nil (positions h d))))
     (λ ne.
@@ -129,28 +128,12 @@ took_stays link h turns l position local d all taken k name is =
 moved : (link : ℕ) (h : List Event) (turns : List TurnOut) (step : Step) (came : Option Prepared) (output : Output) → IsAnswer link h step came output → AllAnswered link h → AreOut h turns
     → AreOut (record { step = step; came = came; output = output } ∷ h) (turns_after step output turns)
 moved link h turns step came (outputs.Posted answer components) is all k local d name out_now = posted_stays h turns local d (opened_by answer) k name out_now
-moved link h turns step came (outputs.Ticked added wanting) is all k local d name out_now = stays h turns local d k name out_now
 moved link h turns step came (outputs.Took l position) is all k local d name out_now = took_stays link h turns l position local d all (took_is link h step came l position is) k name out_now
-moved link h turns step came outputs.NoRoom is all k local d name out_now = stays h turns local d k name out_now
 moved link h turns step came (outputs.Gave l position given) is all k local d name out_now =
     back_stays h turns l local d (turn_out h d) k name refl out_now
     ∙ ap (λ xs. Some (length (positions h d ++ xs))) (sym (no_place (named h l) d (position ∷ []) (not_one (is_one (named h l) d) (turn_out h d) out_now)))
-moved link h turns (steps.Post frame moment) came outputs.WentBack is all k local d name out_now = stays h turns local d k name out_now
-moved link h turns (steps.Lost frame moment) came outputs.WentBack is all k local d name out_now = stays h turns local d k name out_now
-moved link h turns (steps.Tick moment) came outputs.WentBack is all k local d name out_now = stays h turns local d k name out_now
-moved link h turns steps.Take came outputs.WentBack is all k local d name out_now = stays h turns local d k name out_now
-moved link h turns (steps.Give lo) came outputs.WentBack is all k local d name out_now = stays h turns local d k name out_now
 moved link h turns (steps.PutBack lo) came outputs.WentBack is all k local d name out_now = back_stays h turns lo local d (turn_out h d) k name refl out_now
-moved link h turns steps.Pick came outputs.WentBack is all k local d name out_now = stays h turns local d k name out_now
-moved link h turns steps.Sent came outputs.WentBack is all k local d name out_now = stays h turns local d k name out_now
-moved link h turns steps.Unsent came outputs.WentBack is all k local d name out_now = stays h turns local d k name out_now
-moved link h turns steps.Down came outputs.WentBack is all k local d name out_now = stays h turns local d k name out_now
-moved link h turns step came (outputs.Picked l octets) is all k local d name out_now = stays h turns local d k name out_now
-moved link h turns step came outputs.Busy is all k local d name out_now = stays h turns local d k name out_now
-moved link h turns step came outputs.Sent is all k local d name out_now = stays h turns local d k name out_now
-moved link h turns step came outputs.Unsent is all k local d name out_now = stays h turns local d k name out_now
-moved link h turns step came outputs.Down is all k local d name out_now = stays h turns local d k name out_now
-moved link h turns step came outputs.Nothing is all k local d name out_now = stays h turns local d k name out_now
+moved link h turns step came output is all k local d name out_now = stays h turns local d k name out_now
 
 pub AreOut-more : (link : ℕ) (h : List Event) (turns : List TurnOut) (e : Event) → IsAnswer link h e.step e.came e.output → AllAnswered link h → AreOut h turns → AreOut (e ∷ h) (turns_after e.step e.output turns)
 AreOut-more link h turns e is all k = moved link h turns e.step e.came e.output is all k
@@ -168,31 +151,15 @@ out_there h turns local (Some d) k name is =
     (cases_Bool (turn_out h d))
 
 back_told : (link : ℕ) (h : List Event) (turns : List TurnOut) (step : Step) (came : Option Prepared) → AreOut h turns → IsAnswer link h step came outputs.WentBack → back_by turns step ≡ told_back h step
-back_told link h turns (steps.Post frame moment) came k is = refl
-back_told link h turns (steps.Lost frame moment) came k is = refl
-back_told link h turns (steps.Tick moment) came k is = refl
-back_told link h turns steps.Take came k is = refl
-back_told link h turns (steps.Give lo) came k is = refl
 back_told link h turns (steps.PutBack lo) came k is = out_there h turns lo (named h lo) k refl is
-back_told link h turns steps.Pick came k is = refl
-back_told link h turns steps.Sent came k is = refl
-back_told link h turns steps.Unsent came k is = refl
-back_told link h turns steps.Down came k is = refl
+back_told link h turns step came k is = refl
 
 out_told : (o : Option Handed) (of : ℕ → LoggedStep) → option_map of (local_in o) ≡ option_map (λ (handed : Handed). of handed.local) o
 out_told None of = refl
 out_told (Some handed) of = refl
 
 pub told_is : (link : ℕ) (h : List Event) (turns : List TurnOut) (step : Step) (came : Option Prepared) (output : Output) → AreOut h turns → IsAnswer link h step came output → told_where turns (local_in (out h)) step output ≡ told h step output
-told_is link h turns step came (outputs.Posted answer components) k is = refl
-told_is link h turns step came (outputs.Ticked added wanting) k is = refl
-told_is link h turns step came (outputs.Took l position) k is = refl
-told_is link h turns step came outputs.NoRoom k is = refl
-told_is link h turns step came (outputs.Gave l position given) k is = refl
 told_is link h turns step came outputs.WentBack k is = back_told link h turns step came k is
-told_is link h turns step came (outputs.Picked l octets) k is = refl
-told_is link h turns step came outputs.Busy k is = refl
 told_is link h turns step came outputs.Sent k is = out_told (out h) (λ l. line.Sent l)
 told_is link h turns step came outputs.Unsent k is = out_told (out h) (λ l. line.Unsent l)
-told_is link h turns step came outputs.Down k is = refl
-told_is link h turns step came outputs.Nothing k is = refl
+told_is link h turns step came output k is = refl

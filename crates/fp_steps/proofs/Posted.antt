@@ -1,5 +1,6 @@
 -- Each message is answered as its history tells.
 use Rattle.std.proofs.Common.{◌≡◌, ℕ, Option, Some, None, List, length, refl, ◌∙◌, ap, subst, ◌+◌}
+use Rattle.std.proofs.lemmas.Option.{same_Some}
 use Rattle.fp_book.specs.declared.answers.Posted.{Posted}
 use Rattle.fp_book.specs.Calls.{Follows}
 use Rattle.fp_book.specs.Lines.{SevenLinesDecide, first_that_fits, seven_lines}
@@ -19,7 +20,7 @@ use Rattle.fp_steps.specs.Answers.{IsPosted}
 use Rattle.fp_steps.specs.History.{Event, IsCame}
 use Rattle.fp_steps.specs.Lined.{Lined}
 use Rattle.fp_steps.specs.Lines.{answer_to, components_in}
-use Rattle.fp_steps.specs.Makes.{Posts, components_by}
+use Rattle.fp_steps.specs.Makes.{Obeys, PostsBy, components_by}
 use Rattle.fp_steps.specs.Tied.{Tied}
 use Rattle.fp_steps.proofs.Few.{components_counted}
 use Rattle.fp_steps.proofs.Helds.{held_is}
@@ -29,11 +30,8 @@ use Rattle.fp_steps.proofs.Verdicts.{answer_is, answer_of, answered_so}
 abbrev pub Decided : Option Prepared → Type 0
 Decided came = (s : Shelf) (p : Prepared) → came ≡ Some p → verdict s p ≡ first_that_fits (seven_lines s p)
 
-the_prepared : (p q : Prepared) → Some p ≡ Some q → p ≡ q
-the_prepared p q e = cc
-
 decided_as : (p : Prepared) → ((s : Shelf) → verdict s p ≡ first_that_fits (seven_lines s p)) → Decided (Some p)
-decided_as p all s q same = subst (λ q. verdict s q ≡ first_that_fits (seven_lines s q)) (the_prepared p q same) (all s)
+decided_as p all s q same = subst (λ q. verdict s q ≡ first_that_fits (seven_lines s q)) (same_Some p q same) (all s)
 
 pub lost_prepared : (contents : Contents) (contexts : List (List ℕ)) (octets : List ℕ) (moment : ℕ) (p : Prepared) → IsLost octets moment p → IsPrepared contents contexts octets moment p
 lost_prepared contents contexts octets moment (prepared.Message arrival incoming) is = absurd is
@@ -47,14 +45,7 @@ pub decided : SevenLinesDecide → (contents : Contents) (contexts : List (List 
 decided seven contents contexts step None is = none_decided
 decided seven contents contexts (steps.Post frame moment) (Some p) is = decided_as p (λ s. seven contents contexts frame moment s p is.0)
 decided seven contents contexts (steps.Lost frame moment) (Some p) is = decided_as p (λ s. seven contents contexts frame moment s p (lost_prepared contents contexts frame moment p is.0))
-decided seven contents contexts (steps.Tick moment) (Some p) is = absurd is
-decided seven contents contexts steps.Take (Some p) is = absurd is
-decided seven contents contexts (steps.Give local) (Some p) is = absurd is
-decided seven contents contexts (steps.PutBack local) (Some p) is = absurd is
-decided seven contents contexts steps.Pick (Some p) is = absurd is
-decided seven contents contexts steps.Sent (Some p) is = absurd is
-decided seven contents contexts steps.Unsent (Some p) is = absurd is
-decided seven contents contexts steps.Down (Some p) is = absurd is
+decided seven contents contexts step (Some p) is = absurd is
 
 posted_is : RowsKeepTheirOrder → (h : List Event) (old new : Shelf) (p : Prepared) (answer : Posted) (components : ℕ) → Tied h old → Sound old → Lined h old → verdict old p ≡ first_that_fits (seven_lines old p)
     → components ≡ components_by answer p → Follows (verdict old p) old p answer new → outputs.Posted answer components ≡ outputs.Posted (answer_to old.link h p) (components_in (answer_to old.link h p) p)
@@ -66,17 +57,7 @@ posted_is law h old new p answer components t k l seven count g =
     let many : components ≡ components_in (answer_to old.link h p) p = count ∙ components_counted old p waiting next answer is ∙ ap (λ a. components_in a p) so in
     ap (λ a. outputs.Posted a components) so ∙ ap (λ n. outputs.Posted (answer_to old.link h p) n) many
 
-pub answer_post : RowsKeepTheirOrder → (h : List Event) (came : Option Prepared) (output : Output) (old new : Shelf) → Tied h old → Sound old → Lined h old → Decided came → Posts came output old new → IsPosted old.link h came output
+pub answer_post : RowsKeepTheirOrder → (h : List Event) (came : Option Prepared) (output : Output) (old new : Shelf) → Tied h old → Sound old → Lined h old → Decided came → PostsBy Obeys came output old new → IsPosted old.link h came output
 answer_post law h None output old new t k l d g = absurd g
 answer_post law h (Some p) (outputs.Posted answer components) old new t k l d g = posted_is law h old new p answer components t k l (d old p refl) g.0 g.1
-answer_post law h (Some p) (outputs.Ticked added wanting) old new t k l d g = absurd g
-answer_post law h (Some p) (outputs.Took lo position) old new t k l d g = absurd g
-answer_post law h (Some p) outputs.NoRoom old new t k l d g = absurd g
-answer_post law h (Some p) (outputs.Gave lo position given) old new t k l d g = absurd g
-answer_post law h (Some p) outputs.WentBack old new t k l d g = absurd g
-answer_post law h (Some p) (outputs.Picked lo frame) old new t k l d g = absurd g
-answer_post law h (Some p) outputs.Busy old new t k l d g = absurd g
-answer_post law h (Some p) outputs.Sent old new t k l d g = absurd g
-answer_post law h (Some p) outputs.Unsent old new t k l d g = absurd g
-answer_post law h (Some p) outputs.Down old new t k l d g = absurd g
-answer_post law h (Some p) outputs.Nothing old new t k l d g = absurd g
+answer_post law h (Some p) output old new t k l d g = absurd g

@@ -1,7 +1,7 @@
 -- A message keeps what waits in a book as its history tells.
 use Rattle.std.proofs.Common.{◌≡◌, ℕ, ◌+◌, Bool, true, false, cond, eqb, not, ◌&&◌, ◌||◌, Option, Some, None, List, [], ◌∷◌, length, is_some, refl, sym, ◌∙◌, ap, subst, ⊎_elim}
 use Rattle.std.specs.Prelude.{filter, map as map_list, nat_le}
-use Rattle.std.proofs.lemmas.Bool.{cases_Bool, eq-eqb, eqb-true}
+use Rattle.std.proofs.lemmas.Bool.{and_right, cases_Bool, eq-eqb, eqb-true}
 use Rattle.std.specs.FinMap as map
 use Rattle.fp_book.proofs.Sums.{OneChanges, inserted, kept, left_of}
 use Rattle.fp_book.proofs.Tells.{Tells}
@@ -38,10 +38,6 @@ use Rattle.fp_steps.proofs.Refused.{names_taker, none_named_takes, other_named_t
 
 -- the frames of a dialogue that was ended are dropped, and the others stay
 
-and_none : (b : Bool) → (b && false) ≡ false
-and_none true = refl
-and_none false = refl
-
 and_all : (b : Bool) → (b && true) ≡ b
 and_all true = refl
 and_all false = refl
@@ -61,7 +57,7 @@ drops_by link b sends k a rest then false y w is same =
 drops_by link b sends k a rest then true true w is same =
     let place : eqb (identifier link a.dialogue) (identifier link b) ≡ true = eq-eqb (identifier link a.dialogue) (identifier link b) (ap (identifier link) (eqb-true a.dialogue b is)) in
     ap (λ y. map_list (as_waiting link) (cond ((sends a.dialogue && not y) && nat_le (k a.dialogue) a.place) (a ∷ then) then)) is
-    ∙ ap (λ x. map_list (as_waiting link) (cond (x && nat_le (k a.dialogue) a.place) (a ∷ then) then)) (and_none (sends a.dialogue)) ∙ same
+    ∙ ap (λ x. map_list (as_waiting link) (cond (x && nat_le (k a.dialogue) a.place) (a ∷ then) then)) (and_right (sends a.dialogue) false refl) ∙ same
     ∙ sym (ap (λ x. filter (is_of_other (identifier link b)) (map_list (as_waiting link) (cond x (a ∷ rest) rest))) w
     ∙ ap (λ z. cond (not z) (as_waiting link a ∷ filter (is_of_other (identifier link b)) (map_list (as_waiting link) rest)) (filter (is_of_other (identifier link b)) (map_list (as_waiting link) rest))) place)
 drops_by link b sends k a rest then true false w is same =

@@ -1,9 +1,10 @@
 -- What each call makes of the queue of a book, and which cores it changes.
-use Rattle.std.proofs.Common.{◌≡◌, ℕ, ◌<◌, ◌≤◌, Bool, true, false, cond, eqb, not, Option, Some, None, List, [], ◌∷◌, ◌++◌, sym, ◌∙◌, ap, subst, arith, inl, inr, ⊎_elim, append-nil}
+use Rattle.std.proofs.Common.{◌≡◌, ℕ, ◌<◌, ◌≤◌, Bool, true, false, cond, eqb, not, Option, Some, None, List, [], ◌∷◌, ◌++◌, sym, ◌∙◌, ap, subst, arith, ⊎_elim, append-nil}
 use Rattle.std.specs.Prelude.{filter}
 use Rattle.std.specs.List.{AllByRecursion}
 use Rattle.std.proofs.lemmas.Bool.{cases_Bool, eqb-true}
 use Rattle.std.specs.FinMap as map
+use Rattle.std.proofs.lemmas.Option.{same_Some}
 use Rattle.fp_book.proofs.Changes.{by_local, count, count_is, left_by, ready}
 use Rattle.fp_book.proofs.Queue.{count-append, count_without_other, count_without_own}
 use Rattle.fp_book.proofs.Sums.{OneChanges, amount, left_of}
@@ -13,30 +14,26 @@ use Rattle.fp_book.specs.declared.parcel.Content.{Content}
 use Rattle.fp_book.specs.Shelf.{Shelf, Sound, one_if}
 use Rattle.fp_row.specs.declared.row.Row.{Row}
 use Rattle.fp_row.specs.Row.{is_held, is_ready as row_is_ready}
-use Rattle.fp_service.specs.Dialogue.{next_due}
 use Rattle.fp_tids.specs.Identifiers.{identifier}
-use Rattle.fp_steps.specs.Accepted.{core_of}
 use Rattle.fp_steps.specs.History.{Event}
 use Rattle.fp_steps.specs.Lined.{ByAge, Sorted}
 use Rattle.fp_book.specs.Sending.{is_frame_of}
 use Rattle.fp_steps.proofs.Ticked.{among}
 use Rattle.fp_steps.proofs.Order.{CoresStay, Joins}
-
-the_row : (a b : Row) → Some a ≡ Some b → a ≡ b
-the_row a b e = cc
+use Rattle.fp_steps.specs.Turns.{due_of}
 
 -- the dialogues are the same
 pub cores_same : (old new : Shelf) → new.rows ≡ old.rows → CoresStay old new
-cores_same old new same l before after was is free = ap (λ (r : Row). r.core) (the_row after before (sym is ∙ ap (λ rows. map.get rows l) same ∙ was))
+cores_same old new same l before after was is free = ap (λ (r : Row). r.core) (same_Some after before (sym is ∙ ap (λ rows. map.get rows l) same ∙ was))
 
 -- one changes
 pub cores_one : (old new : Shelf) (local : ℕ) (row : Row) (left : Option Row) → OneChanges old.rows new.rows local (Some row) left → ((after : Row) → left ≡ Some after → row.is_out ≡ false → after.core ≡ row.core) → CoresStay old new
 cores_one old new local row left one same l before after was is free =
     by_local l local (λ l. map.get old.rows l ≡ Some before → map.get new.rows l ≡ Some after → after.core ≡ before.core)
     (λ w i.
-    let b : row ≡ before = the_row row before (sym one.was ∙ w) in
+    let b : row ≡ before = same_Some row before (sym one.was ∙ w) in
     same after (sym one.there ∙ i) (ap (λ (r : Row). r.is_out) b ∙ free) ∙ ap (λ (r : Row). r.core) b)
-    (λ ne w i. ap (λ (r : Row). r.core) (the_row after before (sym i ∙ one.others l ne ∙ w)))
+    (λ ne w i. ap (λ (r : Row). r.core) (same_Some after before (sym i ∙ one.others l ne ∙ w)))
     was is
 
 -- one is opened
@@ -44,14 +41,14 @@ pub cores_new : (old new : Shelf) (local : ℕ) (left : Option Row) → OneChang
 cores_new old new local left one l before after was is free =
     by_local l local (λ l. map.get old.rows l ≡ Some before → map.get new.rows l ≡ Some after → after.core ≡ before.core)
     (λ w i. absurd (let clash : None ≡ Some before = sym one.was ∙ w in cc))
-    (λ ne w i. ap (λ (r : Row). r.core) (the_row after before (sym i ∙ one.others l ne ∙ w)))
+    (λ ne w i. ap (λ (r : Row). r.core) (same_Some after before (sym i ∙ one.others l ne ∙ w)))
     was is
 
 pub left_core : (g row after : Row) → g.core ≡ row.core → left_of g ≡ Some after → after.core ≡ row.core
 left_core g row after same e = ap (λ (r : Row). r.core) (sym (left_by (is_held g) g after e).1) ∙ same
 
 pub some_core : (g row after : Row) → g.core ≡ row.core → Some g ≡ Some after → after.core ≡ row.core
-some_core g row after same e = ap (λ (r : Row). r.core) (sym (the_row g after e)) ∙ same
+some_core g row after same e = ap (λ (r : Row). r.core) (sym (same_Some g after e)) ∙ same
 
 -- a dialogue stands once in a queue at most
 one_most : (b : Bool) → one_if b ≤ 1
@@ -143,7 +140,7 @@ cores_closed out old step new g l before after was is free =
 -- a tick
 
 clocked_core : (x : Bool) (moment : ℕ) (before after : Row) → ClocksAt x moment (Some before) (Some after) → after.core ≡ before.core
-clocked_core false moment before after c = ap (λ (r : Row). r.core) (the_row after before c)
+clocked_core false moment before after c = ap (λ (r : Row). r.core) (same_Some after before c)
 clocked_core true moment before after c = c.stay.core
 
 pub cores_ticked : (old new : Shelf) (moment added wanting : ℕ) → Ticks old moment added wanting new → CoresStay old new
@@ -151,7 +148,7 @@ cores_ticked old new moment added wanting g l before after was is free =
     clocked_core (among l g.due) moment before after (subst (λ o. ClocksAt (among l g.due) moment (Some before) o) is (subst (λ o. ClocksAt (among l g.due) moment o (map.get new.rows l)) was (g.rows l)))
 
 clocked_out : (x : Bool) (moment : ℕ) (before after : Row) → ClocksAt x moment (Some before) (Some after) → after.is_out ≡ before.is_out
-clocked_out false moment before after c = ap (λ (r : Row). r.is_out) (the_row after before c)
+clocked_out false moment before after c = ap (λ (r : Row). r.is_out) (same_Some after before c)
 clocked_out true moment before after c = c.is_out
 
 pub outs_ticked : (old new : Shelf) (moment added wanting : ℕ) → Ticks old moment added wanting new → (l : ℕ) (before after : Row) → map.get old.rows l ≡ Some before → map.get new.rows l ≡ Some after → after.is_out ≡ before.is_out
@@ -160,18 +157,8 @@ outs_ticked old new moment added wanting g l before after was is =
 
 -- the order of deadlines, and of identifiers among equal ones
 abbrev pub ByDeadline : ℕ → List Event → ℕ → ℕ → Type 0
-ByDeadline link h x y = (c d : ℕ) → x ≡ identifier link c → y ≡ identifier link d → ComesFirst (next_due (core_of h c), c) (next_due (core_of h d), d)
-
-the_number : (a b : ℕ) → Some a ≡ Some b → a ≡ b
-the_number a b e = cc
+ByDeadline link h x y = (c d : ℕ) → x ≡ identifier link c → y ≡ identifier link d → ComesFirst (due_of h c) (due_of h d)
 
 pub deadline_by : (b : Bool) (n m : ℕ) → cond b (Some n) None ≡ Some m → n ≡ m
-deadline_by true n m e = the_number n m e
+deadline_by true n m e = same_Some n m e
 deadline_by false n m e = absurd (cc)
-
-pub comes_first : (link : ℕ) (a b m n c d : ℕ) → a ≡ m → b ≡ n → ComesFirst (m, identifier link c) (n, identifier link d) → ComesFirst (a, c) (b, d)
-comes_first link a b m n c d am bn (inl less) = inl (let l : m < n = less in omega (arith, l, am, bn))
-comes_first link a b m n c d am bn (inr same) =
-    let s : m ≡ n = same.0 in
-    let l : identifier link c < identifier link d = same.1 in
-    inr (omega (arith, s, am, bn), omega (arith, l))

@@ -2,7 +2,7 @@
 use Rattle.std.proofs.Common.{◌≡◌, ℕ, ◌<◌, ◌≤◌, Bool, true, false, cond, eqb, not, ◌&&◌, Option, Some, None, List, [], ◌∷◌, ◌++◌, length, is_some, refl, sym, ◌∙◌, ap, subst, arith, append-nil, append_assoc, add-zero}
 use Rattle.std.specs.Prelude.{map as map_list, option_map, nat_lt}
 use Rattle.std.specs.Option.{option_and_then, option_map_or}
-use Rattle.std.proofs.lemmas.Bool.{eqb-true}
+use Rattle.std.proofs.lemmas.Bool.{and_right}
 use Rattle.std.proofs.lemmas.List.{map-append}
 use Rattle.std.specs.FinMap as map
 use Rattle.fp_ber.specs.Canon.{canon}
@@ -28,7 +28,6 @@ use Rattle.fp_reply.specs.ProviderAbort.{frame_octets}
 use Rattle.fp_row.specs.declared.ending.Ending.{Ending}
 use Rattle.fp_row.specs.declared.ending.Ending.TheVariants.{Closed}
 use Rattle.fp_row.specs.Calls.{ended_by}
-use Rattle.std.proofs.lemmas.Bool.{and_right}
 use Rattle.fp_row.specs.declared.row.Row.{Row}
 use Rattle.fp_row.specs.Laws.{RowsKeepTheirOrder}
 use Rattle.fp_row.specs.Row.{is_admitted}
@@ -44,9 +43,10 @@ use Rattle.fp_steps.specs.Tied.{AbortsTied, IsTied, Story, Tied, TiedAt, handed,
 use Rattle.fp_steps.proofs.Dialogues.{left_birth, left_tied, named_of, own_one, rows_one, tied_of}
 use Rattle.fp_steps.proofs.Downs.{closed_by, closed_if, tied_ends, with_end}
 use Rattle.fp_steps.proofs.Born.{born_at, not_born}
-use Rattle.fp_steps.proofs.Nexts.{Next, Tied-next}
+use Rattle.fp_steps.proofs.Nexts.{Next, Tied-next, Tied-quiet}
 use Rattle.fp_steps.proofs.Served.{aborts_stay}
 use Rattle.fp_steps.proofs.Stories.{is_other, is_own, live_tied, same_story, stays}
+use Rattle.fp_steps.proofs.Names.{the_one}
 use Rattle.fp_book.proofs.Tells.{names_by, unnamed_by}
 
 -- the number by which a message names its dialogue
@@ -57,10 +57,6 @@ number_in came = option_and_then (λ (tid : Tid). number_of (octets_of tid)) (ar
 dest_by : (h : List Event) (o : Option ℕ) (d : ℕ) → option_and_then (named h) o ≡ Some d → (local : ℕ) × ((o ≡ Some local) × (named h local ≡ Some d))
 dest_by h None d e = absurd (cc)
 dest_by h (Some local) d e = (local, (refl, e))
-
-one_by : (o : Option ℕ) (d : ℕ) → is_one o d ≡ true → o ≡ Some d
-one_by None d e = absurd (cc)
-one_by (Some other) d e = ap Some (sym (eqb-true d other e))
 
 none_by : (ended : Option Ending) (over : Bool) → (not (is_some ended) && not over) ≡ true → ended ≡ None
 none_by None over is = refl
@@ -87,7 +83,7 @@ names_taker h came d = is_one (destination h (Some came)) d && admits h d
 unnamed : (h : List Event) (s : Shelf) (came : Prepared) (d : ℕ) (b : Bool) → Tied h s → Sound s → named_in s (arrival_of came).ids ≡ None → is_one (destination h (Some came)) d ≡ b → (b && admits h d) ≡ false
 unnamed h s came d false t k none is = refl
 unnamed h s came d true t k none is =
-    let found = dest_by h (number_in came) d (one_by (destination h (Some came)) d is) in
+    let found = dest_by h (number_in came) d (the_one (destination h (Some came)) d is) in
     let place : found.0 ≡ identifier s.link d = (t.names found.0 d found.1.1).0 in
     let refuses : option_map_or is_admitted (map.get s.rows found.0) false ≡ false = unnamed_by s (number_in came) found.0 none found.1.0 in
     admits_is h s d t k ∙ ap (λ l. option_map_or is_admitted (map.get s.rows l) false) (sym place) ∙ refuses
@@ -204,22 +200,7 @@ tied_discarded h step came components old log t =
     let e = posts step came Discarded components in
     let quiet : (d : ℕ) → story (e ∷ h) d ≡ story h d = λ d. stays e h d refl refl refl refl refl refl refl in
     let then : Shelf = record old { log = log } in
-    let next : Next h e old then =
-    record {
-      link_is = refl;
-      births_stay = refl;
-      born = refl;
-      names_stay = λ local. refl;
-      beginnings_stay = λ d. refl;
-      entries = add-zero (entry_count h) ∙ t.entries_are;
-      rows = λ d. subst (λ s. TiedAt (births h) d s (map.get old.rows (identifier old.link d))) (sym (quiet d)) (t.rows d);
-      own = t.own;
-      later = λ d past. quiet d;
-      is_out = t.is_out;
-      aborts = aborts_stay h e old then t.aborts_are refl refl refl refl refl;
-    }
-    in
-    Tied-next h e old then t next
+    Tied-quiet h e old then t refl (add-zero (entry_count h)) quiet refl refl refl refl t.is_out (aborts_stay h e old then t.aborts_are refl refl refl refl refl)
 
 pub Tied-discards : (h : List Event) (step : Step) (came : Prepared) (answer : Posted) (components : ℕ) (old new : Shelf) → Tied h old → Discards old came answer new → Tied (posts step came answer components ∷ h) new
 Tied-discards h step came answer components old new t g =
@@ -235,15 +216,13 @@ tied_ended h step came components old mid log t c =
     let next : Next h e old then =
     record {
       link_is = c.link_is;
-      births_stay = refl;
+      opens_none = refl;
       born = c.born;
-      names_stay = λ local. refl;
-      beginnings_stay = λ d. refl;
       entries = add-zero (entry_count h) ∙ t.entries_are ∙ sym c.entries_are;
       rows = c.rows;
       own = c.own;
       later = c.later;
-      is_out = t.is_out ∙ ap (option_map handed) (sym c.out_is);
+      is_out = t.is_out ∙ ap (option_map (handed h)) (sym c.out_is);
       aborts = aborts_stay h e old then t.aborts_are refl refl refl c.down_is c.aborts_are;
     }
     in
@@ -261,15 +240,13 @@ tied_aborted h step came components old mid log frame cause t c frame_is =
     let next : Next h e old then =
     record {
       link_is = c.link_is;
-      births_stay = refl;
+      opens_none = refl;
       born = c.born;
-      names_stay = λ local. refl;
-      beginnings_stay = λ d. refl;
       entries = add-zero (entry_count h) ∙ t.entries_are ∙ sym c.entries_are;
       rows = c.rows;
       own = c.own;
       later = c.later;
-      is_out = t.is_out ∙ ap (option_map handed) (sym c.out_is);
+      is_out = t.is_out ∙ ap (option_map (handed h)) (sym c.out_is);
       aborts = record {
         rest = a.rest ++ x ∷ [];
         all = ap (λ xs. xs ++ (abort_out (out h) ++ (a.rest ++ x ∷ []))) (append-nil (aborts_sent h))

@@ -11,16 +11,16 @@ use Rattle.fp_steps.specs.declared.stepped.Stepped.{Stepped}
 use Rattle.fp_steps.specs.After.{Follows, IsAfter, LeadsTo}
 use Rattle.fp_steps.specs.Answers.{AllAnswered}
 use Rattle.fp_steps.specs.Headline.{Runs}
-use Rattle.fp_steps.specs.History.{Event, IsCame, Tells, outputs_of}
+use Rattle.fp_steps.specs.History.{Event, IsCame, Tells}
 use Rattle.fp_steps.specs.Laws.{HeadlineHolds}
 use Rattle.fp_steps.specs.Retold.{Retells}
 use Rattle.fp_steps.specs.Told.{lines_told}
 use Rattle.fp_steps.specs.Totals.{AddUp}
-use Rattle.fp_steps.proofs.Afterwards.{at_the_end, outputs_more}
-use Rattle.fp_steps.proofs.Totalled.{same_totals}
+use Rattle.fp_steps.proofs.Afterwards.{at_the_end}
+use Rattle.fp_steps.proofs.Tally.{outputs_more}
 
 pub headline_holds : HeadlineHolds
-headline_holds contents contexts link steps outputs r = at_the_end r.0 r.2
+headline_holds contents contexts link steps outputs r = at_the_end r.history r.headline
 
 -- a history tells of one step more
 tells_more : (contents : Contents) (contexts : List (List ℕ)) (steps : List Step) (outputs : List Output) (h : List Event) (e : Event) → Tells contents contexts steps outputs h → IsCame contents contexts e.step e.came
@@ -65,16 +65,17 @@ pub Going-all : (contents : Contents) (contexts : List (List ℕ)) (steps : List
 Going-all contents contexts steps i link outputs book f all same =
     let g : SoFar contents contexts steps outputs book = subst (λ ss. SoFar contents contexts ss outputs book) all f in
     let k : LeadsTo contents contexts g.history book = g.after.leads in
-    let also : LeadsTo contents contexts g.after.retold book = g.after.retold_leads in (
-      g.history,
-      g.tells,
-      k.moments,
-      subst (λ n. AllAnswered n g.history) same k.answers,
-      subst (λ os. AddUp os g.history) g.tells.outputs_are k.adds_up,
-      k.idle link,
-      record {
+    let also : LeadsTo contents contexts g.after.retold book = g.after.retold_leads in
+    record {
+      history = g.history;
+      tells = g.tells;
+      headline = k.moments;
+      answers = subst (λ n. AllAnswered n g.history) same k.answers;
+      adds_up = subst (λ os. AddUp os g.history) g.tells.outputs_are k.adds_up;
+      idle = k.idle;
+      retold = record {
         history = g.after.retold;
         retells = subst (λ n. Retells contents contexts n (lines_told g.history) g.after.retold) same g.after.retells;
-        totals = same_totals (outputs_of g.after.retold) (outputs_of g.history) book.totals also.counted k.counted;
-      },
-    )
+        totals = sym also.counted ∙ k.counted;
+      };
+    }

@@ -1,10 +1,10 @@
 -- Steps of turns keep the tie between a book and its history.
 use Rattle.std.proofs.Common.{◌≡◌, ℕ, ◌<◌, ◌≤◌, Bool, true, false, cond, eqb, Option, Some, None, List, [], ◌∷◌, ◌++◌, refl, sym, ◌∙◌, ap, subst, arith, append-nil, add-one, add-zero}
-use Rattle.std.specs.Prelude.{option_map, option_to_list, slice_get}
+use Rattle.std.specs.Prelude.{option_map, option_to_list, slice_get, map as map_list}
 use Rattle.std.specs.Option.{option_and_then}
 use Rattle.std.proofs.lemmas.Bool.{ne_eqb}
 use Rattle.std.specs.FinMap as map
-use Rattle.std.specs.Prelude.{map as map_list}
+use Rattle.std.proofs.lemmas.Option.{same_Some}
 use Rattle.fp_reply.specs.ProviderAbort.{frame_octets}
 use Rattle.fp_book.specs.declared.answers.Given.TheVariants.{Silent, Queued, Dropped}
 use Rattle.fp_book.proofs.Sums.{OneChanges, inserted, kept, left_of}
@@ -49,9 +49,10 @@ aborts_stay h e old new a all sent_all same down waiting = record {
   waiting = λ up. a.waiting (sym down ∙ up) ∙ ap (map_list frame_octets) (sym waiting);
 }
 
--- what is there is one
-pub the_same : (a b : Row) → Some a ≡ Some b → a ≡ b
-the_same a b e = cc
+-- a turn is out of a row of which one is told
+pub out_by : (b : Bool) (o : Option Turn) (turn : Turn) → cond b o None ≡ Some turn → b ≡ true
+out_by true o turn e = refl
+out_by false o turn e = absurd (cc)
 
 pub none_queued : (given : Given) → if_queued given [] ≡ []
 none_queued Silent = refl
@@ -93,13 +94,11 @@ Tied-takes h step came old new turn t k g =
     let next : Next h e old then =
     record {
       link_is = refl;
-      births_stay = refl;
+      opens_none = refl;
       born = refl;
-      names_stay = λ local. refl;
-      beginnings_stay = λ d. refl;
       entries = add-zero (entry_count h) ∙ t.entries_are;
       rows = rows_one h e old then l g.before (Some g.after) t one (subst (λ s. IsTied b s g.after) (sym told) tied) others;
-      own = own_one h old then l g.before (Some g.after) t one (λ row is. ap (λ (r : Row). r.birth) (sym (the_same g.after row is)) ∙ g.takes.same.birth);
+      own = own_one h old then l g.before (Some g.after) t one (λ row is. ap (λ (r : Row). r.birth) (sym (same_Some g.after row is)) ∙ g.takes.same.birth);
       later = λ d past. others d (later_other d b (births h) past (let last : b ≤ old.births = (k.own l g.before g.was).born.1 in omega (arith, last, t.births_are)));
       is_out = t.is_out;
       aborts = aborts_stay h e old then t.aborts_are refl refl refl refl refl;
@@ -132,10 +131,8 @@ Tied-puts_back law h came old new turn t k g =
     let next : Next h e old then =
     record {
       link_is = refl;
-      births_stay = refl;
+      opens_none = refl;
       born = refl;
-      names_stay = λ local. refl;
-      beginnings_stay = λ d. refl;
       entries = add-zero (entry_count h) ∙ t.entries_are;
       rows = rows_one h e old then l g.before (left_of g.after) t one (subst (λ s. TiedAt (births h) b s (left_of g.after)) (sym told) (left_tied law (births h) b (with_out (story h b) false) g.after tied)) others;
       own = own_one h old then l g.before (left_of g.after) t one (λ row is. left_birth g.before g.after row g.puts.same.birth is);
@@ -255,10 +252,8 @@ Tied-gives law h step came old new done given t k g =
     let next : Next h e old then =
     record {
       link_is = refl;
-      births_stay = refl;
+      opens_none = refl;
       born = refl;
-      names_stay = λ local. refl;
-      beginnings_stay = λ d. refl;
       entries = add-zero (entry_count h) ∙ t.entries_are;
       rows = rows_one h e old then l g.before (left_of g.after) t one (left_tied law (births h) b (story (e ∷ h) b) g.after tied) others;
       own = own_one h old then l g.before (left_of g.after) t one (λ row is. left_birth g.before g.after row g.gives.same.birth is);

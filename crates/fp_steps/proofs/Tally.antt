@@ -1,56 +1,117 @@
--- The totals of outputs, one after another.
-use Rattle.std.proofs.Common.{◌≡◌, ℕ, ◌<◌, ◌+◌, Bool, cond, Option, None, List, [], ◌∷◌, ◌++◌, length, take, slice_index_or, refl, sym, ◌∙◌, ap, subst, arith}
-use Rattle.std.specs.Prelude.{count_by, reverse}
+-- Totals, and what each output adds to them.
+use Rattle.std.proofs.Common.{◌≡◌, ℕ, ◌<◌, ◌≤◌, ◌+◌, ◌^◌, Bool, cond, Option, None, List, [], ◌∷◌, ◌++◌, length, take, slice_index_or, refl, sym, ◌∙◌, ap, subst, arith}
+use Rattle.std.specs.Prelude.{map as map_list, option_map, reverse}
 use Rattle.std.specs.List.{sum_by}
-use Rattle.std.proofs.lemmas.List.{reverse-append, take_more}
+use Rattle.std.proofs.lemmas.Grind.{reverse_onto}
+use Rattle.std.proofs.lemmas.List.{reverse-append, reverse-reverse, take_all, take_more}
 use Rattle.std.proofs.lemmas.List.Sums.{sum_by-append}
 use Rattle.fp_book.specs.declared.totals.Totals.{Totals}
+use Rattle.fp_book.specs.Shelf.{no_totals}
 use Rattle.fp_steps.specs.declared.output.Output.{Output}
-use Rattle.fp_steps.specs.Totals.{capped, components_of, frames_sent, is_gave, is_sent, local_after, local_out, totals_of}
+use Rattle.fp_steps.specs.declared.output.Output.TheVariants as outputs
+use Rattle.fp_steps.specs.History.{Event, outputs_of}
+use Rattle.fp_steps.specs.Sending.{Handed, out, out_after}
+use Rattle.fp_steps.specs.Totals.{AreFew, added_by, capped, capped_totals, components_of, frames_sent, is_gave, local_after, local_out, plus, totals_of}
+
+abbrev pub one_if : Bool → ℕ
+one_if b = cond {A = ℕ} b 1 0
+
+abbrev pub make : ℕ → ℕ → ℕ → Totals
+make accepted served sent = record { accepted = accepted; served = served; sent = sent }
+
+-- totals of the same numbers are the same
+pub same : (a b : Totals) → a.accepted ≡ b.accepted → a.served ≡ b.served → a.sent ≡ b.sent → a ≡ b
+same a b accepted served sent =
+    ap (λ n. make n a.served a.sent) accepted ∙ ap (λ n. make b.accepted n a.sent) served ∙ ap (λ n. make b.accepted b.served n) sent
+
+pub none_more : (n : ℕ) → n ≡ n + 0
+none_more n = omega arith
+
+-- where nothing is added
+pub plus_none : (a : Totals) → a ≡ plus a no_totals
+plus_none a = same a (plus a no_totals) (none_more a.accepted) (none_more a.served) (none_more a.sent)
+
+-- OUTPUTS
+
+newest : (list : List Output) (output : Output) → reverse (list ++ output ∷ []) ≡ output ∷ reverse list
+newest list output = reverse-append list (output ∷ [])
+
+sum_one : (f : Output → ℕ) (list : List Output) (output : Output) → sum_by f (list ++ output ∷ []) ≡ sum_by f list + f output
+sum_one f list output = let all : sum_by f (list ++ output ∷ []) ≡ sum_by f list + sum_by f (output ∷ []) = sum_by-append f list (output ∷ []) in let one : sum_by f (output ∷ []) ≡ f output = omega arith in omega (arith, all, one)
+
+-- one output more
+totals_more : (list : List Output) (output : Output) → totals_of (list ++ output ∷ []) ≡ plus (totals_of list) (added_by output (local_out (reverse list)))
+totals_more list output =
+    same (totals_of (list ++ output ∷ [])) (plus (totals_of list) (added_by output (local_out (reverse list))))
+    (sum_one components_of list output) (sum_one (λ o. one_if (is_gave o)) list output) (ap frames_sent (newest list output))
+
+-- HISTORIES
+
+-- the identifier of what is out
+abbrev pub local_in : Option Handed → Option ℕ
+local_in o = option_map (λ (handed : Handed). handed.local) o
+
+-- what is out, as the outputs tell it
+pub local_more : (output : Output) (h : List Event) (o : Option Handed) (before : Option ℕ) → before ≡ local_in o → local_after output before ≡ local_in (out_after output h o)
+local_more (outputs.Picked local frame) h o before is = refl
+local_more outputs.Sent h o before is = refl
+local_more outputs.Unsent h o before is = refl
+local_more output h o before is = is
+
+locals : (h : List Event) → local_out (map_list (λ (e : Event). e.output) h) ≡ local_in (out h)
+locals [] = refl
+locals (e ∷ h) = local_more e.output h (out h) (local_out (map_list (λ (e : Event). e.output) h)) (locals h)
+
+-- the outputs in order, with one more
+pub outputs_more : (h : List Event) (e : Event) → outputs_of (e ∷ h) ≡ outputs_of h ++ e.output ∷ []
+outputs_more h e = reverse_onto (map_list (λ (e : Event). e.output) h) e.output []
+
+-- what an event adds
+abbrev pub added : List Event → Event → Totals
+added h e = added_by e.output (local_in (out h))
+
+pub totals_next : (h : List Event) (e : Event) → totals_of (outputs_of (e ∷ h)) ≡ plus (totals_of (outputs_of h)) (added h e)
+totals_next h e =
+    ap totals_of (outputs_more h e) ∙ totals_more (outputs_of h) e.output
+    ∙ ap (λ o. plus (totals_of (outputs_of h)) (added_by e.output o)) (ap local_out (reverse-reverse (map_list (λ (e : Event). e.output) h)) ∙ locals h)
+
+-- THE LOOP OVER OUTPUTS
 
 capped_more : (s c : ℕ) → capped (capped s + c) ≡ capped (s + c)
 capped_more s c = omega arith
 
+capped_plus : (a b : Totals) → capped_totals (plus (capped_totals a) b) ≡ capped_totals (plus a b)
+capped_plus a b =
+    same (capped_totals (plus (capped_totals a) b)) (capped_totals (plus a b))
+    (capped_more a.accepted b.accepted) (capped_more a.served b.served) (capped_more a.sent b.sent)
+
 -- what was counted so far
-pub record SoMany (list : List Output) (accepted served sent : ℕ) (out : Option ℕ) : Type 0 where
-  pub accepted_is : accepted ≡ capped (sum_by components_of list)
-  pub served_is : served ≡ capped (count_by is_gave list)
-  pub sent_is : sent ≡ capped (frames_sent (reverse list))
+pub record CountedSoFar (list : List Output) (totals : Totals) (out : Option ℕ) : Type 0 where
+  pub totals_are : totals ≡ capped_totals (totals_of list)
   pub out_is : out ≡ local_out (reverse list)
 
-pub so_many_none : SoMany [] 0 0 0 None
-so_many_none = record { accepted_is = refl; served_is = refl; sent_is = refl; out_is = refl }
+pub so_far_none : CountedSoFar [] no_totals None
+so_far_none = record { totals_are = refl; out_is = refl }
 
-one_by : (b : Bool) (n m : ℕ) → n ≡ cond {A = ℕ} b 1 0 → m + n ≡ m + cond {A = ℕ} b 1 0
-one_by b n m e = ap (λ x. m + x) e
-
-pub newest : (list : List Output) (output : Output) → reverse (list ++ output ∷ []) ≡ output ∷ reverse list
-newest list output = reverse-append list (output ∷ [])
-
-pub sum_one : (f : Output → ℕ) (list : List Output) (output : Output) → sum_by f (list ++ output ∷ []) ≡ sum_by f list + f output
-sum_one f list output = let all : sum_by f (list ++ output ∷ []) ≡ sum_by f list + sum_by f (output ∷ []) = sum_by-append f list (output ∷ []) in let one : sum_by f (output ∷ []) ≡ f output = omega arith in omega (arith, all, one)
-
--- one output more
-pub so_many_more : (list : List Output) (output : Output) (a s n : ℕ) (out : Option ℕ) (b t m : ℕ) (then : Option ℕ) → SoMany list a s n out → b ≡ capped (a + components_of output) → t ≡ capped (s + cond {A = ℕ} (is_gave output) 1 0)
-    → m ≡ capped (n + cond {A = ℕ} (is_sent output out) 1 0) → then ≡ local_after output out → SoMany (list ++ output ∷ []) b t m then
-so_many_more list output a s n out b t m then k accepted served sent after = record {
-  accepted_is = accepted ∙ ap (λ x. capped (x + components_of output)) k.accepted_is ∙ capped_more (sum_by components_of list) (components_of output) ∙ ap capped (sym (sum_one components_of list output));
-  served_is = served ∙ ap (λ x. capped (x + cond {A = ℕ} (is_gave output) 1 0)) k.served_is ∙ capped_more (count_by is_gave list) (cond {A = ℕ} (is_gave output) 1 0)
-      ∙ ap capped (sym (sum_one (λ o. cond {A = ℕ} (is_gave o) 1 0) list output));
-  sent_is = sent ∙ ap (λ x. capped (x + cond {A = ℕ} (is_sent output out) 1 0)) k.sent_is ∙ capped_more (frames_sent (reverse list)) (cond {A = ℕ} (is_sent output out) 1 0)
-      ∙ ap (λ o. capped (frames_sent (reverse list) + cond {A = ℕ} (is_sent output o) 1 0)) k.out_is ∙ ap (λ xs. capped (frames_sent xs)) (sym (newest list output));
-  out_is = after ∙ ap (local_after output) k.out_is ∙ ap local_out (sym (newest list output));
+so_far_more : (list : List Output) (output : Output) (old new : Totals) (before after : Option ℕ) → CountedSoFar list old before → new ≡ capped_totals (plus old (added_by output before)) → after ≡ local_after output before → CountedSoFar (list ++ output ∷ []) new after
+so_far_more list output old new before after k new_is after_is = record {
+  totals_are = new_is ∙ ap (λ t. capped_totals (plus t (added_by output before))) k.totals_are ∙ capped_plus (totals_of list) (added_by output before)
+      ∙ ap (λ o. capped_totals (plus (totals_of list) (added_by output o))) k.out_is ∙ ap capped_totals (sym (totals_more list output));
+  out_is = after_is ∙ ap (local_after output) k.out_is ∙ ap local_out (sym (newest list output));
 }
 
--- the loop over the outputs
-pub counted_more : (list : List Output) (i : ℕ) (output : Output) (a s n : ℕ) (out : Option ℕ) (b t m : ℕ) (then : Option ℕ) → SoMany (take i list) a s n out → i < length list → output ≡ slice_index_or list i output → b ≡ capped (a + components_of output)
-    → t ≡ capped (s + cond {A = ℕ} (is_gave output) 1 0) → m ≡ capped (n + cond {A = ℕ} (is_sent output out) 1 0) → then ≡ local_after output out → SoMany (take (i + 1) list) b t m then
-counted_more list i output a s n out b t m then k within at accepted served sent after =
-    subst (λ xs. SoMany xs b t m then) (sym (take_more list i output within ∙ ap (λ o. take i list ++ o ∷ []) (sym at)))
-    (so_many_more (take i list) output a s n out b t m then k accepted served sent after)
+pub so_far_next : (list : List Output) (i : ℕ) (output : Output) (old new : Totals) (before after : Option ℕ) → CountedSoFar (take i list) old before → i < length list → output ≡ slice_index_or list i output
+    → new ≡ capped_totals (plus old (added_by output before)) → after ≡ local_after output before → CountedSoFar (take (i + 1) list) new after
+so_far_next list i output old new before after k within at new_is after_is =
+    subst (λ xs. CountedSoFar xs new after) (sym (take_more list i output within ∙ ap (λ o. take i list ++ o ∷ []) (sym at)))
+    (so_far_more (take i list) output old new before after k new_is after_is)
 
-pub counted_all : (list front : List Output) (a s n : ℕ) (out : Option ℕ) → SoMany front a s n out → front ≡ list → record { accepted = a; served = s; sent = n } ≡ totals_of list
-counted_all list front a s n out k all =
-    let make : ℕ → ℕ → ℕ → Totals = λ a s n. record { accepted = a; served = s; sent = n } in
-    ap (λ x. make x s n) k.accepted_is ∙ ap (λ x. make (capped (sum_by components_of front)) x n) k.served_is
-    ∙ ap (λ x. make (capped (sum_by components_of front)) (capped (count_by is_gave front)) x) k.sent_is ∙ ap totals_of all
+pub so_far_all : (list : List Output) (i : ℕ) (totals : Totals) (out : Option ℕ) → CountedSoFar (take i list) totals out → length list ≤ i → totals ≡ capped_totals (totals_of list)
+so_far_all list i totals out k end = k.totals_are ∙ ap (λ xs. capped_totals (totals_of xs)) (take_all i list end)
+
+-- 64 bits hold the totals of a run
+fits : (n : ℕ) → n ≤ 2 ^ 63 + 8192 → capped n ≡ n
+fits n le = omega (arith, le)
+
+pub exact : (list : List Output) → AreFew (totals_of list) → capped_totals (totals_of list) ≡ totals_of list
+exact list k = same (capped_totals (totals_of list)) (totals_of list) (fits _ k.accepted) (fits _ k.served) (fits _ k.sent)

@@ -3,7 +3,7 @@ use Rattle.std.proofs.Common.{◌≡◌, ℕ, ◌+◌, Bool, true, false, cond, 
 use Rattle.std.specs.Prelude.{filter, map as map_list, option_map, option_to_list}
 use Rattle.std.specs.List.{list_any}
 use Rattle.std.specs.Cmp.{nat_cmp_total}
-use Rattle.std.proofs.lemmas.Bool.{eqb-true}
+use Rattle.std.proofs.lemmas.Bool.{and_right, eqb-true}
 use Rattle.std.proofs.lemmas.List.{nil_from_length}
 use Rattle.fp_book.proofs.Sums.{Rows}
 use Rattle.std.specs.FinMap as map
@@ -14,7 +14,7 @@ use Rattle.fp_book.specs.declared.line.LoggedStep.{LoggedStep}
 use Rattle.fp_book.specs.declared.line.LoggedStep.TheVariants as line
 use Rattle.fp_book.specs.declared.parcel.Content.{Content}
 use Rattle.fp_book.specs.declared.parcel.Content.TheVariants as contents
-use Rattle.fp_book.specs.Calls.{ClocksAt, Due, PutsTurnBack, Sends, Ticks, is_idle, posted_line}
+use Rattle.fp_book.specs.Calls.{ClocksAt, Due, Posts, PutsTurnBack, Sends, Ticks, is_idle, posted_line}
 use Rattle.fp_book.specs.Log as book
 use Rattle.fp_book.specs.Parcel.{local_of}
 use Rattle.fp_book.specs.Shelf.{Shelf, Sound}
@@ -33,7 +33,7 @@ use Rattle.fp_steps.specs.declared.step.Step.TheVariants as steps
 use Rattle.fp_steps.specs.Accepted.{positions}
 use Rattle.fp_steps.specs.Births.{named}
 use Rattle.fp_steps.specs.History.{Event, IsCame, IsRead, IsUnread}
-use Rattle.fp_steps.specs.Makes.{MakesOf, Posts, TakesLine, Tries, TriesPost, is_wanting, step_in, tells_lost, tick_or, told_by}
+use Rattle.fp_steps.specs.Makes.{MakesBy, MakesOf, Obeys, PostsBy, TakesLine, is_wanting, step_in, tells_lost, tick_or, told_by}
 use Rattle.fp_steps.specs.Retold.{step_of}
 use Rattle.fp_steps.specs.Sending.{Handed, out}
 use Rattle.fp_steps.specs.Tied.{IsTied, Tied, handed, story}
@@ -47,31 +47,17 @@ use Rattle.fp_steps.proofs.Stories.{length-numbers}
 
 -- WHERE MEMORY WAS WANTING FOR NO MESSAGE
 
-both_none : (b : Bool) → (b && false) ≡ false
-both_none true = refl
-both_none false = refl
-
 lost_is : (octets : List ℕ) (moment : ℕ) (came : Prepared) → IsLost octets moment came → is_lost came ≡ true
 lost_is octets moment (prepared.Message arrival incoming) is = absurd is
 lost_is octets moment (prepared.Refused arrival fault) is = absurd is
 lost_is octets moment (prepared.Lost arrival) is = refl
 
 -- a message was posted for what it is
-follows_by : (came : Option Prepared) (output : Output) (old mid new : Shelf) (taken : Option Line) → ((p : Prepared) → came ≡ Some p → (tells_lost taken && not (is_lost p)) ≡ false) → TriesPost came output (record old { log = [] }) mid
-    → TakesLine mid taken new → Posts came output (record old { log = [] }) mid
+follows_by : (came : Option Prepared) (output : Output) (old mid new : Shelf) (taken : Option Line) → ((p : Prepared) → came ≡ Some p → (tells_lost taken && not (is_lost p)) ≡ false) → PostsBy Posts came output (record old { log = [] }) mid
+    → TakesLine mid taken new → PostsBy Obeys came output (record old { log = [] }) mid
 follows_by None output old mid new taken none g takes = absurd g
 follows_by (Some p) (outputs.Posted answer components) old mid new taken none g takes = (g.0, posted_by old mid new p answer taken g.1 takes (none p refl))
-follows_by (Some p) (outputs.Ticked added wanting) old mid new taken none g takes = absurd g
-follows_by (Some p) (outputs.Took lo position) old mid new taken none g takes = absurd g
-follows_by (Some p) outputs.NoRoom old mid new taken none g takes = absurd g
-follows_by (Some p) (outputs.Gave lo position given) old mid new taken none g takes = absurd g
-follows_by (Some p) outputs.WentBack old mid new taken none g takes = absurd g
-follows_by (Some p) (outputs.Picked lo octets) old mid new taken none g takes = absurd g
-follows_by (Some p) outputs.Busy old mid new taken none g takes = absurd g
-follows_by (Some p) outputs.Sent old mid new taken none g takes = absurd g
-follows_by (Some p) outputs.Unsent old mid new taken none g takes = absurd g
-follows_by (Some p) outputs.Down old mid new taken none g takes = absurd g
-follows_by (Some p) outputs.Nothing old mid new taken none g takes = absurd g
+follows_by (Some p) output old mid new taken none g takes = absurd g
 
 read_none : (contents : Contents) (contexts : List (List ℕ)) (frame : List ℕ) (moment : ℕ) (came : Option Prepared) (b : Bool) → IsRead contents contexts frame moment came → b ≡ false → (p : Prepared) → came ≡ Some p → (b && not (is_lost p)) ≡ false
 read_none contents contexts frame moment None b is none p same = absurd is
@@ -82,20 +68,13 @@ lost_none frame moment None b is p same = absurd is
 lost_none frame moment (Some came) b is p same =
     let one : came ≡ p = cc in
     let lost : is_lost p ≡ true = ap is_lost (sym one) ∙ lost_is frame moment came is.0 in
-    ap (λ x. b && not x) lost ∙ both_none b
+    ap (λ x. b && not x) lost ∙ and_right b false refl
 
-pub made : (contents : Contents) (contexts : List (List ℕ)) (step : Step) (came : Option Prepared) (output : Output) (old mid new : Shelf) (taken : Option Line) → IsCame contents contexts step came → Tries step came output (record old { log = [] }) mid
+pub made : (contents : Contents) (contexts : List (List ℕ)) (step : Step) (came : Option Prepared) (output : Output) (old mid new : Shelf) (taken : Option Line) → IsCame contents contexts step came → MakesBy Posts step came output (record old { log = [] }) mid
     → TakesLine mid taken new → is_wanting step taken ≡ false → MakesOf step came output (record old { log = [] }) mid
 made contents contexts (steps.Post frame moment) came output old mid new taken is g takes none = follows_by came output old mid new taken (read_none contents contexts frame moment came (tells_lost taken) is none) g takes
 made contents contexts (steps.Lost frame moment) came output old mid new taken is g takes none = follows_by came output old mid new taken (lost_none frame moment came (tells_lost taken) is) g takes
-made contents contexts (steps.Tick moment) came output old mid new taken is g takes none = g
-made contents contexts steps.Take came output old mid new taken is g takes none = g
-made contents contexts (steps.Give local) came output old mid new taken is g takes none = g
-made contents contexts (steps.PutBack local) came output old mid new taken is g takes none = g
-made contents contexts steps.Pick came output old mid new taken is g takes none = g
-made contents contexts steps.Sent came output old mid new taken is g takes none = g
-made contents contexts steps.Unsent came output old mid new taken is g takes none = g
-made contents contexts steps.Down came output old mid new taken is g takes none = g
+made contents contexts step came output old mid new taken is g takes none = g
 
 -- WHAT IS LOGGED
 
@@ -126,14 +105,7 @@ unread_line frame moment (prepared.Lost arrival) answer is = lost_line arrival f
 message_line : (contents : Contents) (contexts : List (List ℕ)) (step : Step) (p : Prepared) (answer : Posted) → IsCame contents contexts step (Some p) → posted_line p answer ∷ [] ≡ option_to_list (written (told_message step answer))
 message_line contents contexts (steps.Post frame moment) p answer is = ap (λ l. l ∷ []) (read_line contents contexts frame moment p answer is)
 message_line contents contexts (steps.Lost frame moment) p answer is = ap (λ l. l ∷ []) (unread_line frame moment p answer is.0)
-message_line contents contexts (steps.Tick moment) p answer is = absurd is
-message_line contents contexts steps.Take p answer is = absurd is
-message_line contents contexts (steps.Give local) p answer is = absurd is
-message_line contents contexts (steps.PutBack local) p answer is = absurd is
-message_line contents contexts steps.Pick p answer is = absurd is
-message_line contents contexts steps.Sent p answer is = absurd is
-message_line contents contexts steps.Unsent p answer is = absurd is
-message_line contents contexts steps.Down p answer is = absurd is
+message_line contents contexts step p answer is = absurd is
 
 -- of a tick, where a dialogue was due
 tick_line : (due : Bool) (log : List LoggedStep) (step : LoggedStep) → log ≡ [] → cond due log (book.logged log step) ≡ option_to_list (cond (not due) (Some step) None)
@@ -157,7 +129,7 @@ sent_line old (contents.Abort frame) new g = ap (λ (s : Shelf). s.log) g.new_is
 sent_line old (contents.Frame w) new g = ap (λ (s : Shelf). s.log) g.new_is
 
 out_line : (h : List Event) (s : Shelf) (content : Content) (of : ℕ → LoggedStep) → Tied h s → s.outbox.out ≡ Some content → option_map (λ (o : Handed). of o.local) (out h) ≡ Some (of (local_of content))
-out_line h s content of t was = ap (option_map (λ (o : Handed). of o.local)) (t.is_out ∙ ap (option_map handed) was)
+out_line h s content of t was = ap (option_map (λ (o : Handed). of o.local)) (t.is_out ∙ ap (option_map (handed h)) was)
 
 -- what the log has is what the history tells
 abbrev LogsTo : Contents → List (List ℕ) → List Event → Option Prepared → Shelf → Step → Output → Type 0
@@ -209,57 +181,27 @@ taken_is mid (Some taken) new o g log = ap (λ l. step_in (Some l)) g.1 ∙ one_
 -- all but ticks are written
 message_written : (step : Step) (answer : Posted) → written (told_message step answer) ≡ told_message step answer
 message_written (steps.Post frame moment) answer = refl
-message_written (steps.Lost frame moment) answer = refl
-message_written (steps.Tick moment) answer = refl
-message_written steps.Take answer = refl
-message_written (steps.Give local) answer = refl
-message_written (steps.PutBack local) answer = refl
-message_written steps.Pick answer = refl
-message_written steps.Sent answer = refl
-message_written steps.Unsent answer = refl
-message_written steps.Down answer = refl
+message_written step answer = refl
 
 over : {X : Type 0} → (o : Option X) (of : X → LoggedStep) → ((x : X) → is_written (of x) ≡ true) → written (option_map of o) ≡ option_map of o
 over None of is = refl
 over (Some d) of is = ap (λ b. cond b (Some (of d)) None) (is d)
 
 back_written : (h : List Event) (step : Step) → written (told_back h step) ≡ told_back h step
-back_written h (steps.Post frame moment) = refl
-back_written h (steps.Lost frame moment) = refl
-back_written h (steps.Tick moment) = refl
-back_written h steps.Take = refl
-back_written h (steps.Give local) = refl
 back_written h (steps.PutBack local) = over (named h local) (λ d. line.PutBack local (length (positions h d))) (λ d. refl)
-back_written h steps.Pick = refl
-back_written h steps.Sent = refl
-back_written h steps.Unsent = refl
-back_written h steps.Down = refl
+back_written h step = refl
 
 tick_told : (h : List Event) (step : Step) (added wanting : ℕ) (taken : Option Line) → step_in taken ≡ logged h step (outputs.Ticked added wanting) → tick_or step added wanting taken ≡ told h step (outputs.Ticked added wanting)
-tick_told h (steps.Post frame moment) added wanting taken is = is
-tick_told h (steps.Lost frame moment) added wanting taken is = is
 tick_told h (steps.Tick moment) added wanting taken is = refl
-tick_told h steps.Take added wanting taken is = is
-tick_told h (steps.Give local) added wanting taken is = is
-tick_told h (steps.PutBack local) added wanting taken is = is
-tick_told h steps.Pick added wanting taken is = is
-tick_told h steps.Sent added wanting taken is = is
-tick_told h steps.Unsent added wanting taken is = is
-tick_told h steps.Down added wanting taken is = is
+tick_told h step added wanting taken is = is
 
 pub told_is : (h : List Event) (step : Step) (output : Output) (taken : Option Line) → step_in taken ≡ logged h step output → told_by step output taken ≡ told h step output
 told_is h step (outputs.Posted answer components) taken is = is ∙ message_written step answer
 told_is h step (outputs.Ticked added wanting) taken is = tick_told h step added wanting taken is
-told_is h step (outputs.Took lo position) taken is = is
-told_is h step outputs.NoRoom taken is = is
-told_is h step (outputs.Gave lo position given) taken is = is
 told_is h step outputs.WentBack taken is = is ∙ back_written h step
-told_is h step (outputs.Picked lo octets) taken is = is
-told_is h step outputs.Busy taken is = is
 told_is h step outputs.Sent taken is = is ∙ over (out h) (λ (o : Handed). line.Sent o.local) (λ o. refl)
 told_is h step outputs.Unsent taken is = is ∙ over (out h) (λ (o : Handed). line.Unsent o.local) (λ o. refl)
-told_is h step outputs.Down taken is = is
-told_is h step outputs.Nothing taken is = is
+told_is h step output taken is = is
 
 pub line_is : (contents : Contents) (contexts : List (List ℕ)) (h : List Event) (step : Step) (came : Option Prepared) (output : Output) (s mid new : Shelf) (taken : Option Line) → Tied h s → Sound s → s.log ≡ [] → IsCame contents contexts step came → MakesOf step came output s mid
     → TakesLine mid taken new → told_by step output taken ≡ told h step output
@@ -345,14 +287,7 @@ step_is line other step e is = let same : other ≡ line = cc in ap step_of (sym
 message_step : (step : Step) (answer : Posted) (line : LoggedStep) → told_message step answer ≡ Some line → step_of line ≡ Some step
 message_step (steps.Post frame moment) answer other e = step_is other (line.Post moment frame answer) (steps.Post frame moment) e refl
 message_step (steps.Lost frame moment) answer other e = step_is other (line.Lost moment frame answer) (steps.Lost frame moment) e refl
-message_step (steps.Tick moment) answer other e = absurd (cc)
-message_step steps.Take answer other e = absurd (cc)
-message_step (steps.Give local) answer other e = absurd (cc)
-message_step (steps.PutBack local) answer other e = absurd (cc)
-message_step steps.Pick answer other e = absurd (cc)
-message_step steps.Sent answer other e = absurd (cc)
-message_step steps.Unsent answer other e = absurd (cc)
-message_step steps.Down answer other e = absurd (cc)
+message_step step answer other e = absurd (cc)
 
 over_step : {X : Type 0} → (o : Option X) (of : X → LoggedStep) (other : LoggedStep) (step : Step) → option_map of o ≡ Some other → ((n : X) → step_of (of n) ≡ Some step) → step_of other ≡ Some step
 over_step None of other step e is = absurd (cc)

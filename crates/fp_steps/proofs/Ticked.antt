@@ -6,6 +6,7 @@ use Rattle.std.specs.Option.{option_map_or}
 use Rattle.std.proofs.lemmas.Bool.{and_left, and_right, cases_Bool, eqb-true, lt-leb, or_parts}
 use Rattle.std.proofs.lemmas.List.Elements.{recursion_from_All}
 use Rattle.std.specs.FinMap as map
+use Rattle.std.proofs.lemmas.Option.{same_Some}
 use Rattle.fp_book.proofs.Clocks.{Apart, apart}
 use Rattle.fp_book.proofs.Queue.{eqb_swap}
 use Rattle.fp_book.proofs.Sums.{OneChanges, Rows, amount, removed}
@@ -80,16 +81,13 @@ adds_none f rows due two adds all l row was none =
     let sums : sum_of f (map.remove rows l) + f row ≡ sum_of f rows + 0 = off.sums f in
     omega (arith, rest, sums, all)
 
-the_row : (a b : Row) → Some a ≡ Some b → a ≡ b
-the_row a b e = cc
-
 -- and one that is adds one
 adds_one : (f : Row → ℕ) (rows : Rows) (due : List Due) → AllByRecursion (Adds f rows) due → (l : ℕ) (row : Row) → map.get rows l ≡ Some row → among l due ≡ true → f row ≡ 1
 adds_one f rows [] adds l row was is = absurd (cc)
 adds_one f rows (d ∷ due) adds l row was is =
     let first : Adds f rows d = adds.0 in
     ⊎_elim
-    (λ here. ap f (the_row row first.row (sym was ∙ ap (map.get rows) (sym (eqb-true d.1 l here)) ∙ first.was)) ∙ first.one)
+    (λ here. ap f (same_Some row first.row (sym was ∙ ap (map.get rows) (sym (eqb-true d.1 l here)) ∙ first.was)) ∙ first.one)
     (λ other. adds_one f rows due adds.1 l row was (ap (λ b. b || among l due) (sym other) ∙ is))
     (cases_Bool (eqb d.1 l))
 
@@ -229,10 +227,8 @@ Tied-ticks h came old new moment added wanting t k nothing g =
     let next : Next h e old then =
     record {
       link_is = refl;
-      births_stay = refl;
+      opens_none = refl;
       born = refl;
-      names_stay = λ local. refl;
-      beginnings_stay = λ d. refl;
       entries = ap (λ n. n + added) t.entries_are;
       rows = λ d. ticked_at h came old new moment added wanting nothing t k g d (map.get old.rows (identifier old.link d)) refl (t.rows d);
       own = λ local row was.

@@ -1,11 +1,9 @@
 -- How a run stands to a history that leads to it, and what a step adds to both.
-use Rattle.std.specs.Prelude.{◌≡◌, ℕ, List, ◌∷◌, Option, count_by, reverse}
-use Rattle.std.specs.List.{AllByRecursion, sum_by}
-use Rattle.fp_book.specs.declared.totals.Totals.{Totals}
+use Rattle.std.specs.Prelude.{◌≡◌, ℕ, List, ◌∷◌, Option}
+use Rattle.std.specs.List.{AllByRecursion}
 use Rattle.fp_book.specs.Shelf.{Shelf}
 use Rattle.fp_entry.specs.declared.prepared.Prepared.{Prepared}
 use Rattle.fp_records.specs.Table.{Contents}
-use Rattle.fp_steps.specs.declared.output.Output.{Output}
 use Rattle.fp_steps.specs.declared.step.Step.{Step}
 use Rattle.fp_steps.specs.declared.stepped.Stepped.{Stepped}
 use Rattle.fp_steps.specs.Answers.{AllAnswered, IsAnswer}
@@ -16,13 +14,7 @@ use Rattle.fp_steps.specs.Lined.{Lined}
 use Rattle.fp_steps.specs.Retold.{Retells}
 use Rattle.fp_steps.specs.Tied.{Tied}
 use Rattle.fp_steps.specs.Told.{lines_told, told}
-use Rattle.fp_steps.specs.Totals.{AddUp, components_of, frames_sent, is_gave}
-
--- a book has counted what these outputs tell
-pub record AreCounted (outputs : List Output) (totals : Totals) : Type 0 where
-  pub accepted : totals.accepted ≡ sum_by components_of outputs
-  pub served : totals.served ≡ count_by is_gave outputs
-  pub sent : totals.sent ≡ frames_sent (reverse outputs)
+use Rattle.fp_steps.specs.Totals.{AddUp, totals_of}
 
 -- This history leads to this book, by these records and names: its messages are what their octets are prepared to, each
 -- output is the answer at its moment, the headline holds at each, nothing is left to do at those at which the link is idle,
@@ -31,9 +23,9 @@ pub record LeadsTo (contents : Contents) (contexts : List (List ℕ)) (h : List 
   pub messages : AllByRecursion (λ (e : Event). IsCame contents contexts e.step e.came) h
   pub answers : AllAnswered book.link h
   pub moments : AtEachMoment Headline h
-  pub idle : (link : ℕ) → AtEachMoment (IdleIsDone link) h
+  pub idle : AtEachMoment IdleIsDone h
   pub adds_up : AddUp (outputs_of h) h
-  pub counted : AreCounted (outputs_of h) book.totals
+  pub counted : book.totals ≡ totals_of (outputs_of h)
   -- the dialogues that are held, and what waits
   pub tied : Tied h book
   pub lined : Lined h book

@@ -6,13 +6,12 @@ use Rattle.fp_book.specs.declared.answers.Given.TheVariants.{Silent, Queued, Dro
 use Rattle.fp_entry.specs.declared.prepared.Prepared.{Prepared}
 use Rattle.fp_service.specs.declared.request.Request.{Request}
 use Rattle.fp_service.specs.Serve.{request_of}
-use Rattle.fp_tids.specs.Identifiers.{identifier}
 use Rattle.fp_steps.specs.declared.output.Output.{Output}
 use Rattle.fp_steps.specs.declared.output.Output.TheVariants as outputs
 use Rattle.fp_steps.specs.declared.step.Step.{Step}
 use Rattle.fp_steps.specs.declared.step.Step.TheVariants as steps
 use Rattle.fp_steps.specs.Accepted.{accepted, core_of, is_due, positions}
-use Rattle.fp_steps.specs.Births.{births, named}
+use Rattle.fp_steps.specs.Births.{births, local_of, named}
 use Rattle.fp_steps.specs.History.{Event}
 use Rattle.fp_steps.specs.Lines.{answer_to, components_in}
 use Rattle.fp_steps.specs.Sending.{Handed, out}
@@ -66,35 +65,35 @@ ticked h moment = outputs.Ticked (how_many (births h) (is_due h moment)) 0
 -- TAKE
 
 -- the dialogue that has been ready longest
-pub record IsLongestReady (link : ℕ) (h : List Event) (local position : ℕ) : Type 0 where
+pub record IsLongestReady (h : List Event) (local position : ℕ) : Type 0 where
   pub dialogue : ℕ
-  pub local_is : local ≡ identifier link dialogue
+  pub local_is : local ≡ local_of h dialogue
   pub stands : is_ready h dialogue ≡ true
   pub longest : (other : ℕ) → is_ready h other ≡ true → (other == dialogue) ≡ false → IsReadyBefore h dialogue other
   -- its next entry
   pub next : position ≡ length (positions h dialogue)
 
 -- that one gets a turn; or all places are held; or no dialogue is ready
-abbrev pub IsTaken : ℕ → List Event → Output → Type 0
-IsTaken link h (outputs.Took local position) = IsLongestReady link h local position × (places h < 8192)
-IsTaken link h outputs.NoRoom = ((d : ℕ) × (is_ready h d ≡ true)) × (8192 ≤ places h)
-IsTaken link h outputs.Nothing = (d : ℕ) → is_ready h d ≡ false
-IsTaken link h _ = ⊥
+abbrev pub IsTaken : List Event → Output → Type 0
+IsTaken h (outputs.Took local position) = IsLongestReady h local position × (places h < 8192)
+IsTaken h outputs.NoRoom = ((d : ℕ) × (is_ready h d ≡ true)) × (8192 ≤ places h)
+IsTaken h outputs.Nothing = (d : ℕ) → is_ready h d ≡ false
+IsTaken h _ = ⊥
 
 -- PICK
 
 -- the oldest Abort of the provider; or, where none waits, the oldest frame
-abbrev pub IsNext : ℕ → List (List ℕ) → List QueuedFrame → ℕ → List ℕ → Type 0
-IsNext link (abort ∷ aborts) frames local octets = (local ≡ 0) × (octets ≡ abort)
-IsNext link [] (first ∷ frames) local octets = (local ≡ identifier link first.dialogue) × (octets ≡ first.frame)
-IsNext link [] [] local octets = ⊥
+abbrev pub IsNext : List Event → List (List ℕ) → List QueuedFrame → ℕ → List ℕ → Type 0
+IsNext h (abort ∷ aborts) frames local octets = (local ≡ 0) × (octets ≡ abort)
+IsNext h [] (first ∷ frames) local octets = (local ≡ local_of h first.dialogue) × (octets ≡ first.frame)
+IsNext h [] [] local octets = ⊥
 
 -- that one is handed out; or something is out to be sent already; or nothing waits
-abbrev pub IsPicked : ℕ → List Event → Output → Type 0
-IsPicked link h outputs.Busy = is_some (out h) ≡ true
-IsPicked link h (outputs.Picked local frame) = (out h ≡ None) × IsNext link (aborts_waiting h) (waiting h) local frame
-IsPicked link h outputs.Nothing = (out h ≡ None) × (aborts_waiting h ≡ []) × (waiting h ≡ [])
-IsPicked link h _ = ⊥
+abbrev pub IsPicked : List Event → Output → Type 0
+IsPicked h outputs.Busy = is_some (out h) ≡ true
+IsPicked h (outputs.Picked local frame) = (out h ≡ None) × IsNext h (aborts_waiting h) (waiting h) local frame
+IsPicked h outputs.Nothing = (out h ≡ None) × (aborts_waiting h ≡ []) × (waiting h ≡ [])
+IsPicked h _ = ⊥
 
 -- EACH STEP
 
@@ -102,10 +101,10 @@ abbrev pub IsAnswer : ℕ → List Event → Step → Option Prepared → Output
 IsAnswer link h (steps.Post frame moment) came output = IsPosted link h came output
 IsAnswer link h (steps.Lost frame moment) came output = IsPosted link h came output
 IsAnswer link h (steps.Tick moment) came output = output ≡ ticked h moment
-IsAnswer link h steps.Take came output = IsTaken link h output
+IsAnswer link h steps.Take came output = IsTaken h output
 IsAnswer link h (steps.Give local) came output = output ≡ gave h local (named h local)
 IsAnswer link h (steps.PutBack local) came output = output ≡ put_back h (named h local)
-IsAnswer link h steps.Pick came output = IsPicked link h output
+IsAnswer link h steps.Pick came output = IsPicked h output
 IsAnswer link h steps.Sent came output = output ≡ if_out (out h) outputs.Sent
 IsAnswer link h steps.Unsent came output = output ≡ if_out (out h) outputs.Unsent
 IsAnswer link h steps.Down came output = output ≡ outputs.Down

@@ -64,6 +64,10 @@ abbrev pub beginning : List Event → ℕ → Option Beginning
 beginning [] d = None
 beginning (e ∷ h) d = beginning_after (opened_in e.output) e.came (d == births h + 1) (beginning h d)
 
+-- the local transaction identifier with which it was opened
+abbrev pub local_of : List Event → ℕ → ℕ
+local_of h d = option_map_or (λ (b : Beginning). b.local) (beginning h d) 0
+
 -- the dialogue that a message names by its destination
 abbrev pub destination : List Event → Option Prepared → Option ℕ
 destination h None = None

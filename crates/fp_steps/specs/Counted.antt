@@ -9,7 +9,6 @@ use Rattle.fp_book.specs.declared.totals.Totals.{Totals}
 use Rattle.fp_entry.specs.declared.prepared.Prepared.{Prepared}
 use Rattle.fp_entry.specs.Prepared.{components_of}
 use Rattle.fp_steps.specs.History.{Event}
-use Rattle.fp_steps.specs.Totals.{capped}
 
 -- a turn that was given back, served
 abbrev pub is_give : LoggedStep → Bool
@@ -41,7 +40,7 @@ accepted_along (line ∷ lines) (e ∷ h) = accepted_along lines h + accepted_in
 
 abbrev pub totals_in : List LoggedStep → List Event → Totals
 totals_in lines h = record {
-  accepted = capped (accepted_along lines h);
-  served = capped (count_by is_give lines);
-  sent = capped (count_by is_sent_frame lines);
+  accepted = accepted_along lines h;
+  served = count_by is_give lines;
+  sent = count_by is_sent_frame lines;
 }

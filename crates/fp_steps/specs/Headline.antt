@@ -42,10 +42,18 @@ pub record Headline (h : List Event) : Type 0 where
   -- the Aborts of the provider that were sent are a front of those that were answered
   pub aborts_first : IsPrefix (aborts_sent h) (aborts h)
 
--- these are outputs of these steps on a link; at each moment of their history all of this holds, and each output is the
--- answer at its moment; the totals of the outputs are sums over the dialogues of this history; at each moment at which
--- the link is idle nothing is left to do; and the lines of its log are retold by a history with these totals
-abbrev pub Runs : Contents → List (List ℕ) → ℕ → List Step → List Output → Type 0
-Runs contents contexts link steps outputs =
-    (h : List Event) × Tells contents contexts steps outputs h × AtEachMoment Headline h × AllAnswered link h
-    × AddUp outputs h × AtEachMoment (IdleIsDone link) h × LogIsRetold contents contexts link h
+-- these are outputs of these steps on a link, by these records and names of application contexts
+pub record Runs (contents : Contents) (contexts : List (List ℕ)) (link : ℕ) (steps : List Step) (outputs : List Output) : Type 0 where
+  -- a history has these steps and outputs
+  pub history : List Event
+  pub tells : Tells contents contexts steps outputs history
+  -- at each of its moments all of this holds
+  pub headline : AtEachMoment Headline history
+  -- each output is the answer at its moment
+  pub answers : AllAnswered link history
+  -- the totals of the outputs are sums over its dialogues
+  pub adds_up : AddUp outputs history
+  -- at each moment at which the link is idle nothing is left to do
+  pub idle : AtEachMoment IdleIsDone history
+  -- the lines of its log are retold by a history with the same totals
+  pub retold : LogIsRetold contents contexts link history

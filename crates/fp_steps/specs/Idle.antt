@@ -12,11 +12,11 @@ use Rattle.fp_steps.specs.Waiting.{is_down}
 
 -- a link is idle: it is up, no turn is out, and a Take and a Pick would be answered Nothing, which a Pick isn't while a
 -- parcel is out
-pub record IsIdle (link : ℕ) (h : List Event) : Type 0 where
+pub record IsIdle (h : List Event) : Type 0 where
   pub up : is_down h ≡ false
   pub no_turn : (d : ℕ) → turn_out h d ≡ false
-  pub no_take : IsTaken link h outputs.Nothing
-  pub no_pick : IsPicked link h outputs.Nothing
+  pub no_take : IsTaken h outputs.Nothing
+  pub no_pick : IsPicked h outputs.Nothing
 
 -- nothing is left to do; while a link is up only a refused message closes a dialogue
 pub record IsDone (h : List Event) : Type 0 where
@@ -28,5 +28,5 @@ pub record IsDone (h : List Event) : Type 0 where
   pub all_aborts : aborts_sent h ≡ aborts h
 
 -- where a link is idle, nothing is left to do
-abbrev pub IdleIsDone : ℕ → List Event → Type 0
-IdleIsDone link h = IsIdle link h → IsDone h
+abbrev pub IdleIsDone : List Event → Type 0
+IdleIsDone h = IsIdle h → IsDone h

@@ -27,13 +27,19 @@ SentAlike =
 abbrev pub HeadlineHolds : Type 0
 HeadlineHolds =
     (contents : Contents) (contexts : List (List ℕ)) (link : ℕ) (steps : List Step) (outputs : List Output)
-    → (run : Runs contents contexts link steps outputs) → Headline run.0
+    → (run : Runs contents contexts link steps outputs) → Headline run.history
 
 -- A step has one answer behind a history, by what its message is prepared to, which is one thing.
 abbrev pub AnswersAreOne : Type 0
 AnswersAreOne =
     (contents : Contents) (contexts : List (List ℕ)) (link : ℕ) (h : List Event) (step : Step) (came other : Option Prepared) (x y : Output)
     → IsCame contents contexts step came → IsCame contents contexts step other → IsAnswer link h step came x → IsAnswer link h step other y → x ≡ y
+
+-- A list of steps has one list of outputs and one history, whatever makes the steps.
+abbrev pub RunsAreOne : Type 0
+RunsAreOne =
+    (contents : Contents) (contexts : List (List ℕ)) (link : ℕ) (steps : List Step) (outputs others : List Output)
+    → (run : Runs contents contexts link steps outputs) (other : Runs contents contexts link steps others) → (outputs ≡ others) × (run.history ≡ other.history)
 
 -- The lines of a log are retold by one history.
 abbrev pub LinesAreRetoldOnce : Type 0

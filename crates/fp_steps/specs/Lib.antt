@@ -1,21 +1,33 @@
-pub mod Accepted
-pub mod After
-pub mod Answers
-pub mod Births
-pub mod Counted
-pub mod Headline
+-- WHAT A RUN PROMISES
+
+-- its history, and what that tells of each dialogue
 pub mod History
-pub mod Idle
-pub mod Laws
-pub mod Lined
-pub mod Lines
-pub mod Log
-pub mod Makes
-pub mod Retold
+pub mod Births
+pub mod Accepted
 pub mod Sending
-pub mod Tied
-pub mod Tokens
-pub mod Told
-pub mod Totals
 pub mod Turns
 pub mod Waiting
+-- what each step is answered
+pub mod Lines
+pub mod Answers
+-- what its log tells of each step
+pub mod Told
+pub mod LogLines
+pub mod Retold
+pub mod Counted
+-- what holds of it, and of all runs
+pub mod Totals
+pub mod Idle
+pub mod Headline
+pub mod Laws
+-- WHAT ONLY PROOFS NEED: `run`, `lines_of` and the laws promise nothing in these words
+
+-- what a run keeps, and what a step makes of its book
+pub mod Tokens
+pub mod Makes
+pub mod Log
+-- how its book stands to its history
+pub mod Tied
+pub mod Lined
+-- and that it does so, which `LinkRun` hands on from step to step
+pub mod After

@@ -33,11 +33,10 @@ components_by (Aborted cause) came = 0
 components_by Ended came = 0
 components_by Discarded came = 0
 
-abbrev pub Posts : Option Prepared → Output → Shelf → Shelf → Type 0
-Posts None output old new = ⊥
-Posts (Some came) (outputs.Posted answer components) old new =
-    (components ≡ components_by answer came) × Follows (verdict old came) old came answer new
-Posts (Some came) _ old new = ⊥
+-- a message is posted, and the book does so with it
+abbrev pub PostsBy : (Shelf → Prepared → Posted → Shelf → Type 0) → Option Prepared → Output → Shelf → Shelf → Type 0
+PostsBy does (Some came) (outputs.Posted answer components) old new = (components ≡ components_by answer came) × does old came answer new
+PostsBy does _ _ old new = ⊥
 
 abbrev pub TicksTo : ℕ → Output → Shelf → Shelf → Type 0
 TicksTo moment (outputs.Ticked added wanting) old new = (wanting ≡ 0) × Ticks old moment added wanting new
@@ -81,18 +80,25 @@ abbrev pub GoesDownTo : Output → Shelf → Shelf → Type 0
 GoesDownTo outputs.Down old new = GoesDown old.outbox.out old line.Down new
 GoesDownTo _ old new = ⊥
 
--- by the step
+-- a step is made, and the book does so with a message
+abbrev pub MakesBy : (Shelf → Prepared → Posted → Shelf → Type 0) → Step → Option Prepared → Output → Shelf → Shelf → Type 0
+MakesBy does (steps.Post frame moment) came output old new = PostsBy does came output old new
+MakesBy does (steps.Lost frame moment) came output old new = PostsBy does came output old new
+MakesBy does (steps.Tick moment) came output old new = TicksTo moment output old new
+MakesBy does steps.Take came output old new = TakesTo output old new
+MakesBy does (steps.Give local) came output old new = GivesTo local output old new
+MakesBy does (steps.PutBack local) came output old new = PutsBackTo local output old new
+MakesBy does steps.Pick came output old new = PicksTo output old new
+MakesBy does steps.Sent came output old new = SendsTo output old new
+MakesBy does steps.Unsent came output old new = UnsendsTo output old new
+MakesBy does steps.Down came output old new = GoesDownTo output old new
+
+-- a message is posted by its verdict
+abbrev pub Obeys : Shelf → Prepared → Posted → Shelf → Type 0
+Obeys old came answer new = Follows (verdict old came) old came answer new
+
 abbrev pub MakesOf : Step → Option Prepared → Output → Shelf → Shelf → Type 0
-MakesOf (steps.Post frame moment) came output old new = Posts came output old new
-MakesOf (steps.Lost frame moment) came output old new = Posts came output old new
-MakesOf (steps.Tick moment) came output old new = TicksTo moment output old new
-MakesOf steps.Take came output old new = TakesTo output old new
-MakesOf (steps.Give local) came output old new = GivesTo local output old new
-MakesOf (steps.PutBack local) came output old new = PutsBackTo local output old new
-MakesOf steps.Pick came output old new = PicksTo output old new
-MakesOf steps.Sent came output old new = SendsTo output old new
-MakesOf steps.Unsent came output old new = UnsendsTo output old new
-MakesOf steps.Down came output old new = GoesDownTo output old new
+MakesOf step came output old new = MakesBy Obeys step came output old new
 
 -- something is done with a book whose log may be drained before it and after it
 pub record Drained (does : Shelf → Shelf → Type 0) (old new : Shelf) : Type 0 where
@@ -106,28 +112,9 @@ pub record Drained (does : Shelf → Shelf → Type 0) (old new : Shelf) : Type 
 abbrev pub Makes : Shelf → Event → Shelf → Type 0
 Makes old e new = Drained (MakesOf e.step e.came e.output) old new
 
--- a message is posted, and memory may be wanting for it
-abbrev pub TriesPost : Option Prepared → Output → Shelf → Shelf → Type 0
-TriesPost None output old new = ⊥
-TriesPost (Some came) (outputs.Posted answer components) old new = (components ≡ components_by answer came) × BookPosts old came answer new
-TriesPost (Some came) _ old new = ⊥
-
--- a step is made, but memory may be wanting for a message
-abbrev pub Tries : Step → Option Prepared → Output → Shelf → Shelf → Type 0
-Tries (steps.Post frame moment) came output old new = TriesPost came output old new
-Tries (steps.Lost frame moment) came output old new = TriesPost came output old new
-Tries (steps.Tick moment) came output old new = TicksTo moment output old new
-Tries steps.Take came output old new = TakesTo output old new
-Tries (steps.Give local) came output old new = GivesTo local output old new
-Tries (steps.PutBack local) came output old new = PutsBackTo local output old new
-Tries steps.Pick came output old new = PicksTo output old new
-Tries steps.Sent came output old new = SendsTo output old new
-Tries steps.Unsent came output old new = UnsendsTo output old new
-Tries steps.Down came output old new = GoesDownTo output old new
-
--- so by these records and names
+-- a step is made by these records and names, but memory may be wanting for a message
 abbrev pub TriesTo : Contents → List (List ℕ) → Shelf → Step → Output → Shelf → Type 0
-TriesTo contents contexts old step output new = (came : Option Prepared) × IsCame contents contexts step came × Tries step came output old new
+TriesTo contents contexts old step output new = (came : Option Prepared) × IsCame contents contexts step came × MakesBy BookPosts step came output old new
 
 -- the components that are accepted, if any are
 abbrev pub components_if : Posted → ℕ → ℕ

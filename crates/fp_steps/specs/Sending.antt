@@ -47,29 +47,31 @@ abbrev pub queued : List Event → ℕ → List (List ℕ)
 queued [] d = []
 queued (e ∷ h) d = queued h d ++ queued_in e.output h d
 
--- what was handed out to be sent: the identifier of its dialogue, 0 for an Abort of the provider, and its octets
+-- what was handed out to be sent: its identifier, 0 for an Abort of the provider, the dialogue that this named then, and
+-- its octets
 pub record Handed : Type 0 where
   pub local : ℕ
+  pub dialogue : Option ℕ
   pub octets : List ℕ
 
-abbrev pub out_after : Output → Option Handed → Option Handed
-out_after (outputs.Picked local frame) before = Some (record { local = local; octets = frame })
-out_after outputs.Sent before = None
-out_after outputs.Unsent before = None
-out_after _ before = before
+abbrev pub out_after : Output → List Event → Option Handed → Option Handed
+out_after (outputs.Picked local frame) h before = Some (record { local = local; dialogue = named h local; octets = frame })
+out_after outputs.Sent h before = None
+out_after outputs.Unsent h before = None
+out_after _ h before = before
 
 -- what is out to be sent
 abbrev pub out : List Event → Option Handed
 out [] = None
-out (e ∷ h) = out_after e.output (out h)
+out (e ∷ h) = out_after e.output h (out h)
 
 -- a dialogue's frame that was out
-abbrev pub frame_for : Option Handed → List Event → ℕ → List (List ℕ)
-frame_for None h d = []
-frame_for (Some handed) h d = for_one (named h handed.local) d (handed.octets ∷ [])
+abbrev pub frame_for : Option Handed → ℕ → List (List ℕ)
+frame_for None d = []
+frame_for (Some handed) d = for_one handed.dialogue d (handed.octets ∷ [])
 
 abbrev pub sent_in : Output → List Event → ℕ → List (List ℕ)
-sent_in outputs.Sent h d = frame_for (out h) h d
+sent_in outputs.Sent h d = frame_for (out h) d
 sent_in _ h d = []
 
 -- the frames that were sent for a dialogue, in order

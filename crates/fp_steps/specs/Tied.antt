@@ -107,8 +107,8 @@ abbrev pub untold : Story
 untold = record { began = None; accepts = []; places = []; queues = []; sends = []; ended = None; out = false }
 
 -- what is out to be sent
-abbrev pub handed : Content → Handed
-handed content = record { local = local_of content; octets = octets_of content }
+abbrev pub handed : List Event → Content → Handed
+handed h content = record { local = local_of content; dialogue = named h (local_of content); octets = octets_of content }
 
 -- the Aborts of the provider that were answered: those that were sent, that which is out, and then those that wait
 pub record AbortsTied (h : List Event) (s : Shelf) : Type 0 where
@@ -126,5 +126,5 @@ pub record Tied (h : List Event) (s : Shelf) : Type 0 where
   pub are_named : (d : ℕ) → 0 < d → d ≤ births h → named h (identifier s.link d) ≡ Some d
   pub begins : (d : ℕ) (b : Beginning) → beginning h d ≡ Some b → b.local ≡ identifier s.link d
   pub later : (d : ℕ) → births h < d → story h d ≡ untold
-  pub is_out : out h ≡ option_map handed s.outbox.out
+  pub is_out : out h ≡ option_map (handed h) s.outbox.out
   pub aborts_are : AbortsTied h s

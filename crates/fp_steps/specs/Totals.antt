@@ -1,5 +1,5 @@
 -- The totals of a run, from its outputs alone; and the sums over its dialogues, which they are.
-use Rattle.std.specs.Prelude.{◌≡◌, ℕ, ◌+◌, ◌==◌, Bool, true, false, not, List, [], ◌∷◌, Option, Some, None, count_by, length, min, reverse, zero, suc, if◌then◌else◌}
+use Rattle.std.specs.Prelude.{◌≡◌, ℕ, ◌+◌, ◌^◌, ◌≤◌, ◌==◌, Bool, true, false, not, List, [], ◌∷◌, Option, Some, None, count_by, length, min, reverse, zero, suc, if◌then◌else◌}
 use Rattle.std.specs.List.{sum_by}
 use Rattle.std.specs.Option.{option_map_or}
 use Rattle.fp_book.specs.declared.totals.Totals.{Totals}
@@ -28,7 +28,7 @@ local_after outputs.Sent before = None
 local_after outputs.Unsent before = None
 local_after _ before = before
 
--- so behind these outputs, the newest first
+-- so after these outputs, the newest first
 abbrev pub local_out : List Output → Option ℕ
 local_out [] = None
 local_out (output ∷ before) = local_after output (local_out before)
@@ -43,17 +43,31 @@ abbrev pub frames_sent : List Output → ℕ
 frames_sent [] = 0
 frames_sent (output ∷ before) = frames_sent before + (if is_sent output (local_out before) then 1 else 0)
 
--- a number, as far as 64 bits hold it
-abbrev pub capped : ℕ → ℕ
-capped n = min n 18446744073709551615
-
 -- the components that were accepted, the entries that were served and the frames of dialogues that were sent
 abbrev pub totals_of : List Output → Totals
 totals_of list = record {
-  accepted = capped (sum_by components_of list);
-  served = capped (count_by is_gave list);
-  sent = capped (frames_sent (reverse list));
+  accepted = sum_by components_of list;
+  served = count_by is_gave list;
+  sent = frames_sent (reverse list);
 }
+
+-- what an output adds to them, where this is out to be sent
+abbrev pub added_by : Output → Option ℕ → Totals
+added_by output out = record {
+  accepted = components_of output;
+  served = if is_gave output then 1 else 0;
+  sent = if is_sent output out then 1 else 0;
+}
+
+abbrev pub plus : Totals → Totals → Totals
+plus a b = record { accepted = a.accepted + b.accepted; served = a.served + b.served; sent = a.sent + b.sent }
+
+-- totals, each as far as 64 bits hold it
+abbrev pub capped : ℕ → ℕ
+capped n = min n 18446744073709551615
+
+abbrev pub capped_totals : Totals → Totals
+capped_totals t = record { accepted = capped t.accepted; served = capped t.served; sent = capped t.sent }
 
 -- a number of each of the births 1 to n, added up
 abbrev pub sum_to : ℕ → (ℕ → ℕ) → ℕ
@@ -71,8 +85,16 @@ all_served h = sum_to (births h) (λ d. length (served h d))
 abbrev pub all_sent : List Event → ℕ
 all_sent h = sum_to (births h) (λ d. length (sent h d))
 
--- the totals of these outputs are those of their history
+abbrev pub totals_over : List Event → Totals
+totals_over h = record { accepted = all_components h; served = all_served h; sent = all_sent h }
+
+-- none of them is more than the entries that a link can accept
+pub record AreFew (totals : Totals) : Type 0 where
+  pub accepted : totals.accepted ≤ 2 ^ 63 + 8192
+  pub served : totals.served ≤ 2 ^ 63 + 8192
+  pub sent : totals.sent ≤ 2 ^ 63 + 8192
+
+-- the totals of these outputs are the sums over the dialogues of their history, which 64 bits hold
 pub record AddUp (outputs : List Output) (h : List Event) : Type 0 where
-  pub accepted : sum_by components_of outputs ≡ all_components h
-  pub served : count_by is_gave outputs ≡ all_served h
-  pub sent : frames_sent (reverse outputs) ≡ all_sent h
+  pub totals : totals_of outputs ≡ totals_over h
+  pub few : AreFew (totals_of outputs)

@@ -8,7 +8,7 @@ use Rattle.fp_steps.specs.declared.output.Output.TheVariants as outputs
 use Rattle.fp_steps.specs.declared.step.Step.{Step}
 use Rattle.fp_steps.specs.declared.step.Step.TheVariants as steps
 use Rattle.fp_steps.specs.Accepted.{accepted, core_of, ending, positions}
-use Rattle.fp_steps.specs.Births.{is_one, named}
+use Rattle.fp_steps.specs.Births.{is_one, local_of, named}
 use Rattle.fp_steps.specs.History.{Event}
 
 -- whether a turn of a dialogue is out after one was put back: no more, where the step names that dialogue
@@ -41,10 +41,12 @@ abbrev pub ready_for : List Event → ℕ → ℕ
 ready_for [] d = 0
 ready_for (e ∷ h) d = if is_ready (e ∷ h) d then suc (ready_for h d) else 0
 
+-- what is due next of a dialogue, and its local transaction identifier
+abbrev pub due_of : List Event → ℕ → ℕ × ℕ
+due_of h d = (next_due (core_of h d), local_of h d)
+
 -- One dialogue has been ready longer than another; or both since the same event, which is a tick, and this one's deadline
 -- was the earlier, or of equal ones its identifier the smaller. What is due next of a dialogue doesn't change while it is
--- ready, nor does the order of identifiers differ from that of births.
+-- ready.
 abbrev pub IsReadyBefore : List Event → ℕ → ℕ → Type 0
-IsReadyBefore h c d =
-    (ready_for h d < ready_for h c)
-    ⊎ ((ready_for h c ≡ ready_for h d) × ComesFirst (next_due (core_of h c), c) (next_due (core_of h d), d))
+IsReadyBefore h c d = (ready_for h d < ready_for h c) ⊎ ((ready_for h c ≡ ready_for h d) × ComesFirst (due_of h c) (due_of h d))

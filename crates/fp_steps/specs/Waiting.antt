@@ -80,7 +80,7 @@ has_frame h d = list_any (λ (a : QueuedFrame). a.dialogue == d) (waiting h)
 
 -- whether one of it is out to be sent
 abbrev pub frame_is_out : List Event → ℕ → Bool
-frame_is_out h d = option_map_or (λ (handed : Handed). is_one (named h handed.local) d) (out h) false
+frame_is_out h d = option_map_or (λ (handed : Handed). is_one handed.dialogue d) (out h) false
 
 -- whether a dialogue is held: it takes messages, or a turn of it is out, or an entry or a frame of it waits, or a frame
 -- of it is out to be sent

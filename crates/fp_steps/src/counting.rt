@@ -1,8 +1,10 @@
 //! The totals of a run.
 
-ghost use Rattle.std.specs.Prelude.{◌≡◌, ◌+◌, min, if◌then◌else◌};
-ghost use Rattle.fp_book.specs.declared.totals.Totals.{Totals};
-ghost use Rattle.fp_steps.specs.Totals.{capped, components_of, is_gave, is_sent, local_after, totals_of};
+ghost use Rattle.std.specs.Prelude.{◌≡◌, ◌+◌, ℕ, List, if◌then◌else◌};
+ghost use Rattle.fp_records.specs.Table.{Contents};
+ghost use Rattle.fp_steps.specs.Headline.{Runs};
+ghost use Rattle.fp_steps.specs.Totals.{added_by, capped, capped_totals, components_of, is_gave, is_sent, local_after, plus, totals_of};
+ghost use Rattle.fp_steps.specs.declared.step.Step.{Step};
 
 use crate::Output;
 use fp_book::Totals;
@@ -55,24 +57,38 @@ fn one_more(count: u64, is: bool) -> u64
     if is { count.saturating_add(1) } else { count }
 }
 
-/// The totals of the outputs of a run: the components that were accepted, the entries that were served, and the frames
-/// of dialogues that were sent. A number above the greatest one is given as that; no run has one. Takes no memory.
-pub fn totals(outputs: &[Output]) -> Totals
-    ensures { result ≡ totals_of outputs.now }
+/// The totals after one output more, where this was out to be sent. A number above the greatest one is given as that.
+fn with_output(totals: Totals, output: &Output, out: Option<u32>) -> Totals
+    ensures { result ≡ capped_totals (plus totals (added_by output.now out)) }
 {
-    let mut accepted: u64 = 0;
-    let mut served: u64 = 0;
-    let mut sent: u64 = 0;
-    let mut out = None;
-    for output in outputs {
-        accepted = accepted.saturating_add(u64::from(components_of(output)));
-        served = one_more(served, is_gave(output));
-        sent = one_more(sent, is_sent(output, out));
-        out = local_after(output, out);
-    }
+    let accepted = totals
+        .accepted
+        .saturating_add(u64::from(components_of(output)));
+    let served = one_more(totals.served, is_gave(output));
+    let sent = one_more(totals.sent, is_sent(output, out));
     Totals {
         accepted,
         served,
         sent,
     }
+}
+
+/// The totals of these outputs: the components that were accepted, the entries that were served, and the frames of
+/// dialogues that were sent. A number above the greatest one is given as that; no run has one. Takes no memory.
+pub fn totals(outputs: &[Output]) -> Totals
+    ensures of_runs { (contents : Contents) (contexts : List (List ℕ)) (link : ℕ) (steps : List Step)
+        → Runs contents contexts link steps outputs.now → result ≡ totals_of outputs.now }
+    ensures of_all { result ≡ capped_totals (totals_of outputs.now) }
+{
+    let mut totals = Totals {
+        accepted: 0,
+        served: 0,
+        sent: 0,
+    };
+    let mut out = None;
+    for output in outputs {
+        totals = with_output(totals, output, out);
+        out = local_after(output, out);
+    }
+    totals
 }

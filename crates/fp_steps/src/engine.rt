@@ -3,10 +3,10 @@
 ghost use Rattle.std.specs.Prelude.{◌≡◌, ◌<◌, ◌==◌, IfOk, Some};
 ghost use Rattle.std.specs.List.{position};
 ghost use Rattle.std.specs.FinMap.{get};
-ghost use Rattle.fp_book.specs.Calls.{PutsTurnBack, turn_of};
+ghost use Rattle.fp_book.specs.Calls.{Posts, PutsTurnBack, turn_of};
 ghost use Rattle.fp_book.specs.Shelf.{Sound, empty_shelf};
 ghost use Rattle.fp_row.specs.declared.turn.Turn.{Turn};
-ghost use Rattle.fp_steps.specs.Makes.{GivesTo, PicksTo, PutsBackTo, SendsTo, TakesTo, TicksTo, TriesPost, TriesTo, UnsendsTo};
+ghost use Rattle.fp_steps.specs.Makes.{GivesTo, PicksTo, PostsBy, PutsBackTo, SendsTo, TakesTo, TicksTo, TriesTo, UnsendsTo};
 ghost use Rattle.fp_steps.specs.Tokens.{Holds};
 
 use crate::parts::{components_if, identifiers_are_whole, index_of, is_lost};
@@ -216,7 +216,7 @@ impl Engine {
     fn post(&mut self, alloc: Global, came: Prepared) -> Output
         requires sound { Sound self.old.book }
         requires holds { Holds self.old.turns.items self.old.parcel self.old.book }
-        ensures makes { TriesPost (Some came) result self.old.book self.new.book }
+        ensures makes { PostsBy Posts (Some came) result self.old.book self.new.book }
         ensures sound { Sound self.new.book }
         ensures holds { Holds self.new.turns.items self.new.parcel self.new.book }
     {

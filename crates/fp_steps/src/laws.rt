@@ -1,6 +1,6 @@
 //! What holds of all runs.
 
-ghost use Rattle.fp_steps.specs.Laws.{AnswersAreOne, HeadlineHolds, LinesAreRetoldOnce, RetoldLinesAreCounted, SentAlike};
+ghost use Rattle.fp_steps.specs.Laws.{AnswersAreOne, HeadlineHolds, LinesAreRetoldOnce, RetoldLinesAreCounted, RunsAreOne, SentAlike};
 
 use fp_entry::prepared_is_one;
 
@@ -20,6 +20,14 @@ pub fn headline_holds_at_the_end()
 /// Behind a history a step has one answer, and so one telling.
 pub fn answers_are_one()
     ensures { AnswersAreOne }
+{
+    prepared_is_one();
+}
+
+/// A list of steps has one list of outputs and one history, by the same records and names, on the same link: the event of
+/// each step has the same message and the same output, whatever makes the steps.
+pub fn runs_are_one()
+    ensures { RunsAreOne }
 {
     prepared_is_one();
 }

@@ -1,15 +1,15 @@
 //! The log of a run.
 
-ghost use Rattle.std.specs.Prelude.{◌≡◌, ◌<◌, ◌++◌, ℕ, List, IfOk, map, option_to_list};
+ghost use Rattle.std.specs.Prelude.{◌≡◌, ◌<◌, ◌++◌, IfOk, map, option_to_list};
+ghost use Rattle.std.specs.List.{AllByRecursion};
 ghost use Rattle.fp_book.specs.declared.line.Line.TheVariants as line;
-ghost use Rattle.fp_records.specs.Table.{Contents};
-ghost use Rattle.fp_steps.specs.Answers.{AllAnswered};
-ghost use Rattle.fp_steps.specs.History.{Event, Tells};
 ghost use Rattle.fp_steps.specs.Log.{back_by, back_in, moves, others, others_if, place_in, told_where, turns_after};
-ghost use Rattle.fp_steps.specs.Told.{is_written, log_of, told_message, told_tick, written};
+ghost use Rattle.fp_steps.specs.LogLines.{IsLine, IsLog};
+ghost use Rattle.fp_steps.specs.Told.{is_written, told_message, told_tick, written};
 ghost use Rattle.fp_steps.specs.Totals.{local_after};
 
 use crate::counting::local_after;
+use crate::ranges::step_is_in_range;
 use crate::{Output, Step};
 use fp_book::{Line, LoggedStep, Posted};
 use fp_tids::LocalIds;
@@ -180,11 +180,15 @@ fn written(told: Option<LoggedStep>) -> Option<LoggedStep>
 
 /// Puts a line behind the others, if there is one. `Err`: memory was wanting.
 fn add(lines: &mut Vec<Line>, link: u8, told: Option<LoggedStep>) -> Result<(), AllocError>
-    ensures { IfOk result (λ _. lines.new.items ≡ lines.old.items ++ map (line.Step link) (option_to_list told)) }
+    requires { link < LocalIds.LINKS }
+    ensures lines { IfOk result (λ _. lines.new.items ≡ lines.old.items ++ map (line.Step link) (option_to_list told)) }
+    ensures ranges { IfOk result (λ _. AllByRecursion IsLine lines.old.items → AllByRecursion IsLine lines.new.items) }
 {
-    if let Some(step) = told {
-        lines.push(Line::Step { link, step })?;
-    }
+    let Some(step) = told else {
+        return Ok(());
+    };
+    step_is_in_range(&step);
+    lines.push(Line::Step { link, step })?;
     Ok(())
 }
 
@@ -199,8 +203,10 @@ struct LogSoFar {
 impl LogSoFar {
     /// One more step of a link. `Err`: memory was wanting.
     fn tell(&mut self, link: u8, step: &Step, output: &Output) -> Result<(), AllocError>
+        requires { link < LocalIds.LINKS }
         ensures lines { IfOk result (λ _. self.new.lines.items ≡ self.old.lines.items
             ++ map (line.Step link) (option_to_list (written (told_where self.old.turns.items self.old.sending step.now output.now)))) }
+        ensures ranges { IfOk result (λ _. AllByRecursion IsLine self.old.lines.items → AllByRecursion IsLine self.new.lines.items) }
         ensures turns { IfOk result (λ _. self.new.turns.items ≡ turns_after step.now output.now self.old.turns.items) }
         ensures sending { IfOk result (λ _. self.new.sending ≡ local_after output.now self.old.sending) }
     {
@@ -213,8 +219,8 @@ impl LogSoFar {
 }
 
 /// The log of a run on a link, 0 to 7, which made these steps and has these outputs: how many links there are up to that
-/// one, and then the line of each step that is logged, in their order. For steps and outputs that aren't those of a run
-/// nothing is said. `Err`: memory was wanting.
+/// one, and then the line of each step that is logged, in their order. Each line is in the ranges of the log's format. Of
+/// steps and outputs that aren't those of a run no more is said. `Err`: memory was wanting.
 pub fn lines_of(
     alloc: Global,
     link: u8,
@@ -222,8 +228,7 @@ pub fn lines_of(
     outputs: &[Output],
 ) -> Result<Vec<Line>, AllocError>
     requires { link < LocalIds.LINKS }
-    ensures { IfOk result (λ lines. (contents : Contents) (contexts : List (List ℕ)) (h : List Event)
-        → Tells contents contexts steps.now outputs.now h → AllAnswered link h → lines.items ≡ log_of link h) }
+    ensures { IfOk result (λ lines. IsLog link steps.now outputs.now lines.items) }
 {
     let mut log = LogSoFar {
         lines: Vec::new(alloc),

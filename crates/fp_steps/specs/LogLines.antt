@@ -1,0 +1,61 @@
+-- What a line of a log may hold, and which lines are the log of a run.
+use Rattle.std.specs.Prelude.{◌≡◌, ℕ, ◌^◌, ◌≤◌, ◌<◌, List, length, slice_index, ⊤}
+use Rattle.std.specs.List.{AllByRecursion}
+use Rattle.fp_digits.specs.declared.moment.TheConstants.Moment.{END}
+use Rattle.fp_frames.specs.Frame.{IsMessageLength}
+use Rattle.fp_book.specs.declared.answers.Posted.{Posted}
+use Rattle.fp_book.specs.declared.answers.Posted.TheVariants.{Aborted, Accepted, Discarded, Ended, Opened}
+use Rattle.fp_book.specs.declared.line.Line.{Line}
+use Rattle.fp_book.specs.declared.line.Line.TheVariants as lines
+use Rattle.fp_book.specs.declared.line.LoggedStep.{LoggedStep}
+use Rattle.fp_book.specs.declared.line.LoggedStep.TheVariants.{Down, Gap, Give, Lost, Pick, Post, PutBack, Sent, Take, Tick, Unsent}
+use Rattle.fp_records.specs.Table.{Contents}
+use Rattle.fp_steps.specs.declared.output.Output.{Output}
+use Rattle.fp_steps.specs.declared.step.Step.{Step}
+use Rattle.fp_steps.specs.Answers.{AllAnswered}
+use Rattle.fp_steps.specs.History.{Event, Tells}
+use Rattle.fp_steps.specs.Told.{log_of}
+
+-- the numbers of an answer have at most 32 bits
+abbrev pub IsPosted : Posted → Type 0
+IsPosted (Opened local) = local < 2 ^ 32
+IsPosted (Accepted entries) = entries < 2 ^ 32
+IsPosted (Aborted cause) = ⊤
+IsPosted Ended = ⊤
+IsPosted Discarded = ⊤
+
+-- each of these is an octet
+abbrev pub AreOctets : List ℕ → Type 0
+AreOctets octets = (i : ℕ) → slice_index octets i < 256
+
+-- a message of 1 to 4,096 octets that came before the year 2100, and its answer
+pub record IsPosting (moment : ℕ) (message : List ℕ) (answer : Posted) : Type 0 where
+  pub in_time : moment < END
+  pub size : IsMessageLength (length message)
+  pub octets : AreOctets message
+  pub numbers : IsPosted answer
+
+-- what a step may hold: moments before the year 2100, identifiers and numbers of dialogues of at most 32 bits,
+-- positions and numbers of lost steps of at most 64
+abbrev pub IsStep : LoggedStep → Type 0
+IsStep (Post moment message answer) = IsPosting moment message answer
+IsStep (Lost moment message answer) = IsPosting moment message answer
+IsStep (Tick moment added wanting) = (moment < END) × (added < 2 ^ 32) × (wanting < 2 ^ 32)
+IsStep (Take local position) = (local < 2 ^ 32) × (position < 2 ^ 64)
+IsStep (Give local position given) = (local < 2 ^ 32) × (position < 2 ^ 64)
+IsStep (PutBack local position) = (local < 2 ^ 32) × (position < 2 ^ 64)
+IsStep (Pick local) = local < 2 ^ 32
+IsStep (Sent local) = local < 2 ^ 32
+IsStep (Unsent local) = local < 2 ^ 32
+IsStep Down = ⊤
+IsStep (Gap lost) = lost < 2 ^ 64
+
+-- a line of a log: there are one to eight links, and a step is of one of eight
+abbrev pub IsLine : Line → Type 0
+IsLine (lines.Head links) = (1 ≤ links) × (links ≤ 8)
+IsLine (lines.Step link step) = (link < 8) × IsStep step
+
+-- these lines are the log of a link, by its steps and outputs: whatever history these are of, they are its lines
+pub record IsLog (link : ℕ) (steps : List Step) (outputs : List Output) (log : List Line) : Type 0 where
+  pub lines_are : (contents : Contents) (contexts : List (List ℕ)) (h : List Event) → Tells contents contexts steps outputs h → AllAnswered link h → log ≡ log_of link h
+  pub in_range : AllByRecursion IsLine log

@@ -1,0 +1,115 @@
+//! What the types of a log's lines keep, as clauses. Each function takes a value apart and does nothing with it.
+
+ghost use Rattle.std.specs.Prelude.{◌<◌, ◌^◌, length};
+ghost use Rattle.fp_frames.specs.Frame.{IsMessageLength};
+ghost use Rattle.fp_steps.specs.LogLines.{AreOctets, IsPosted, IsPosting, IsStep};
+
+use fp_book::{LoggedStep, Posted};
+use fp_digits::Moment;
+use fp_frames::Frame;
+
+/// A moment is before the year 2100.
+fn moment_is_in_time(moment: Moment)
+    ensures { moment < Moment.END }
+{
+    let _milliseconds = moment.milliseconds();
+}
+
+/// Octets are below 256.
+fn are_octets(octets: &[u8])
+    ensures { AreOctets octets.now }
+{
+    let _octets = octets;
+}
+
+/// A message has 1 to 4,096 octets.
+fn message_is_in_range(message: &Frame)
+    ensures size { IsMessageLength (length message.now) }
+    ensures octets { AreOctets message.now }
+{
+    are_octets(message.octets());
+}
+
+/// The numbers of an answer have at most 32 bits.
+fn answer_is_in_range(answer: Posted)
+    ensures { IsPosted answer }
+{
+    match answer {
+        Posted::Opened(_local) => {}
+        Posted::Accepted(_entries) => {}
+        Posted::Aborted(_cause) => {}
+        Posted::Ended => {}
+        Posted::Discarded => {}
+    }
+}
+
+/// So does a message with its moment and its answer.
+fn posting_is_in_range(moment: Moment, message: &Frame, answer: Posted)
+    ensures { IsPosting moment message.now answer }
+{
+    moment_is_in_time(moment);
+    message_is_in_range(message);
+    answer_is_in_range(answer);
+}
+
+/// So do the numbers of a dialogue or of due dialogues.
+fn is_number(number: u32)
+    ensures { number < 2 ^ 32 }
+{
+    let _number = number;
+}
+
+/// Positions and numbers of lost steps have at most 64.
+fn is_long_number(number: u64)
+    ensures { number < 2 ^ 64 }
+{
+    let _number = number;
+}
+
+/// A step of a log is in range.
+pub(crate) fn step_is_in_range(step: &LoggedStep)
+    ensures { IsStep step.now }
+{
+    match step {
+        LoggedStep::Post {
+            moment,
+            message,
+            answer,
+        } => posting_is_in_range(*moment, message, *answer),
+        LoggedStep::Lost {
+            moment,
+            message,
+            answer,
+        } => posting_is_in_range(*moment, message, *answer),
+        LoggedStep::Tick {
+            moment,
+            added,
+            wanting,
+        } => {
+            moment_is_in_time(*moment);
+            is_number(*added);
+            is_number(*wanting);
+        }
+        LoggedStep::Take { local, position } => {
+            is_number(*local);
+            is_long_number(*position);
+        }
+        LoggedStep::Give {
+            local,
+            position,
+            ..
+        } => {
+            is_number(*local);
+            is_long_number(*position);
+        }
+        LoggedStep::PutBack { local, position } => {
+            is_number(*local);
+            is_long_number(*position);
+        }
+        LoggedStep::Pick { local } => is_number(*local),
+        LoggedStep::Sent { local } => is_number(*local),
+        LoggedStep::Unsent { local } => is_number(*local),
+        LoggedStep::Down => {}
+        LoggedStep::Gap { lost } => is_long_number(*lost),
+    }
+}
