@@ -1,69 +1,58 @@
-//! Worked cases of the log, one a line: `INPUT => WANTED`.
-//!
-//! Standard input is text for a telecom engineer to read. An empty line or one that begins with `#` is a comment, and
-//! each other line is a case: what goes in, and behind ` => ` what must come out, worked out by hand. What differs is
-//! printed, and at the end how many cases there were. The first word of a case names what it is about; each module has
-//! a table of its own.
+//! Worked cases of the log: `INPUT => WANTED`. The library `cases` says how they are written. The first word of a case
+//! names what it is about; each module has a table of its own.
 //!
 //! | Module | What it is about |
 //! |---|---|
 //! | `lines` | the text of a line, read and written again |
 //! | `replays` | logs, replayed |
 //! | `runs` | the logs of whole runs, and their replay |
+//!
+//! `devices` has a reader and a writer that do what a case says, and `texts` says in words what lines say. In a log and
+//! in a report `|` stands for a line feed.
 #![tactic(auto)]
 
+mod devices;
 mod lines;
 mod replays;
 mod runs;
 mod texts;
 
+use cases::{Answers, first_word};
+use fp_records::Table;
 use std::alloc::Global;
 
-/// What a case gives, or `None` where it is none.
-fn given(alloc: Global, input: &str) -> anyhow::Result<Option<String>> {
-    if let Some(text) = lines::case(alloc, input)? {
-        return Ok(Some(text));
-    }
-    match runs::case(alloc, input)? {
-        Some(text) => Ok(Some(text)),
-        None => replays::case(alloc, input),
-    }
+/// Four numbers: with one destination, with two, with a rule that refuses, and with one that lets the call pass.
+const RECORDS: &str = "key,100,60
+800123456,,1234567,00:00,24:00,1,route,302223344
+800123457,,1234567,00:00,24:00,1,route,302223344,302223355
+800123458,,1234567,00:00,24:00,1,refuse
+800123459,,1234567,00:00,24:00,1,pass
+";
+
+/// The cases, which share their records.
+#[derive(Drop)]
+struct Logs {
+    alloc: Global,
+    table: Table,
 }
 
-/// What is wrong with a case, or `None` where what it gives is wanted.
-fn fault(alloc: Global, line: &str) -> anyhow::Result<Option<String>> {
-    let Some((input, wanted)) = line.split_once(" => ") else {
-        return Ok(Some(format!(in alloc; "{line}: no case")?));
-    };
-    let fault = match given(alloc, input) {
-        Ok(Some(text)) if text.as_str() == wanted => return Ok(None),
-        Ok(Some(text)) => format!(in alloc; "{input}: {text}, and not {wanted}")?,
-        Ok(None) => format!(in alloc; "{input}: no such case")?,
-        Err(error) => format!(in alloc; "{input}: {error}")?,
-    };
-    Ok(Some(fault))
-}
-
-/// Whether a line is no case.
-fn is_comment(line: &str) -> bool {
-    line.is_empty() || line.starts_with('#')
+impl Answers for Logs {
+    fn answer(&mut self, input: &str, out: &mut String) -> anyhow::Result<()> {
+        let alloc = self.alloc;
+        let (kind, rest) = first_word(input);
+        match kind {
+            "text" => lines::ended(alloc, rest, out),
+            "octets" => lines::octets(alloc, rest, out),
+            "message" => lines::message(alloc, rest, out),
+            "run" => runs::short(alloc, &self.table, rest, out),
+            "long-run" => runs::long(alloc, &self.table, rest, out),
+            _ => replays::answer(alloc, &self.table, kind, rest, out),
+        }
+    }
 }
 
 fn main(rt: HostRuntime) -> anyhow::Result<()> {
     let alloc = rt.alloc();
-    let mut count: u32 = 0;
-    let mut wrong: u32 = 0;
-    for line in rt.lines(alloc) {
-        let line = line?;
-        if is_comment(line.as_str()) {
-            continue;
-        }
-        count = count.saturating_add(1);
-        if let Some(text) = fault(alloc, line.as_str())? {
-            wrong = wrong.saturating_add(1);
-            println!(rt; "{text}")?;
-        }
-    }
-    println!(rt; "{count} cases, {wrong} wrong")?;
-    Ok(())
+    let table = Table::read(alloc, RECORDS.as_bytes())?;
+    cases::run_scripts(&rt, &mut Logs { alloc, table })
 }

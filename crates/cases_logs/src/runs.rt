@@ -6,29 +6,31 @@
 //! | `long-run COUNT LINK: STEP; STEP; ..` | how many lines the log has, the last COUNT of them, and the report |
 //!
 //! Behind the report stand the answers of those steps that a log has no line for: `nothing`, `busy`, `no room`, and
-//! `tick`, where no dialogue was due. The steps are those of `steps.rt`. In a log and in a report `|` stands for a line
-//! feed. The records are those of `replays.rt`. That the report has the totals of the run is tested, too.
+//! `tick`, where no dialogue was due. The steps are those of `steps.rt`. That the report has the totals of the run is
+//! tested, too.
 
 mod steps;
 
-use crate::replays;
-use anyhow::bail;
+use crate::replays::{SOUND, push_replay};
+use crate::texts::push_barred;
+use anyhow::{bail, ensure};
+use cases::first_word;
 use fp_book::{Line, Totals};
 use fp_records::Table;
 use fp_replay::{report_line, write_line};
 use fp_steps::{Output, Step, lines_of, totals};
 use std::alloc::Global;
+use std::fmt::Write;
 
 /// How many links there may be.
 const LINKS: u8 = 8;
 
-/// A run: its log, what its outputs come to, and the answers that have no line in it.
-#[derive(Drop)]
-struct Run {
-    lines: Vec<Line>,
-    totals: Totals,
-    unlogged: String,
-}
+/// The totals of a link that did nothing.
+const NONE: Totals = Totals {
+    accepted: 0,
+    served: 0,
+    sent: 0,
+};
 
 /// The answer of a step that a log has no line for.
 fn unlogged(output: &Output) -> Option<&'static str> {
@@ -44,30 +46,17 @@ fn unlogged(output: &Output) -> Option<&'static str> {
     }
 }
 
-/// All answers that a log has no line for.
-fn all_unlogged(alloc: Global, outputs: &[Output]) -> anyhow::Result<String> {
-    let mut text = String::new(alloc);
+/// Writes all answers that a log has no line for.
+fn push_unlogged(outputs: &[Output], out: &mut String) -> anyhow::Result<()> {
+    let mut mark = "; no line: ";
     for output in outputs {
         if let Some(answer) = unlogged(output) {
-            text.push_str(if text.is_empty() { "; no line: " } else { ", " })?;
-            text.push_str(answer)?;
+            out.push_str(mark)?;
+            out.push_str(answer)?;
+            mark = ", ";
         }
     }
-    Ok(text)
-}
-
-/// The run of these steps on a link.
-fn run_of(alloc: Global, link: u8, steps: &[Step]) -> anyhow::Result<Run> {
-    if link >= LINKS {
-        bail!("no link");
-    }
-    let table = Table::read(alloc, replays::TABLE.as_bytes())?;
-    let outputs = fp_steps::run(alloc, &table, &[], link, steps)?;
-    Ok(Run {
-        lines: lines_of(alloc, link, steps, outputs.as_slice())?,
-        totals: totals(outputs.as_slice()),
-        unlogged: all_unlogged(alloc, outputs.as_slice())?,
-    })
+    Ok(())
 }
 
 /// The text of lines.
@@ -79,79 +68,111 @@ fn text_of(alloc: Global, lines: &[Line]) -> anyhow::Result<Vec<u8>> {
     Ok(text)
 }
 
-/// The report that has these totals on a link, and no step on those before it.
-fn report_with(alloc: Global, link: u8, totals: Totals) -> anyhow::Result<String> {
-    let mut report = String::new(alloc);
+/// Writes the line of a link in a report.
+fn push_totals(alloc: Global, link: u8, totals: Totals, out: &mut String) -> anyhow::Result<()> {
+    let line = report_line(alloc, usize::from(link), totals)?;
+    Ok(push_barred(out, line.as_bytes())?)
+}
+
+/// Writes the report that has these totals on a link, and no step on those before it.
+fn push_wanted(alloc: Global, link: u8, totals: Totals, out: &mut String) -> anyhow::Result<()> {
     for before in 0..link {
-        let none = Totals {
-            accepted: 0,
-            served: 0,
-            sent: 0,
-        };
-        report.push_str(report_line(alloc, usize::from(before), none)?.as_str())?;
+        push_totals(alloc, before, NONE, out)?;
     }
-    report.push_str(report_line(alloc, usize::from(link), totals)?.as_str())?;
-    Ok(replays::written(alloc, report.as_bytes())?)
+    push_totals(alloc, link, totals, out)
 }
 
-/// The report of the replay of a run's log, which has to have the run's totals.
-fn report_of(alloc: Global, link: u8, run: &Run) -> anyhow::Result<String> {
-    let log = text_of(alloc, run.lines.as_slice())?;
-    let report = replays::answer(alloc, log.as_slice())?;
-    let wanted = report_with(alloc, link, run.totals)?;
-    if report.as_str() != wanted.as_str() {
-        bail!("the replay gives {report}, the totals are {wanted}");
+/// Writes the report of the replay of a log, which has to have the totals of the run on this link.
+fn push_report(
+    alloc: Global,
+    table: &Table,
+    link: u8,
+    totals: Totals,
+    log: &[u8],
+    out: &mut String,
+) -> anyhow::Result<()> {
+    let mut report = String::new(alloc);
+    push_replay(alloc, table, &SOUND, log, &mut report)?;
+    let mut wanted = String::new(alloc);
+    push_wanted(alloc, link, totals, &mut wanted)?;
+    ensure!(
+        report.as_str() == wanted.as_str(),
+        "the replay gives {report}, the totals are {wanted}"
+    );
+    Ok(out.push_str(report.as_str())?)
+}
+
+/// Writes lines, all of them or how many there are and so many of the last ones.
+fn push_lines(
+    alloc: Global,
+    lines: &[Line],
+    last: Option<usize>,
+    out: &mut String,
+) -> anyhow::Result<()> {
+    if last.is_some() {
+        write!(out, "{} lines, ", lines.len())?;
     }
-    Ok(report)
+    let count = last.unwrap_or(lines.len());
+    let (_, shown) = lines.split_at(lines.len().saturating_sub(count));
+    let text = text_of(alloc, shown)?;
+    push_barred(out, text.as_slice())?;
+    Ok(out.push_str(" / ")?)
 }
 
-/// The text of the last ones of these lines, so many.
-fn last_text(alloc: Global, lines: &[Line], count: usize) -> anyhow::Result<String> {
-    let (_, last) = lines.split_at(lines.len().saturating_sub(count));
-    let text = text_of(alloc, last)?;
-    Ok(replays::written(alloc, text.as_slice())?)
+/// Writes what a run gives, with so many of the last lines of its log, or all.
+fn push_run(
+    alloc: Global,
+    table: &Table,
+    link: u8,
+    steps: &[Step],
+    last: Option<usize>,
+    out: &mut String,
+) -> anyhow::Result<()> {
+    if link >= LINKS {
+        bail!("no link");
+    }
+    let outputs = fp_steps::run(alloc, table, &[], link, steps)?;
+    let lines = lines_of(alloc, link, steps, outputs.as_slice())?;
+    push_lines(alloc, lines.as_slice(), last, out)?;
+    let log = text_of(alloc, lines.as_slice())?;
+    let totals = totals(outputs.as_slice());
+    push_report(alloc, table, link, totals, log.as_slice(), out)?;
+    push_unlogged(outputs.as_slice(), out)
 }
 
-/// The run of a case, and its link.
-fn run_in(alloc: Global, case: &str) -> anyhow::Result<(u8, Run)> {
-    let Some((link, script)) = case.split_once(": ") else {
+/// Writes what the run of a text gives, with so many of the last lines of its log, or all.
+fn push_case(
+    alloc: Global,
+    table: &Table,
+    text: &str,
+    last: Option<usize>,
+    out: &mut String,
+) -> anyhow::Result<()> {
+    let Some((link, script)) = text.split_once(": ") else {
         bail!("no link");
     };
     let link: u8 = link.parse()?;
     let steps = steps::steps_of(alloc, script)?;
-    Ok((link, run_of(alloc, link, steps.as_slice())?))
+    push_run(alloc, table, link, steps.as_slice(), last, out)
 }
 
 /// What a run of few steps gives.
-fn short_run(alloc: Global, case: &str) -> anyhow::Result<String> {
-    let (link, run) = run_in(alloc, case)?;
-    let log = last_text(alloc, run.lines.as_slice(), run.lines.len())?;
-    let report = report_of(alloc, link, &run)?;
-    Ok(format!(in alloc; "{log} / {report}{}", run.unlogged)?)
+pub(crate) fn short(
+    alloc: Global,
+    table: &Table,
+    rest: &str,
+    out: &mut String,
+) -> anyhow::Result<()> {
+    push_case(alloc, table, rest, None, out)
 }
 
-/// What a run of many steps gives, whose last lines are given, so many.
-fn long_run(alloc: Global, count: usize, case: &str) -> anyhow::Result<String> {
-    let (link, run) = run_in(alloc, case)?;
-    let last = last_text(alloc, run.lines.as_slice(), count)?;
-    let report = report_of(alloc, link, &run)?;
-    Ok(format!(in alloc;
-        "{} lines, {last} / {report}{}",
-        run.lines.len(),
-        run.unlogged
-    )?)
-}
-
-/// What a case of this module gives, or `None` where its first word is none.
-pub(crate) fn case(alloc: Global, input: &str) -> anyhow::Result<Option<String>> {
-    if let Some(case) = input.strip_prefix("run ") {
-        return Ok(Some(short_run(alloc, case)?));
-    }
-    if let Some(case) = input.strip_prefix("long-run ") {
-        let Some((count, case)) = case.split_once(" ") else {
-            return Ok(None);
-        };
-        return Ok(Some(long_run(alloc, count.parse()?, case)?));
-    }
-    Ok(None)
+/// What a run of many steps gives.
+pub(crate) fn long(
+    alloc: Global,
+    table: &Table,
+    rest: &str,
+    out: &mut String,
+) -> anyhow::Result<()> {
+    let (count, text) = first_word(rest);
+    push_case(alloc, table, text, Some(count.parse()?), out)
 }

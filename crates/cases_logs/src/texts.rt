@@ -1,95 +1,151 @@
 //! What lines say, in words.
 
+use cases::push_octets;
 use fp_book::{Given, Line, LoggedStep, Posted};
 use fp_digits::Moment;
 use fp_frames::Frame;
-use std::alloc::{AllocError, Global};
+use std::alloc::AllocError;
+use std::fmt::Write;
+
+/// Writes a log or a report, with a bar for each line feed.
+pub(crate) fn push_barred(out: &mut String, octets: &[u8]) -> Result<(), AllocError> {
+    for octet in octets {
+        out.push(if *octet == b'\n' {
+            '|'
+        } else {
+            char::from(*octet)
+        })?;
+    }
+    Ok(())
+}
+
+/// Writes words and a number after them.
+fn push_number(out: &mut String, words: &str, number: u64) -> anyhow::Result<()> {
+    Ok(write!(out, "{words}{number}")?)
+}
 
 /// What became of a message.
-fn posted_text(alloc: Global, answer: Posted) -> Result<String, AllocError> {
+fn word_of(answer: Posted) -> &'static str {
     match answer {
-        Posted::Opened(local) => format!(in alloc; "opened {local}"),
-        Posted::Accepted(entries) => format!(in alloc; "accepted {entries}"),
-        Posted::Aborted(cause) => format!(in alloc; "aborted for cause {}", cause.code()),
-        Posted::Ended => String::from_str(alloc, "ended"),
-        Posted::Discarded => String::from_str(alloc, "discarded"),
+        Posted::Opened(_) => ", opened ",
+        Posted::Accepted(_) => ", accepted ",
+        Posted::Aborted(_) => ", aborted for cause ",
+        Posted::Ended => ", ended",
+        Posted::Discarded => ", discarded",
     }
 }
 
-/// What became of a request.
-fn given_text(given: Given) -> &'static str {
-    match given {
-        Given::Silent => "silent",
-        Given::Queued => "queued",
-        Given::Dropped => "dropped",
+/// Writes what became of a message.
+fn push_posted(out: &mut String, answer: Posted) -> anyhow::Result<()> {
+    let word = word_of(answer);
+    match answer {
+        Posted::Opened(local) => push_number(out, word, u64::from(local)),
+        Posted::Accepted(entries) => push_number(out, word, u64::from(entries)),
+        Posted::Aborted(cause) => push_number(out, word, u64::from(cause.code())),
+        Posted::Ended | Posted::Discarded => Ok(out.push_str(word)?),
     }
 }
 
-/// A message that came.
-fn message_text(
-    alloc: Global,
+/// Writes a message that came, and what became of it.
+fn push_message(
+    out: &mut String,
     moment: Moment,
     message: &Frame,
     answer: Posted,
-) -> Result<String, AllocError> {
-    let octets = hex::encode_upper(alloc, message.octets())?;
-    let became = posted_text(alloc, answer)?;
-    format!(in alloc; "{octets} at {}, {became}", moment.milliseconds())
+) -> anyhow::Result<()> {
+    push_octets(out, message.octets())?;
+    push_number(out, " at ", moment.milliseconds())?;
+    push_posted(out, answer)
 }
 
-/// A step.
-fn step_text(alloc: Global, step: &LoggedStep) -> Result<String, AllocError> {
+/// Writes a turn: the place of its entry, and its dialogue.
+fn push_turn(out: &mut String, local: u32, position: u64) -> anyhow::Result<()> {
+    push_number(out, "", position)?;
+    push_number(out, " of ", u64::from(local))
+}
+
+/// Writes a tick.
+fn push_tick(out: &mut String, moment: Moment, added: u32, wanting: u32) -> anyhow::Result<()> {
+    push_number(out, "", moment.milliseconds())?;
+    push_number(out, ", added ", u64::from(added))?;
+    push_number(out, ", wanting ", u64::from(wanting))
+}
+
+/// What became of a request.
+fn given_word(given: Given) -> &'static str {
+    match given {
+        Given::Silent => ", silent",
+        Given::Queued => ", queued",
+        Given::Dropped => ", dropped",
+    }
+}
+
+/// What a step did.
+fn verb_of(step: &LoggedStep) -> &'static str {
+    match step {
+        LoggedStep::Post { .. } => "posted ",
+        LoggedStep::Lost { .. } => "lost ",
+        LoggedStep::Tick { .. } => "tick at ",
+        LoggedStep::Take { .. } => "took ",
+        LoggedStep::Give { .. } => "gave ",
+        LoggedStep::PutBack { .. } => "put back ",
+        LoggedStep::Pick { .. } => "picked ",
+        LoggedStep::Sent { .. } => "sent ",
+        LoggedStep::Unsent { .. } => "not sent ",
+        LoggedStep::Down => "down",
+        LoggedStep::Gap { .. } => "gap of ",
+    }
+}
+
+/// Writes a step.
+fn push_step(out: &mut String, step: &LoggedStep) -> anyhow::Result<()> {
+    out.push_str(verb_of(step))?;
     match step {
         LoggedStep::Post {
             moment,
             message,
             answer,
-        } => {
-            let text = message_text(alloc, *moment, message, *answer)?;
-            format!(in alloc; "posted {text}")
         }
-        LoggedStep::Lost {
+        | LoggedStep::Lost {
             moment,
             message,
             answer,
-        } => {
-            let text = message_text(alloc, *moment, message, *answer)?;
-            format!(in alloc; "lost {text}")
-        }
+        } => push_message(out, *moment, message, *answer),
         LoggedStep::Tick {
             moment,
             added,
             wanting,
-        } => {
-            format!(in alloc;
-                "tick at {}, added {added}, wanting {wanting}",
-                moment.milliseconds()
-            )
+        } => push_tick(out, *moment, *added, *wanting),
+        LoggedStep::Take { local, position } | LoggedStep::PutBack { local, position } => {
+            push_turn(out, *local, *position)
         }
-        LoggedStep::Take { local, position } => { format!(in alloc; "took {position} of {local}") }
         LoggedStep::Give {
             local,
             position,
             given,
-        } => { format!(in alloc; "gave {position} of {local}, {}", given_text(*given)) }
-        LoggedStep::PutBack { local, position } => {
-            format!(in alloc; "put back {position} of {local}")
+        } => {
+            push_turn(out, *local, *position)?;
+            Ok(out.push_str(given_word(*given))?)
         }
-        LoggedStep::Pick { local } => format!(in alloc; "picked {local}"),
-        LoggedStep::Sent { local } => format!(in alloc; "sent {local}"),
-        LoggedStep::Unsent { local } => format!(in alloc; "not sent {local}"),
-        LoggedStep::Down => String::from_str(alloc, "down"),
-        LoggedStep::Gap { lost } => format!(in alloc; "gap of {lost}"),
+        LoggedStep::Pick { local } | LoggedStep::Sent { local } | LoggedStep::Unsent { local } => {
+            push_number(out, "", u64::from(*local))
+        }
+        LoggedStep::Gap { lost } => push_number(out, "", *lost),
+        LoggedStep::Down => Ok(()),
     }
 }
 
-/// A line.
-pub(crate) fn line_text(alloc: Global, line: &Line) -> Result<String, AllocError> {
+/// Writes a line.
+pub(crate) fn push_line(out: &mut String, line: &Line) -> anyhow::Result<()> {
     match line {
-        Line::Head { links } => format!(in alloc; "log of {links} links"),
+        Line::Head { links } => {
+            push_number(out, "log of ", u64::from(*links))?;
+            Ok(out.push_str(" links")?)
+        }
         Line::Step { link, step } => {
-            let text = step_text(alloc, step)?;
-            format!(in alloc; "link {link}: {text}")
+            push_number(out, "link ", u64::from(*link))?;
+            out.push_str(": ")?;
+            push_step(out, step)
         }
     }
 }

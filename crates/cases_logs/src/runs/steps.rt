@@ -18,6 +18,7 @@
 
 use anyhow::bail;
 use bytes::Bytes;
+use cases::{first_word, octets_of};
 use fp_digits::Moment;
 use fp_frames::Frame;
 use fp_steps::Step;
@@ -28,58 +29,30 @@ const NOON: u64 = 1_714_996_800_000;
 
 /// The moment so many milliseconds after noon.
 fn after_noon(milliseconds: u32) -> anyhow::Result<Moment> {
-    let Some(moment) = Moment::new(NOON + u64::from(milliseconds)) else {
-        bail!("no moment");
-    };
-    Ok(moment)
+    match Moment::new(NOON + u64::from(milliseconds)) {
+        Some(moment) => Ok(moment),
+        None => bail!("no moment"),
+    }
 }
 
-/// The local identifier of these eight hexadecimal digits.
-fn local_of(alloc: Global, text: &str) -> anyhow::Result<u32> {
-    let octets = hex::decode(alloc, text)?;
-    match octets.as_slice() {
-        [a, b, c, d] => Ok(u32::from_be_bytes([*a, *b, *c, *d])),
-        _ => bail!("no local identifier: {text}"),
-    }
+/// The local identifier of these hexadecimal digits.
+fn local_of(text: &str) -> anyhow::Result<u32> {
+    Ok(u32::from_str_radix(text, 16)?)
 }
 
 /// The frame of a message.
 fn frame_of(alloc: Global, text: &str) -> anyhow::Result<Frame> {
-    let octets = hex::decode(alloc, text)?;
-    let message = Bytes::copy_from_slice(alloc, octets.as_slice())?;
-    let Some(frame) = Frame::new(message) else {
-        bail!("no message: {text}");
-    };
-    Ok(frame)
-}
-
-/// A step without a message.
-fn plain_step(alloc: Global, moment: Moment, words: &[&str]) -> anyhow::Result<Step> {
-    match words {
-        ["tick"] => Ok(Step::Tick(moment)),
-        ["take"] => Ok(Step::Take),
-        ["give", local] => Ok(Step::Give(local_of(alloc, local)?)),
-        ["put-back", local] => Ok(Step::PutBack(local_of(alloc, local)?)),
-        ["pick"] => Ok(Step::Pick),
-        ["sent"] => Ok(Step::Sent),
-        ["unsent"] => Ok(Step::Unsent),
-        ["down"] => Ok(Step::Down),
-        _ => bail!("no step"),
-    }
-}
-
-/// A step.
-fn step_of(alloc: Global, moment: Moment, words: &[&str]) -> anyhow::Result<Step> {
-    match words {
-        ["post", text] => Ok(Step::Post(frame_of(alloc, text)?, moment)),
-        ["lost", text] => Ok(Step::Lost(frame_of(alloc, text)?, moment)),
-        _ => plain_step(alloc, moment, words),
+    let octets = octets_of(alloc, text)?;
+    match Frame::new(Bytes::copy_from_slice(alloc, octets.as_slice())?) {
+        Some(frame) => Ok(frame),
+        None => bail!("no message"),
     }
 }
 
 /// The steps of a script so far.
 #[derive(Drop)]
 struct Script {
+    alloc: Global,
     steps: Vec<Step>,
     // How many milliseconds after noon it is.
     now: u32,
@@ -87,55 +60,95 @@ struct Script {
 
 impl Script {
     /// One step more.
-    fn add(&mut self, alloc: Global, words: &[&str]) -> anyhow::Result<()> {
-        let step = step_of(alloc, after_noon(self.now)?, words)?;
+    fn add(&mut self, step: Step) -> anyhow::Result<()> {
         self.steps.push(step)?;
         Ok(())
     }
 
-    /// So many times a message, and its turns.
-    fn rounds(
-        &mut self,
-        alloc: Global,
-        count: u32,
-        turns: u32,
-        local: &str,
-        text: &str,
-    ) -> anyhow::Result<()> {
-        for _ in 0..count {
-            self.add(alloc, &["post", text])?;
-            for _ in 0..turns {
-                self.add(alloc, &["take"])?;
-                self.add(alloc, &["give", local])?;
-            }
+    /// A message comes.
+    fn post(&mut self, text: &str) -> anyhow::Result<()> {
+        let moment = after_noon(self.now)?;
+        let frame = frame_of(self.alloc, text)?;
+        self.add(Step::Post(frame, moment))
+    }
+
+    /// A message comes, and memory for reading it is wanting.
+    fn lose(&mut self, text: &str) -> anyhow::Result<()> {
+        let moment = after_noon(self.now)?;
+        let frame = frame_of(self.alloc, text)?;
+        self.add(Step::Lost(frame, moment))
+    }
+
+    /// A message comes, and so many turns of a dialogue are served.
+    fn round(&mut self, turns: u32, local: u32, text: &str) -> anyhow::Result<()> {
+        self.post(text)?;
+        for _ in 0..turns {
+            self.add(Step::Take)?;
+            self.add(Step::Give(local))?;
         }
         Ok(())
     }
 
+    /// So many times a message, and its turns.
+    fn rounds(&mut self, rest: &str) -> anyhow::Result<()> {
+        let (count, rest) = first_word(rest);
+        let (turns, rest) = first_word(rest);
+        let (local, text) = first_word(rest);
+        let (count, turns): (u32, u32) = (count.parse()?, turns.parse()?);
+        let local = local_of(local)?;
+        for _ in 0..count {
+            self.round(turns, local, text)?;
+        }
+        Ok(())
+    }
+
+    /// The step that a part of a script is.
+    fn step(&mut self, verb: &str, rest: &str) -> anyhow::Result<()> {
+        let step = match verb {
+            "tick" => Step::Tick(after_noon(self.now)?),
+            "take" => Step::Take,
+            "give" => Step::Give(local_of(rest)?),
+            "put-back" => Step::PutBack(local_of(rest)?),
+            "pick" => Step::Pick,
+            "sent" => Step::Sent,
+            "unsent" => Step::Unsent,
+            "down" => Step::Down,
+            _ => bail!("no step: {verb}"),
+        };
+        self.add(step)
+    }
+
     /// What a part of a script asks for.
-    fn part(&mut self, alloc: Global, words: &[&str]) -> anyhow::Result<()> {
-        match words {
-            ["at", milliseconds] => {
-                self.now = milliseconds.parse()?;
+    fn part(&mut self, text: &str) -> anyhow::Result<()> {
+        let (verb, rest) = first_word(text);
+        match verb {
+            "post" => self.post(rest),
+            "lost" => self.lose(rest),
+            "rounds" => self.rounds(rest),
+            "at" => {
+                self.now = rest.parse()?;
                 Ok(())
             }
-            ["rounds", count, turns, local, text] => {
-                self.rounds(alloc, count.parse()?, turns.parse()?, local, text)
-            }
-            _ => self.add(alloc, words),
+            _ => self.step(verb, rest),
         }
+    }
+
+    /// What a script asks for.
+    fn read(&mut self, text: &str) -> anyhow::Result<()> {
+        for part in text.split(';') {
+            self.part(part.trim_start())?;
+        }
+        Ok(())
     }
 }
 
 /// The steps of a script.
 pub(super) fn steps_of(alloc: Global, text: &str) -> anyhow::Result<Vec<Step>> {
     let mut script = Script {
+        alloc,
         steps: Vec::new(alloc),
         now: 0,
     };
-    for part in text.split(';') {
-        let words: Vec<&str> = part.split_whitespace().collect(alloc)?;
-        script.part(alloc, words.as_slice())?;
-    }
+    script.read(text)?;
     Ok(script.steps)
 }
