@@ -50,7 +50,7 @@ impl Scene {
         Ok(Scene {
             rows: Rows::new(alloc)?,
             core: Core::new(1, after_noon(0)),
-            peer: Tid::One([0]),
+            peer: Tid::of_number(0),
         })
     }
 

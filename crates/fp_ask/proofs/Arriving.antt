@@ -16,8 +16,7 @@ use Rattle.fp_entry.specs.declared.entry.Entry.{Entry}
 use Rattle.fp_entry.specs.declared.prepared.Prepared.{Prepared}
 use Rattle.fp_entry.specs.Prepared.{arrival_of}
 use Rattle.fp_q773.specs.declared.provider_abort.AbortCause.{AbortCause}
-use Rattle.fp_q773.specs.declared.tid.Tid.{Tid}
-use Rattle.fp_q773.specs.Tid.{octets_of}
+use Rattle.fp_q773.specs.Tid.{Tid, octets_of}
 use Rattle.fp_row.specs.declared.ending.Ending.{Ending}
 use Rattle.fp_row.specs.declared.ending.Ending.TheVariants.{ByPeer, Closed}
 use Rattle.fp_row.specs.declared.row.Row.{Row}
@@ -253,11 +252,11 @@ cut_few : (b : Bool) (xs : List Entry) → length xs ≤ 17 → length (cond b [
 cut_few true xs h = omega arith
 cut_few false xs h = h
 
-few_of : (s : Shelf) (d : ℕ) (ending : Ending) (came : Prepared) → CanEnd s d ending came → length (entries_in came) ≤ 17
-few_of s d ending came can = ⊎_elim (λ h. h.1) (λ h. omega (arith, h)) can.limit
+few_of : (s : Shelf) (d : ℕ) (came : Prepared) → CanEnd s d came → length (entries_in came) ≤ 17
+few_of s d came can = ⊎_elim (λ h. h.1) (λ h. omega (arith, h)) can.limit
 
-ends_arrives : (s new : Shelf) (d : ℕ) (ending : Ending) (came : Prepared) (answer : Posted) → Rest s → CanEnd s d ending came → (x : EndsDialogue s d ending came answer new) → Arrives s new d (waiting_of x.after)
-ends_arrives s new d ending came answer r can x =
+ends_arrives : (s new : Shelf) (d : ℕ) (came : Prepared) (answer : Posted) → Rest s → CanEnd s d came → (x : EndsDialogue s d came answer new) → Arrives s new d (waiting_of x.after)
+ends_arrives s new d came answer r can x =
     let q = quiet s r d x.before x.was in
     let rows : new.rows ≡ keep s.rows d x.after = ap (λ (x : Shelf). x.rows) x.new_is in
     let there = kept s.rows d (Some x.before) x.after x.was in
@@ -273,7 +272,7 @@ ends_arrives s new d ending came answer r can x =
       ready = not (is_ready x.before) && is_ready x.after;
       ready_is = ap (λ (x : Shelf). x.ready) x.new_is ∙ ap (λ q. q ++ joins d (not (is_ready x.before) && is_ready x.after)) r.served.ready;
       none_ready = λ e. none_joined x.before x.after q.unready out e;
-      few = subst (λ (xs : List Entry). length xs ≤ 17) (sym waits) (cut_few (is_closed x.after.ended) (entries_in came) (few_of s d ending came can));
+      few = subst (λ (xs : List Entry). length xs ≤ 17) (sym waits) (cut_few (is_closed x.after.ended) (entries_in came) (few_of s d came can));
       few_frames = ap (λ (x : Outbox). length x.frames) outbox;
       none_out = ap (λ (x : Outbox). x.out) outbox;
       link = ap (λ (x : Shelf). x.link) x.new_is;
@@ -285,19 +284,19 @@ gone_same : (old new : Rows) (d : ℕ) (dialogues : List Dialogue) → Same dial
 gone_same old new d dialogues same none others = λ k. by_number k d (λ k. found k (without d dialogues) ≡ live (fin.get new k))
     (found_without d dialogues ∙ sym none) (λ ne. found_others d k dialogues ne ∙ same k ∙ ap live (sym (others k ne)))
 
-ends_came : (s new : Shelf) (w : LinkState) (d : ℕ) (ending : Ending) (came : Prepared) (answer : Posted) → Rest s → Matches w s → CanEnd s d ending came → EndsDialogue s d ending came answer new
+ends_came : (s new : Shelf) (w : LinkState) (d : ℕ) (came : Prepared) (answer : Posted) → Rest s → Matches w s → CanEnd s d came → EndsDialogue s d came answer new
     → Came (ended w d (entries_in came)) new
-ends_came s new w d ending came answer r m can x =
+ends_came s new w d came answer r m can x =
     let rows : new.rows ≡ keep s.rows d x.after = ap (λ (x : Shelf). x.rows) x.new_is in
     let there = kept s.rows d (Some x.before) x.after x.was in
     let none : live (fin.get new.rows d) ≡ None =
-    ap live (ap (λ m. fin.get m d) rows ∙ there.there) ∙ ends_gone ending _ x.extended x.after x.ends in
+    ap live (ap (λ m. fin.get m d) rows ∙ there.there) ∙ ends_gone ByPeer _ x.extended x.after x.ends in
     let dialogues = without d w.dialogues in
     let same : Same dialogues new.rows = gone_same s.rows new.rows d w.dialogues m.same none (λ k ne. ap (λ m. fin.get m k) rows ∙ there.others k ne) in
     let outbox : new.outbox ≡ s.outbox = ap (λ (x : Shelf). x.outbox) x.new_is ∙ ap (without_frames_of d) r.outbox ∙ sym r.outbox in
     record {
       midway = subst (Midway new) (serve_none d (waiting_of x.after) dialogues (found_without d w.dialogues))
-          (midway_of s new d (waiting_of x.after) dialogues r (ends_arrives s new d ending came answer r can x) outbox same);
+          (midway_of s new d (waiting_of x.after) dialogues r (ends_arrives s new d came answer r can x) outbox same);
       births = m.births ∙ sym (ap (λ (x : Shelf). x.births) x.new_is);
       entries = ap (λ n. n + length (entries_in came)) m.entries ∙ sym (ap (λ (x : Shelf). x.entries) x.new_is);
       once = λ k. omega (arith, times_fewer d k w.dialogues, m.once k);
@@ -496,24 +495,24 @@ abbrev pub done : Verdict → LinkState → Prepared → Outcome
 done Discard w came = discarded w
 done (Refuse cause closes) w came = refused w cause closes (arrival_of came).ids.orig
 done (Open peer) w came = opened w peer (arrival_of came).moment (entries_in came)
-done (Extend local None) w came = continued w local (entries_in came)
-done (Extend local (Some ending)) w came = ended w local (entries_in came)
+done (Extend local false) w came = continued w local (entries_in came)
+done (Extend local true) w came = ended w local (entries_in came)
 
 -- it is ready to be served,
 pub follows_fit : (v : Verdict) (s new : Shelf) (came : Prepared) (answer : Posted) → Rest s → Sound new → Allowed s came v → Follows v s came answer new → Fit new
 follows_fit Discard s new came answer r sound can x = stays_fit s new r sound (discards_stays s new came answer r x)
 follows_fit (Refuse cause closes) s new came answer r sound can x = stays_fit s new r sound (refuses_stays s new cause closes came answer r x)
 follows_fit (Open peer) s new came answer r sound can x = arrived_fit s new _ (entries_in came) r sound (opens_arrives s new peer came answer r can x)
-follows_fit (Extend local None) s new came answer r sound can x = arrived_fit s new local (entries_in came) r sound (extends_arrives s new local came answer r can.few x)
-follows_fit (Extend local (Some ending)) s new came answer r sound can x = arrived_fit s new local (waiting_of x.after) r sound (ends_arrives s new local ending came answer r can x)
+follows_fit (Extend local false) s new came answer r sound can x = arrived_fit s new local (entries_in came) r sound (extends_arrives s new local came answer r can.few x)
+follows_fit (Extend local true) s new came answer r sound can x = arrived_fit s new local (waiting_of x.after) r sound (ends_arrives s new local came answer r can x)
 
 -- and is told by the list
 pub follows_came : (v : Verdict) (s new : Shelf) (w : LinkState) (came : Prepared) (answer : Posted) → Rest s → Matches w s → Allowed s came v → Follows v s came answer new → Came (done v w came) new
 follows_came Discard s new w came answer r m can x = discards_came s new w came answer r m x
 follows_came (Refuse cause closes) s new w came answer r m can x = refuses_came s new cause closes came answer r x w m
 follows_came (Open peer) s new w came answer r m can x = opens_came s new w peer came answer r m can x
-follows_came (Extend local None) s new w came answer r m can x = extends_came s new w local came answer r m can.few x
-follows_came (Extend local (Some ending)) s new w came answer r m can x = ends_came s new w local ending came answer r m can x
+follows_came (Extend local false) s new w came answer r m can x = extends_came s new w local came answer r m can.few x
+follows_came (Extend local true) s new w came answer r m can x = ends_came s new w local came answer r m can x
 
 -- all was served, and then all was sent
 pub finished : (came served new : Shelf) (p : Outcome) (frames : List (List ℕ)) → Came p came → KeepsEnd came served → SameCounts came served → IsServed served → KeepsDialogues served new

@@ -11,8 +11,7 @@ use Rattle.fp_book.specs.Parcel.{octets_of}
 use Rattle.fp_book.specs.Shelf.{Shelf, Sound, keep}
 use Rattle.fp_book.proofs.Sums.{kept, left_of}
 use Rattle.fp_q773.specs.Tid as tid
-use Rattle.fp_reply.specs.declared.provider_abort.AbortFrame.{AbortFrame}
-use Rattle.fp_reply.specs.ProviderAbort.{frame_octets}
+use Rattle.fp_reply.specs.ProviderAbort.{AbortFrame, frame_octets}
 use Rattle.fp_row.specs.declared.ending.Ending.{Ending}
 use Rattle.fp_row.specs.declared.row.Row.{Row}
 use Rattle.fp_row.specs.Calls.{SendsOne}

@@ -23,8 +23,7 @@ use Rattle.fp_q773.specs.declared.kind.Kind.{Kind}
 use Rattle.fp_q773.specs.declared.kind.Kind.TheVariants.{Unidirectional, Begin, End, Continue, Abort, Unknown}
 use Rattle.fp_q773.specs.declared.provider_abort.AbortCause.{AbortCause}
 use Rattle.fp_q773.specs.declared.provider_abort.AbortCause.TheVariants as cause
-use Rattle.fp_q773.specs.declared.tid.Tid.{Tid}
-use Rattle.fp_q773.specs.Tid.{octets_of}
+use Rattle.fp_q773.specs.Tid.{Tid, octets_of}
 use Rattle.fp_records.specs.Table.{Contents}
 use Rattle.fp_ask.specs.Laws.{LinesHaveOneText}
 use Rattle.fp_ask.specs.Line.{Input, line_in, message, wait}

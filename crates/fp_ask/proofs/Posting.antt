@@ -21,7 +21,7 @@ use Rattle.fp_q773.specs.declared.kind.Kind.{Kind}
 use Rattle.fp_q773.specs.declared.kind.Kind.TheVariants.{Unidirectional, Begin, End, Continue, Abort, Unknown}
 use Rattle.fp_q773.specs.declared.provider_abort.AbortCause.{AbortCause}
 use Rattle.fp_q773.specs.declared.provider_abort.AbortCause.TheVariants as cause
-use Rattle.fp_q773.specs.declared.tid.Tid.{Tid}
+use Rattle.fp_q773.specs.Tid.{Tid}
 use Rattle.fp_row.specs.declared.ending.Ending.TheVariants.{ByPeer}
 use Rattle.fp_ask.specs.Solo.{LinkState, begun, came as came_of, is_read, is_too_much, misread, no_dialogue_left, opened, post, refused, too_many, too_many_entries, is_full}
 use Rattle.fp_ask.specs.Tied.{Fit, IsOfFrame, Matches, Rest, is_lost, tells_lost}
@@ -69,11 +69,11 @@ module _ (s : Shelf) (w : LinkState) (r : Rest s) (m : Matches w s) (arrival : A
   message_is Unidirectional dialogue is = refl
   message_is Begin dialogue is = begun_is arrival.ids.orig refl
   message_is Continue None is = refl
-  message_is Continue (Some local) is = by_test _ _ (Refuse (Some cause.ResourceLimitation) (Some local)) (Extend local None) w (Message arrival incoming) (more_test local)
+  message_is Continue (Some local) is = by_test _ _ (Refuse (Some cause.ResourceLimitation) (Some local)) (Extend local false) w (Message arrival incoming) (more_test local)
   message_is End None is = refl
-  message_is End (Some local) is = by_test _ _ (Refuse (Some cause.ResourceLimitation) (Some local)) (Extend local (Some ByPeer)) w (Message arrival incoming) (more_test local)
+  message_is End (Some local) is = by_test _ _ (Refuse (Some cause.ResourceLimitation) (Some local)) (Extend local true) w (Message arrival incoming) (more_test local)
   message_is Abort None is = refl
-  message_is Abort (Some local) is = by_test false (nat_lt 1 (length incoming.entries)) (Refuse None (Some local)) (Extend local (Some ByPeer)) w (Message arrival incoming) (one_entry is)
+  message_is Abort (Some local) is = by_test false (nat_lt 1 (length incoming.entries)) (Refuse None (Some local)) (Extend local true) w (Message arrival incoming) (one_entry is)
   message_is Unknown dialogue is = refl
 
 misread_is : (w : LinkState) (arrival : Arrival) (came : Prepared) → arrival_of came ≡ arrival → (kind : Kind) (dialogue : Option ℕ) → misread w arrival.ids kind dialogue ≡ done (book.refused_of kind dialogue) w came
@@ -118,8 +118,8 @@ log_is (Refuse cause closes) s new came answer x =
     ap (λ (x : Shelf). x.log) x.new_is ∙ ap (λ l. logged l (posted_line came answer))
     (answered_log x.closed x.answered closes (abort_for (length s.outbox.aborts) cause (arrival_of came).ids.orig) answer x.answering ∙ closed_log s x.closed closes x.closing)
 log_is (Open peer) s new came answer x = ap (λ (x : Shelf). x.log) x.new_is
-log_is (Extend local None) s new came answer x = ap (λ (x : Shelf). x.log) x.new_is
-log_is (Extend local (Some ending)) s new came answer x = ap (λ (x : Shelf). x.log) x.new_is
+log_is (Extend local false) s new came answer x = ap (λ (x : Shelf). x.log) x.new_is
+log_is (Extend local true) s new came answer x = ap (λ (x : Shelf). x.log) x.new_is
 
 first_told : (v : Verdict) (s new : Shelf) (came : Prepared) (answer : Posted) → s.log ≡ [] → Follows v s came answer new → is_lost new.log ≡ tells_lost (posted_line came answer)
 first_told v s new came answer none x = ap is_lost (log_is v s new came answer x ∙ ap (λ l. logged l (posted_line came answer)) none)

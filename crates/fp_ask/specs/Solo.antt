@@ -17,9 +17,8 @@ use Rattle.fp_q773.specs.declared.kind.Kind.{Kind}
 use Rattle.fp_q773.specs.declared.kind.Kind.TheVariants.{Unidirectional, Begin, End, Continue, Abort, Unknown}
 use Rattle.fp_q773.specs.declared.provider_abort.AbortCause.{AbortCause}
 use Rattle.fp_q773.specs.declared.provider_abort.AbortCause.TheVariants as cause
-use Rattle.fp_q773.specs.declared.tid.Tid.{Tid}
+use Rattle.fp_q773.specs.Tid.{Tid, octets_of}
 use Rattle.fp_q773.specs.ProviderAbort.{cause_code, provider_abort}
-use Rattle.fp_q773.specs.Tid.{octets_of}
 use Rattle.fp_reply.specs.Reply.{frame_of}
 use Rattle.fp_service.specs.declared.dialogue.Core.{Core}
 use Rattle.fp_service.specs.declared.request.Request.{Request}

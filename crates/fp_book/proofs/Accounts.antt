@@ -1,33 +1,29 @@
--- That a log tells or counts each step.
-use Rattle.std.proofs.Common.{◌≡◌, ℕ, ◌+◌, ◌-◌, ◌<◌, Bool, true, false, List, [], ◌∷◌, ◌++◌, length, take, Option, Some, None, unwrap_or, if◌then◌else◌, refl, sym, ap, ◌∙◌, append-nil, arith}
+-- That a log tells or counts each step, and what a drain has done after each step that it moved.
+use Rattle.std.proofs.Common.{◌≡◌, ℕ, ◌+◌, ◌-◌, ◌<◌, Bool, true, false, List, [], ◌∷◌, ◌++◌, length, take, Option, Some, None, unwrap_or, if◌then◌else◌, refl, sym, ap, ◌∙◌, append-nil, arith, drop, map, min, get_or, append_assoc}
 use Rattle.std.specs.List.{slice_get}
 use Rattle.std.specs.Option.{option_and_then}
-use Rattle.std.proofs.lemmas.List.{take_more, take_all}
+use Rattle.std.proofs.lemmas.List.{take_more, take_all, drop-drop, get_or-drop, map_more, take_min, drop_min}
 use Rattle.std.proofs.lemmas.List.Elements.{filter-append}
 use Rattle.std.proofs.lemmas.Option.{slice_get_within, get_or_from_slice_get}
 use Rattle.fp_book.specs.declared.line.LoggedStep.{LoggedStep}
 use Rattle.fp_book.specs.declared.line.LoggedStep.TheVariants as steps
-use Rattle.fp_book.specs.Log.{gap_at_end, lose_behind, lost_in, one_more}
+use Rattle.fp_book.specs.Log.{gap_at_end, lose_behind, lost_in, one_more, Drains}
 use Rattle.fp_book.specs.Laws.{accounted, is_told, told}
+use Rattle.fp_book.specs.declared.line.Line.{Line}
+use Rattle.fp_book.specs.declared.line.Line.TheVariants.{Step}
 
 -- two lists account for what each does
 accounted_append : (a b : List LoggedStep) → accounted (a ++ b) ≡ accounted a + accounted b
 accounted_append [] b = omega arith
 accounted_append (step ∷ a) b = omega (arith, accounted_append a b)
 
--- the last step, and those before it
-record IsLast (list : List LoggedStep) (step : LoggedStep) : Type 0 where
-  split : list ≡ take (length list - 1) list ++ step ∷ []
-
--- what stands in the last place
-is_last : (list : List LoggedStep) (step : LoggedStep) → slice_get list (length list - 1) ≡ Some step → IsLast list step
+-- what stands in the last place, behind the others
+is_last : (list : List LoggedStep) (step : LoggedStep) → slice_get list (length list - 1) ≡ Some step → list ≡ take (length list - 1) list ++ step ∷ []
 is_last list step is =
     let within : length list - 1 < length list = slice_get_within list (length list - 1) step is in
-    record {
-      split = sym (take_all (length list - 1 + 1) list (omega arith))
-          ∙ take_more list (length list - 1) step within
-          ∙ ap (λ s. take (length list - 1) list ++ s ∷ []) (get_or_from_slice_get list (length list - 1) step step is);
-    }
+    sym (take_all (length list - 1 + 1) list (omega arith))
+    ∙ take_more list (length list - 1) step within
+    ∙ ap (λ s. take (length list - 1) list ++ s ∷ []) (get_or_from_slice_get list (length list - 1) step step is)
 
 -- a gap of so many stands last, behind what else there is
 record EndsInGap (list : List LoggedStep) (lost : ℕ) : Type 0 where
@@ -38,7 +34,7 @@ record EndsInGap (list : List LoggedStep) (lost : ℕ) : Type 0 where
 -- where the last place has a gap, it is that one
 ends_in_gap : (list : List LoggedStep) (lost : ℕ) (at : Option LoggedStep) → slice_get list (length list - 1) ≡ at → option_and_then lost_in at ≡ Some lost → EndsInGap list lost
 ends_in_gap list lost None is counts = absurd (let clash : None ≡ Some lost = counts in cc)
-ends_in_gap list lost (Some step) is counts = record { last = step; split = (is_last list step is).split; counts = counts }
+ends_in_gap list lost (Some step) is counts = record { last = step; split = is_last list step is; counts = counts }
 
 -- one lost step is accounted for
 lost_accounted : (list : List LoggedStep) (gap : Option ℕ) → gap_at_end list ≡ gap → accounted list < 18446744073709551615 → accounted (lose_behind list gap) ≡ accounted list + 1
@@ -75,3 +71,21 @@ pub step_told : (list : List LoggedStep) (step : LoggedStep) → lost_in step �
     → told (if room then list ++ step ∷ [] else lose_behind list (gap_at_end list)) ≡ told list ++ (if room then step ∷ [] else [])
 step_told list step none true = filter-append is_told list (step ∷ []) ∙ ap (λ l. told list ++ l) (rw none refl)
 step_told list step none false = lost_told list (gap_at_end list) refl
+
+-- the oldest of the steps that were left is moved
+pub one_moved : (link : ℕ) (old : List LoggedStep) (lines : List Line) (i : ℕ) (rest : List LoggedStep) (more : List Line) (step : LoggedStep) → i < length old → Drains link old lines i rest more → step ≡ get_or rest 0 step → Drains link old lines (i + 1) (drop 1 rest) (more ++ Step link step ∷ [])
+one_moved link old lines i rest more step within so_far first =
+    let here : step ≡ get_or old i step = first ∙ ap (λ l. get_or l 0 step) so_far.left ∙ get_or-drop i old 0 step ∙ ap (λ k. get_or old k step) (omega arith) in
+    record {
+      moved = ap (λ l. l ++ Step link step ∷ []) so_far.moved
+          ∙ append_assoc lines (map (Step link) (take i old)) (Step link step ∷ [])
+          ∙ ap (λ l. lines ++ l) (ap (λ s. map (Step link) (take i old) ++ Step link s ∷ []) here ∙ sym (map_more (Step link) old i step within));
+      left = ap (drop 1) so_far.left ∙ drop-drop 1 i old;
+    }
+
+-- as many were moved as there is room for, or all
+pub all_moved : (link : ℕ) (old : List LoggedStep) (lines : List Line) (room count : ℕ) (rest : List LoggedStep) (more : List Line) → count ≡ min room (length old) → Drains link old lines count rest more → Drains link old lines room rest more
+all_moved link old lines room count rest more is so_far = record {
+  moved = so_far.moved ∙ ap (λ l. lines ++ map (Step link) l) (ap (λ k. take k old) is ∙ take_min room old);
+  left = so_far.left ∙ ap (λ k. drop k old) is ∙ drop_min room old;
+}

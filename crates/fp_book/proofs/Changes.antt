@@ -1,13 +1,15 @@
 -- One dialogue of a link changes, comes or goes: what its book keeps then.
-use Rattle.std.proofs.Common.{◌≡◌, ℕ, ◌<◌, ◌≤◌, ◌+◌, ◌^◌, Bool, true, false, cond, eqb, not, ◌||◌, nat_lt, Option, Some, None, List, [], ◌∷◌, ◌++◌, length, take, count_by, refl, sym, ◌∙◌, ap, subst, arith, length-append, ⊎_elim}
+use Rattle.std.proofs.Common.{◌≡◌, ℕ, ◌<◌, ◌≤◌, ◌+◌, ◌^◌, Bool, true, false, cond, eqb, not, ◌||◌, nat_lt, Option, Some, None, List, [], ◌∷◌, ◌++◌, length, take, is_some, count_by, refl, sym, ◌∙◌, ap, subst, arith, length-append, add-zero, le_refl, ⊎_elim}
 use Rattle.std.proofs.lemmas.Bool.{cases_Bool, cond_both, eqb-true, or_parts, and_right, ltb-false}
 use Rattle.std.specs.FinMap as map
 use Rattle.fp_book.proofs.Sums.{OneChanges, amount, kept, left_of, len-sum}
 use Rattle.fp_book.specs.declared.totals.Totals.{Totals}
-use Rattle.fp_book.specs.Outbox.{frames_held}
+use Rattle.fp_book.specs.Outbox.{Outbox, frames_held}
 use Rattle.fp_book.specs.Shelf.{IsOwn, Shelf, Sound, frames_for, gone_with, keep, of_row, one_if, places_held, ready_count, turns_of, unsent_for}
 use Rattle.fp_book.specs.Totals.{accepted_by, sent_by, served_by, sum_of, with_row}
+use Rattle.fp_row.specs.declared.ending.Ending.TheVariants.{Closed}
 use Rattle.fp_row.specs.declared.row.Row.{Row}
+use Rattle.fp_row.specs.Calls.{IsSame}
 use Rattle.fp_row.specs.Row.{frames_of, is_admitted, is_held, is_ready, kept_of, sent_of, waits}
 use Rattle.fp_tids.specs.Identifiers.{identifier}
 
@@ -28,34 +30,59 @@ entries_of row = length row.accepted
 abbrev pub one : Row → ℕ
 one row = 1
 
--- one dialogue changes; `before` is what there was, and `after` what it is then, whether or not something of it is left
-pub record Change (old new : Shelf) (local : ℕ) (before : Option Row) (after : Row) : Type 0 where
-  pub was : map.get old.rows local ≡ before
-  pub rows : new.rows ≡ keep old.rows local after
-  pub gone : new.gone ≡ gone_with old.gone after
-  pub link : new.link ≡ old.link
-  pub given : old.given ≤ new.given
-  pub serials : new.given < 2 ^ 29
-  pub births : new.births ≡ new.given
-  pub down : new.is_down ≡ old.is_down
-  pub entries : new.entries + sum_of admitted old.rows + admitted after ≤ 2 ^ 63 + 8192 + amount admitted before
-  pub room : map.len old.rows < 4096 + amount one before
-  pub own : is_held after ≡ true → IsOwn new local after
-  pub other_dropped : (d : ℕ) → eqb d local ≡ false → frames_for d old.outbox.frames ≡ [] → frames_for d new.outbox.frames ≡ []
-  pub own_frames : sent_of after ++ unsent_for local new.outbox ≡ kept_of after
-  pub other_frames : (d : ℕ) → eqb d local ≡ false → unsent_for d new.outbox ≡ unsent_for d old.outbox
-  pub own_ready : count local new.ready ≡ ready after
-  pub other_ready : (d : ℕ) → eqb d local ≡ false → count d new.ready ≡ count d old.ready
-  pub ready_length : length new.ready + amount ready before ≡ length old.ready + ready after
-  pub places : frames_held new.outbox + turns_of after + places_held old ≤ frames_held old.outbox + amount turns_of before + 8192
-  pub aborts : length new.outbox.aborts ≤ 64
-  pub quiet : new.is_down ≡ true → (new.outbox.aborts ≡ []) × (new.outbox.frames ≡ [])
+-- the order of service, where a dialogue that stood there so often stands there so often then
+pub record QueueChanges (old new : List ℕ) (local was is : ℕ) : Type 0 where
+  pub own : count local new ≡ is
+  pub others : (d : ℕ) → eqb d local ≡ false → count d new ≡ count d old
+  pub length_is : length new + was ≡ length old + is
+
+-- what is to be sent, where one dialogue changes
+pub record OutboxChanges (s : Shelf) (outbox : Outbox) (local : ℕ) (before : Option Row) (after : Row) : Type 0 where
+  pub other_dropped : (d : ℕ) → eqb d local ≡ false → frames_for d s.outbox.frames ≡ [] → frames_for d outbox.frames ≡ []
+  pub own_frames : sent_of after ++ unsent_for local outbox ≡ kept_of after
+  pub other_frames : (d : ℕ) → eqb d local ≡ false → unsent_for d outbox ≡ unsent_for d s.outbox
+  pub places : frames_held outbox + turns_of after + places_held s ≤ frames_held s.outbox + amount turns_of before + 8192
+  pub aborts : length outbox.aborts ≤ 64
+  pub quiet : s.is_down ≡ true → (outbox.aborts ≡ []) × (outbox.frames ≡ [])
+
+-- what is counted, where one dialogue changes
+pub record CountsChange (old new : Shelf) (before : Option Row) (after : Row) : Type 0 where
   pub accepted : new.totals.accepted + amount accepted_by before ≡ old.totals.accepted + accepted_by after
   pub served : new.totals.served + amount served_by before ≡ old.totals.served + served_by after
   pub sent : new.totals.sent + amount sent_by before ≡ old.totals.sent + sent_by after
   pub all_entries : entries_of after + old.entries ≤ new.entries + amount entries_of before
   pub few_accepted : new.totals.accepted ≤ new.entries
   pub few_sent : after.sent ≤ after.served
+
+-- the link is the same; more identifiers may have been given
+pub record LinkStays (old new : Shelf) : Type 0 where
+  pub link : new.link ≡ old.link
+  pub given : old.given ≤ new.given
+  pub serials : new.given < 2 ^ 29
+  pub births : new.births ≡ new.given
+  pub down : new.is_down ≡ old.is_down
+
+pub link_stays : (old new : Shelf) → Sound old → new.link ≡ old.link → new.given ≡ old.given → new.births ≡ old.births → new.is_down ≡ old.is_down → LinkStays old new
+link_stays old new s link given births down = record {
+  link = link;
+  given = omega (arith, given);
+  serials = omega (arith, given, s.serials);
+  births = births ∙ s.births ∙ sym given;
+  down = down;
+}
+
+-- one dialogue changes; `before` is what there was, and `after` what it is then, whether or not something of it is left
+pub record Change (old new : Shelf) (local : ℕ) (before : Option Row) (after : Row) : Type 0 where
+  pub was : map.get old.rows local ≡ before
+  pub rows : new.rows ≡ keep old.rows local after
+  pub gone : new.gone ≡ gone_with old.gone after
+  pub link : LinkStays old new
+  pub entries : new.entries + sum_of admitted old.rows + admitted after ≤ 2 ^ 63 + 8192 + amount admitted before
+  pub room : map.len old.rows < 4096 + amount one before
+  pub own : is_held after ≡ true → IsOwn new local after
+  pub queue : QueueChanges old.ready new.ready local (amount ready before) (ready after)
+  pub outbox : OutboxChanges old new.outbox local before after
+  pub counts : CountsChange old new before after
 
 -- an identifier is this one, or another
 pub by_local : (d local : ℕ) (P : ℕ → Type 0) → P local → (eqb d local ≡ false → P d) → P d
@@ -116,56 +143,53 @@ pub one_by : (b : Bool) → cond {A = ℕ} b 1 0 ≡ one_if b
 one_by true = refl
 one_by false = refl
 
+pub one_if_most : (b : Bool) → one_if b ≤ 1
+one_if_most true = omega arith
+one_if_most false = omega arith
+
+pub one_most : (b : Bool) → cond {A = ℕ} b 1 0 ≤ 1
+one_most b = omega (arith, one_by b, one_if_most b)
+
 -- a dialogue stands in the queue once, if it is ready
 pub count_is : (o : Option Row) → ready_count o ≡ amount ready o
 count_is None = refl
 count_is (Some row) = one_by (is_ready row)
 
 -- what was counted of a dialogue is still counted
-pub record GoneWith (gone gone_then : Totals) (row : Row) : Type 0 where
-  pub accepted : gone_then.accepted + amount accepted_by (left_of row) ≡ gone.accepted + accepted_by row
-  pub served : gone_then.served + amount served_by (left_of row) ≡ gone.served + served_by row
-  pub sent : gone_then.sent + amount sent_by (left_of row) ≡ gone.sent + sent_by row
-  pub all_entries : gone_then.served + amount entries_of (left_of row) ≤ gone.served + entries_of row
+pub record GoneWith (gone gone_then : Totals) (row : Row) (left : Option Row) : Type 0 where
+  pub accepted : gone_then.accepted + amount accepted_by left ≡ gone.accepted + accepted_by row
+  pub served : gone_then.served + amount served_by left ≡ gone.served + served_by row
+  pub sent : gone_then.sent + amount sent_by left ≡ gone.sent + sent_by row
+  pub all_entries : gone_then.served + amount entries_of left ≤ gone.served + entries_of row
   pub few_sent : gone.sent ≤ gone.served → gone_then.sent ≤ gone_then.served
 
-gone_by : (gone : Totals) (row : Row) → row.sent ≤ row.served → (b : Bool) → is_held row ≡ b → GoneWith gone (cond b gone (with_row gone row)) row
-gone_by gone row few true held =
-    let here : left_of row ≡ Some row = ap (λ b. cond b (Some row) None) held in
-    let amounts : (f : Row → ℕ) → amount f (left_of row) ≡ f row = λ f. ap (amount f) here in
-    record {
-      accepted = omega (arith, amounts accepted_by);
-      served = omega (arith, amounts served_by);
-      sent = omega (arith, amounts sent_by);
-      all_entries = omega (arith, amounts entries_of);
-      few_sent = λ le. le;
-    }
-gone_by gone row few false held =
-    let none : left_of row ≡ None = ap (λ b. cond b (Some row) None) held in
-    let amounts : (f : Row → ℕ) → amount f (left_of row) ≡ 0 = λ f. ap (amount f) none in
-    let within : row.served ≤ length row.accepted = row.served_within in
-    record {
-      accepted = omega (arith, amounts accepted_by);
-      served = omega (arith, amounts served_by);
-      sent = omega (arith, amounts sent_by);
-      all_entries = omega (arith, amounts entries_of);
-      few_sent = λ le. omega (arith, le, few);
-    }
+gone_by : (gone : Totals) (row : Row) → row.sent ≤ row.served → (b : Bool) → GoneWith gone (cond b gone (with_row gone row)) row (cond b (Some row) None)
+gone_by gone row few true = record { accepted = refl; served = refl; sent = refl; all_entries = le_refl _; few_sent = λ le. le }
+gone_by gone row few false = record {
+  accepted = add-zero _;
+  served = add-zero _;
+  sent = add-zero _;
+  all_entries = let within : row.served ≤ length row.accepted = row.served_within in omega (arith, within);
+  few_sent = λ le. omega (arith, le, few);
+}
 
-gone_is : (gone : Totals) (row : Row) → row.sent ≤ row.served → GoneWith gone (gone_with gone row) row
-gone_is gone row few = gone_by gone row few (is_held row) refl
+-- what of a dialogue stays where it changes
+pub own_after : (old new : Shelf) (d : ℕ) (before after : Row) → IsOwn old d before → IsSame before after → new.link ≡ old.link → old.given ≤ new.given → old.births ≤ new.births
+    → (is_some after.ended ≡ true → frames_for d new.outbox.frames ≡ []) → (new.is_down ≡ true → after.ended ≡ Some Closed) → is_held after ≡ true → IsOwn new d after
+own_after old new d before after own same link given births dropped closed held = record {
+  local_is = same.local ∙ own.local_is;
+  is_left = held;
+  born = (let more : 0 < before.birth = own.born.0 in omega (arith, same.birth), let most : before.birth ≤ old.births = own.born.1 in omega (arith, same.birth));
+  serial = (own.serial.0, own.serial.1, (let most : own.serial.0 ≤ old.given = own.serial.2 in omega arith), own.serial.3 ∙ ap (λ l. identifier l own.serial.0) (sym link));
+  dropped = dropped;
+  closed = closed;
+}
 
 -- what holds of a dialogue still holds of it
 pub stays_own : (old new : Shelf) (d : ℕ) (row : Row) → new.link ≡ old.link → old.given ≤ new.given → old.births ≤ new.births → new.is_down ≡ old.is_down
     → (frames_for d old.outbox.frames ≡ [] → frames_for d new.outbox.frames ≡ []) → IsOwn old d row → IsOwn new d row
-stays_own old new d row link given births down dropped own = record {
-  local_is = own.local_is;
-  is_left = own.is_left;
-  born = (own.born.0, let most : row.birth ≤ old.births = own.born.1 in omega arith);
-  serial = (own.serial.0, own.serial.1, (let most : own.serial.0 ≤ old.given = own.serial.2 in omega arith), own.serial.3 ∙ ap (λ l. identifier l own.serial.0) (sym link));
-  dropped = λ e. dropped (own.dropped e);
-  closed = λ e. own.closed (sym down ∙ e);
-}
+stays_own old new d row link given births down dropped own =
+    own_after old new d row row own (record { local = refl; peer = refl; birth = refl; opened = refl }) link given births (λ e. dropped (own.dropped e)) (λ e. own.closed (sym down ∙ e)) own.is_left
 
 pub left_by : (b : Bool) (after row : Row) → cond b (Some after) None ≡ Some row → (b ≡ true) × (after ≡ row)
 left_by true after row e = (refl, cc)
@@ -179,37 +203,37 @@ own_left s local after row own e =
 pub Sound-change : (old new : Shelf) (local : ℕ) (before : Option Row) (after : Row) → Sound old → Change old new local before after → Sound new
 Sound-change old new local before after s g =
     let rows : OneChanges old.rows new.rows local before (left_of after) = subst (λ r. OneChanges old.rows r local before (left_of after)) (sym g.rows) (kept old.rows local before after g.was) in
-    let gone : GoneWith old.gone new.gone after = subst (λ t. GoneWith old.gone t after) (sym g.gone) (gone_is old.gone after g.few_sent) in
+    let gone : GoneWith old.gone new.gone after (left_of after) = subst (λ t. GoneWith old.gone t after (left_of after)) (sym g.gone) (gone_by old.gone after g.counts.few_sent (is_held after)) in
     record {
-      links = omega (arith, g.link, s.links);
-      serials = g.serials;
-      births = g.births;
+      links = omega (arith, g.link.link, s.links);
+      serials = g.link.serials;
+      births = g.link.births;
       entries = omega (arith, g.entries, rows.sums admitted, admitted_left after);
       own = λ d row.
           by_local d local (λ d. map.get new.rows d ≡ Some row → IsOwn new d row)
           (λ e. own_left new local after row g.own (sym rows.there ∙ e))
           (λ ne e.
-          stays_own old new d row g.link g.given (omega (arith, g.births, g.given, s.births)) g.down (g.other_dropped d ne)
+          stays_own old new d row g.link.link g.link.given (omega (arith, g.link.births, g.link.given, s.births)) g.link.down (g.outbox.other_dropped d ne)
           (s.own d row (sym (rows.others d ne) ∙ e)));
       held = omega (arith, rows.sums one, one_left after, g.room, len-sum new.rows, len-sum old.rows);
       frames = λ d.
           by_local d local (λ d. of_row sent_of (map.get new.rows d) ++ unsent_for d new.outbox ≡ of_row kept_of (map.get new.rows d))
-          (subst (λ o. of_row sent_of o ++ unsent_for local new.outbox ≡ of_row kept_of o) (sym rows.there) (frames_left after (unsent_for local new.outbox) g.own_frames))
+          (subst (λ o. of_row sent_of o ++ unsent_for local new.outbox ≡ of_row kept_of o) (sym rows.there) (frames_left after (unsent_for local new.outbox) g.outbox.own_frames))
           (λ ne.
           subst (λ o. of_row sent_of o ++ unsent_for d new.outbox ≡ of_row kept_of o) (sym (rows.others d ne))
-          (ap (λ r. of_row sent_of (map.get old.rows d) ++ r) (g.other_frames d ne) ∙ s.frames d));
+          (ap (λ r. of_row sent_of (map.get old.rows d) ++ r) (g.outbox.other_frames d ne) ∙ s.frames d));
       ready = λ d.
           by_local d local (λ d. count d new.ready ≡ ready_count (map.get new.rows d))
-          (g.own_ready ∙ sym (ready_left after) ∙ sym (count_is (left_of after)) ∙ ap ready_count (sym rows.there))
-          (λ ne. g.other_ready d ne ∙ s.ready d ∙ ap ready_count (sym (rows.others d ne)));
-      ready_length = omega (arith, g.ready_length, s.ready_length, rows.sums ready, ready_left after);
-      places = omega (arith, g.places, s.places, rows.sums turns_of, turns_left after);
-      aborts = g.aborts;
-      quiet = g.quiet;
-      accepted = omega (arith, g.accepted, s.accepted, rows.sums accepted_by, gone.accepted);
-      served = omega (arith, g.served, s.served, rows.sums served_by, gone.served);
-      sent = omega (arith, g.sent, s.sent, rows.sums sent_by, gone.sent);
-      all_entries = omega (arith, g.all_entries, s.all_entries, rows.sums entries_of, gone.all_entries);
-      few_accepted = g.few_accepted;
+          (g.queue.own ∙ sym (ready_left after) ∙ sym (count_is (left_of after)) ∙ ap ready_count (sym rows.there))
+          (λ ne. g.queue.others d ne ∙ s.ready d ∙ ap ready_count (sym (rows.others d ne)));
+      ready_length = omega (arith, g.queue.length_is, s.ready_length, rows.sums ready, ready_left after);
+      places = omega (arith, g.outbox.places, s.places, rows.sums turns_of, turns_left after);
+      aborts = g.outbox.aborts;
+      quiet = λ e. g.outbox.quiet (sym g.link.down ∙ e);
+      accepted = omega (arith, g.counts.accepted, s.accepted, rows.sums accepted_by, gone.accepted);
+      served = omega (arith, g.counts.served, s.served, rows.sums served_by, gone.served);
+      sent = omega (arith, g.counts.sent, s.sent, rows.sums sent_by, gone.sent);
+      all_entries = omega (arith, g.counts.all_entries, s.all_entries, rows.sums entries_of, gone.all_entries);
+      few_accepted = g.counts.few_accepted;
       gone_sent = gone.few_sent s.gone_sent;
     }

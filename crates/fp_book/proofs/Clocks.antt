@@ -1,12 +1,12 @@
 -- To give dialogues a Clock keeps what a book keeps.
-use Rattle.std.proofs.Common.{◌≡◌, ℕ, suc, ◌<◌, ◌≤◌, ◌+◌, ◌^◌, Bool, true, false, cond, eqb, not, ◌&&◌, ◌||◌, ⊎_elim, nat_eq, nat_lt, Option, Some, None, List, [], ◌∷◌, ◌++◌, length, map, filter, All, AllPairs, is_some, slice_index_or, refl, sym, ◌∙◌, ap, subst, arith, length-append, append_assoc, append-nil, add-zero}
+use Rattle.std.proofs.Common.{◌≡◌, ℕ, suc, ◌<◌, ◌≤◌, ◌+◌, ◌^◌, Bool, true, false, cond, eqb, not, ◌&&◌, ◌||◌, ⊎_elim, nat_eq, nat_lt, Option, Some, None, List, [], ◌∷◌, ◌++◌, length, All, AllPairs, is_some, slice_index_or, refl, sym, ◌∙◌, ap, subst, arith, length-append, append_assoc, append-nil, add-zero}
 use Rattle.std.specs.Prelude.{⊤}
-use Rattle.std.specs.List.{AllByRecursion, list_any}
+use Rattle.std.specs.List.{AllByRecursion}
 use Rattle.std.specs.FinMap.{get, insert, len}
 use Rattle.std.proofs.lemmas.Bool.{and_from, and_parts, eq-eqb, eqb-true, false_from_ne_true, false≢true, leb-false, lt-ltb, not-true}
 use Rattle.std.proofs.lemmas.List.Elements.{recursion_from_All}
-use Rattle.fp_book.proofs.Changes.{admitted, one}
-use Rattle.fp_book.proofs.Extends.{Sound-extended, few_admitted}
+use Rattle.fp_book.proofs.Changes.{admitted, one, one_most}
+use Rattle.fp_book.proofs.Extends.{Sound-extended, few_admitted, joined}
 use Rattle.fp_book.proofs.Posts.{Sound-logs}
 use Rattle.fp_book.proofs.Queue.{eqb_swap}
 use Rattle.fp_book.proofs.Sums.{Rows, amount, get-inserted, len-sum, same_rows, sum-insert, sum-le}
@@ -15,6 +15,7 @@ use Rattle.fp_book.specs.declared.line.LoggedStep.{LoggedStep}
 use Rattle.fp_book.specs.declared.line.LoggedStep.TheVariants as line
 use Rattle.fp_book.specs.declared.totals.Totals.{Totals}
 use Rattle.fp_book.specs.Calls.{ClocksAt, ComesFirst, Due, IsDue, Ticks, due_at, is_idle, joins, more_accepted}
+use Rattle.fp_book.specs.Clocking.{idle_among, is_among}
 use Rattle.fp_book.specs.Log.{logged}
 use Rattle.fp_book.specs.Shelf.{Shelf, Sound, one_if}
 use Rattle.fp_book.specs.Totals.{sum_of}
@@ -30,7 +31,7 @@ use Rattle.fp_service.specs.Dialogue.{is_over, next_due}
 use Rattle.fp_service.specs.Laws.{AsksOnceAtMost}
 
 -- the Clock of a moment
-abbrev clock : ℕ → List Entry
+abbrev pub clock : ℕ → List Entry
 clock moment = entry_at moment Clock ∷ []
 
 -- each of these dialogues stands there once
@@ -48,11 +49,9 @@ some_by : (b : Bool) (n m : ℕ) → cond b (Some n) None ≡ Some m → b ≡ t
 some_by true n m e = refl
 some_by false n m e = absurd (cc)
 
-can_clock : (s : Shelf) (moment : ℕ) (d : Due) → IsDue s moment d → CanClock s d
-can_clock s moment d g =
-    let both : (is_admitted g.row ≡ true) × (not (has_clock g.row) ≡ true) =
-    and_parts (is_admitted g.row) (not (has_clock g.row)) (some_by (is_admitted g.row && not (has_clock g.row)) (next_due g.row.core) d.0 g.deadline) in
-    record { row = g.row; was = g.was; takes_more = both.0 }
+-- a dialogue that has a deadline takes messages
+pub has_deadline : (row : Row) (deadline : ℕ) → deadline_of row ≡ Some deadline → is_admitted row ≡ true
+has_deadline row deadline is = (and_parts (is_admitted row) (not (has_clock row)) (some_by (is_admitted row && not (has_clock row)) (next_due row.core) deadline is)).0
 
 -- of two that are due one comes first, so they are two
 two_apart : (s : Shelf) (moment : ℕ) (d e : Due) → ComesFirst d e → IsDue s moment d → IsDue s moment e → eqb d.1 e.1 ≡ false
@@ -72,7 +71,7 @@ apart s moment (d ∷ due) order are = (
 )
 
 can_all : (s : Shelf) (moment : ℕ) (due : List Due) → All (IsDue s moment) due → AllByRecursion (CanClock s) due
-can_all s moment due are = recursion_from_All (CanClock s) due (λ k x within. can_clock s moment (slice_index_or due k x) (are k x within))
+can_all s moment due are = recursion_from_All (CanClock s) due (λ k x within. let g : IsDue s moment (slice_index_or due k x) = are k x within in record { row = g.row; was = g.was; takes_more = has_deadline g.row _ g.deadline })
 
 -- a dialogue that takes messages is ready once a Clock waits, unless its turn is out
 not_some : (ended : Option Ending) → not (is_some ended) ≡ true → not (is_closed ended) ≡ true
@@ -83,42 +82,32 @@ waits_then : (moment : ℕ) (before after : Row) → Extends before (clock momen
 waits_then moment before after g e =
     let both : (not (is_some before.ended) ≡ true) × (not (is_over before.core) ≡ true) = and_parts (not (is_some before.ended)) (not (is_over before.core)) e in
     let within : before.served ≤ length before.accepted = before.served_within in
-    let longer : length after.accepted ≡ length before.accepted + 1 = ap length g.accepted ∙ length-append before.accepted (clock moment) in
-    and_from (not (is_closed after.ended)) (not (is_over after.core) && nat_lt after.served (length after.accepted))
-    (not_some after.ended (ap (λ x. not (is_some x)) g.ended ∙ both.0))
-    (and_from (not (is_over after.core)) (nat_lt after.served (length after.accepted))
-    (ap (λ c. not (is_over c)) g.stay.core ∙ both.1) (lt-ltb after.served (length after.accepted) (omega (arith, g.stay.served))))
+    let then : before.served < length after.accepted = omega (arith, within, ap length g.accepted, length-append before.accepted (clock moment)) in
+    rw (g.ended, g.stay.core, g.stay.served) (and_from (not (is_closed before.ended)) (not (is_over before.core) && nat_lt before.served (length after.accepted)) (not_some before.ended both.0)
+    (and_from (not (is_over before.core)) (nat_lt before.served (length after.accepted)) both.1 (lt-ltb before.served (length after.accepted) then)))
 
-joins_by : (out wait : Bool) → one_if (not out && wait) + one_if (not out && not (not out && wait)) ≡ one_if (not out && true)
-joins_by true wait = refl
+joins_by : (out wait : Bool) → (not (not out && wait) && (not out && true)) ≡ (not out && not (not out && wait))
+joins_by true true = refl
+joins_by true false = refl
 joins_by false true = refl
 joins_by false false = refl
 
-joins_then : (moment : ℕ) (before after : Row) → Extends before (clock moment) after → is_admitted before ≡ true → one_if (is_ready before) + one_if (is_idle (Some before)) ≡ one_if (is_ready after)
-joins_then moment before after g e =
-    joins_by before.is_out (waits before)
-    ∙ sym (ap (λ b. one_if (not b && waits after)) g.is_out ∙ ap (λ b. one_if (not before.is_out && b)) (waits_then moment before after g e))
+pub joins_is : (moment : ℕ) (before after : Row) → Extends before (clock moment) after → is_admitted before ≡ true → (not (is_ready before) && is_ready after) ≡ is_idle (Some before)
+joins_is moment before after g e =
+    ap (λ b. not (is_ready before) && (not b && waits after)) g.is_out
+    ∙ ap (λ b. not (is_ready before) && (not before.is_out && b)) (waits_then moment before after g e)
+    ∙ joins_by before.is_out (waits before)
 
 -- the dialogue got a Clock
-record Clocked (moment : ℕ) (before : Row) (left : Option Row) : Type 0 where
-  after : Row
-  there : left ≡ Some after
-  extends : Extends before (clock moment) after
-
-clocked : (b : Bool) (moment : ℕ) (o left : Option Row) (before : Row) → ClocksAt b moment o left → b ≡ true → o ≡ Some before → Clocked moment before left
+clocked : (b : Bool) (moment : ℕ) (o left : Option Row) (before : Row) → ClocksAt b moment o left → b ≡ true → o ≡ Some before → (after : Row) × (left ≡ Some after) × Extends before (clock moment) after
 clocked false moment o left before g is was = absurd (false≢true is)
 clocked true moment o None before g is was = absurd g
 clocked true moment None (Some after) before g is was = absurd g
-clocked true moment (Some row) (Some after) before g is was =
-    record { after = after; there = refl; extends = subst (λ r. Extends r (clock moment) after) (let same : row ≡ before = cc in same) g }
+clocked true moment (Some row) (Some after) before g is was = (after, refl, subst (λ r. Extends r (clock moment) after) (let same : row ≡ before = cc in same) g)
 
--- whether it is among them
-abbrev among : ℕ → List Due → Bool
-among q due = list_any (λ (d : Due). eqb d.1 q) due
-
-not_among : (q : ℕ) (due : List Due) → AllByRecursion (λ (e : Due). eqb q e.1 ≡ false) due → among q due ≡ false
+not_among : (q : ℕ) (due : List Due) → AllByRecursion (λ (e : Due). eqb q e.1 ≡ false) due → is_among q due ≡ false
 not_among q [] none = refl
-not_among q (d ∷ due) none = ap (λ b. b || among q due) (eqb_swap q d.1 none.0) ∙ not_among q due none.1
+not_among q (d ∷ due) none = ap (λ b. b || is_among q due) (eqb_swap q d.1 none.0) ∙ not_among q due none.1
 
 -- the others are as they were
 others_can : (s then : Shelf) (l : ℕ) (due : List Due) → ((q : ℕ) → eqb q l ≡ false → get then.rows q ≡ get s.rows q) → AllByRecursion (λ (e : Due). eqb l e.1 ≡ false) due
@@ -128,18 +117,14 @@ others_can s then l (d ∷ due) same none can =
     let first : CanClock s d = can.0 in
     (record { row = first.row; was = same d.1 (eqb_swap l d.1 none.0) ∙ first.was; takes_more = first.takes_more }, others_can s then l due same none.1 can.1)
 
--- those that become ready, in their order
-abbrev idle_of : Rows → List Due → List ℕ
-idle_of rows due = filter (λ local. is_idle (get rows local)) (map (λ (d : Due). d.1) due)
-
 idle_others : (rows rows_then : Rows) (l : ℕ) (due : List Due) → ((q : ℕ) → eqb q l ≡ false → get rows_then q ≡ get rows q) → AllByRecursion (λ (e : Due). eqb l e.1 ≡ false) due
-    → idle_of rows_then due ≡ idle_of rows due
+    → idle_among rows_then due ≡ idle_among rows due
 idle_others rows rows_then l [] same none = refl
 idle_others rows rows_then l (d ∷ due) same none =
-    ap (λ o. cond (is_idle o) (d.1 ∷ idle_of rows_then due) (idle_of rows_then due)) (same d.1 (eqb_swap l d.1 none.0))
+    ap (λ o. cond (is_idle o) (d.1 ∷ idle_among rows_then due) (idle_among rows_then due)) (same d.1 (eqb_swap l d.1 none.0))
     ∙ ap (λ xs. cond (is_idle (get rows d.1)) (d.1 ∷ xs) xs) (idle_others rows rows_then l due same none.1)
 
-in_front : (l : ℕ) (b : Bool) (xs : List ℕ) → joins l b ++ xs ≡ cond b (l ∷ xs) xs
+pub in_front : (l : ℕ) (b : Bool) (xs : List ℕ) → joins l b ++ xs ≡ cond b (l ∷ xs) xs
 in_front l true xs = refl
 in_front l false xs = refl
 
@@ -148,30 +133,25 @@ abbrev shelf_of : Shelf → ℕ → Rows → List ℕ → Totals → List Logged
 shelf_of s entries rows ready totals log = record s { entries = entries; rows = rows; ready = ready; totals = totals; log = log }
 
 same_shelf : (s : Shelf) (n m : ℕ) (r q : Rows) (x y : List ℕ) (t u : Totals) (log : List LoggedStep) → n ≡ m → r ≡ q → x ≡ y → t ≡ u → shelf_of s n r x t log ≡ shelf_of s m q y u log
-same_shelf s n m r q x y t u log a b c d =
-    ap (λ k. shelf_of s k r x t log) a ∙ ap (λ k. shelf_of s m k x t log) b ∙ ap (λ k. shelf_of s m q k t log) c ∙ ap (λ k. shelf_of s m q y k log) d
+same_shelf s n m r q x y t u log a b c d = rw (a, b, c, d) refl
 
 -- each of these dialogues got a Clock
 abbrev ticked : Shelf → Rows → List Due → List LoggedStep → Shelf
-ticked s rows due log = shelf_of s (s.entries + length due) rows (s.ready ++ idle_of s.rows due) s.totals log
-
--- a Clock is of no component
-no_component : (moment : ℕ) (totals : Totals) → more_accepted totals (clock moment) ≡ totals
-no_component moment totals = ap (λ (n : ℕ). record totals { accepted = n }) (add-zero totals.accepted)
+ticked s rows due log = shelf_of s (s.entries + length due) rows (s.ready ++ idle_among s.rows due) s.totals log
 
 -- the other dialogues get theirs
 clocks_others : (s then : Shelf) (rows : Rows) (moment : ℕ) (d : Due) (due : List Due) (after : Row) → get then.rows d.1 ≡ Some after → get rows d.1 ≡ Some after
-    → ((q : ℕ) → eqb q d.1 ≡ false → get then.rows q ≡ get s.rows q) → among d.1 due ≡ false → (q : ℕ) (b : Bool) → eqb d.1 q ≡ b
-    → ClocksAt (b || among q due) moment (get s.rows q) (get rows q) → ClocksAt (among q due) moment (get then.rows q) (get rows q)
+    → ((q : ℕ) → eqb q d.1 ≡ false → get then.rows q ≡ get s.rows q) → is_among d.1 due ≡ false → (q : ℕ) (b : Bool) → eqb d.1 q ≡ b
+    → ClocksAt (b || is_among q due) moment (get s.rows q) (get rows q) → ClocksAt (is_among q due) moment (get then.rows q) (get rows q)
 clocks_others s then rows moment d due after there left same none q true is g =
     let here : d.1 ≡ q = eqb-true d.1 q is in
-    subst (λ k. ClocksAt (among k due) moment (get then.rows k) (get rows k)) here
+    subst (λ k. ClocksAt (is_among k due) moment (get then.rows k) (get rows k)) here
     (subst (λ b. ClocksAt b moment (get then.rows d.1) (get rows d.1)) (sym none) (left ∙ sym there))
 clocks_others s then rows moment d due after there left same none q false is g =
-    subst (λ o. ClocksAt (among q due) moment o (get rows q)) (sym (same q (eqb_swap d.1 q is))) g
+    subst (λ o. ClocksAt (is_among q due) moment o (get rows q)) (sym (same q (eqb_swap d.1 q is))) g
 
 Sound-ticked : AsksOnceAtMost → (due : List Due) (s : Shelf) (rows : Rows) (moment : ℕ) (log : List LoggedStep) → Sound s → Apart due → AllByRecursion (CanClock s) due
-    → ((q : ℕ) → ClocksAt (among q due) moment (get s.rows q) (get rows q)) → s.entries + length due + sum_of admitted s.rows ≤ 2 ^ 63 + 8192 → Sound (ticked s rows due log)
+    → ((q : ℕ) → ClocksAt (is_among q due) moment (get s.rows q) (get rows q)) → s.entries + length due + sum_of admitted s.rows ≤ 2 ^ 63 + 8192 → Sound (ticked s rows due log)
 Sound-ticked law [] s rows moment log k two can clocks limit =
     let path : shelf_of s s.entries s.rows s.ready s.totals log ≡ ticked s rows [] log =
     same_shelf s s.entries (s.entries + 0) s.rows rows s.ready (s.ready ++ []) s.totals s.totals log (sym (add-zero s.entries)) (sym (same_rows rows s.rows clocks)) (sym (append-nil s.ready)) refl in
@@ -180,9 +160,9 @@ Sound-ticked law (d ∷ due) s rows moment log k two can clocks limit =
     let l = d.1 in
     let first : CanClock s d = can.0 in
     let before = first.row in
-    let got : Clocked moment before (get rows l) =
-    clocked (among l (d ∷ due)) moment (get s.rows l) (get rows l) before (clocks l) (ap (λ b. b || among l due) (eq-eqb l l refl)) first.was in
-    let after = got.after in
+    let got : (after : Row) × (get rows l ≡ Some after) × Extends before (clock moment) after =
+    clocked (is_among l (d ∷ due)) moment (get s.rows l) (get rows l) before (clocks l) (ap (λ b. b || is_among l due) (eq-eqb l l refl)) first.was in
+    let after = got.0 in
     let joins_it = is_idle (Some before) in
     let then : Shelf = record s {
       entries = s.entries + length (clock moment);
@@ -191,33 +171,31 @@ Sound-ticked law (d ∷ due) s rows moment log k two can clocks limit =
       totals = more_accepted s.totals (clock moment);
       log = log;
     } in
-    let alike : admitted after ≡ admitted before = ap one_if (admitted_as before after got.extends.ended got.extends.stay.core) in
-    let sound : Sound then = Sound-extended law s l before after (clock moment) joins_it log k first.was got.extends (joins_then moment before after got.extends first.takes_more) (omega (arith, limit)) in
+    let alike : admitted after ≡ admitted before = ap one_if (admitted_as before after got.2.ended got.2.stay.core) in
+    let sound : Sound then = Sound-extended law s l before after (clock moment) joins_it log k first.was got.2
+    (ap (λ b. one_if (is_ready before) + one_if b) (sym (joins_is moment before after got.2 first.takes_more)) ∙ joined (is_ready before) (is_ready after) got.2.ready_stays) (omega (arith, limit)) in
     let there : get then.rows l ≡ Some after = get-inserted s.rows l after l ∙ ap (λ b. cond b (Some after) (get s.rows l)) (eq-eqb l l refl) in
     let same : (q : ℕ) → eqb q l ≡ false → get then.rows q ≡ get s.rows q = λ q ne. get-inserted s.rows l after q ∙ ap (λ b. cond b (Some after) (get s.rows q)) ne in
     let was : amount admitted (get s.rows l) ≡ admitted before = ap (amount admitted) first.was in
     let rest : Sound (ticked then rows due log) =
     Sound-ticked law due then rows moment log sound two.1 (others_can s then l due same two.0 can.1)
-    (λ q. clocks_others s then rows moment d due after there got.there same (not_among l due two.0) q (eqb l q) refl (clocks q))
+    (λ q. clocks_others s then rows moment d due after there got.1 same (not_among l due two.0) q (eqb l q) refl (clocks q))
     (omega (arith, limit, alike, was, sum-insert admitted s.rows l after)) in
     let path : ticked then rows due log ≡ ticked s rows (d ∷ due) log =
-    same_shelf s (s.entries + 1 + length due) (s.entries + length (d ∷ due)) rows rows ((s.ready ++ joins l joins_it) ++ idle_of then.rows due) (s.ready ++ idle_of s.rows (d ∷ due))
+    same_shelf s (s.entries + 1 + length due) (s.entries + length (d ∷ due)) rows rows ((s.ready ++ joins l joins_it) ++ idle_among then.rows due) (s.ready ++ idle_among s.rows (d ∷ due))
     (more_accepted s.totals (clock moment)) s.totals log (omega arith) refl
     (ap (λ xs. (s.ready ++ joins l joins_it) ++ xs) (idle_others s.rows then.rows l due same two.0)
-    ∙ append_assoc s.ready (joins l joins_it) (idle_of s.rows due)
+    ∙ append_assoc s.ready (joins l joins_it) (idle_among s.rows due)
     ∙ ap (λ xs. s.ready ++ xs)
-    (in_front l joins_it (idle_of s.rows due) ∙ ap (λ o. cond (is_idle o) (l ∷ idle_of s.rows due) (idle_of s.rows due)) (sym first.was)))
-    (no_component moment s.totals) in
+    (in_front l joins_it (idle_among s.rows due) ∙ ap (λ o. cond (is_idle o) (l ∷ idle_among s.rows due) (idle_among s.rows due)) (sym first.was)))
+    (ap (λ (n : ℕ). record s.totals { accepted = n }) (add-zero s.totals.accepted)) in
     subst Sound path rest
 
+-- no more dialogues pass a test than there are
+pub few_pass : (test : Row → Bool) (rows : Rows) → sum_of (λ row. cond {A = ℕ} (test row) 1 0) rows ≤ len rows
+few_pass test rows = omega (arith, len-sum rows, sum-le (λ row. cond {A = ℕ} (test row) 1 0) one rows (λ row. one_most (test row)))
+
 -- as long as a dialogue is due, fewer than 2^63 entries were accepted
-one_most : (b : Bool) → cond {A = ℕ} b 1 0 ≤ 1
-one_most true = omega arith
-one_most false = omega arith
-
-due_most : (s : Shelf) (moment : ℕ) → sum_of (λ row. cond {A = ℕ} (due_at s moment row) 1 0) s.rows ≤ len s.rows
-due_most s moment = omega (arith, len-sum s.rows, sum-le (λ row. cond {A = ℕ} (due_at s moment row) 1 0) one s.rows (λ row. one_most (due_at s moment row)))
-
 limit_by : (s : Shelf) (moment : ℕ) (due : List Due) → Sound s → All (IsDue s moment) due → length due ≤ 4096 → s.entries + length due + sum_of admitted s.rows ≤ 2 ^ 63 + 8192
 limit_by s moment [] k are few = omega (arith, k.entries)
 limit_by s moment (d ∷ due) k are few =
@@ -228,9 +206,9 @@ limit_by s moment (d ∷ due) k are few =
 
 pub Sound-ticks : AsksOnceAtMost → (old new : Shelf) (moment added wanting : ℕ) → Sound old → Ticks old moment added wanting new → Sound new
 Sound-ticks law old new moment added wanting s g =
-    let few : length g.due ≤ 4096 = omega (arith, g.added_is, g.wanting_is, due_most old moment, s.held) in
+    let few : length g.due ≤ 4096 = omega (arith, g.added_is, g.wanting_is, few_pass (due_at old moment) old.rows, s.held) in
     let log = cond (nat_eq (added + wanting) 0) old.log (logged old.log (line.Tick moment added wanting)) in
     let sound = Sound-ticked law g.due old new.rows moment log s (apart old moment g.due g.in_order g.are_due) (can_all old moment g.due g.are_due) g.rows (limit_by old moment g.due s g.are_due few) in
-    let path : ticked old new.rows g.due log ≡ shelf_of old (old.entries + added) new.rows (old.ready ++ idle_of old.rows g.due) old.totals log =
-    ap (λ n. shelf_of old (old.entries + n) new.rows (old.ready ++ idle_of old.rows g.due) old.totals log) (sym g.added_is) in
+    let path : ticked old new.rows g.due log ≡ shelf_of old (old.entries + added) new.rows (old.ready ++ idle_among old.rows g.due) old.totals log =
+    ap (λ n. shelf_of old (old.entries + n) new.rows (old.ready ++ idle_among old.rows g.due) old.totals log) (sym g.added_is) in
     subst Sound (sym g.new_is) (subst Sound path sound)

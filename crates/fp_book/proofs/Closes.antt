@@ -1,48 +1,35 @@
--- Where a dialogue changes in its place, and goes if nothing of it is left; and where all dialogues are closed.
-use Rattle.std.proofs.Common.{◌≡◌, ℕ, ◌<◌, ◌≤◌, ◌+◌, ◌-◌, Bool, true, false, cond, eqb, nat_lt, nat_cmp, sum_by, List, [], ◌∷◌, Option, Some, None, is_some, ⊎_elim, refl, sym, ◌∙◌, ap, subst, arith}
-use Rattle.std.proofs.lemmas.Bool.{cases_Bool, eqb-true, false≢true}
+-- Where dialogues are ended: what of one of them is dropped, and how all of them are closed.
+use Rattle.std.proofs.Common.{◌≡◌, ℕ, ◌<◌, ◌≤◌, ◌+◌, ◌-◌, ◌^◌, Bool, true, false, cond, eqb, nat_lt, List, [], ◌∷◌, Option, Some, None, is_some, ⊎_elim, refl, sym, ◌∙◌, ap, subst, arith, ◌&&◌, min, ◌++◌, length, length-append}
+use Rattle.std.proofs.lemmas.Bool.{cases_Bool, false≢true, ltb-false}
 use Rattle.std.proofs.lemmas.Bool.Decides.{nat_tests}
-use Rattle.std.proofs.lemmas.List.Sums.{sum_by-cons}
+use Rattle.std.proofs.lemmas.List.{nil_from_length}
 use Rattle.std.specs.Bool.{⊤}
 use Rattle.std.specs.FinMap as map
-use Rattle.fp_book.proofs.Changes.{by_local}
-use Rattle.fp_book.proofs.Kept.{Deadlines, deadline_left, timed_at}
-use Rattle.fp_book.proofs.Sums.{OneChanges, Rows, find-cons, inserted, kept, left_of, removed, same_rows}
+use Rattle.fp_book.proofs.Changes.{by_local, count}
+use Rattle.fp_book.proofs.Kept.{Deadlines, changed, timed_by}
+use Rattle.fp_book.proofs.Sums.{OneChanges, Rows, left_of}
 use Rattle.fp_book.specs.declared.parcel.Content.{Content}
-use Rattle.fp_book.specs.Calls.{Closes, ClosesAt}
-use Rattle.fp_book.specs.Dialogues.{EndsAt, is_unsent}
+use Rattle.fp_book.specs.Calls.{Closes, ClosesAt, without}
+use Rattle.fp_book.specs.Dialogues.{EndsAt, is_unsent, with_deadline, dropped_of, drops_frames}
 use Rattle.fp_book.specs.Sending.{is_frame_of}
-use Rattle.fp_book.specs.Shelf.{keep}
 use Rattle.fp_book.specs.Views.{AreTimed}
 use Rattle.fp_row.specs.declared.ending.Ending.TheVariants.{Closed}
 use Rattle.fp_row.specs.declared.row.Row.{Row}
 use Rattle.fp_row.specs.Calls as calls
-use Rattle.fp_row.specs.Calls.{Ends, SendsOne}
+use Rattle.fp_row.specs.Calls.{Ends, SendsOne, Extends, sending}
 use Rattle.fp_row.specs.Keys.{IsAbove}
-use Rattle.fp_row.specs.Row.{is_held}
 use Rattle.fp_row.specs.Rows.{IsAfter}
-
--- to put a dialogue in its place, and to take it off, is to take it off
-pub put_and_removed : (rows : Rows) (local : ℕ) (row : Row) → map.remove (map.insert rows local row) local ≡ map.remove rows local
-put_and_removed rows local row =
-    let put = inserted rows local (map.get rows local) row refl in
-    let off = removed (map.insert rows local row) local (Some row) put.there in
-    let gone = removed rows local (map.get rows local) refl in
-    same_rows (map.remove (map.insert rows local row) local) (map.remove rows local) (λ q.
-    by_local q local (λ q. map.get (map.remove (map.insert rows local row) local) q ≡ map.get (map.remove rows local) q)
-    (off.there ∙ sym gone.there)
-    (λ ne. off.others q ne ∙ put.others q ne ∙ sym (gone.others q ne)))
-
-kept_by : (rows : Rows) (local : ℕ) (after : Row) (b : Bool)
-    → cond b (map.insert rows local after) (map.remove (map.insert rows local after) local) ≡ cond b (map.insert rows local after) (map.remove rows local)
-kept_by rows local after true = refl
-kept_by rows local after false = put_and_removed rows local after
-
--- a dialogue that was changed in its place stays, or is taken off
-pub keep_after : (rows new : Rows) (local : ℕ) (after : Row) (held : Bool) → held ≡ is_held after → new ≡ cond held (map.insert rows local after) (map.remove (map.insert rows local after) local)
-    → new ≡ keep rows local after
-keep_after rows new local after held is made =
-    made ∙ kept_by rows local after held ∙ ap (λ b. cond b (map.insert rows local after) (map.remove rows local)) is
+use Rattle.fp_book.proofs.Extends.{kept_count, sending_count, sent_count}
+use Rattle.fp_book.proofs.Queue.{count-cons, without_by}
+use Rattle.fp_book.proofs.Turns.{frames_at, ready_at}
+use Rattle.fp_book.proofs.Unsent.{others, others_by}
+use Rattle.fp_book.specs.declared.parcel.Waiting.{Waiting}
+use Rattle.fp_book.specs.declared.dialogues.Dropped.{Dropped}
+use Rattle.fp_book.specs.Outbox.{Outbox, without_frames_of}
+use Rattle.fp_book.specs.Shelf.{Shelf, Sound, frame_out, frames_for, one_if, unsent_for}
+use Rattle.fp_entry.specs.declared.entry.Entry.{Entry}
+use Rattle.fp_row.specs.declared.ending.Ending.{Ending}
+use Rattle.fp_row.specs.Row.{is_ready, kept_of, sent_of}
 
 -- where a frame is kept that wasn't sent, one more is sent
 pub one_sent : (answer : Bool) (before after : Row) (there : Option Row) → there ≡ Some before → is_unsent there ≡ true → calls.Sends answer before after → SendsOne before after
@@ -54,17 +41,10 @@ abbrev pub IsBelow : ℕ → Option ℕ → Type 0
 IsBelow q None = ⊤
 IsBelow q (Some next) = q < next
 
--- the sum of all identifiers
-abbrev key_of : ℕ × Row → ℕ
-key_of entry = entry.0
-
-abbrev keys_sum : Rows → ℕ
-keys_sum rows = sum_by key_of (map.entries rows)
-
--- how far an identifier is below that sum; nothing is left where there is none
-abbrev pub ahead : Rows → Option ℕ → ℕ
-ahead rows None = 0
-ahead rows (Some next) = keys_sum rows + 1 - next
+-- how many identifiers are not below the next one; none where there is none
+abbrev pub ahead : Option ℕ → ℕ
+ahead None = 0
+ahead (Some next) = 2 ^ 32 - next
 
 -- the dialogues below the next one were closed, and the others are as they were
 pub record ClosedBelow (out : Option Content) (old new : Rows) (deadlines : Deadlines) (next : Option ℕ) : Type 0 where
@@ -114,12 +94,10 @@ by_order q local P below here above =
 pub one_closed : (out : Option Content) (old rows new : Rows) (deadlines : Deadlines) (sends : Bool) (local : ℕ) (next : Option ℕ) → ClosedBelow out old rows deadlines (Some local)
     → sends ≡ is_frame_of local out → EndsAt rows local Closed sends new → IsAfter new (Some local) next → ClosedBelow out old new (map.remove deadlines local) next
 one_closed out old rows new deadlines sends local next so_far sends_is ends after =
-    let one : OneChanges rows new local (Some ends.before) (left_of ends.after) =
-    subst (λ r. OneChanges rows r local (Some ends.before) (left_of ends.after)) (sym ends.rows) (kept rows local (Some ends.before) ends.after ends.was)
-    in
+    let one : OneChanges rows new local (Some ends.before) (left_of ends.after) = changed ends in
     let was : map.get old local ≡ Some ends.before = sym (so_far.others local refl local (omega arith)) ∙ ends.was in
     let closes : Closes (is_frame_of local out) ends.before (map.get new local) =
-    record { after = ends.after; ends = subst (λ b. Ends Closed b ends.before ends.after) sends_is ends.ends; left_is = one.there }
+    record { after = ends.after; ends = subst (λ b. Ends Closed b ends.before ends.after) sends_is ends.does; left_is = one.there }
     in
     let other : (q : ℕ) → (q ≡ local → ⊥) → map.get new q ≡ map.get rows q = λ q ne. one.others q (grind (arith, nat_tests)) in
     record {
@@ -135,28 +113,92 @@ one_closed out old rows new deadlines sends local next so_far sends_is ends afte
           let more : local < q = omega (arith, next_above new local next after n is, le) in
           other q (λ e. omega (arith, e, more)) ∙ so_far.others local refl q (omega (arith, more));
       there = next_there new (Some local) next after;
-      timed = timed_at deadlines rows new local (Some ends.before) (left_of ends.after) None so_far.timed one (sym (deadline_left ends.after ∙ ends.ends.deadline));
+      timed = timed_by deadlines (map.remove deadlines local) ends so_far.timed (ap (with_deadline deadlines local) (sym ends.does.deadline));
     }
 
-key_by : (e : ℕ × Row) (es : List (ℕ × Row)) (q : ℕ) (b : Bool) → eqb q e.0 ≡ b → (is_some (map.find nat_cmp q es) ≡ true → q ≤ sum_by key_of es)
-    → is_some (cond b (Some e.1) (map.find nat_cmp q es)) ≡ true → q ≤ sum_by key_of (e ∷ es)
-key_by e es q true is rest found = omega (arith, eqb-true q e.0 is, sum_by-cons key_of e es)
-key_by e es q false is rest found = omega (arith, rest found, sum_by-cons key_of e es)
-
-key_found : (es : List (ℕ × Row)) (q : ℕ) → is_some (map.find nat_cmp q es) ≡ true → q ≤ sum_by key_of es
-key_found [] q found = absurd (false≢true found)
-key_found (e ∷ es) q found = key_by e es q (eqb q e.0) refl (key_found es q) (ap is_some (sym (find-cons e es q)) ∙ found)
-
--- no identifier is above the sum of all
-key_within : (rows : Rows) (q : ℕ) → is_some (map.get rows q) ≡ true → q ≤ keys_sum rows
-key_within rows q there = key_found (map.entries rows) q (ap is_some (sym (map.get-entries rows q)) ∙ there)
-
 -- less is left then
-pub less_ahead : (out : Option Content) (old rows new : Rows) (deadlines : Deadlines) (local : ℕ) (next : Option ℕ) → ClosedBelow out old rows deadlines (Some local) → IsAfter new (Some local) next
-    → ahead old next < ahead old (Some local)
-less_ahead out old rows new deadlines local None so_far after =
-    let within : local ≤ keys_sum old = key_within old local (ap is_some (sym (so_far.others local refl local (omega arith))) ∙ so_far.there local refl) in
-    omega (arith, within)
-less_ahead out old rows new deadlines local (Some n) so_far after =
-    let within : local ≤ keys_sum old = key_within old local (ap is_some (sym (so_far.others local refl local (omega arith))) ∙ so_far.there local refl) in
-    omega (arith, within, after.1)
+pub less_ahead : (rows : Rows) (local : ℕ) (next : Option ℕ) → local < 2 ^ 32 → IsAfter rows (Some local) next → ahead next < ahead (Some local)
+less_ahead rows local None within after = omega (arith, within)
+less_ahead rows local (Some n) within after = omega (arith, within, after.1)
+
+dropped_by : (l : ℕ) (w : Waiting) (ws : List Waiting) (b : Bool) → eqb w.local l ≡ b → (frames_for l ws ≡ [] → others l ws ≡ ws) → frames_for l (w ∷ ws) ≡ []
+    → cond b (others l ws) (w ∷ others l ws) ≡ w ∷ ws
+dropped_by l w ws true is rest none = absurd (let clash : w.frame ∷ frames_for l ws ≡ [] = sym (ap (λ b. cond b (w.frame ∷ []) [] ++ frames_for l ws) is) ∙ none in cc)
+dropped_by l w ws false is rest none = ap (λ r. w ∷ r) (rest (sym (ap (λ b. cond b (w.frame ∷ []) [] ++ frames_for l ws) is) ∙ none))
+
+-- where no frame of a dialogue waits none is dropped
+none_dropped : (l : ℕ) (ws : List Waiting) → frames_for l ws ≡ [] → others l ws ≡ ws
+none_dropped l [] none = refl
+none_dropped l (w ∷ ws) none = others_by l w ws (eqb w.local l) refl ∙ dropped_by l w ws (eqb w.local l) refl (none_dropped l ws) none
+
+-- no frame of a dialogue waits where ending it drops none
+pub nothing_to_drop : (s : Shelf) (local : ℕ) (row : Row) → sent_of row ++ unsent_for local s.outbox ≡ kept_of row
+    → nat_lt (min row.kept (row.sent + sending (is_frame_of local s.outbox.out))) row.kept ≡ false → others local s.outbox.frames ≡ s.outbox.frames
+nothing_to_drop s local row all none =
+    let few : row.kept ≤ row.sent + sending (is_frame_of local s.outbox.out) = omega (arith, ltb-false (min row.kept (row.sent + sending (is_frame_of local s.outbox.out))) row.kept none) in
+    let parts : length (sent_of row) + (length (frame_out local s.outbox.out) + length (frames_for local s.outbox.frames)) ≡ row.kept =
+    ap (λ n. length (sent_of row) + n) (sym (length-append (frame_out local s.outbox.out) (frames_for local s.outbox.frames)))
+    ∙ sym (length-append (sent_of row) (unsent_for local s.outbox)) ∙ ap length all ∙ kept_count row in
+    none_dropped local s.outbox.frames (nil_from_length (frames_for local s.outbox.frames) (omega (arith, few, parts, sent_count row, sending_count local s.outbox.out)))
+
+leaves_by : (l x : ℕ) (xs : List ℕ) (b : Bool) → eqb x l ≡ b → (count l xs ≡ 0 → without l xs ≡ xs) → count l (x ∷ xs) ≡ 0 → cond b (without l xs) (x ∷ without l xs) ≡ x ∷ xs
+leaves_by l x xs true is rest none = absurd (let here : count l (x ∷ xs) ≡ 1 + count l xs = count-cons l x xs ∙ ap (λ b. one_if b + count l xs) is in omega (arith, here, none))
+leaves_by l x xs false is rest none =
+    let here : count l (x ∷ xs) ≡ 0 + count l xs = count-cons l x xs ∙ ap (λ b. one_if b + count l xs) is in
+    ap (λ r. x ∷ r) (rest (omega (arith, here, none)))
+
+-- one that isn't in the queue doesn't leave it
+pub none_leaves : (l : ℕ) (xs : List ℕ) → count l xs ≡ 0 → without l xs ≡ xs
+none_leaves l [] none = refl
+none_leaves l (x ∷ xs) none = without_by l x xs (eqb x l) refl ∙ leaves_by l x xs (eqb x l) refl (none_leaves l xs) none
+
+-- so to drop its frames only where ending it drops one is to drop them
+pub drops_by : (s : Shelf) (local : ℕ) (row : Row) (drops : Bool) → sent_of row ++ unsent_for local s.outbox ≡ kept_of row
+    → drops ≡ nat_lt (min row.kept (row.sent + sending (is_frame_of local s.outbox.out))) row.kept → cond drops (without_frames_of local s.outbox) s.outbox ≡ without_frames_of local s.outbox
+drops_by s local row true all is = refl
+drops_by s local row false all is = sym (ap (λ (frames : List Waiting). record s.outbox { frames = frames }) (nothing_to_drop s local row all (sym is)))
+
+-- and so it is for its place in the queue
+pub leaves_by_ready : (l : ℕ) (xs : List ℕ) (was_ready : Bool) → count l xs ≡ one_if was_ready → cond was_ready (without l xs) xs ≡ without l xs
+leaves_by_ready l xs true is = refl
+leaves_by_ready l xs false is = sym (none_leaves l xs is)
+
+-- where it isn't ended none is dropped
+pub drops_as : (s : Shelf) (local : ℕ) (row : Row) (is_ended drops : Bool) → sent_of row ++ unsent_for local s.outbox ≡ kept_of row
+    → drops ≡ (is_ended && drops_frames row (is_frame_of local s.outbox.out))
+    → cond drops (without_frames_of local s.outbox) s.outbox ≡ cond is_ended (without_frames_of local s.outbox) s.outbox
+drops_as s local row true drops all is = drops_by s local row drops all is
+drops_as s local row false drops all is = ap (λ b. cond b (without_frames_of local s.outbox) s.outbox) is
+
+same_row : (o : Option Row) (before row : Row) → o ≡ Some before → o ≡ Some row → before ≡ row
+same_row o before row was is = let two : Some before ≡ Some row = sym was ∙ is in cc
+
+-- a dialogue that is ended drops as many as aren't kept any longer
+pub drops_ended : (ending : Ending) (sends : Bool) (before extended after : Row) (entries : List Entry) (drops : Bool) → Extends before entries extended → Ends ending sends extended after
+    → drops ≡ nat_lt after.kept extended.kept → drops ≡ drops_frames before sends
+drops_ended ending sends before extended after entries drops more ends is =
+    is ∙ ap (λ n. nat_lt n extended.kept) ends.kept ∙ ap (λ n. nat_lt (min n (extended.sent + sending sends)) n) more.stay.kept ∙ ap (λ n. nat_lt (min before.kept (n + sending sends)) before.kept) more.stay.sent
+
+-- so is told of the dialogue that there was
+pub drops_of : (o : Option Row) (before : Row) (is_ended sends drops : Bool) → o ≡ Some before → drops ≡ (is_ended && drops_frames before sends) → (row : Row) → o ≡ Some row
+    → drops ≡ (is_ended && drops_frames row sends)
+drops_of o before is_ended sends drops was is row there = subst (λ r. drops ≡ (is_ended && drops_frames r sends)) (same_row o before row was there) is
+
+pub dropped_at : (o : Option Row) (ending : Ending) (sends : Bool) (before after : Row) (was_ready frames : Bool) → o ≡ Some before → Ends ending sends before after
+    → was_ready ≡ is_ready before → frames ≡ nat_lt after.kept before.kept → (row : Row) → o ≡ Some row → ◌≡◌ {A = Dropped} (record { was_ready = was_ready; frames = frames }) (dropped_of row sends)
+dropped_at o ending sends before after was_ready frames was ends ready is row there =
+    let make : Bool → Bool → Dropped = λ a b. record { was_ready = a; frames = b } in
+    subst (λ r. make was_ready frames ≡ dropped_of r sends) (same_row o before row was there)
+    (ap (λ a. make a frames) ready ∙ ap (make (is_ready before)) (is ∙ ap (λ n. nat_lt n before.kept) ends.kept))
+
+-- a dialogue that is closed has left the queue
+pub left_queue : (s : Shelf) (local : ℕ) (row : Row) (sends : Bool) (dropped : Dropped) (queue : List ℕ) → Sound s → map.get s.rows local ≡ Some row → dropped ≡ dropped_of row sends
+    → queue ≡ cond dropped.was_ready (without local s.ready) s.ready → queue ≡ without local s.ready
+left_queue s local row sends dropped queue k was is then =
+    then ∙ leaves_by_ready local s.ready dropped.was_ready (ready_at s local (Some row) k was ∙ ap one_if (sym (ap (λ (d : Dropped). d.was_ready) is)))
+
+-- and none of its frames waits
+pub left_outbox : (s : Shelf) (local : ℕ) (row : Row) (sends : Bool) (dropped : Dropped) (outbox : Outbox) → Sound s → map.get s.rows local ≡ Some row → dropped ≡ dropped_of row sends
+    → sends ≡ is_frame_of local s.outbox.out → outbox ≡ cond dropped.frames (without_frames_of local s.outbox) s.outbox → outbox ≡ without_frames_of local s.outbox
+left_outbox s local row sends dropped outbox k was is sending_is then =
+    then ∙ drops_by s local row dropped.frames (frames_at s local (Some row) k was) (ap (λ (d : Dropped). d.frames) is ∙ ap (drops_frames row) sending_is)

@@ -1,31 +1,33 @@
--- What a link counts once a message was posted, by the answer.
-use Rattle.std.proofs.Common.{◌≡◌, ℕ, Bool, true, false, Option, Some, None, refl, sym, ◌∙◌, ap, subst, ◌⊎◌, ⊎_elim}
-use Rattle.std.proofs.lemmas.Bool.{cond_both}
+-- What a link counts once a message was posted, and what is told of it.
+use Rattle.std.proofs.Common.{◌≡◌, ℕ, true, false, Option, Some, None, refl, sym, ◌∙◌, ap, subst, ⊎_elim, ◌≢◌, Bool, cond, List, [], ◌∷◌, inl, inr}
+use Rattle.std.proofs.lemmas.Bool.{cond_both, false≢true}
 use Rattle.fp_book.specs.declared.answers.Posted.{Posted}
-use Rattle.fp_book.specs.declared.answers.Posted.TheVariants.{Aborted}
 use Rattle.fp_book.specs.declared.totals.Totals.{Totals}
 use Rattle.fp_book.specs.declared.verdict.Verdict.{Verdict}
 use Rattle.fp_book.specs.declared.verdict.Verdict.TheVariants.{Discard, Refuse, Open, Extend}
-use Rattle.fp_book.specs.Calls.{Answers, ClosesOne, Follows, Posts, abort_for, accepts, closed_answer, posted_totals}
+use Rattle.fp_book.specs.Calls.{Answers, ClosesOne, Follows, Posts, accepts, closed_answer, posted_totals, are_some, asks_for_memory}
+use Rattle.fp_book.specs.Receipt.{accepted_components, IsReceipt, treated_as}
 use Rattle.fp_book.specs.Shelf.{Shelf}
-use Rattle.fp_book.specs.Verdict.{lost_of, named, verdict}
+use Rattle.fp_book.specs.Verdict.{lost_of, named, verdict, arrived}
 use Rattle.fp_entry.specs.declared.arrival.Arrival.{Arrival}
 use Rattle.fp_entry.specs.declared.prepared.Prepared.{Prepared}
 use Rattle.fp_entry.specs.declared.prepared.Prepared.TheVariants as prepared
 use Rattle.fp_entry.specs.Prepared.{arrival_of}
 use Rattle.fp_q773.specs.declared.kind.Kind.{Kind}
-use Rattle.fp_q773.specs.declared.kind.Kind.TheVariants.{Unidirectional, Begin, End, Continue, Abort, Unknown}
+use Rattle.fp_q773.specs.declared.kind.Kind.TheVariants.{Continue}
 use Rattle.fp_q773.specs.declared.provider_abort.AbortCause.{AbortCause}
-use Rattle.fp_q773.specs.declared.tid.Tid.{Tid}
-use Rattle.fp_row.specs.declared.ending.Ending.{Ending}
+use Rattle.fp_q773.specs.Tid.{Tid}
+use Rattle.fp_book.specs.declared.answers.Receipt.{Receipt}
+use Rattle.fp_entry.specs.declared.entry.Entry.{Entry}
+use Rattle.fp_entry.specs.declared.prepared.Prepared.TheVariants.{Lost}
 
 -- nothing is counted for such an answer, whatever came
 abbrev CountsNone : Posted → Type 0
-CountsNone answer = (totals : Totals) (came : Prepared) → posted_totals totals came answer ≡ totals
+CountsNone answer = (totals : Totals) (came : Prepared) → (posted_totals totals came answer ≡ totals) × (accepted_components answer came ≡ 0)
 
 closed_counts_none : (closes : Option ℕ) → CountsNone (closed_answer closes)
-closed_counts_none None totals came = refl
-closed_counts_none (Some local) totals came = refl
+closed_counts_none None totals came = (refl, refl)
+closed_counts_none (Some local) totals came = (refl, refl)
 
 -- to close a dialogue counts nothing
 closing_totals : (old : Shelf) (closes : Option ℕ) (new : Shelf) → ClosesOne old closes new → new.totals ≡ old.totals
@@ -39,37 +41,32 @@ pub record Uncounted (old : Shelf) (answer : Posted) (new : Shelf) : Type 0 wher
 
 answered : (old : Shelf) (closes : Option ℕ) (abort : Option (Tid × AbortCause)) (answer : Posted) (new : Shelf) → Answers old closes abort answer new → Uncounted old answer new
 answered old closes None answer new g = record { same = ap (λ (s : Shelf). s.totals) g.1; none = subst CountsNone (sym g.0) (closed_counts_none closes) }
-answered old closes (Some (peer, cause)) answer new g = record { same = ap (λ (s : Shelf). s.totals) g.1.new_is; none = subst CountsNone (sym g.0) (λ totals came. refl) }
+answered old closes (Some (peer, cause)) answer new g = record { same = ap (λ (s : Shelf). s.totals) g.1.new_is; none = subst CountsNone (sym g.0) (λ totals came. (refl, refl)) }
 
-turned_away : (v : Verdict) (old : Shelf) (came : Prepared) (answer : Posted) (new : Shelf) → accepts v ≡ false → Follows v old came answer new → Uncounted old answer new
-turned_away Discard old came answer new e g = record { same = ap (λ (s : Shelf). s.totals) g.new_is; none = subst CountsNone (sym g.answer_is) (λ totals came. refl) }
+pub turned_away : (v : Verdict) (old : Shelf) (came : Prepared) (answer : Posted) (new : Shelf) → accepts v ≡ false → Follows v old came answer new → Uncounted old answer new
+turned_away Discard old came answer new e g = record { same = ap (λ (s : Shelf). s.totals) g.new_is; none = subst CountsNone (sym g.answer_is) (λ totals came. (refl, refl)) }
 turned_away (Refuse cause closes) old came answer new e g =
     let a = answered g.closed closes _ answer g.answered g.answering in
     record { same = ap (λ (s : Shelf). s.totals) g.new_is ∙ a.same ∙ closing_totals old closes g.closed g.closing; none = a.none }
-turned_away (Open peer) old came answer new e g = absurd (let clash : true ≡ false = e in cc)
-turned_away (Extend local ending) old came answer new e g = absurd (let clash : true ≡ false = e in cc)
+turned_away v old came answer new e g = absurd (let clash : true ≡ false = e in cc)
 
 uncounted : (old : Shelf) (came : Prepared) (answer : Posted) (new : Shelf) → Uncounted old answer new → new.totals ≡ posted_totals old.totals came answer
-uncounted old came answer new g = g.same ∙ sym (g.none old.totals came)
+uncounted old came answer new g = g.same ∙ sym (g.none old.totals came).0
 
 followed : (v : Verdict) (old : Shelf) (came : Prepared) (answer : Posted) (new : Shelf) → Follows v old came answer new → new.totals ≡ posted_totals old.totals came answer
 followed Discard old came answer new g = uncounted old came answer new (turned_away Discard old came answer new refl g)
 followed (Refuse cause closes) old came answer new g = uncounted old came answer new (turned_away (Refuse cause closes) old came answer new refl g)
 followed (Open peer) old came answer new g = ap (λ (s : Shelf). s.totals) g.new_is ∙ sym (ap (posted_totals old.totals came) g.answer_is)
-followed (Extend local None) old came answer new g = ap (λ (s : Shelf). s.totals) g.new_is ∙ sym (ap (posted_totals old.totals came) g.answer_is)
-followed (Extend local (Some ending)) old came answer new g = ap (λ (s : Shelf). s.totals) g.new_is ∙ sym (ap (posted_totals old.totals came) g.answer_is)
+followed (Extend local false) old came answer new g = ap (λ (s : Shelf). s.totals) g.new_is ∙ sym (ap (posted_totals old.totals came) g.answer_is)
+followed (Extend local true) old came answer new g = ap (λ (s : Shelf). s.totals) g.new_is ∙ sym (ap (posted_totals old.totals came) g.answer_is)
 
 -- what was lost isn't accepted
-lost_by : (kind : Kind) (dialogue : Option ℕ) → accepts (lost_of kind dialogue) ≡ false
-lost_by Unidirectional dialogue = refl
-lost_by Begin dialogue = refl
+pub lost_by : (kind : Kind) (dialogue : Option ℕ) → accepts (lost_of kind dialogue) ≡ false
 lost_by Continue None = refl
 lost_by Continue (Some local) = refl
-lost_by End dialogue = refl
-lost_by Abort dialogue = refl
-lost_by Unknown dialogue = refl
+lost_by kind dialogue = refl
 
-lost_away : (s : Shelf) (arrival : Arrival) → accepts (verdict s (prepared.Lost arrival)) ≡ false
+pub lost_away : (s : Shelf) (arrival : Arrival) → accepts (verdict s (prepared.Lost arrival)) ≡ false
 lost_away s arrival = cond_both s.is_down Discard (lost_of arrival.ids.kind (named s arrival.ids)) (λ v. accepts v ≡ false) (λ _. refl) (λ _. lost_by arrival.ids.kind (named s arrival.ids))
 
 -- what is counted is told by the answer
@@ -77,3 +74,50 @@ pub posted_counts : (old : Shelf) (came : Prepared) (answer : Posted) (new : She
 posted_counts old came answer new posts =
     ⊎_elim (λ g. followed (verdict old came) old came answer new g)
     (λ g. uncounted old came answer new (turned_away (verdict old (prepared.Lost (arrival_of came))) old (prepared.Lost (arrival_of came)) answer new (lost_away old (arrival_of came)) g.1)) posts
+
+-- it was accepted
+pub receipt_of : (v : Verdict) (old new : Shelf) (came : Prepared) (posted : Posted) (components : ℕ) → verdict old came ≡ v → components ≡ accepted_components posted came → Follows v old came posted new
+    → IsReceipt old came (record { posted = posted; components = components; lost = false }) new
+receipt_of v old new came posted components is count follows = record {
+  components = count;
+  asked = λ e. absurd (false≢true e);
+  follows = subst (λ v. Follows v old came posted new) (sym is) follows;
+}
+
+-- it was refused or discarded
+pub receipt_away : (v : Verdict) (old new : Shelf) (came : Prepared) (posted : Posted) → verdict old came ≡ v → accepts v ≡ false → Follows v old came posted new
+    → IsReceipt old came (record { posted = posted; components = 0; lost = false }) new
+receipt_away v old new came posted is away follows =
+    receipt_of v old new came posted 0 is (sym ((turned_away v old came posted new away follows).none old.totals came).1) follows
+
+-- memory ran out for it, and nothing had changed
+pub receipt_lost : (v : Verdict) (old same new : Shelf) (came : Prepared) (back : Arrival) (posted : Posted) → verdict old came ≡ v → asks_for_memory v came ≡ true → back ≡ arrival_of came → same ≡ old
+    → Follows (verdict same (Lost back)) same (Lost back) posted new → IsReceipt old came (record { posted = posted; components = 0; lost = true }) new
+receipt_lost v old same new came back posted is asks known stays follows =
+    let on_old : Follows (verdict old (Lost (arrival_of came))) old (Lost (arrival_of came)) posted new =
+    subst (λ s. Follows (verdict s (Lost (arrival_of came))) s (Lost (arrival_of came)) posted new) stays (subst (λ a. Follows (verdict same (Lost a)) same (Lost a) posted new) known follows)
+    in
+    let away = turned_away (verdict old (Lost (arrival_of came))) old (Lost (arrival_of came)) posted new (lost_away old (arrival_of came)) on_old in
+    record { components = sym (away.none old.totals came).1; asked = λ _. ap (λ v. asks_for_memory v came) is ∙ asks; follows = on_old }
+
+posts_by : (lost : Bool) (old new : Shelf) (came : Prepared) (posted : Posted) → (lost ≡ true → asks_for_memory (verdict old came) came ≡ true)
+    → Follows (verdict old (treated_as lost came)) old (treated_as lost came) posted new → Posts old came posted new
+posts_by false old new came posted asked follows = inl follows
+posts_by true old new came posted asked follows = inr (asked refl, follows)
+
+-- so a message was posted
+pub receipt_posts : (old new : Shelf) (came : Prepared) (receipt : Receipt) → IsReceipt old came receipt new → Posts old came receipt.posted new
+receipt_posts old new came receipt g = posts_by receipt.lost old new came receipt.posted g.asked g.follows
+
+-- a link that accepts a message is up
+up_by : (down : Bool) (v w : Verdict) → cond down Discard v ≡ w → accepts w ≡ true → down ≡ false
+up_by true v w is takes = absurd (false≢true (ap accepts is ∙ takes))
+up_by false v w is takes = refl
+
+pub up_if : (s : Shelf) (came : Prepared) (v : Verdict) → verdict s came ≡ v → accepts v ≡ true → s.is_down ≡ false
+up_if s came v is takes = up_by s.is_down (arrived s came) v is takes
+
+-- entries that aren't none are some
+pub some_of : (entries : List Entry) → entries ≢ [] → are_some entries ≡ true
+some_of [] more = absurd (more refl)
+some_of (entry ∷ entries) more = refl

@@ -1,43 +1,44 @@
--- A message that a dialogue accepts, and one that opens a dialogue, keeps what a book keeps.
-use Rattle.std.proofs.Common.{◌≡◌, ℕ, ◌<◌, ◌≤◌, ◌+◌, ◌^◌, Bool, true, false, cond, not, ◌&&◌, ◌||◌, nat_lt, Option, Some, None, List, [], ◌++◌, length, take, is_some, refl, sym, ◌∙◌, ap, subst, arith, length-append, le_refl, ⊎_elim}
-use Rattle.std.proofs.lemmas.Bool.{and_from, and_parts, false≢true, lt-ltb, ltb-true, or_cases, or_left, or_right}
-use Rattle.std.proofs.lemmas.List.Sums.{count_by-le-length, sum_by-append}
+-- Messages that dialogues accept, that open one or end one, and dialogues that are closed: all that keeps what a book keeps.
+use Rattle.std.proofs.Common.{◌≡◌, ℕ, ◌<◌, ◌≤◌, ◌+◌, ◌^◌, Bool, true, false, cond, not, ◌&&◌, ◌||◌, nat_lt, Option, Some, None, List, [], ◌++◌, length, take, is_some, refl, sym, ◌∙◌, ap, subst, arith, length-append, zero-add, ⊎_elim, eqb, ◌⊎◌, ◌∷◌, length-take-le, take_all, append-nil, append_assoc, le_refl}
+use Rattle.std.proofs.lemmas.Bool.{false≢true, or_cases, or_left, or_right, and_left, and_right}
 use Rattle.std.specs.FinMap as map
-use Rattle.fp_book.proofs.Changes.{Change, Sound-change, admitted, count, entries_of, one, ready}
-use Rattle.fp_book.proofs.Queue.{count-append, count_joins_own}
-use Rattle.fp_book.proofs.Sums.{len-sum, sum-le}
-use Rattle.fp_book.proofs.Turns.{admitted_as, few_sent, frames_at, length_joined, none_gone, other_joined, own_after, own_joined, put_held, ready_at}
+use Rattle.fp_book.proofs.Changes.{Sound-change, admitted, one, one_if_most, ready, QueueChanges, link_stays, own_after}
+use Rattle.fp_book.proofs.Queue.{queue_joins, queue_leaves}
+use Rattle.fp_book.proofs.Sums.{len-sum, put_held, sum-le}
+use Rattle.fp_book.proofs.Turns.{Sound-stays, admitted_as, components_few, counts_of, few_sent, frames_at, held_dialogue, outbox_stays, ready_at}
 use Rattle.fp_book.specs.declared.answers.Posted.{Posted}
 use Rattle.fp_book.specs.declared.line.LoggedStep.{LoggedStep}
-use Rattle.fp_book.specs.Calls.{ExtendsDialogue, OpensDialogue, entries_in, joins, more_accepted, posted_line}
+use Rattle.fp_book.specs.Calls.{ExtendsDialogue, OpensDialogue, entries_in, joins, more_accepted, posted_line, ClosesDialogue, EndsDialogue, without}
 use Rattle.fp_book.specs.Log.{logged}
-use Rattle.fp_book.specs.Shelf.{Shelf, Sound, one_if, turns_of, unsent_for}
-use Rattle.fp_book.specs.Totals.{accepted_by, sum_of}
+use Rattle.fp_book.specs.Shelf.{Shelf, Sound, one_if, turns_of, frame_out, frames_for, unsent_for, with_dialogue}
+use Rattle.fp_book.specs.Totals.{sum_of, with_row}
 use Rattle.fp_entry.specs.declared.entry.Entry.{Entry}
 use Rattle.fp_entry.specs.declared.prepared.Prepared.{Prepared}
-use Rattle.fp_entry.specs.Entries.{component_count, is_from_component}
-use Rattle.fp_q773.specs.declared.tid.Tid.{Tid}
+use Rattle.fp_entry.specs.Entries.{component_count}
+use Rattle.fp_q773.specs.Tid.{Tid, octets_of}
+use Rattle.fp_row.proofs.Keeping.{ready_stays}
 use Rattle.fp_row.specs.declared.row.Row.{Row}
-use Rattle.fp_row.specs.Calls.{Extends}
-use Rattle.fp_row.specs.Row.{frames_of, is_admitted, is_closed, is_held, is_ready, kept_of, sent_of, waits}
+use Rattle.fp_row.specs.Calls.{Extends, Ends, FramesStay, IsSame, ended_by, sending}
+use Rattle.fp_row.specs.Row.{frames_of, is_admitted, is_closed, is_held, is_ready, kept_of, sent_of, waits, requests_of}
 use Rattle.fp_service.specs.Dialogue.{is_over}
 use Rattle.fp_service.specs.Laws.{AsksOnceAtMost}
 use Rattle.fp_tids.specs.Identifiers.{identifier}
+use Rattle.std.proofs.lemmas.List.{length-map, take-append-le}
+use Rattle.std.specs.Option.{option_map_or}
+use Rattle.fp_book.proofs.Unsent.{dropped_other, dropped_own, fewer, others}
+use Rattle.fp_book.specs.declared.parcel.Content.{Content}
+use Rattle.fp_book.specs.declared.parcel.Content.TheVariants as content
+use Rattle.fp_book.specs.Outbox.{without_frames_of}
+use Rattle.fp_book.specs.Sending.{is_frame_of}
+use Rattle.fp_row.specs.declared.ending.Ending.{Ending}
+use Rattle.fp_row.specs.declared.ending.Ending.TheVariants.{ByPeer, Closed}
+use Rattle.fp_reply.specs.Reply.{frame_of}
+use Rattle.fp_service.specs.declared.request.Request.{Request}
 
 -- entries that wait still wait where more come
 waits_more : (before after : Row) (more : List Entry) → Extends before more after → waits before ≡ true → waits after ≡ true
 waits_more before after more g h =
-    let a : (not (is_closed before.ended) ≡ true) × ((not (is_over before.core) && nat_lt before.served (length before.accepted)) ≡ true) =
-    and_parts (not (is_closed before.ended)) (not (is_over before.core) && nat_lt before.served (length before.accepted)) h in
-    let b : (not (is_over before.core) ≡ true) × (nat_lt before.served (length before.accepted) ≡ true) =
-    and_parts (not (is_over before.core)) (nat_lt before.served (length before.accepted)) a.1 in
-    let less : before.served < length before.accepted = ltb-true before.served (length before.accepted) b.1 in
-    let longer : length after.accepted ≡ length before.accepted + length more = ap length g.accepted ∙ length-append before.accepted more in
-    let then : after.served < length after.accepted = omega (arith, less, longer, g.stay.served) in
-    and_from (not (is_closed after.ended)) (not (is_over after.core) && nat_lt after.served (length after.accepted))
-    (ap (λ e. not (is_closed e)) g.ended ∙ a.0)
-    (and_from (not (is_over after.core)) (nat_lt after.served (length after.accepted))
-    (ap (λ c. not (is_over c)) g.stay.core ∙ b.0) (lt-ltb after.served (length after.accepted) then))
+    rw (g.ended, g.stay.core, g.stay.served) (ready_stays true (not (is_closed before.ended)) (not (is_over before.core)) before.served before.accepted more after.accepted g.accepted h)
 
 more_true : (a b c d : Bool) → (a ≡ true → c ≡ true) → (b ≡ true → d ≡ true) → (a || b) ≡ true → (c || d) ≡ true
 more_true a b c d f g h = ⊎_elim (λ e. or_left c d (f e)) (λ e. or_right c d (g e)) (or_cases a b h)
@@ -54,17 +55,6 @@ held_more before after more g h =
     (λ e. ap (λ n. nat_lt n after.kept) g.stay.sent ∙ ap (nat_lt before.sent) g.stay.kept ∙ e)))
     h
 
--- the components among the entries
-pub components_more : (before after : Row) (more : List Entry) → after.accepted ≡ before.accepted ++ more → accepted_by after ≡ accepted_by before + component_count more
-components_more before after more is =
-    ap component_count is ∙ sum_by-append (λ (entry : Entry). cond {A = ℕ} (is_from_component entry.kind) 1 0) before.accepted more
-
-pub components_few : (more : List Entry) → component_count more ≤ length more
-components_few more = count_by-le-length (λ (entry : Entry). is_from_component entry.kind) more
-
-pub entries_more : (before after : Row) (more : List Entry) → after.accepted ≡ before.accepted ++ more → entries_of after ≡ entries_of before + length more
-entries_more before after more is = ap length is ∙ length-append before.accepted more
-
 -- a dialogue that becomes ready joins the queue
 pub joined : (b a : Bool) → (b ≡ true → a ≡ true) → one_if b + one_if (not b && a) ≡ one_if a
 joined true true h = omega arith
@@ -72,16 +62,9 @@ joined true false h = absurd (false≢true (h refl))
 joined false true h = omega arith
 joined false false h = omega arith
 
-pub own_more : (s : Shelf) (local : ℕ) (more : Bool) (n m : ℕ) → count local s.ready ≡ n → n + one_if more ≡ m → count local (s.ready ++ joins local more) ≡ m
-own_more s local more n m was sum = count-append local s.ready (joins local more) ∙ ap (λ k. k + count local (joins local more)) was ∙ ap (λ k. n + k) (count_joins_own local more) ∙ sum
-
-one_most : (b : Bool) → one_if b ≤ 1
-one_most true = omega arith
-one_most false = omega arith
-
 -- fewer dialogues are admitted than there are
 pub few_admitted : (s : Shelf) → sum_of admitted s.rows ≤ map.len s.rows
-few_admitted s = omega (arith, len-sum s.rows, sum-le admitted one s.rows (λ row. one_most (is_admitted row)))
+few_admitted s = omega (arith, len-sum s.rows, sum-le admitted one s.rows (λ row. one_if_most (is_admitted row)))
 
 -- one that is there has accepted entries
 pub Sound-extended : AsksOnceAtMost → (old : Shelf) (local : ℕ) (before after : Row) (more : List Entry) (joins_it : Bool) (log : List LoggedStep) → Sound old → map.get old.rows local ≡ Some before
@@ -94,49 +77,11 @@ pub Sound-extended : AsksOnceAtMost → (old : Shelf) (local : ℕ) (before afte
       log = log;
     })
 Sound-extended law old l before after more joins_it log s was extends join limit =
-    let own = s.own l before was in
-    let then : Shelf = record old {
-      entries = old.entries + length more;
-      rows = map.insert old.rows l after;
-      ready = old.ready ++ joins l joins_it;
-      totals = more_accepted old.totals more;
-      log = log;
-    } in
-    let held : is_held after ≡ true = held_more before after more extends own.is_left in
-    let alike : admitted after ≡ admitted before = ap one_if (admitted_as before after extends.ended extends.stay.core) in
-    let turns_alike : turns_of after ≡ turns_of before = ap (λ b. cond {A = ℕ} b 1 0) extends.is_out in
-    let change : Change old then l (Some before) after =
-    record {
-      was = was;
-      rows = put_held old l after held;
-      gone = none_gone old after held;
-      link = refl;
-      given = le_refl old.given;
-      serials = s.serials;
-      births = s.births;
-      down = refl;
-      entries = omega (arith, limit, alike);
-      room = omega (arith, s.held);
-      own = own_after old then l before after own extends.same refl (le_refl old.given) (le_refl old.births)
-          (λ e. own.dropped (ap is_some (sym extends.ended) ∙ e)) (λ e. extends.ended ∙ own.closed e);
-      other_dropped = λ d ne e. e;
-      own_frames = ap (λ r. r ++ unsent_for l old.outbox) extends.stay.sent_frames ∙ frames_at old l (Some before) s was ∙ sym extends.stay.kept_frames;
-      other_frames = λ d ne. refl;
-      own_ready = own_more old l joins_it (ready before) (ready after) (ready_at old l (Some before) s was) join;
-      other_ready = λ d ne. other_joined old d l joins_it ne;
-      ready_length = omega (arith, length_joined old l joins_it, join);
-      places = omega (arith, s.places, turns_alike);
-      aborts = s.aborts;
-      quiet = s.quiet;
-      accepted = omega (arith, components_more before after more extends.accepted);
-      served = omega (arith, extends.stay.served);
-      sent = omega (arith, extends.stay.sent);
-      all_entries = omega (arith, entries_more before after more extends.accepted);
-      few_accepted = omega (arith, s.few_accepted, components_few more);
-      few_sent = few_sent law after;
-    }
-    in
-    Sound-change old then l (Some before) after s change
+    let held : is_held after ≡ true = held_more before after more extends (s.own l before was).is_left in
+    let queue = old.ready ++ joins l joins_it in
+    subst Sound (ap (λ (t : Shelf). record t { entries = old.entries + length more; ready = queue; totals = more_accepted old.totals more; log = log }) (held_dialogue old l after held))
+    (Sound-stays law old l before after more (old.entries + length more) (old.totals.accepted + component_count more) queue log s was extends.same extends.accepted extends.stay extends.ended
+    (queue_joins old.ready l joins_it (ready before) (ready after) (ready_at old l (Some before) s was) join) (omega (arith, s.places, ap (λ b. cond {A = ℕ} b 1 0) extends.is_out)) refl refl limit)
 
 pub Sound-extends : AsksOnceAtMost → (old new : Shelf) (local : ℕ) (came : Prepared) (answer : Posted) → Sound old → ExtendsDialogue old local came answer new → old.entries < 2 ^ 63
     → length (entries_in came) ≤ 17 → Sound new
@@ -152,7 +97,7 @@ fresh_by s (Some row) k e =
     let own = k.own (identifier s.link (s.given + 1)) row e in
     absurd (let most : own.serial.0 ≤ s.given = own.serial.2 in let same : identifier s.link (s.given + 1) ≡ identifier s.link own.serial.0 = own.serial.3 in omega arith)
 
-is_fresh : (s : Shelf) → Sound s → map.get s.rows (identifier s.link (s.given + 1)) ≡ None
+pub is_fresh : (s : Shelf) → Sound s → map.get s.rows (identifier s.link (s.given + 1)) ≡ None
 is_fresh s k = fresh_by s (map.get s.rows (identifier s.link (s.given + 1))) k refl
 
 pub Sound-opens : AsksOnceAtMost → (old new : Shelf) (peer : Tid) (came : Prepared) (answer : Posted) → Sound old → OpensDialogue old peer came answer new → old.is_down ≡ false → old.entries < 2 ^ 63
@@ -175,23 +120,15 @@ Sound-opens law old new peer came answer s g up room few places serial =
     let is_admitted_then : is_admitted after ≡ true =
     ap (λ e. not (is_some e) && not (is_over after.core)) not_ended ∙ ap (λ c. not (is_over c)) (g.extends.stay.core ∙ g.opens.core) in
     let held : is_held after ≡ true = or_left (is_admitted after) _ is_admitted_then in
-    let admits : admitted after ≡ 1 = ap one_if is_admitted_then in
     let no_turn : turns_of after ≡ 0 = ap (λ b. cond {A = ℕ} b 1 0) (g.extends.is_out ∙ g.opens.is_out) in
-    let none_sent : sent_of after ≡ [] = g.extends.stay.sent_frames ∙ ap (λ n. take n (frames_of g.opened)) g.opens.sent in
-    let none_kept : kept_of after ≡ [] = g.extends.stay.kept_frames ∙ ap (λ n. take n (frames_of g.opened)) g.opens.kept in
     let accepted_is : after.accepted ≡ more = g.extends.accepted ∙ ap (λ es. es ++ more) g.opens.accepted in
     let birth_is : after.birth ≡ old.births + 1 = g.extends.same.birth ∙ g.opens.birth_is in
-    let change : Change old then l None after =
-    record {
+    subst Sound (sym g.new_is) (Sound-change old then l None after s (record {
       was = was;
-      rows = put_held old l after held;
-      gone = none_gone old after held;
-      link = refl;
-      given = omega arith;
-      serials = serial;
-      births = omega (arith, s.births);
-      down = refl;
-      entries = omega (arith, room, few, few_admitted old, places, admits);
+      rows = put_held old.rows l after held;
+      gone = ap (λ b. cond b old.gone (with_row old.gone after)) (sym held);
+      link = record { link = refl; given = omega arith; serials = serial; births = omega (arith, s.births); down = refl };
+      entries = omega (arith, room, few, few_admitted old, places, ap one_if is_admitted_then);
       room = omega (arith, places);
       own = λ _. record {
         local_is = g.extends.same.local ∙ g.opens.local_is;
@@ -201,21 +138,170 @@ Sound-opens law old new peer came answer s g up room few places serial =
         dropped = λ e. absurd (false≢true (sym (ap is_some not_ended) ∙ e));
         closed = λ e. absurd (false≢true (sym up ∙ e));
       };
-      other_dropped = λ d ne e. e;
-      own_frames = ap (λ r. r ++ unsent_for l old.outbox) none_sent ∙ frames_at old l None s was ∙ sym none_kept;
-      other_frames = λ d ne. refl;
-      own_ready = own_joined old l (is_ready after) (ready_at old l None s was);
-      other_ready = λ d ne. other_joined old d l (is_ready after) ne;
-      ready_length = omega (arith, length_joined old l (is_ready after));
-      places = omega (arith, s.places, no_turn);
-      aborts = s.aborts;
-      quiet = s.quiet;
-      accepted = omega (arith, ap component_count accepted_is);
-      served = omega (arith, g.extends.stay.served, g.opens.served);
-      sent = omega (arith, g.extends.stay.sent, g.opens.sent);
-      all_entries = omega (arith, ap length accepted_is);
-      few_accepted = omega (arith, s.few_accepted, components_few more);
-      few_sent = few_sent law after;
-    }
-    in
-    subst Sound (sym g.new_is) (Sound-change old then l None after s change)
+      queue = queue_joins old.ready l (is_ready after) 0 (ready after) (ready_at old l None s was) (zero-add _);
+      outbox = outbox_stays old l None after s was (g.extends.stay.sent_frames ∙ ap (λ n. take n (frames_of g.opened)) g.opens.sent) (g.extends.stay.kept_frames ∙ ap (λ n. take n (frames_of g.opened)) g.opens.kept)
+          (omega (arith, s.places, no_turn));
+      counts = record {
+        accepted = omega (arith, ap component_count accepted_is);
+        served = omega (arith, g.extends.stay.served, g.opens.served);
+        sent = omega (arith, g.extends.stay.sent, g.opens.sent);
+        all_entries = omega (arith, ap length accepted_is);
+        few_accepted = omega (arith, s.few_accepted, components_few more);
+        few_sent = few_sent law after;
+      };
+    }))
+
+-- a frame of the dialogue is being sent: it is the one
+one_by : (local : ℕ) (own : Bool) (frame : List ℕ) → sending own ≡ length (cond own (frame ∷ []) [] ++ [])
+one_by local true frame = refl
+one_by local false frame = refl
+
+pub sending_count : (local : ℕ) (out : Option Content) → sending (is_frame_of local out) ≡ length (frame_out local out)
+sending_count local None = refl
+sending_count local (Some (content.Abort frame)) = refl
+sending_count local (Some (content.Frame w)) = one_by local (eqb w.local local) w.frame
+
+-- as many frames were sent as are counted
+pub sent_count : (row : Row) → length (sent_of row) ≡ row.sent
+sent_count row =
+    let count : length (frames_of row) ≡ length (requests_of row) = length-map (requests_of row) (λ (request : Request). frame_of request row.local (octets_of row.peer)) in
+    length-take-le row.sent (frames_of row) (omega (arith, row.queued_within, row.kept_within, row.sent_within))
+
+-- and as many are kept
+pub kept_count : (row : Row) → length (kept_of row) ≡ row.kept
+kept_count row =
+    let count : length (frames_of row) ≡ length (requests_of row) = length-map (requests_of row) (λ (request : Request). frame_of request row.local (octets_of row.peer)) in
+    length-take-le row.kept (frames_of row) (omega (arith, row.queued_within, row.kept_within))
+
+pub front : (n : ℕ) (xs ys zs : List (List ℕ)) → n ≡ length xs + length ys → take n (xs ++ (ys ++ zs)) ≡ xs ++ ys
+front n xs ys zs is =
+    let all : length (xs ++ ys) ≡ n = length-append xs ys ∙ sym is in
+    ap (take n) (sym (append_assoc xs ys zs)) ∙ take-append-le n (xs ++ ys) zs (omega (arith, all)) ∙ take_all n (xs ++ ys) (omega (arith, all))
+
+-- what is kept of the frames of a dialogue that is ended: what was sent, and what is being sent
+pub ended_frames : (s : Shelf) (local : ℕ) (row : Row) → sent_of row ++ unsent_for local s.outbox ≡ kept_of row
+    → sent_of row ++ frame_out local s.outbox.out ≡ take (row.sent + sending (is_frame_of local s.outbox.out)) (kept_of row)
+ended_frames s local row all =
+    let out = frame_out local s.outbox.out in
+    sym (ap (take (row.sent + sending (is_frame_of local s.outbox.out))) (sym all)
+    ∙ front (row.sent + sending (is_frame_of local s.outbox.out)) (sent_of row) out (frames_for local s.outbox.frames)
+    (omega (arith, sent_count row, sending_count local s.outbox.out)))
+
+-- a dialogue that is ended takes no messages
+some_ended : (ending : Ending) (ended : Option Ending) → is_some (ended_by ending ended) ≡ true
+some_ended ending None = refl
+some_ended ending (Some ByPeer) = refl
+some_ended ending (Some Closed) = refl
+
+pub none_admitted : (ending : Ending) (sends : Bool) (before after : Row) → Ends ending sends before after → is_admitted after ≡ false
+none_admitted ending sends before after g =
+    and_left (not (is_some after.ended)) (not (is_over after.core)) (ap (λ e. not (is_some e)) g.ended ∙ ap not (some_ended ending before.ended))
+
+-- one that its peer ended is served as before
+closed_as : (ended : Option Ending) → is_closed (ended_by ByPeer ended) ≡ is_closed ended
+closed_as None = refl
+closed_as (Some ByPeer) = refl
+closed_as (Some Closed) = refl
+
+served_on : (sends : Bool) (before after : Row) → Ends ByPeer sends before after → is_ready after ≡ is_ready before
+served_on sends before after g = rw (g.is_out, g.ended, closed_as before.ended, g.core, g.served, g.accepted) refl
+
+-- one that is closed is not served
+pub closed_then : (ended : Option Ending) → ended_by Closed ended ≡ Some Closed
+closed_then None = refl
+closed_then (Some ByPeer) = refl
+closed_then (Some Closed) = refl
+
+pub not_served : (sends : Bool) (before after : Row) → Ends Closed sends before after → is_ready after ≡ false
+not_served sends before after g =
+    and_right (not after.is_out) (waits after)
+    (and_left (not (is_closed after.ended)) (not (is_over after.core) && nat_lt after.served (length after.accepted))
+    (ap (λ e. not (is_closed e)) (g.ended ∙ closed_then before.ended)))
+
+same_both : (a b c : Row) → IsSame a b → IsSame b c → IsSame a c
+same_both a b c f g = record { local = g.local ∙ f.local; peer = g.peer ∙ f.peer; birth = g.birth ∙ f.birth; opened = g.opened ∙ f.opened }
+
+-- a dialogue accepts entries, or none, and is ended: its frames that wait are dropped
+Sound-ended : AsksOnceAtMost → (ending : Ending) (old : Shelf) (local : ℕ) (before middle after : Row) (more : List Entry) (entries accepted : ℕ) (queue : List ℕ) (log : List LoggedStep) → Sound old
+    → map.get old.rows local ≡ Some before → IsSame before middle → middle.accepted ≡ before.accepted ++ more → FramesStay before middle → middle.is_out ≡ before.is_out
+    → Ends ending (is_frame_of local old.outbox.out) middle after → (old.is_down ≡ true → after.ended ≡ Some Closed) → QueueChanges old.ready queue local (ready before) (ready after)
+    → entries ≡ old.entries + length more → accepted ≡ old.totals.accepted + component_count more → entries + sum_of admitted old.rows ≤ 2 ^ 63 + 8192 + admitted before
+    → Sound (record (with_dialogue old local after) {
+      entries = entries;
+      ready = queue;
+      outbox = without_frames_of local old.outbox;
+      totals = record old.totals { accepted = accepted };
+      log = log;
+    })
+Sound-ended law ending old l before middle after more entries accepted queue log s was same is stay out ends closed queued entries_are accepted_is limit =
+    let own = s.own l before was in
+    let then : Shelf = record (with_dialogue old l after) {
+      entries = entries;
+      ready = queue;
+      outbox = without_frames_of l old.outbox;
+      totals = record old.totals { accepted = accepted };
+      log = log;
+    } in
+    let all : sent_of middle ++ unsent_for l old.outbox ≡ kept_of middle =
+    ap (λ r. r ++ unsent_for l old.outbox) stay.sent_frames ∙ frames_at old l (Some before) s was ∙ sym stay.kept_frames in
+    Sound-change old then l (Some before) after s (record {
+      was = was;
+      rows = refl;
+      gone = refl;
+      link = link_stays old then s refl refl refl refl;
+      entries = omega (arith, limit, ap one_if (none_admitted ending (is_frame_of l old.outbox.out) middle after ends));
+      room = omega (arith, s.held);
+      own = own_after old then l before after own (same_both before middle after same ends.same) refl (le_refl old.given) (le_refl old.births) (λ e. dropped_own l old.outbox.frames) closed;
+      queue = queued;
+      outbox = record {
+        other_dropped = λ d ne e. dropped_other d l old.outbox.frames ne ∙ e;
+        own_frames =
+            ap (λ r. r ++ unsent_for l then.outbox) ends.sent_frames
+            ∙ ap (λ r. sent_of middle ++ (frame_out l old.outbox.out ++ r)) (dropped_own l old.outbox.frames)
+            ∙ ap (λ r. sent_of middle ++ r) (append-nil (frame_out l old.outbox.out))
+            ∙ ended_frames old l middle all ∙ sym ends.kept_frames;
+        other_frames = λ d ne. ap (λ r. frame_out d old.outbox.out ++ r) (dropped_other d l old.outbox.frames ne);
+        places = omega (arith, s.places, ap (λ b. cond {A = ℕ} b 1 0) (ends.is_out ∙ out), fewer l old.outbox.frames);
+        aborts = s.aborts;
+        quiet = λ e. ((s.quiet e).0, ap (others l) (s.quiet e).1);
+      };
+      counts = counts_of law old then before after more s (ends.accepted ∙ is) entries_are accepted_is (omega (arith, ends.served, stay.served)) (omega (arith, ends.sent, stay.sent));
+    })
+
+pub Sound-ends : AsksOnceAtMost → (old new : Shelf) (local : ℕ) (came : Prepared) (answer : Posted) → Sound old → EndsDialogue old local came answer new → option_map_or is_admitted (map.get old.rows local) false ≡ true
+    → ((old.entries < 2 ^ 63) × (length (entries_in came) ≤ 17)) ⊎ (length (entries_in came) ≤ 1) → Sound new
+Sound-ends law old new local came answer s g takes_more limit =
+    let more = entries_in came in
+    let join : ready g.before + one_if (not (is_ready g.before) && is_ready g.after) ≡ ready g.after =
+    joined (is_ready g.before) (is_ready g.after) (λ e. served_on (is_frame_of local old.outbox.out) g.extended g.after g.ends ∙ g.extends.ready_stays e) in
+    let was_admitted : admitted g.before ≡ 1 = ap one_if (sym (ap (λ o. option_map_or is_admitted o false) g.was) ∙ takes_more) in
+    let room : old.entries + length more + sum_of admitted old.rows ≤ 2 ^ 63 + 8192 + admitted g.before =
+    ⊎_elim (λ h. let room : old.entries < 2 ^ 63 = h.0 in let few : length more ≤ 17 = h.1 in omega (arith, few_admitted old, s.held)) (λ h. omega (arith, h, s.entries, was_admitted)) limit in
+    subst Sound (sym g.new_is)
+    (Sound-ended law ByPeer old local g.before g.extended g.after more (old.entries + length more) (old.totals.accepted + component_count more) (old.ready ++ joins local (not (is_ready g.before) && is_ready g.after))
+    (logged old.log (posted_line came answer)) s g.was g.extends.same g.extends.accepted g.extends.stay g.extends.is_out g.ends
+    (λ e. g.ends.ended ∙ ap (ended_by ByPeer) (g.extends.ended ∙ (s.own local g.before g.was).closed e))
+    (queue_joins old.ready local (not (is_ready g.before) && is_ready g.after) (ready g.before) (ready g.after) (ready_at old local (Some g.before) s g.was) join) refl refl room)
+
+-- nothing changed yet
+frames_same : (row : Row) → FramesStay row row
+frames_same row = record {
+  served = refl;
+  core = refl;
+  queued = refl;
+  kept = refl;
+  sent = refl;
+  all_frames = refl;
+  queued_frames = refl;
+  kept_frames = refl;
+  sent_frames = refl;
+}
+
+pub Sound-closes : AsksOnceAtMost → (old new : Shelf) (local : ℕ) → Sound old → ClosesDialogue old local new → Sound new
+Sound-closes law old new local s g =
+    let before = g.before in
+    subst Sound (sym g.new_is)
+    (Sound-ended law Closed old local before before g.after [] old.entries old.totals.accepted (without local old.ready) old.log s g.was (record { local = refl; peer = refl; birth = refl; opened = refl })
+    (sym (append-nil before.accepted)) (frames_same before) refl g.ends (λ e. g.ends.ended ∙ closed_then before.ended)
+    (queue_leaves old.ready local (ready before) (ready g.after) (ready_at old local (Some before) s g.was) (ap one_if (not_served (is_frame_of local old.outbox.out) before g.after g.ends)))
+    (omega arith) (omega arith) (omega (arith, s.entries)))

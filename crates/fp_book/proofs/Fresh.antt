@@ -1,12 +1,12 @@
 -- A book on which nothing came yet keeps what a book keeps.
-use Rattle.std.proofs.Common.{◌≡◌, ℕ, ◌<◌, [], ◌++◌, length, Option, Some, None, refl, sym, ◌∙◌, ap, arith}
+use Rattle.std.proofs.Common.{◌≡◌, ℕ, ◌<◌, [], ◌++◌, false, length, Option, Some, None, refl, sym, ◌∙◌, ap, subst, arith}
 use Rattle.std.specs.FinMap as map
 use Rattle.std.specs.Ordering.{nat_cmp}
-use Rattle.fp_book.specs.declared.book.Book.TheInside.{Inside}
 use Rattle.fp_book.proofs.Changes.{admitted, ready}
-use Rattle.fp_book.proofs.Kept.{Looks, kept_seen}
+use Rattle.fp_book.proofs.Kept.{leaves}
 use Rattle.fp_book.proofs.Sums.{sum-none}
-use Rattle.fp_book.specs.Shelf.{Sound, empty_shelf, of_row, ready_count, turns_of}
+use Rattle.fp_book.specs.Outbox.{nothing}
+use Rattle.fp_book.specs.Shelf.{Sound, empty_shelf, no_totals, of_row, ready_count, turns_of}
 use Rattle.fp_book.specs.Totals.{accepted_by, sent_by, served_by, sum_of}
 use Rattle.fp_book.specs.Views.{IsKept, deadline_at}
 use Rattle.fp_row.specs.declared.row.Row.{Row}
@@ -45,8 +45,20 @@ Sound-empty link lt = record {
 }
 
 -- a book whose parts are empty is such a one
-pub kept-empty : (b : Inside) (link : ℕ) → link < 8 → Looks b (empty_shelf link) → b.ids.link ≡ b.link → b.turns ≡ 0 → b.deadlines ≡ map.empty → IsKept b
-kept-empty b link lt looks links turns none =
-    kept_seen b (empty_shelf link) (Sound-empty link lt) looks links
-    (turns ∙ sym (ap (sum_of turns_of) looks.rows ∙ sum-empty turns_of))
-    (λ local. ap (λ m. map.get m local) none ∙ map.get-empty nat_cmp local ∙ sym (ap deadline_at (ap (λ m. map.get m local) looks.rows ∙ no_row local)))
+pub kept-empty : (link : ℕ) → link < 8 → IsKept (record {
+  link = link;
+  ids = record { link = link; given = 0 };
+  births = 0;
+  entries = 0;
+  rows = map.empty;
+  deadlines = map.empty;
+  ready = [];
+  outbox = nothing;
+  turns = 0;
+  totals = no_totals;
+  log = [];
+  is_down = false;
+})
+kept-empty link lt =
+    (leaves _ no_totals (λ s. s ≡ empty_shelf link) (λ s e. subst Sound (sym e) (Sound-empty link lt)) refl refl (sym (sum-empty turns_of))
+    (λ local. map.get-empty nat_cmp local ∙ sym (ap deadline_at (no_row local)))).kept

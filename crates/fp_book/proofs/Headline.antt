@@ -1,20 +1,57 @@
--- What was sent of a dialogue, and what is to be sent, are the frames of what its served entries request.
-use Rattle.std.proofs.Common.{◌≡◌, ℕ, ◌++◌, List, Option, drop, ◌∙◌, ap, subst}
+-- What the type of a book keeps of each dialogue that is held.
+use Rattle.std.proofs.Common.{◌≡◌, ◌≢◌, ℕ, ◌++◌, Bool, true, false, cond, List, Option, Some, None, IsSome, length, take, drop, refl, sym, ◌∙◌, ap, subst}
 use Rattle.std.proofs.lemmas.List.{take-append-drop}
-use Rattle.fp_book.specs.Laws.{FramesGoOutInOrder}
+use Rattle.std.specs.Prelude.{option_map}
+use mathlib.Core.List.{IsPrefix}
+use Rattle.fp_book.specs.Laws.{DialoguesAreKeptInOrder, entry_in, frames_under}
 use Rattle.fp_book.specs.Shelf.{of_row, unsent_for}
+use Rattle.fp_entry.specs.declared.entry.Entry.{Entry}
 use Rattle.fp_row.specs.declared.row.Row.{Row}
-use Rattle.fp_row.specs.Laws.{RowsKeepTheirOrder}
-use Rattle.fp_row.specs.Row.{frames_of, kept_of, sent_of}
+use Rattle.fp_row.specs.declared.turn.Turn.{Turn}
+use Rattle.fp_row.specs.Laws.{KeepsOrder, RowsKeepTheirOrder}
+use Rattle.fp_row.specs.Row.{entry_out, frames_of, kept_of, requests_of, sent_of, served_of, turn_of, turn_out, unserved, waiting_of}
 
--- they are those that are kept of it, and all are kept where nothing ended it from outside
-pub frames_in_order : RowsKeepTheirOrder → FramesGoOutInOrder
-frames_in_order law s sound local row there =
+-- a turn that is out has the parts of its dialogue
+turn_by : (row : Row) (out : Bool) (o : Option Entry) (turn : Turn) → cond out (option_map (turn_of row) o) None ≡ Some turn → turn ≡ turn_of row turn.entry
+turn_by row true (Some entry) turn e =
+    let is : turn_of row entry ≡ turn = cc in
+    sym is ∙ ap (λ (t : Turn). turn_of row t.entry) is
+turn_by row true None turn e = absurd (cc)
+turn_by row false o turn e = absurd (cc)
+
+-- its entry is the one that is out
+entry_by : (row : Row) (o : Option Turn) → turn_out row ≡ o → KeepsOrder row → (out : Bool) → row.is_out ≡ out → entry_out row ≡ entry_in o
+entry_by row (Some turn) is order out b = order.turn turn is
+entry_by row None is order true b = absurd (order.next b is)
+entry_by row None is order false b = ap (λ (b : Bool). take (cond {A = ℕ} b 1 0) (unserved row)) b
+
+some_by : (o : Option Turn) → o ≢ None → IsSome o
+some_by None none = absurd (none refl)
+some_by (Some turn) none = refl
+
+-- each is kept in order
+pub kept_in_order : RowsKeepTheirOrder → DialoguesAreKeptInOrder
+kept_in_order law s sound local row there =
+    let order = law row in
+    let own : row.local ≡ local = (sound.own local row there).local_is in
+    let entries : entry_out row ≡ entry_in (turn_out row) = entry_by row (turn_out row) refl order row.is_out refl in
     let kept : sent_of row ++ unsent_for local s.outbox ≡ kept_of row =
     subst (λ (o : Option Row). of_row sent_of o ++ unsent_for local s.outbox ≡ of_row kept_of o) there (sound.frames local)
     in
+    let framed : frames_of row ≡ frames_under local row.peer (requests_of row) = ap (λ l. frames_under l row.peer (requests_of row)) own in
     let rest = drop row.kept (frames_of row) in
     record {
-      front = (rest, ap (λ (frames : List (List ℕ)). frames ++ rest) kept ∙ take-append-drop row.kept (frames_of row));
-      whole = λ none. kept ∙ (law row).all_kept none;
+      local_is = own;
+      served = order.served;
+      core = order.core;
+      turn = λ turn is.
+          turn_by row row.is_out _ turn is
+          ∙ ap (λ l. record { local = l; peer = row.peer; position = row.served; entry = turn.entry; before = row.core }) own
+          ∙ ap (λ n. record { local = local; peer = row.peer; position = n; entry = turn.entry; before = row.core }) (sym order.served_count)
+          ∙ ap (λ core. record { local = local; peer = row.peer; position = length (served_of row); entry = turn.entry; before = core }) order.core;
+      is_there = λ out. some_by (turn_out row) (order.next out);
+      entries = subst (λ e. IsPrefix (served_of row ++ (e ++ waiting_of row)) row.accepted) entries order.parts;
+      all_entries = λ taken live. ap (λ e. served_of row ++ (e ++ waiting_of row)) (sym entries) ∙ order.whole taken live;
+      frames = subst (IsPrefix _) framed (rest, ap (λ (frames : List (List ℕ)). frames ++ rest) kept ∙ take-append-drop row.kept (frames_of row));
+      all_frames = λ none. kept ∙ order.all_kept none ∙ framed;
     }

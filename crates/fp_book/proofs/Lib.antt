@@ -4,10 +4,6 @@ pub mod Clocks
 mod Closes
 mod Counts
 mod Downs
-mod Drains
-mod Drops
-mod Dues
-mod Ends
 mod Extends
 pub mod Fits
 mod Fresh
@@ -15,17 +11,11 @@ mod Grows
 mod Headline
 pub mod Kept
 mod Lines
-mod Opens
 pub mod Posts
 pub mod Queue
-mod Readable
-mod Refusals
 mod Sends
-mod Serves
 pub mod Sums
 pub mod Tells
 mod Ticks
 pub mod Turns
 pub mod Unsent
-mod Unsents
-mod Verdicts

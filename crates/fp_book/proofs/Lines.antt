@@ -1,7 +1,8 @@
--- What is done with a message is what the first line says that fits.
-use Rattle.std.proofs.Common.{◌≡◌, ℕ, ◌+◌, ◌≤◌, ◌<◌, ◌^◌, Bool, true, false, cond, ◌||◌, List, [], ◌∷◌, ◌++◌, nat_eq, nat_le, nat_lt, Option, Some, None, IsSome, is_none, length, refl, sym, ◌∙◌, ap, arith}
+-- What is done with a message is what the first line says that fits; what holds of each message that was read.
+use Rattle.std.proofs.Common.{◌≡◌, ℕ, ◌+◌, ◌≤◌, ◌<◌, ◌^◌, Bool, true, false, cond, ◌||◌, List, [], ◌∷◌, ◌++◌, nat_eq, nat_le, nat_lt, Option, Some, None, IsSome, is_none, length, refl, sym, ◌∙◌, ap, arith, ◌≢◌, suc, option_map, length-append}
 use Rattle.std.proofs.lemmas.Bool.{false≢true, lt-ltb, ltb-true}
 use Rattle.std.proofs.lemmas.List.Sums.{sum_by-append}
+use Rattle.std.proofs.Math.Bool.{or-false, or_assoc, or_comm}
 use Rattle.std.specs.Option.{option_map_or}
 use Rattle.std.specs.FinMap as map
 use Rattle.fp_book.specs.declared.verdict.Verdict.{Verdict}
@@ -15,15 +16,20 @@ use Rattle.fp_entry.specs.declared.fault.Fault.{Fault}
 use Rattle.fp_entry.specs.declared.incoming.Incoming.{Incoming}
 use Rattle.fp_entry.specs.declared.prepared.Prepared.{Prepared}
 use Rattle.fp_entry.specs.declared.prepared.Prepared.TheVariants.{Message, Refused, Lost}
-use Rattle.fp_entry.specs.Entries.{place_count, takes_a_place}
+use Rattle.fp_entry.specs.Entries.{place_count, takes_a_place, AreEntries, AreGiven, Delivers, entry_at}
 use Rattle.fp_q773.specs.declared.kind.Kind.{Kind}
 use Rattle.fp_q773.specs.declared.kind.Kind.TheVariants.{Unidirectional, Begin, End, Continue, Abort, Unknown}
 use Rattle.fp_q773.specs.declared.provider_abort.AbortCause.TheVariants as cause
-use Rattle.fp_q773.specs.declared.tid.Tid.{Tid}
-use Rattle.fp_row.specs.declared.ending.Ending.{Ending}
-use Rattle.fp_row.specs.declared.ending.Ending.TheVariants.{ByPeer}
+use Rattle.fp_q773.specs.Tid.{Tid, octets_of}
 use Rattle.fp_row.specs.declared.row.Row.{Row}
 use Rattle.fp_row.specs.Row.{places_taken, unserved}
+use Rattle.fp_entry.specs.declared.entry.EntryKind.TheVariants.{Opened, PeerEnd}
+use Rattle.fp_entry.specs.Delivered.{delivered}
+use Rattle.fp_entry.specs.Incoming.{element_count}
+use Rattle.fp_q773.specs.Ids.{destination_identifier, message_kind, originating_identifier}
+use Rattle.fp_q773.specs.Laws.{IdentifiersAreThoseOfTheMessage, IdsAreOne, SameIds}
+use Rattle.fp_q773.specs.Value.{ComponentValue, MessageValue, is_faulty, unidirectional, begin, end, continuing, abort}
+use Rattle.fp_records.specs.Table.{Contents}
 
 -- on a link that is up
 abbrev up : Shelf → Shelf
@@ -32,23 +38,15 @@ up s = record s { is_down = false }
 -- what the first lines decide on a message that is lost, whatever others stand behind them
 lost_line : (s : Shelf) (arrival : Arrival) (others : List (Bool × Verdict)) (kind : Kind) (dialogue : Option ℕ)
     → lost_of kind dialogue ≡ first_that_fits (first_lines (up s) (Lost arrival) kind dialogue ++ others)
-lost_line s arrival others Unidirectional dialogue = refl
-lost_line s arrival others Begin dialogue = refl
 lost_line s arrival others Continue None = refl
 lost_line s arrival others Continue (Some local) = refl
-lost_line s arrival others End dialogue = refl
-lost_line s arrival others Abort dialogue = refl
-lost_line s arrival others Unknown dialogue = refl
+lost_line s arrival others kind dialogue = refl
 
 -- so on octets that are no message that is taken
 refused_line : (s : Shelf) (arrival : Arrival) (fault : Fault) (others : List (Bool × Verdict)) (kind : Kind) (dialogue : Option ℕ)
     → refused_of kind dialogue ≡ first_that_fits (first_lines (up s) (Refused arrival fault) kind dialogue ++ others)
 refused_line s arrival fault others Unidirectional dialogue = refl
-refused_line s arrival fault others Begin dialogue = refl
-refused_line s arrival fault others Continue dialogue = refl
-refused_line s arrival fault others End dialogue = refl
-refused_line s arrival fault others Abort dialogue = refl
-refused_line s arrival fault others Unknown dialogue = refl
+refused_line s arrival fault others kind dialogue = refl
 
 -- where one of several reasons is there it is refused, in whatever order they are looked for
 reasons_of_begin : (elements entries rows serials full places : Bool) (away taken : Verdict)
@@ -57,27 +55,15 @@ reasons_of_begin : (elements entries rows serials full places : Bool) (away take
 reasons_of_begin true true rows serials full places away taken = refl
 reasons_of_begin true false rows serials full places away taken = refl
 reasons_of_begin false true rows serials full places away taken = refl
-reasons_of_begin false false true serials true true away taken = refl
-reasons_of_begin false false true serials true false away taken = refl
-reasons_of_begin false false true serials false true away taken = refl
-reasons_of_begin false false true serials false false away taken = refl
-reasons_of_begin false false false true true true away taken = refl
-reasons_of_begin false false false true true false away taken = refl
-reasons_of_begin false false false true false true away taken = refl
-reasons_of_begin false false false true false false away taken = refl
-reasons_of_begin false false false false true true away taken = refl
-reasons_of_begin false false false false true false away taken = refl
-reasons_of_begin false false false false false true away taken = refl
-reasons_of_begin false false false false false false away taken = refl
+reasons_of_begin false false rows serials full places away taken =
+    ap (λ b. cond b away taken) (or_comm (rows || (serials || full)) places ∙ ap (λ b. places || b) (sym (or_assoc rows serials full) ∙ or_comm (rows || serials) full))
 
 reasons_of_more : (elements entries places full : Bool) (away taken : Verdict)
     → cond ((elements || entries) || (places || full)) away taken ≡ cond entries away (cond (elements || (places || (full || false))) away taken)
 reasons_of_more true true places full away taken = refl
 reasons_of_more true false places full away taken = refl
 reasons_of_more false true places full away taken = refl
-reasons_of_more false false true full away taken = refl
-reasons_of_more false false false true away taken = refl
-reasons_of_more false false false false away taken = refl
+reasons_of_more false false places full away taken = ap (λ b. cond (places || b) away taken) (sym (or-false full))
 
 -- the places of a dialogue, with those that more entries take, are those of all of them
 places_of_all : (o : Option Row) (entries : List Entry) → option_map_or places_taken o 0 + place_count entries ≡ place_count (of_row unserved o ++ entries)
@@ -104,34 +90,33 @@ begin_line s incoming (Some peer) =
     ∙ reasons_of_begin many long held given full (nat_lt 64 (place_count incoming.entries)) away (Open peer)
 
 -- what they say of a Continue or an End of an admitted dialogue
-more_line : (s : Shelf) (local : ℕ) (ending : Option Ending) (incoming : Incoming)
-    → more_of s local ending incoming
+more_line : (s : Shelf) (local : ℕ) (ends : Bool) (incoming : Incoming)
+    → more_of s local ends incoming
     ≡ cond (nat_lt 17 (length incoming.entries)) (Refuse (Some cause.ResourceLimitation) (Some local))
     (cond (nat_lt 16 incoming.elements || (nat_lt 64 (place_count (unserved_in s (Some local) ++ incoming.entries)) || (nat_le (2 ^ 63) s.entries || false)))
     (Refuse (Some cause.ResourceLimitation) (Some local))
-    (Extend local ending))
-more_line s local ending incoming =
+    (Extend local ends))
+more_line s local ends incoming =
     let many = nat_lt 16 incoming.elements in
     let long = nat_lt 17 (length incoming.entries) in
     let full = nat_le (2 ^ 63) s.entries in
     let all = place_count (unserved_in s (Some local) ++ incoming.entries) in
     let away : Verdict = Refuse (Some cause.ResourceLimitation) (Some local) in
-    ap (λ (n : ℕ). cond ((many || long) || (nat_lt 64 n || full)) away (Extend local ending)) (places_of_all (map.get s.rows local) incoming.entries)
-    ∙ reasons_of_more many long (nat_lt 64 all) full away (Extend local ending)
+    ap (λ (n : ℕ). cond ((many || long) || (nat_lt 64 n || full)) away (Extend local ends)) (places_of_all (map.get s.rows local) incoming.entries)
+    ∙ reasons_of_more many long (nat_lt 64 all) full away (Extend local ends)
 
 -- what they say of a readable message
 message_line : (s : Shelf) (arrival : Arrival) (incoming : Incoming) (kind : Kind) (dialogue : Option ℕ)
     → message_of s arrival.ids incoming kind dialogue
     ≡ first_that_fits (first_lines (up s) (Message arrival incoming) kind dialogue ++ (own_tests (Message arrival incoming) kind dialogue ++ last_lines s (Message arrival incoming) kind dialogue))
-message_line s arrival incoming Unidirectional dialogue = refl
 message_line s arrival incoming Begin dialogue = begin_line s incoming arrival.ids.orig
 message_line s arrival incoming Continue None = refl
-message_line s arrival incoming Continue (Some local) = more_line s local None incoming
+message_line s arrival incoming Continue (Some local) = more_line s local false incoming
 message_line s arrival incoming End None = refl
-message_line s arrival incoming End (Some local) = more_line s local (Some ByPeer) incoming
+message_line s arrival incoming End (Some local) = more_line s local true incoming
 message_line s arrival incoming Abort None = refl
 message_line s arrival incoming Abort (Some local) = refl
-message_line s arrival incoming Unknown dialogue = refl
+message_line s arrival incoming kind dialogue = refl
 
 -- what is done with what came is what the first line says that fits
 pub first_line_decides : MessagesGetTheirLine
@@ -183,13 +168,13 @@ unasked s arrival incoming is Begin dialogue e =
 unasked s arrival incoming is Continue dialogue e =
     covered (nat_lt 17 (length incoming.entries)) (nat_lt 16 incoming.elements)
     (nat_lt 64 (place_count (unserved_in s dialogue ++ incoming.entries)) || (nat_le (2 ^ 63) s.entries || false))
-    (Refuse (Some cause.ResourceLimitation) dialogue) (option_map_or (λ local. Extend local None) dialogue Discard) (many_by arrival incoming is)
+    (Refuse (Some cause.ResourceLimitation) dialogue) (option_map_or (λ local. Extend local false) dialogue Discard) (many_by arrival incoming is)
 unasked s arrival incoming is End dialogue e =
     covered (nat_lt 17 (length incoming.entries)) (nat_lt 16 incoming.elements)
     (nat_lt 64 (place_count (unserved_in s dialogue ++ incoming.entries)) || (nat_le (2 ^ 63) s.entries || false))
-    (Refuse (Some cause.ResourceLimitation) dialogue) (option_map_or (λ local. Extend local (Some ByPeer)) dialogue Discard) (many_by arrival incoming is)
+    (Refuse (Some cause.ResourceLimitation) dialogue) (option_map_or (λ local. Extend local true) dialogue Discard) (many_by arrival incoming is)
 unasked s arrival incoming is Abort dialogue e =
-    ap (λ (n : ℕ). cond (nat_lt 1 n) (Refuse None dialogue) (option_map_or (λ local. Extend local (Some ByPeer)) dialogue Discard)) (is.aborts e)
+    ap (λ (n : ℕ). cond (nat_lt 1 n) (Refuse None dialogue) (option_map_or (λ local. Extend local true) dialogue Discard)) (is.aborts e)
 unasked s arrival incoming is Unknown dialogue e = absurd (is.known e)
 
 -- so the seven lines alone decide on what a frame is prepared to
@@ -209,3 +194,80 @@ seven_decide law contents contexts octets moment s (Lost arrival) is =
     let kind = arrival.ids.kind in
     let dialogue = named s arrival.ids in
     ap (λ (v : Verdict). cond s.is_down Discard v) (lost_line s arrival (last_lines s (Lost arrival) kind dialogue) kind dialogue)
+
+-- as many entries are given as components are delivered
+given_length : (contents : Contents) (moment : ℕ) (components : List ComponentValue) (entries : List Entry) → AreGiven contents moment components entries
+    → length entries ≡ length components
+given_length contents moment [] [] given = refl
+given_length contents moment [] (entry ∷ entries) given = absurd given
+given_length contents moment (component ∷ components) [] given = absurd given
+given_length contents moment (component ∷ components) (entry ∷ entries) given = ap (λ (n : ℕ). suc n) (given_length contents moment components entries given.2)
+
+-- and no more are delivered than there are
+delivered_length : (components : List ComponentValue) → length (delivered components) ≤ length components
+delivered_length [] = omega arith
+delivered_length (component ∷ others) = by_fault (is_faulty component) component others (delivered_length others) where
+  by_fault : (test : Bool) (component : ComponentValue) (others : List ComponentValue) → length (delivered others) ≤ length others
+      → length (cond test (component ∷ []) (component ∷ delivered others)) ≤ length (component ∷ others)
+  by_fault true component others few = omega arith
+  by_fault false component others few = omega arith
+
+delivers_length : (contents : Contents) (moment : ℕ) (components : List ComponentValue) (before entries : List Entry) → Delivers contents moment components before entries
+    → length entries ≤ length before + length components
+delivers_length contents moment components before entries given =
+    let all = ap length given.2 ∙ length-append before given.0 in
+    let same = given_length contents moment (delivered components) given.0 given.1 in
+    omega (arith, all, same, delivered_length components)
+
+-- one entry for each element at most, and one more
+entries_few : (contents : Contents) (contexts : List (List ℕ)) (moment : ℕ) (message : MessageValue) (entries : List Entry) → AreEntries contents contexts moment message entries
+    → length entries ≤ element_count message + 1
+entries_few contents contexts moment unidirectional entries is = omega (arith, ap length is)
+entries_few contents contexts moment (begin originating dialogue components) entries is =
+    omega (arith, delivers_length contents moment components (entry_at moment (Opened is.0) ∷ []) entries is.2)
+entries_few contents contexts moment (end destination dialogue components) entries is =
+    let before = delivers_length contents moment components [] is.0 is.1 in
+    omega (arith, before, ap length is.2 ∙ length-append is.0 (entry_at moment PeerEnd ∷ []))
+entries_few contents contexts moment (continuing originating destination dialogue components) entries is =
+    omega (arith, delivers_length contents moment components [] entries is)
+entries_few contents contexts moment (abort destination reason) entries is = omega (arith, ap length is)
+
+-- an Abort brings one
+abort_one : (contents : Contents) (contexts : List (List ℕ)) (moment : ℕ) (message : MessageValue) (entries : List Entry) → AreEntries contents contexts moment message entries
+    → message_kind message ≡ Abort → length entries ≡ 1
+abort_one contents contexts moment (abort destination reason) entries is e = ap length is
+abort_one contents contexts moment message entries is e = absurd (cc)
+
+-- no message is of an unknown kind
+kind_known : (message : MessageValue) → message_kind message ≢ Unknown
+kind_known unidirectional e = absurd (cc)
+kind_known message e = absurd (cc)
+
+tid_there : (o : Option Tid) (octets : List ℕ) → option_map octets_of o ≡ Some octets → IsSome o
+tid_there None octets e = absurd (cc)
+tid_there (Some tid) octets e = refl
+
+-- a Begin has an originating identifier
+begin_there : (message : MessageValue) (o : Option Tid) → option_map octets_of o ≡ originating_identifier message → message_kind message ≡ Begin → IsSome o
+begin_there (begin originating dialogue components) o same e = tid_there o originating same
+begin_there message o same e = absurd (cc)
+
+-- what holds of a message that was read, by what is known of all octets
+pub read_messages : IdentifiersAreThoseOfTheMessage → IdsAreOne → ReadMessagesHaveFewEntries
+read_messages of_message one contents contexts octets moment arrival incoming is =
+    let brings = is.is_reading in
+    let element = brings.0 in
+    let message = brings.1 in
+    let spelled = brings.2 in
+    let is_message = brings.3 in
+    let came = brings.4 in
+    let same : SameIds arrival.ids.kind (message_kind message) (option_map octets_of arrival.ids.orig) (originating_identifier message) (option_map octets_of arrival.ids.dest) (destination_identifier message) =
+    one octets arrival.ids.kind (message_kind message) (option_map octets_of arrival.ids.orig) (originating_identifier message)
+    (option_map octets_of arrival.ids.dest) (destination_identifier message) is.is_arrival.has_ids (of_message octets element message spelled.0 is_message)
+    in
+    record {
+      known = λ e. kind_known message (sym same.kinds ∙ e);
+      begins = λ e. begin_there message arrival.ids.orig same.originating (sym same.kinds ∙ e);
+      aborts = λ e. abort_one contents contexts moment message incoming.entries came.are_entries (sym same.kinds ∙ e);
+      few = omega (arith, entries_few contents contexts moment message incoming.entries came.are_entries, came.are_elements);
+    }

@@ -1,15 +1,14 @@
 -- A message that is posted keeps what a book keeps, whatever is done with it.
 use Rattle.std.proofs.Common.{◌≡◌, ◌≢◌, ℕ, ◌<◌, ◌+◌, ◌^◌, Bool, true, false, cond, ⊎_elim, nat_lt, Option, Some, None, List, [], ◌∷◌, ◌++◌, length, refl, sym, ◌∙◌, ap, subst, arith, length-append, le_refl}
 use Rattle.std.proofs.lemmas.Bool.{false≢true, ltb-true}
-use Rattle.fp_book.proofs.Ends.{Sound-closes, Sound-ends}
-use Rattle.fp_book.proofs.Extends.{Sound-extends, Sound-opens}
-use Rattle.fp_book.proofs.Fits.{CanEnd, Fits, verdict_fits}
+use Rattle.fp_book.proofs.Extends.{Sound-closes, Sound-ends, Sound-extends, Sound-opens}
+use Rattle.fp_book.proofs.Fits.{Allowed, verdict_allowed}
 use Rattle.fp_book.proofs.Sends.{Sound-outbox, WaitsAlike}
 use Rattle.fp_book.specs.declared.answers.Posted.{Posted}
 use Rattle.fp_book.specs.declared.line.LoggedStep.{LoggedStep}
 use Rattle.fp_book.specs.declared.verdict.Verdict.{Verdict}
 use Rattle.fp_book.specs.declared.verdict.Verdict.TheVariants.{Discard, Refuse, Open, Extend}
-use Rattle.fp_book.specs.Calls.{Answers, ClosesOne, Discards, EndsDialogue, Follows, Posts, Queues, Refuses, abort_for, posted_line}
+use Rattle.fp_book.specs.Calls.{Answers, ClosesOne, Discards, Follows, Posts, Queues, Refuses, abort_for, posted_line}
 use Rattle.fp_book.specs.Log.{logged}
 use Rattle.fp_book.specs.Outbox.{Outbox, frames_held}
 use Rattle.fp_book.specs.Shelf.{Shelf, Sound}
@@ -18,8 +17,7 @@ use Rattle.fp_entry.specs.declared.prepared.Prepared.{Prepared}
 use Rattle.fp_entry.specs.declared.prepared.Prepared.TheVariants as prepared
 use Rattle.fp_entry.specs.Prepared.{arrival_of}
 use Rattle.fp_q773.specs.declared.provider_abort.AbortCause.{AbortCause}
-use Rattle.fp_q773.specs.declared.tid.Tid.{Tid}
-use Rattle.fp_row.specs.declared.ending.Ending.{Ending}
+use Rattle.fp_q773.specs.Tid.{Tid}
 use Rattle.fp_service.specs.Laws.{AsksOnceAtMost}
 
 -- a line is logged, and nothing else changes
@@ -30,18 +28,9 @@ Sound-discards : (old new : Shelf) (came : Prepared) (answer : Posted) → Sound
 Sound-discards old new came answer s g = subst Sound (sym g.new_is) (Sound-logs old (logged old.log (posted_line came answer)) s)
 
 -- the dialogue that is closed, if one is, leaves as many Aborts
-record Closing (old closed : Shelf) : Type 0 where
-  sound : Sound closed
-  aborts : closed.outbox.aborts ≡ old.outbox.aborts
-  down : closed.is_down ≡ old.is_down
-
-closing : AsksOnceAtMost → (old closed : Shelf) (closes : Option ℕ) → Sound old → ClosesOne old closes closed → Closing old closed
-closing law old closed None s e = record { sound = subst Sound (sym e) s; aborts = ap (λ (t : Shelf). t.outbox.aborts) e; down = ap (λ (t : Shelf). t.is_down) e }
-closing law old closed (Some local) s g = record {
-  sound = Sound-closes law old closed local s g;
-  aborts = ap (λ (t : Shelf). t.outbox.aborts) g.new_is;
-  down = ap (λ (t : Shelf). t.is_down) g.new_is;
-}
+closing : AsksOnceAtMost → (old closed : Shelf) (closes : Option ℕ) → Sound old → ClosesOne old closes closed → Sound closed × (closed.outbox.aborts ≡ old.outbox.aborts) × (closed.is_down ≡ old.is_down)
+closing law old closed None s e = (subst Sound (sym e) s, ap (λ (t : Shelf). t.outbox.aborts) e, ap (λ (t : Shelf). t.is_down) e)
+closing law old closed (Some local) s g = (Sound-closes law old closed local s g, ap (λ (t : Shelf). t.outbox.aborts) g.new_is, ap (λ (t : Shelf). t.is_down) g.new_is)
 
 -- an Abort is sent only while there is a place for it
 room_by : (waiting : ℕ) (b : Bool) (o : Option (Tid × AbortCause)) (p : Tid × AbortCause) → nat_lt waiting 64 ≡ b → cond b o None ≡ Some p → waiting < 64
@@ -78,33 +67,28 @@ Sound-refuses law old new cause closes came answer s up g =
     let closed = closing law old g.closed closes s g.closing in
     let abort = abort_for (length old.outbox.aborts) cause (arrival_of came).ids.orig in
     let answered : Sound g.answered =
-    Sound-answers g.closed g.answered closes abort answer closed.sound (closed.down ∙ up)
-    (λ p e. let few : length old.outbox.aborts < 64 = room_for (length old.outbox.aborts) cause (arrival_of came).ids.orig p e in omega (arith, ap length closed.aborts))
+    Sound-answers g.closed g.answered closes abort answer closed.0 (closed.2 ∙ up)
+    (λ p e. let few : length old.outbox.aborts < 64 = room_for (length old.outbox.aborts) cause (arrival_of came).ids.orig p e in omega (arith, ap length closed.1))
     g.answering
     in
     subst Sound (sym g.new_is) (Sound-logs g.answered (logged g.answered.log (posted_line came answer)) answered)
-
-ends_by : AsksOnceAtMost → (old new : Shelf) (local : ℕ) (ending : Ending) (came : Prepared) (answer : Posted) → Sound old → CanEnd old local ending came
-    → EndsDialogue old local ending came answer new → Sound new
-ends_by law old new local ending came answer s can g =
-    Sound-ends law old new local came answer s (subst (λ e. EndsDialogue old local e came answer new) can.by_peer g) can.admitted can.limit
 
 opens_by : (s : Shelf) → Sound s → s.given + 1 ≢ 2 ^ 29 → s.given + 1 < 2 ^ 29
 opens_by s k other = let few : s.given < 2 ^ 29 = k.serials in omega (arith, other)
 
 -- what is done with a message, by its verdict
-Sound-follows : AsksOnceAtMost → (old new : Shelf) (came : Prepared) (answer : Posted) (v : Verdict) → Sound old → Fits old came v → Follows v old came answer new → Sound new
+Sound-follows : AsksOnceAtMost → (old new : Shelf) (came : Prepared) (answer : Posted) (v : Verdict) → Sound old → Allowed old came v → Follows v old came answer new → Sound new
 Sound-follows law old new came answer Discard s fits g = Sound-discards old new came answer s g
-Sound-follows law old new came answer (Refuse cause closes) s fits g = Sound-refuses law old new cause closes came answer s fits g
+Sound-follows law old new came answer (Refuse cause closes) s fits g = Sound-refuses law old new cause closes came answer s fits.up g
 Sound-follows law old new came answer (Open peer) s fits g = Sound-opens law old new peer came answer s g fits.up fits.grow.room fits.grow.few fits.rows (opens_by old s fits.serials)
-Sound-follows law old new came answer (Extend local None) s fits g = Sound-extends law old new local came answer s g fits.room fits.few
-Sound-follows law old new came answer (Extend local (Some ending)) s fits g = ends_by law old new local ending came answer s fits g
+Sound-follows law old new came answer (Extend local false) s fits g = Sound-extends law old new local came answer s g fits.room fits.few
+Sound-follows law old new came answer (Extend local true) s fits g = Sound-ends law old new local came answer s g fits.admitted fits.limit
 
 pub Sound-posts : AsksOnceAtMost → (old new : Shelf) (came : Prepared) (answer : Posted) → Sound old → Posts old came answer new → Sound new
 Sound-posts law old new came answer s g =
     ⊎_elim
-    (λ h. Sound-follows law old new came answer (verdict old came) s (verdict_fits old came) h)
+    (λ h. Sound-follows law old new came answer (verdict old came) s (verdict_allowed old came) h)
     (λ h.
     let lost = prepared.Lost (arrival_of came) in
-    Sound-follows law old new lost answer (verdict old lost) s (verdict_fits old lost) h.1)
+    Sound-follows law old new lost answer (verdict old lost) s (verdict_allowed old lost) h.1)
     g

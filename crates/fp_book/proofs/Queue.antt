@@ -1,8 +1,10 @@
 -- How often a dialogue stands in the queue of those that are ready.
-use Rattle.std.proofs.Common.{◌≡◌, ℕ, ◌+◌, Bool, true, false, cond, eqb, not, List, [], ◌∷◌, ◌++◌, length, refl, sym, ◌∙◌, ap, zero-add, arith}
+use Rattle.std.proofs.Common.{◌≡◌, ℕ, ◌+◌, Bool, true, false, cond, eqb, not, List, [], ◌∷◌, ◌++◌, length, refl, sym, ◌∙◌, ap, zero-add, add-zero, arith, length-append}
 use Rattle.std.proofs.lemmas.Bool.{both_ways, eq-eqb, eqb-true, false_from_ne_true}
-use Rattle.std.proofs.lemmas.List.Sums.{sum_by-append, sum_by-cons}
-use Rattle.fp_book.proofs.Changes.{count, one_by}
+use Rattle.std.proofs.lemmas.List.Filters.{length-filter_both}
+use Rattle.std.proofs.lemmas.List.Sums.{length-filter, sum_by-append, sum_by-cons}
+use Rattle.std.proofs.Math.Bool.{not-not}
+use Rattle.fp_book.proofs.Changes.{QueueChanges, count, one_by}
 use Rattle.fp_book.specs.Calls.{joins, without}
 use Rattle.fp_book.specs.Shelf.{one_if}
 
@@ -40,14 +42,6 @@ pub without_by : (l x : ℕ) (xs : List ℕ) (b : Bool) → eqb x l ≡ b → wi
 without_by l x xs true is = ap (λ b. cond (not b) (x ∷ without l xs) (without l xs)) is
 without_by l x xs false is = ap (λ b. cond (not b) (x ∷ without l xs) (without l xs)) is
 
-own_by : (l x : ℕ) (xs : List ℕ) (b : Bool) → eqb x l ≡ b → count l (without l xs) ≡ 0 → count l (cond b (without l xs) (x ∷ without l xs)) ≡ 0
-own_by l x xs true is none = none
-own_by l x xs false is none = count-cons l x (without l xs) ∙ ap (λ b. one_if b + count l (without l xs)) is ∙ zero-add (count l (without l xs)) ∙ none
-
-pub count_without_own : (l : ℕ) (xs : List ℕ) → count l (without l xs) ≡ 0
-count_without_own l [] = refl
-count_without_own l (x ∷ xs) = ap (count l) (without_by l x xs (eqb x l) refl) ∙ own_by l x xs (eqb x l) refl (count_without_own l xs)
-
 other_by : (d l x : ℕ) (xs : List ℕ) (b : Bool) → eqb d l ≡ false → eqb x l ≡ b → count d (without l xs) ≡ count d xs
     → count d (cond b (without l xs) (x ∷ without l xs)) ≡ count d (x ∷ xs)
 other_by d l x xs true ne is same = same ∙ sym (ap (λ y. count d (y ∷ xs)) (eqb-true x l is) ∙ count_other d l xs ne)
@@ -57,11 +51,36 @@ pub count_without_other : (d l : ℕ) (xs : List ℕ) → eqb d l ≡ false → 
 count_without_other d l [] ne = refl
 count_without_other d l (x ∷ xs) ne = ap (count d) (without_by l x xs (eqb x l) refl) ∙ other_by d l x xs (eqb x l) ne refl (count_without_other d l xs ne)
 
-length_by : (l x : ℕ) (xs : List ℕ) (b : Bool) → eqb x l ≡ b → length (without l xs) + count l xs ≡ length xs
-    → length (cond b (without l xs) (x ∷ without l xs)) + count l (x ∷ xs) ≡ length (x ∷ xs)
-length_by l x xs true is same = let here : count l (x ∷ xs) ≡ 1 + count l xs = count-cons l x xs ∙ ap (λ b. one_if b + count l xs) is in omega arith
-length_by l x xs false is same = let here : count l (x ∷ xs) ≡ 0 + count l xs = count-cons l x xs ∙ ap (λ b. one_if b + count l xs) is in omega arith
-
 pub length_without : (l : ℕ) (xs : List ℕ) → length (without l xs) + count l xs ≡ length xs
-length_without l [] = refl
-length_without l (x ∷ xs) = ap (λ ys. length ys + count l (x ∷ xs)) (without_by l x xs (eqb x l) refl) ∙ length_by l x xs (eqb x l) refl (length_without l xs)
+length_without l xs = ap (λ n. length (without l xs) + n) (sym (length-filter (λ x. eqb x l) xs)) ∙ length-filter_both (λ x. not (eqb x l)) (λ x. eqb x l) (λ x. sym (not-not (eqb x l))) xs
+
+own_by : (l x : ℕ) (xs : List ℕ) (b : Bool) → eqb x l ≡ b → count l (without l xs) ≡ 0 → count l (cond b (without l xs) (x ∷ without l xs)) ≡ 0
+own_by l x xs true is none = none
+own_by l x xs false is none = count-cons l x (without l xs) ∙ ap (λ b. one_if b + count l (without l xs)) is ∙ zero-add (count l (without l xs)) ∙ none
+
+pub count_without_own : (l : ℕ) (xs : List ℕ) → count l (without l xs) ≡ 0
+count_without_own l [] = refl
+count_without_own l (x ∷ xs) = ap (count l) (without_by l x xs (eqb x l) refl) ∙ own_by l x xs (eqb x l) refl (count_without_own l xs)
+
+-- a queue that stays, that a dialogue joins, that it leaves, or of which it is the first that is taken off
+pub queue_stays : (queue : List ℕ) (local n m : ℕ) → count local queue ≡ n → n ≡ m → QueueChanges queue queue local n m
+queue_stays queue local n m was same = record { own = was ∙ same; others = λ d ne. refl; length_is = ap (λ k. length queue + k) same }
+
+pub queue_joins : (queue : List ℕ) (local : ℕ) (b : Bool) (n m : ℕ) → count local queue ≡ n → n + one_if b ≡ m → QueueChanges queue (queue ++ joins local b) local n m
+queue_joins queue local b n m was sum = record {
+  own = count-append local queue (joins local b) ∙ ap (λ k. k + count local (joins local b)) was ∙ ap (λ k. n + k) (count_joins_own local b) ∙ sum;
+  others = λ d ne. count-append d queue (joins local b) ∙ ap (λ k. count d queue + k) (count_joins_other d local b ne) ∙ add-zero _;
+  length_is = omega (arith, length-append queue (joins local b), length_joins local b, sum);
+}
+
+pub queue_leaves : (queue : List ℕ) (local n m : ℕ) → count local queue ≡ n → m ≡ 0 → QueueChanges queue (without local queue) local n m
+queue_leaves queue local n m was none = record {
+  own = count_without_own local queue ∙ sym none;
+  others = λ d ne. count_without_other d local queue ne;
+  length_is = omega (arith, length_without local queue, was, none);
+}
+
+pub queue_next : (queue rest : List ℕ) (local n m : ℕ) → queue ≡ local ∷ rest → count local queue ≡ n → n ≡ 1 → m ≡ 0 → QueueChanges queue rest local n m
+queue_next queue rest local n m first was once none =
+    let left : count local rest ≡ 0 = omega (arith, ap (count local) (sym first) ∙ was, count_first local rest, once) in
+    record { own = left ∙ sym none; others = λ d ne. sym (ap (count d) first ∙ count_other d local rest ne); length_is = omega (arith, ap length first, once, none) }

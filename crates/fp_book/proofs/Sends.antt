@@ -1,8 +1,9 @@
 -- To hand out what is sent next, and to take it back, keeps what a book keeps.
-use Rattle.std.proofs.Common.{◌≡◌, ℕ, ◌≤◌, true, cond, Some, None, List, [], ◌∷◌, ◌++◌, length, is_some, refl, sym, ◌∙◌, ap, subst, arith, append_assoc, le_refl}
+use Rattle.std.proofs.Common.{◌≡◌, ℕ, ◌≤◌, true, cond, Some, None, List, [], ◌∷◌, ◌++◌, length, is_some, refl, sym, ◌∙◌, ap, subst, arith, append_assoc, append-nil, le_refl}
 use Rattle.std.specs.FinMap as map
-use Rattle.fp_book.proofs.Changes.{Change, Sound-change, admitted, ready, stays_own}
-use Rattle.fp_book.proofs.Turns.{admitted_as, few_sent, frames_at, own_after, ready_at}
+use Rattle.fp_book.proofs.Changes.{Sound-change, link_stays, ready, stays_own, own_after}
+use Rattle.fp_book.proofs.Queue.{queue_stays}
+use Rattle.fp_book.proofs.Turns.{admitted_as, counts_of, frames_at, ready_at}
 use Rattle.fp_book.proofs.Unsent.{first_other, first_own, frames_for-append}
 use Rattle.fp_book.specs.declared.line.LoggedStep.{LoggedStep}
 use Rattle.fp_book.specs.declared.line.LoggedStep.TheVariants as line
@@ -13,9 +14,8 @@ use Rattle.fp_book.specs.Calls.{PicksParcel, Sends, SendsAbort, SendsFrame, one_
 use Rattle.fp_book.specs.Log.{logged}
 use Rattle.fp_book.specs.Outbox.{IsNext, Outbox, frames_held, places_out, with_nothing_out}
 use Rattle.fp_book.specs.Parcel.{local_of}
-use Rattle.fp_book.specs.Shelf.{Shelf, Sound, frame_out, frames_for, gone_with, keep, of_row, one_if, turns_of, unsent_for}
-use Rattle.fp_entry.specs.Entries.{component_count}
-use Rattle.fp_reply.specs.declared.provider_abort.AbortFrame.{AbortFrame}
+use Rattle.fp_book.specs.Shelf.{Shelf, Sound, frame_out, frames_for, of_row, one_if, unsent_for, with_dialogue}
+use Rattle.fp_reply.specs.ProviderAbort.{AbortFrame}
 use Rattle.fp_row.specs.Row.{kept_of, sent_of}
 use Rattle.fp_service.specs.Laws.{AsksOnceAtMost}
 
@@ -102,56 +102,35 @@ pub Sound-sends_frame : AsksOnceAtMost → (old new : Shelf) (w : Waiting) → S
 Sound-sends_frame law old new w s g =
     let l = w.local in
     let own = s.own l g.before g.was in
-    let then : Shelf = record old {
-      rows = keep old.rows l g.after;
-      outbox = with_nothing_out old.outbox;
-      totals = one_sent old.totals;
-      gone = gone_with old.gone g.after;
-      log = logged old.log (line.Sent l);
-    } in
-    let alike : admitted g.after ≡ admitted g.before = ap one_if (admitted_as g.before g.after g.sends.ended g.sends.core) in
-    let ready_alike : ready g.after ≡ ready g.before = ap one_if g.sends.ready_stays in
-    let turns_alike : turns_of g.after ≡ turns_of g.before = ap (λ b. cond {A = ℕ} b 1 0) g.sends.is_out in
+    let then : Shelf = record (with_dialogue old l g.after) { outbox = with_nothing_out old.outbox; totals = one_sent old.totals; log = logged old.log (line.Sent l) } in
     let waits_for = frames_for l old.outbox.frames in
     let was : sent_of g.before ++ w.frame ∷ waits_for ≡ kept_of g.before =
     ap (λ r. sent_of g.before ++ (r ++ waits_for)) (sym (first_own l w [] refl))
     ∙ ap (λ o. sent_of g.before ++ (frame_out l o ++ waits_for)) (sym g.was_out) ∙ frames_at old l (Some g.before) s g.was in
-    let change : Change old then l (Some g.before) g.after =
-    record {
+    subst Sound (sym g.new_is) (Sound-change old then l (Some g.before) g.after s (record {
       was = g.was;
       rows = refl;
       gone = refl;
-      link = refl;
-      given = le_refl old.given;
-      serials = s.serials;
-      births = s.births;
-      down = refl;
-      entries = omega (arith, s.entries, alike);
+      link = link_stays old then s refl refl refl refl;
+      entries = omega (arith, s.entries, ap one_if (admitted_as g.before g.after g.sends.ended g.sends.core));
       room = omega (arith, s.held);
       own = own_after old then l g.before g.after own g.sends.same refl (le_refl old.given) (le_refl old.births)
           (λ e. own.dropped (ap is_some (sym g.sends.ended) ∙ e)) (λ e. g.sends.ended ∙ own.closed e);
-      other_dropped = λ d ne e. e;
-      own_frames =
-          ap (λ r. r ++ waits_for) (g.sends.one_more w.frame waits_for was) ∙ append_assoc (sent_of g.before) (w.frame ∷ []) waits_for
-          ∙ was ∙ sym g.sends.kept_frames;
-      other_frames = λ d ne.
-          ap (λ r. r ++ frames_for d old.outbox.frames) (sym (first_other d w [] ne))
-          ∙ ap (λ o. frame_out d o ++ frames_for d old.outbox.frames) (sym g.was_out);
-      own_ready = ready_at old l (Some g.before) s g.was ∙ sym ready_alike;
-      other_ready = λ d ne. refl;
-      ready_length = omega (arith, ready_alike);
-      places = omega (arith, s.places, turns_alike);
-      aborts = s.aborts;
-      quiet = s.quiet;
-      accepted = omega (arith, ap component_count g.sends.accepted);
-      served = omega (arith, g.sends.served);
-      sent = omega (arith, g.sends.sent);
-      all_entries = omega (arith, ap length g.sends.accepted);
-      few_accepted = s.few_accepted;
-      few_sent = few_sent law g.after;
-    }
-    in
-    subst Sound (sym g.new_is) (Sound-change old then l (Some g.before) g.after s change)
+      queue = queue_stays old.ready l (ready g.before) (ready g.after) (ready_at old l (Some g.before) s g.was) (ap one_if (sym g.sends.ready_stays));
+      outbox = record {
+        other_dropped = λ d ne e. e;
+        own_frames =
+            ap (λ r. r ++ waits_for) (g.sends.one_more w.frame waits_for was) ∙ append_assoc (sent_of g.before) (w.frame ∷ []) waits_for
+            ∙ was ∙ sym g.sends.kept_frames;
+        other_frames = λ d ne.
+            ap (λ r. r ++ frames_for d old.outbox.frames) (sym (first_other d w [] ne))
+            ∙ ap (λ o. frame_out d o ++ frames_for d old.outbox.frames) (sym g.was_out);
+        places = omega (arith, s.places, ap (λ b. cond {A = ℕ} b 1 0) g.sends.is_out);
+        aborts = s.aborts;
+        quiet = s.quiet;
+      };
+      counts = counts_of law old then g.before g.after [] s (g.sends.accepted ∙ sym (append-nil g.before.accepted)) (omega arith) (omega arith) (omega (arith, g.sends.served)) (omega (arith, g.sends.sent));
+    }))
 
 pub Sound-sends : AsksOnceAtMost → (old new : Shelf) (sent : Content) → Sound old → Sends old sent new → Sound new
 Sound-sends law old new (content.Frame w) s g = Sound-sends_frame law old new w s g

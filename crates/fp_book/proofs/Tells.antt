@@ -1,5 +1,5 @@
 -- What the verdict on a message tells of it.
-use Rattle.std.proofs.Common.{◌≡◌, ℕ, Bool, true, false, cond, not, ◌&&◌, ◌||◌, Option, Some, None, List, [], ◌∷◌, length, refl, sym, ◌∙◌, ap, subst, nat_lt, ◌⊎◌, inl, inr, ⊎_elim}
+use Rattle.std.proofs.Common.{◌≡◌, ℕ, Bool, true, false, cond, ◌||◌, Option, Some, None, length, refl, sym, ◌∙◌, ap, subst, nat_lt, ◌⊎◌, inl, inr}
 use Rattle.std.specs.Prelude.{⊤}
 use Rattle.std.proofs.lemmas.Bool.{cond_both}
 use Rattle.std.specs.Option.{option_and_then, option_map_or}
@@ -8,7 +8,6 @@ use Rattle.fp_book.specs.declared.verdict.Verdict.{Verdict}
 use Rattle.fp_book.specs.declared.verdict.Verdict.TheVariants.{Discard, Refuse, Open, Extend}
 use Rattle.fp_book.specs.Shelf.{Shelf}
 use Rattle.fp_book.specs.Verdict.{abort_of, admitted, arrived, begin_of, is_full, lost_of, message_of, more_of, named, no_dialogue_left, no_place_left, number_of, refused_of, too_many, verdict}
-use Rattle.fp_entry.specs.declared.arrival.Arrival.{Arrival}
 use Rattle.fp_entry.specs.declared.incoming.Incoming.{Incoming}
 use Rattle.fp_entry.specs.declared.prepared.Prepared.{Prepared}
 use Rattle.fp_entry.specs.declared.prepared.Prepared.TheVariants.{Message, Refused, Lost}
@@ -16,16 +15,12 @@ use Rattle.fp_entry.specs.Entries.{place_count}
 use Rattle.fp_entry.specs.Prepared.{arrival_of}
 use Rattle.fp_q773.specs.declared.ids.Ids.{Ids}
 use Rattle.fp_q773.specs.declared.kind.Kind.{Kind}
-use Rattle.fp_q773.specs.declared.kind.Kind.TheVariants.{Unidirectional, Begin, End, Continue, Abort, Unknown}
+use Rattle.fp_q773.specs.declared.kind.Kind.TheVariants.{Unidirectional, Begin, End, Continue, Abort}
 use Rattle.fp_q773.specs.declared.provider_abort.AbortCause.TheVariants as cause
-use Rattle.fp_q773.specs.declared.tid.Tid.{Tid}
-use Rattle.fp_q773.specs.Tid.{octets_of}
-use Rattle.fp_row.specs.declared.ending.Ending.{Ending}
-use Rattle.fp_row.specs.declared.ending.Ending.TheVariants.{ByPeer}
-use Rattle.fp_row.specs.declared.row.Row.{Row}
+use Rattle.fp_q773.specs.Tid.{Tid, octets_of}
 use Rattle.fp_row.specs.Row.{is_admitted}
 use Rattle.fp_book.specs.declared.answers.Posted.{Posted}
-use Rattle.fp_book.specs.Calls.{Answers, ClosesOne, Discards, EndsDialogue, ExtendsDialogue, Follows, OpensDialogue, Refuses, abort_for, posted_line}
+use Rattle.fp_book.specs.Calls.{Answers, ClosesOne, Follows, abort_for, posted_line}
 use Rattle.fp_book.specs.Log.{logged}
 use Rattle.fp_q773.specs.declared.provider_abort.AbortCause.{AbortCause}
 
@@ -39,48 +34,41 @@ abbrev pub TellsOf : Ids → Kind → Option ℕ → Verdict → Type 0
 TellsOf ids kind dialogue Discard = ⊤
 TellsOf ids kind dialogue (Refuse cause closes) = closes ≡ dialogue
 TellsOf ids kind dialogue (Open peer) = ids.orig ≡ Some peer
-TellsOf ids kind dialogue (Extend local None) = (dialogue ≡ Some local) × (kind ≡ Continue)
-TellsOf ids kind dialogue (Extend local (Some ending)) = (dialogue ≡ Some local) × ((kind ≡ End) ⊎ (kind ≡ Abort))
+TellsOf ids kind dialogue (Extend local false) = (dialogue ≡ Some local) × (kind ≡ Continue)
+TellsOf ids kind dialogue (Extend local true) = (dialogue ≡ Some local) × ((kind ≡ End) ⊎ (kind ≡ Abort))
 
 lost_tells : (ids : Ids) (kind : Kind) (dialogue : Option ℕ) → (kind ≡ Begin → dialogue ≡ None) → TellsOf ids kind dialogue (lost_of kind dialogue)
 lost_tells ids Unidirectional dialogue anew = tt
 lost_tells ids Begin dialogue anew = sym (anew refl)
 lost_tells ids Continue None anew = refl
 lost_tells ids Continue (Some local) anew = refl
-lost_tells ids End dialogue anew = refl
-lost_tells ids Abort dialogue anew = refl
-lost_tells ids Unknown dialogue anew = refl
+lost_tells ids kind dialogue anew = refl
 
 refused_tells : (ids : Ids) (kind : Kind) (dialogue : Option ℕ) → TellsOf ids kind dialogue (refused_of kind dialogue)
 refused_tells ids Unidirectional dialogue = tt
-refused_tells ids Begin dialogue = refl
-refused_tells ids Continue dialogue = refl
-refused_tells ids End dialogue = refl
-refused_tells ids Abort dialogue = refl
-refused_tells ids Unknown dialogue = refl
+refused_tells ids kind dialogue = refl
 
 begin_tells : (s : Shelf) (ids : Ids) (incoming : Incoming) (orig : Option Tid) (dialogue : Option ℕ) → ids.orig ≡ orig → dialogue ≡ None → TellsOf ids Begin dialogue (begin_of s orig incoming)
 begin_tells s ids incoming None dialogue orig none = tt
 begin_tells s ids incoming (Some peer) dialogue orig none =
     cond_both (too_many incoming || (no_dialogue_left s || no_place_left None (place_count incoming.entries))) (Refuse (Some cause.ResourceLimitation) None) (Open peer) (TellsOf ids Begin dialogue) (λ _. sym none) (λ _. orig)
 
-more_tells : (s : Shelf) (ids : Ids) (incoming : Incoming) (kind : Kind) (local : ℕ) (ending : Option Ending) → TellsOf ids kind (Some local) (Extend local ending) → TellsOf ids kind (Some local) (more_of s local ending incoming)
-more_tells s ids incoming kind local ending extends =
-    cond_both (too_many incoming || (no_place_left (map.get s.rows local) (place_count incoming.entries) || is_full s)) (Refuse (Some cause.ResourceLimitation) (Some local)) (Extend local ending) (TellsOf ids kind (Some local)) (λ _. refl) (λ _. extends)
+more_tells : (s : Shelf) (ids : Ids) (incoming : Incoming) (kind : Kind) (local : ℕ) (ends : Bool) → TellsOf ids kind (Some local) (Extend local ends) → TellsOf ids kind (Some local) (more_of s local ends incoming)
+more_tells s ids incoming kind local ends extends =
+    cond_both (too_many incoming || (no_place_left (map.get s.rows local) (place_count incoming.entries) || is_full s)) (Refuse (Some cause.ResourceLimitation) (Some local)) (Extend local ends) (TellsOf ids kind (Some local)) (λ _. refl) (λ _. extends)
 
 abort_tells : (ids : Ids) (incoming : Incoming) (local : ℕ) → TellsOf ids Abort (Some local) (abort_of local incoming)
-abort_tells ids incoming local = cond_both (nat_lt 1 (length incoming.entries)) (Refuse None (Some local)) (Extend local (Some ByPeer)) (TellsOf ids Abort (Some local)) (λ _. refl) (λ _. (refl, inr refl))
+abort_tells ids incoming local = cond_both (nat_lt 1 (length incoming.entries)) (Refuse None (Some local)) (Extend local true) (TellsOf ids Abort (Some local)) (λ _. refl) (λ _. (refl, inr refl))
 
 message_tells : (s : Shelf) (ids : Ids) (incoming : Incoming) (kind : Kind) (dialogue : Option ℕ) → (kind ≡ Begin → dialogue ≡ None) → TellsOf ids kind dialogue (message_of s ids incoming kind dialogue)
-message_tells s ids incoming Unidirectional dialogue anew = tt
 message_tells s ids incoming Begin dialogue anew = begin_tells s ids incoming ids.orig dialogue refl (anew refl)
 message_tells s ids incoming Continue None anew = refl
-message_tells s ids incoming Continue (Some local) anew = more_tells s ids incoming Continue local None (refl, refl)
+message_tells s ids incoming Continue (Some local) anew = more_tells s ids incoming Continue local false (refl, refl)
 message_tells s ids incoming End None anew = tt
-message_tells s ids incoming End (Some local) anew = more_tells s ids incoming End local (Some ByPeer) (refl, inl refl)
+message_tells s ids incoming End (Some local) anew = more_tells s ids incoming End local true (refl, inl refl)
 message_tells s ids incoming Abort None anew = tt
 message_tells s ids incoming Abort (Some local) anew = abort_tells ids incoming local
-message_tells s ids incoming Unknown dialogue anew = tt
+message_tells s ids incoming kind dialogue anew = tt
 
 -- a message without a destination names none
 pub anew_named : (s : Shelf) (ids : Ids) → BeginsAnew ids → ids.kind ≡ Begin → named s ids ≡ None
@@ -124,24 +112,6 @@ unnamed_by s (Some l) local e is =
     let same : l ≡ local = cc in
     subst (λ d. option_map_or is_admitted (map.get s.rows d) false ≡ false) same (not_known (option_map_or is_admitted (map.get s.rows l) false) l e)
 
--- what is done with a message, and what is told of it
-pub data Done (s : Shelf) (came : Prepared) (answer : Posted) (new : Shelf) : Type 0 where
-  discards : Discards s came answer new → Done s came answer new
-  refuses : (cause : Option AbortCause) (closes : Option ℕ) → closes ≡ named s (arrival_of came).ids → Refuses s cause closes came answer new → Done s came answer new
-  opens : (peer : Tid) → (arrival_of came).ids.orig ≡ Some peer → OpensDialogue s peer came answer new → Done s came answer new
-  extends : (local : ℕ) → named s (arrival_of came).ids ≡ Some local → (arrival_of came).ids.kind ≡ Continue → ExtendsDialogue s local came answer new → Done s came answer new
-  ends : (local : ℕ) (ending : Ending) → named s (arrival_of came).ids ≡ Some local → ((arrival_of came).ids.kind ≡ End) ⊎ ((arrival_of came).ids.kind ≡ Abort) → EndsDialogue s local ending came answer new → Done s came answer new
-
-done_by : (s : Shelf) (came : Prepared) (answer : Posted) (new : Shelf) (v : Verdict) → Tells s came v → Follows v s came answer new → Done s came answer new
-done_by s came answer new Discard told g = discards g
-done_by s came answer new (Refuse cause closes) told g = refuses cause closes told g
-done_by s came answer new (Open peer) told g = opens peer told g
-done_by s came answer new (Extend local None) told g = extends local told.0 told.1 g
-done_by s came answer new (Extend local (Some ending)) told g = ends local ending told.0 told.1 g
-
-pub done_with : (s : Shelf) (came : Prepared) (answer : Posted) (new : Shelf) → BeginsAnew (arrival_of came).ids → Follows (verdict s came) s came answer new → Done s came answer new
-done_with s came answer new anew g = done_by s came answer new (verdict s came) (verdict_tells s came anew) g
-
 -- a message is logged with its answer
 
 closed_log : (s : Shelf) (closes : Option ℕ) (closed : Shelf) → ClosesOne s closes closed → closed.log ≡ s.log
@@ -153,13 +123,12 @@ answered_log s closes None answer answered g = ap (λ (x : Shelf). x.log) g.1
 answered_log s closes (Some (peer, cause)) answer answered g = ap (λ (x : Shelf). x.log) g.1.new_is
 
 log_by : (v : Verdict) (s : Shelf) (came : Prepared) (answer : Posted) (new : Shelf) → Follows v s came answer new → new.log ≡ logged s.log (posted_line came answer)
-log_by Discard s came answer new g = ap (λ (x : Shelf). x.log) g.new_is
 log_by (Refuse cause closes) s came answer new g =
     ap (λ (x : Shelf). x.log) g.new_is
     ∙ ap (λ log. logged log (posted_line came answer)) (answered_log g.closed closes (abort_for (length s.outbox.aborts) cause (arrival_of came).ids.orig) answer g.answered g.answering ∙ closed_log s closes g.closed g.closing)
-log_by (Open peer) s came answer new g = ap (λ (x : Shelf). x.log) g.new_is
-log_by (Extend local None) s came answer new g = ap (λ (x : Shelf). x.log) g.new_is
-log_by (Extend local (Some ending)) s came answer new g = ap (λ (x : Shelf). x.log) g.new_is
+log_by (Extend local false) s came answer new g = ap (λ (x : Shelf). x.log) g.new_is
+log_by (Extend local true) s came answer new g = ap (λ (x : Shelf). x.log) g.new_is
+log_by v s came answer new g = ap (λ (x : Shelf). x.log) g.new_is
 
 pub followed_log : (s : Shelf) (came : Prepared) (answer : Posted) (new : Shelf) → Follows (verdict s came) s came answer new → new.log ≡ logged s.log (posted_line came answer)
 followed_log s came answer new g = log_by (verdict s came) s came answer new g

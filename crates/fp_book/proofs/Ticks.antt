@@ -1,25 +1,39 @@
--- Each dialogue that is due is given a Clock: how that begins, and what a book is then.
-use Rattle.std.proofs.Common.{◌≡◌, ℕ, zero, suc, ◌<◌, ◌≤◌, ◌+◌, ◌-◌, Bool, true, false, cond, not, ◌&&◌, nat_eq, nat_le, Option, Some, None, List, [], ◌++◌, is_some, slice_index_or, refl, sym, ◌∙◌, ap, subst, arith, append-nil, add-zero}
-use Rattle.std.proofs.lemmas.Bool.{false≢true}
+-- One dialogue that is due is given a Clock, and so each; what a book is then.
+use Rattle.std.proofs.Common.{◌≡◌, ℕ, zero, suc, ◌<◌, ◌≤◌, ◌+◌, ◌-◌, Bool, true, false, cond, not, ◌&&◌, nat_eq, nat_le, Option, Some, None, List, [], ◌++◌, is_some, slice_index_or, refl, sym, ◌∙◌, ap, subst, arith, append-nil, add-zero, eqb, ◌||◌, ◌⊎◌, ⊎_elim, inl, inr, ◌∷◌, length, map, filter, drop, count_by, All, length-append, append_assoc}
+use Rattle.std.proofs.lemmas.Bool.{false≢true, eq-eqb, eqb-false, false_from_ne_true, le-leb, lt-ltb}
 use Rattle.std.proofs.lemmas.Bool.Decides.{nat_tests}
-use Rattle.std.proofs.lemmas.List.Elements.{All-nil}
+use Rattle.std.proofs.lemmas.List.Elements.{All-nil, filter-append, All-push}
 use Rattle.std.specs.FinMap as map
 use Rattle.std.specs.Option.{option_map_or}
 use Rattle.std.specs.Cmp.{nat_cmp_total}
 use Rattle.std.specs.Ordering.{nat_cmp}
-use Rattle.fp_book.proofs.Sums.{Rows, len-sum, sum-le, sum-zero, sums-le, zero_of}
+use Rattle.fp_book.proofs.Changes.{by_local, ready}
+use Rattle.fp_book.proofs.Sums.{Rows, len-sum, sum-zero, sums-le, zero_of, OneChanges, inserted}
 use Rattle.fp_book.specs.declared.line.LoggedStep.{LoggedStep}
 use Rattle.fp_book.specs.declared.line.LoggedStep.TheVariants as line
-use Rattle.fp_book.specs.Calls.{ComesFirst, IsDue, Ticks, due_at}
-use Rattle.fp_book.specs.Clocking.{AreAgreed, Clocking, ClocksFirst, Deadlines, IsDueIn, due_now, idle_among}
+use Rattle.fp_book.specs.Calls.{ComesFirst, IsDue, Ticks, due_at, ClocksAt, Due, is_idle, joins}
+use Rattle.fp_book.specs.Clocking.{AreAgreed, Clocking, ClocksFirst, Deadlines, IsDueIn, due_now, idle_among, is_among}
 use Rattle.fp_book.specs.Log.{logged}
-use Rattle.fp_book.specs.Shelf.{Shelf}
+use Rattle.fp_book.specs.Shelf.{Shelf, one_if, turns_of}
 use Rattle.fp_book.specs.Totals.{sum_of}
 use Rattle.fp_book.specs.Verdict.{is_full}
 use Rattle.fp_book.specs.Views.{AreTimed, deadline_at}
 use Rattle.fp_row.specs.declared.row.Row.{Row}
-use Rattle.fp_row.specs.Row.{deadline_of, is_due}
+use Rattle.fp_row.specs.Row.{deadline_of, is_due, has_clock, is_admitted, is_ready, unserved}
 use Rattle.fp_timers.specs.Deadlines.{IsEarliestDue}
+use Rattle.std.proofs.lemmas.List.{drop-append-le, map-append}
+use Rattle.std.proofs.lemmas.List.Folds.{list_any-append}
+use Rattle.std.proofs.lemmas.List.Quantifiers.{all_pairs_push}
+use Rattle.std.proofs.lemmas.List.Sums.{sum_by-append}
+use Rattle.std.proofs.Math.Bool.{or-false, or-true}
+use Rattle.fp_book.proofs.Clocks.{clock, few_pass, has_deadline, in_front, joins_is}
+use Rattle.fp_book.proofs.Extends.{joined}
+use Rattle.fp_book.proofs.Kept.{deadline-here, deadline-other, timed_at}
+use Rattle.fp_book.proofs.Queue.{eqb_swap, length_joins}
+use Rattle.fp_entry.specs.declared.entry.Entry.{Entry}
+use Rattle.fp_entry.specs.Entries.{is_clock}
+use Rattle.fp_row.specs.Calls.{Extends}
+use Rattle.fp_service.specs.Dialogue.{next_due}
 
 -- none was given a Clock yet
 pub begins : (moment : ℕ) (rows : Rows) (deadlines : Deadlines) (queue : List ℕ) → AreAgreed rows deadlines queue → Clocking moment rows queue rows deadlines queue 0
@@ -37,13 +51,9 @@ begins moment rows deadlines queue k = record {
   turns = refl;
 }
 
-one_most : (b : Bool) → cond {A = ℕ} b 1 0 ≤ 1
-one_most true = omega arith
-one_most false = omega arith
-
 -- no more are due than there are
 pub due_most : (moment : ℕ) (rows : Rows) → map.len rows ≤ 4096 → sum_of (due_now moment) rows ≤ 4096
-due_most moment rows held = omega (arith, held, len-sum rows, sum-le (due_now moment) (λ _. 1) rows (λ row. one_most (is_due row moment)))
+due_most moment rows held = omega (arith, held, few_pass (λ row. is_due row moment) rows)
 
 -- so no more are given a Clock
 pub few_added : (moment : ℕ) (old : Rows) (was : List ℕ) (rows : Rows) (deadlines : Deadlines) (queue : List ℕ) (added : ℕ) → map.len old ≤ 4096 → Clocking moment old was rows deadlines queue added → added ≤ 4096
@@ -56,25 +66,19 @@ has_some m local deadline zero is none =
     absurd (cc)
 has_some m local deadline (suc n) is more = omega (arith, more)
 
--- there is one less without it
-fewer_deadlines : (m : Deadlines) (local deadline : ℕ) → map.get m local ≡ Some deadline → map.len (map.remove m local) < map.len m
-fewer_deadlines m local deadline is =
-    let less : map.len (map.remove m local) ≡ map.len m - 1 = map.len-remove nat_cmp_total m local ∙ ap (λ o. cond (is_some o) (map.len m - 1) (map.len m)) is in
-    omega (arith, less, has_some m local deadline (map.len m) is refl)
-
 -- the one that is given a Clock had a deadline, and has none then
 pub fewer : (moment : ℕ) (rows : Rows) (deadlines : Deadlines) (queue : List ℕ) (rows_then : Rows) (deadlines_then : Deadlines) (queue_then : List ℕ)
     → ClocksFirst moment rows deadlines queue rows_then deadlines_then queue_then → map.len deadlines_then < map.len deadlines
 fewer moment rows deadlines queue rows_then deadlines_then queue_then g =
-    subst (λ m. map.len m < map.len deadlines) (sym g.deadlines_are) (fewer_deadlines deadlines g.local g.first.0 g.first.1)
+    let less : map.len deadlines_then ≡ map.len deadlines - 1 =
+    ap map.len g.deadlines_are ∙ map.len-remove nat_cmp_total deadlines g.local ∙ ap (λ o. cond (is_some o) (map.len deadlines - 1) (map.len deadlines)) g.first.1 in
+    omega (arith, less, has_some deadlines g.local g.first.0 (map.len deadlines) g.first.1 refl)
 
 -- nothing changed
 pub same_still : (moment : ℕ) (old : Rows) (was : List ℕ) (rows : Rows) (deadlines : Deadlines) (queue : List ℕ) (added : ℕ) (rows_then : Rows) (deadlines_then : Deadlines) (queue_then : List ℕ)
     → Clocking moment old was rows deadlines queue added → (rows_then ≡ rows) × (deadlines_then ≡ deadlines) × (queue_then ≡ queue)
     → Clocking moment old was rows_then deadlines_then queue_then added
-same_still moment old was rows deadlines queue added rows_then deadlines_then queue_then k g =
-    subst (λ r. Clocking moment old was r deadlines_then queue_then added) (sym g.0)
-    (subst (λ m. Clocking moment old was rows m queue_then added) (sym g.1) (subst (λ q. Clocking moment old was rows deadlines q added) (sym g.2) k))
+same_still moment old was rows deadlines queue added rows_then deadlines_then queue_then k g = rw (g.0, g.1, g.2) k
 
 -- a book with other entries, dialogues, queue and log
 abbrev pub with_clocks : Shelf → ℕ → Rows → List ℕ → List LoggedStep → Shelf
@@ -130,15 +134,119 @@ not_due moment None later = refl
 not_due moment (Some deadline) later = let after : moment < deadline = later deadline refl in grind (arith, nat_tests)
 
 -- where no deadline is due no dialogue is
-pub none_due : (moment : ℕ) (rows : Rows) (deadlines : Deadlines) → AreTimed deadlines rows → IsEarliestDue deadlines moment None → sum_of (due_now moment) rows ≡ 0
-none_due moment rows deadlines timed later =
+pub none_found : (moment : ℕ) (rows : Rows) (deadlines : Deadlines) (o : Option ℕ) → AreTimed deadlines rows → IsEarliestDue deadlines moment o → is_some o ≡ false → 0 ≡ sum_of (due_now moment) rows
+none_found moment rows deadlines None timed later e =
     let each : (q : ℕ) (row : Row) → map.get rows q ≡ Some row → due_now moment row ≡ 0 = λ q row was. not_due moment (deadline_of row) (λ deadline is. later q deadline (timed q ∙ ap deadline_at was ∙ is)) in
     omega (arith, sums-le (due_now moment) zero_of zero_of zero_of rows rows (λ q none. none) (λ q row was. omega (arith, each q row was)), sum-zero rows)
+none_found moment rows deadlines (Some local) timed later e = absurd (false≢true (sym e))
 
-none_by : (moment : ℕ) (rows : Rows) (deadlines : Deadlines) (o : Option ℕ) → AreTimed deadlines rows → IsEarliestDue deadlines moment o → is_some o ≡ false → sum_of (due_now moment) rows ≡ 0
-none_by moment rows deadlines None timed later e = none_due moment rows deadlines timed later
-none_by moment rows deadlines (Some local) timed later e = absurd (false≢true (sym e))
+-- a dialogue that was given a Clock has one
+counted : (moment : ℕ) (before after : Row) → Extends before (clock moment) after → has_clock after ≡ true
+counted moment before after g =
+    let within : before.served ≤ length before.accepted = before.served_within in
+    let path : unserved after ≡ unserved before ++ clock moment =
+    ap (λ n. drop n after.accepted) g.stay.served
+    ∙ ap (drop before.served) g.accepted
+    ∙ drop-append-le before.served before.accepted (clock moment) within in
+    let test : Entry → Bool = λ entry. is_clock entry.kind in
+    let n : count_by test (unserved after) ≡ count_by test (unserved before) + 1 =
+    ap (count_by test) path ∙ sum_by-append (λ (entry : Entry). cond {A = ℕ} (test entry) 1 0) (unserved before) (clock moment) in
+    lt-ltb 0 (count_by test (unserved after)) (omega (arith, n))
 
--- so it is where none is found
-pub none_found : (moment : ℕ) (rows : Rows) (deadlines : Deadlines) (o : Option ℕ) → AreTimed deadlines rows → IsEarliestDue deadlines moment o → is_some o ≡ false → 0 ≡ sum_of (due_now moment) rows
-none_found moment rows deadlines o timed later e = sym (none_by moment rows deadlines o timed later e)
+no_deadline : (row : Row) (b : Bool) → has_clock row ≡ true → cond (b && not (has_clock row)) (Some (next_due row.core)) None ≡ None
+no_deadline row true h = ap (λ t. cond (not t) (Some (next_due row.core)) None) h
+no_deadline row false h = refl
+
+-- so it has no deadline
+cleared : (moment : ℕ) (before after : Row) → Extends before (clock moment) after → deadline_of after ≡ None
+cleared moment before after g = no_deadline after (is_admitted after) (counted moment before after g)
+
+-- among those that were given one before, and this one
+among_more : (q : ℕ) (due : List Due) (d : Due) → is_among q (due ++ d ∷ []) ≡ (is_among q due || (eqb d.1 q || false))
+among_more q due d = list_any-append (λ (e : Due). eqb e.1 q) due (d ∷ [])
+
+among_here : (due : List Due) (d : Due) → is_among d.1 (due ++ d ∷ []) ≡ true
+among_here due d = among_more d.1 due d ∙ ap (λ b. is_among d.1 due || (b || false)) (eq-eqb d.1 d.1 refl) ∙ or-true (is_among d.1 due)
+
+among_other : (q : ℕ) (due : List Due) (d : Due) → eqb q d.1 ≡ false → is_among q (due ++ d ∷ []) ≡ is_among q due
+among_other q due d ne = among_more q due d ∙ ap (λ b. is_among q due || (b || false)) (eqb_swap q d.1 ne) ∙ or-false (is_among q due)
+
+idle_more : (rows : Rows) (due : List Due) (d : Due) → idle_among rows (due ++ d ∷ []) ≡ idle_among rows due ++ joins d.1 (is_idle (map.get rows d.1))
+idle_more rows due d =
+    let idle : ℕ → Bool = λ local. is_idle (map.get rows local) in
+    ap (filter idle) (map-append (λ (e : Due). e.1) due (d ∷ []))
+    ∙ filter-append idle (map (λ (e : Due). e.1) due) (d.1 ∷ [])
+    ∙ ap (λ xs. idle_among rows due ++ xs) (sym (in_front d.1 (idle d.1) []) ∙ append-nil (joins d.1 (idle d.1)))
+
+clocks_here : (moment : ℕ) (b : Bool) (o p : Option Row) (before after : Row) → b ≡ true → o ≡ Some before → p ≡ Some after → Extends before (clock moment) after → ClocksAt b moment o p
+clocks_here moment b o p before after is was there g =
+    subst (λ b. ClocksAt b moment o p) (sym is)
+    (subst (λ o. ClocksAt true moment o p) (sym was) (subst (λ p. ClocksAt true moment (Some before) p) (sym there) g))
+
+-- the others come after it
+comes_first : (deadline later l q : ℕ) → eqb q l ≡ false → (deadline < later) ⊎ ((deadline ≡ later) × (l ≤ q)) → ComesFirst (deadline, l) (later, q)
+comes_first deadline later l q ne by = ⊎_elim {C = ComesFirst (deadline, l) (later, q)} (λ less. inl less) (λ h. let le : l ≤ q = h.1 in inr (h.0, omega (arith, le, eqb-false q l ne))) by
+
+-- so one dialogue more was given a Clock
+pub one_more : (moment : ℕ) (old : Rows) (was : List ℕ) (rows : Rows) (deadlines : Deadlines) (queue : List ℕ) (added : ℕ) (rows_then : Rows) (deadlines_then : Deadlines) (queue_then : List ℕ)
+    → Clocking moment old was rows deadlines queue added → ClocksFirst moment rows deadlines queue rows_then deadlines_then queue_then
+    → Clocking moment old was rows_then deadlines_then queue_then (added + 1)
+one_more moment old was rows deadlines queue added rows_then deadlines_then queue_then k g =
+    let l = g.local in
+    let before = g.clocked.before in
+    let after = g.clocked.after in
+    let deadline : ℕ = g.first.0 in
+    let got : map.get deadlines l ≡ Some deadline = g.first.1 in
+    let fresh : is_among l k.due ≡ false =
+    false_from_ne_true (is_among l k.due) (λ is. let clash : None ≡ Some deadline = sym (k.cleared l is) ∙ got in absurd (cc)) in
+    let stood : map.get old l ≡ Some before = sym (subst (λ b. ClocksAt b moment (map.get old l) (map.get rows l)) fresh (k.rows_are l)) ∙ g.clocked.was in
+    let deadline_is : deadline_of before ≡ Some deadline = sym (ap deadline_at g.clocked.was) ∙ sym (k.agreed.timed l) ∙ got in
+    let now : is_due before moment ≡ true = ap (λ o. option_map_or (λ t. nat_le t moment) o false) deadline_is ∙ le-leb deadline moment g.first.2 in
+    let one : OneChanges rows rows_then l (Some before) (Some after) = subst (λ r. OneChanges rows r l (Some before) (Some after)) (sym g.clocked.rows) (inserted rows l (Some before) after g.clocked.was) in
+    let d : Due = (deadline, l) in
+    let none : map.get deadlines_then l ≡ None = ap (λ m. map.get m l) g.deadlines_are ∙ deadline-here deadlines l None in
+    let same : (q : ℕ) → eqb q l ≡ false → map.get deadlines_then q ≡ map.get deadlines q = λ q ne. ap (λ m. map.get m q) g.deadlines_are ∙ deadline-other deadlines l None q ne in
+    let gone : deadline_of after ≡ None = cleared moment before after g.clocked.extends in
+    let joining : g.is_joining ≡ is_idle (map.get old l) = g.clocked.joins_is ∙ joins_is moment before after g.clocked.extends (has_deadline before deadline deadline_is) ∙ sym (ap is_idle stood) in
+    let more : one_if (is_ready after) ≡ one_if (is_ready before) + one_if g.is_joining =
+    sym (joined (is_ready before) (is_ready after) g.clocked.extends.ready_stays)
+    ∙ ap (λ b. one_if (is_ready before) + one_if b) (sym g.clocked.joins_is) in
+    let queued : length queue_then ≡ length queue + one_if g.is_joining = ap length g.ready_is ∙ length-append queue (joins l g.is_joining) ∙ ap (λ x. length queue + x) (length_joins l g.is_joining) in
+    let due_before : due_now moment before ≡ 1 = ap (λ b. cond {A = ℕ} b 1 0) now in
+    let due_after : due_now moment after ≡ 0 = ap (λ o. cond {A = ℕ} (option_map_or (λ t. nat_le t moment) o false) 1 0) gone in
+    let out : turns_of after ≡ turns_of before = ap (λ b. cond {A = ℕ} b 1 0) g.clocked.extends.is_out in
+    record {
+      due = k.due ++ d ∷ [];
+      in_order = all_pairs_push ComesFirst k.due d k.in_order (k.behind l deadline got);
+      are_due = All-push (IsDueIn old moment) k.due d k.are_due (record { row = before; was = stood; deadline = deadline_is; now = now });
+      added_is = omega (arith, k.added_is, length-append k.due (d ∷ []));
+      behind = λ q later.
+          by_local q l (λ q. map.get deadlines_then q ≡ Some later → All (λ e. ComesFirst e (later, q)) (k.due ++ d ∷ []))
+          (λ e. absurd (let clash : None ≡ Some later = sym none ∙ e in cc))
+          (λ ne e.
+          let there : map.get deadlines q ≡ Some later = sym (same q ne) ∙ e in
+          All-push (λ e. ComesFirst e (later, q)) k.due d (k.behind q later there) (comes_first deadline later l q ne (g.first.3 q later there)));
+      cleared = λ q.
+          by_local q l (λ q. is_among q (k.due ++ d ∷ []) ≡ true → map.get deadlines_then q ≡ None)
+          (λ e. none)
+          (λ ne e. same q ne ∙ k.cleared q (sym (among_other q k.due d ne) ∙ e));
+      rows_are = λ q.
+          by_local q l (λ q. ClocksAt (is_among q (k.due ++ d ∷ [])) moment (map.get old q) (map.get rows_then q))
+          (clocks_here moment (is_among l (k.due ++ d ∷ [])) (map.get old l) (map.get rows_then l) before after (among_here k.due d) stood one.there g.clocked.extends)
+          (λ ne.
+          subst (λ b. ClocksAt b moment (map.get old q) (map.get rows_then q)) (sym (among_other q k.due d ne))
+          (subst (λ o. ClocksAt (is_among q k.due) moment (map.get old q) o) (sym (one.others q ne)) (k.rows_are q)));
+      ready_is =
+          g.ready_is
+          ∙ ap (λ xs. xs ++ joins l g.is_joining) k.ready_is
+          ∙ append_assoc was (idle_among old k.due) (joins l g.is_joining)
+          ∙ ap (λ b. was ++ (idle_among old k.due ++ joins l b)) joining
+          ∙ ap (λ xs. was ++ xs) (sym (idle_more old k.due d));
+      agreed = record {
+        timed = subst (λ m. AreTimed m rows_then) (sym g.deadlines_are) (timed_at deadlines rows rows_then l (Some before) (Some after) None k.agreed.timed one (sym gone));
+        held = omega (arith, k.agreed.held, one.sums (λ _. 1), len-sum rows, len-sum rows_then);
+        ready_length = omega (arith, k.agreed.ready_length, queued, more, one.sums ready);
+      };
+      left = omega (arith, k.left, due_before, due_after, one.sums (due_now moment));
+      turns = omega (arith, k.turns, out, one.sums turns_of);
+    }

@@ -2,6 +2,7 @@
 use Rattle.std.proofs.Common.{◌≡◌, ℕ, ◌≤◌, Bool, true, false, cond, eqb, not, List, [], ◌∷◌, ◌++◌, length, filter, refl, sym, ◌∙◌, ap, arith}
 use Rattle.std.proofs.lemmas.Bool.{eq-eqb, eqb-true}
 use Rattle.std.proofs.lemmas.List.Concat.{flat_map-append}
+use Rattle.std.proofs.lemmas.List.Sums.{count_by-le-length, length-filter}
 use Rattle.fp_book.proofs.Queue.{eqb_swap}
 use Rattle.fp_book.specs.declared.parcel.Waiting.{Waiting}
 use Rattle.fp_book.specs.Calls.{waiting_in}
@@ -62,10 +63,5 @@ pub dropped_other : (d l : ℕ) (ws : List Waiting) → eqb d l ≡ false → fr
 dropped_other d l [] ne = refl
 dropped_other d l (w ∷ ws) ne = ap (frames_for d) (others_by l w ws (eqb w.local l) refl) ∙ other_by d l w ws (eqb w.local l) ne refl (dropped_other d l ws ne)
 
-fewer_by : (l : ℕ) (w : Waiting) (ws : List Waiting) (b : Bool) → length (others l ws) ≤ length ws → length (cond b (others l ws) (w ∷ others l ws)) ≤ length (w ∷ ws)
-fewer_by l w ws true le = omega arith
-fewer_by l w ws false le = omega arith
-
 pub fewer : (l : ℕ) (ws : List Waiting) → length (others l ws) ≤ length ws
-fewer l [] = omega arith
-fewer l (w ∷ ws) = omega (arith, ap length (others_by l w ws (eqb w.local l) refl), fewer_by l w ws (eqb w.local l) (fewer l ws))
+fewer l ws = omega (arith, length-filter (is_of_other l) ws, count_by-le-length (is_of_other l) ws)

@@ -23,7 +23,7 @@ use Rattle.fp_book.specs.declared.verdict.Verdict.TheVariants.{Discard, Refuse, 
 use Rattle.fp_book.specs.Log.{Drains, logged}
 use Rattle.fp_book.specs.Outbox.{Outbox, IsNext, nothing, with_nothing_out, without_frames_of}
 use Rattle.fp_book.specs.Parcel.{local_of}
-use Rattle.fp_book.specs.Shelf.{Shelf, gone_with, keep, places_held}
+use Rattle.fp_book.specs.Shelf.{Shelf, places_held, with_dialogue}
 use Rattle.fp_book.specs.Sending.{is_frame_of}
 use Rattle.fp_book.specs.Totals.{accepted_by, sent_by, served_by, sum_of}
 use Rattle.fp_book.specs.Verdict.{is_full, verdict}
@@ -34,16 +34,13 @@ use Rattle.fp_entry.specs.declared.entry.EntryKind.TheVariants.{Clock}
 use Rattle.fp_entry.specs.Entries.{component_count, entry_at}
 use Rattle.fp_entry.specs.Prepared.{arrival_of}
 use Rattle.fp_q773.specs.declared.provider_abort.AbortCause.{AbortCause}
-use Rattle.fp_q773.specs.declared.tid.Tid.{Tid}
+use Rattle.fp_q773.specs.Tid.{Tid, octets_of}
 use Rattle.fp_q773.specs.ProviderAbort.{cause_code, provider_abort}
-use Rattle.fp_q773.specs.Tid.{octets_of}
 use Rattle.fp_ber.specs.Canon.{canon}
 use Rattle.fp_frames.specs.Frame.{framed}
-use Rattle.fp_reply.specs.declared.provider_abort.AbortFrame.{AbortFrame}
-use Rattle.fp_reply.specs.ProviderAbort.{frame_octets}
+use Rattle.fp_reply.specs.ProviderAbort.{AbortFrame, frame_octets}
 use Rattle.fp_row.specs.declared.done.Done.{Done}
-use Rattle.fp_row.specs.declared.ending.Ending.{Ending}
-use Rattle.fp_row.specs.declared.ending.Ending.TheVariants.{Closed}
+use Rattle.fp_row.specs.declared.ending.Ending.TheVariants.{ByPeer, Closed}
 use Rattle.fp_row.specs.declared.requested.Requested.{Requested}
 use Rattle.fp_row.specs.declared.requested.Requested.TheVariants as requested
 use Rattle.fp_row.specs.declared.row.Row.{Row}
@@ -124,12 +121,10 @@ pub record GivesDone (old : Shelf) (done : Done) (given : Given) (new : Shelf) :
   pub was : get old.rows done.turn.local ≡ Some before
   pub gives : Gives before done asked after
   pub given_is : given ≡ given_of asked
-  pub new_is : new ≡ record old {
-    rows = keep old.rows done.turn.local after;
+  pub new_is : new ≡ record (with_dialogue old done.turn.local after) {
     ready = old.ready ++ joins done.turn.local (is_ready after);
     outbox = record old.outbox { frames = old.outbox.frames ++ waiting_in done.turn.local asked };
     totals = one_served old.totals;
-    gone = gone_with old.gone after;
     log = logged old.log (line.Give done.turn.local done.turn.position given);
   }
 
@@ -145,10 +140,8 @@ pub record PutsTurnBack (old : Shelf) (turn : Turn) (new : Shelf) : Type 0 where
   pub after : Row
   pub was : get old.rows turn.local ≡ Some before
   pub puts : PutsBack before turn after
-  pub new_is : new ≡ record old {
-    rows = keep old.rows turn.local after;
+  pub new_is : new ≡ record (with_dialogue old turn.local after) {
     ready = old.ready ++ joins turn.local (is_ready after);
-    gone = gone_with old.gone after;
     log = logged old.log (line.PutBack turn.local turn.position);
   }
 
@@ -183,11 +176,9 @@ pub record SendsFrame (old : Shelf) (w : Waiting) (new : Shelf) : Type 0 where
   pub was_out : old.outbox.out ≡ Some (content.Frame w)
   pub was : get old.rows w.local ≡ Some before
   pub sends : SendsOne before after
-  pub new_is : new ≡ record old {
-    rows = keep old.rows w.local after;
+  pub new_is : new ≡ record (with_dialogue old w.local after) {
     outbox = with_nothing_out old.outbox;
     totals = one_sent old.totals;
-    gone = gone_with old.gone after;
     log = logged old.log (line.Sent w.local);
   }
 
@@ -329,21 +320,19 @@ pub record ExtendsDialogue (old : Shelf) (local : ℕ) (came : Prepared) (answer
   }
 
 -- a dialogue accepts the peer's end or abort: its frames that wait are dropped
-pub record EndsDialogue (old : Shelf) (local : ℕ) (ending : Ending) (came : Prepared) (answer : Posted) (new : Shelf) : Type 0 where
+pub record EndsDialogue (old : Shelf) (local : ℕ) (came : Prepared) (answer : Posted) (new : Shelf) : Type 0 where
   pub before : Row
   pub extended : Row
   pub after : Row
   pub was : get old.rows local ≡ Some before
   pub extends : Extends before (entries_in came) extended
-  pub ends : Ends ending (is_frame_of local old.outbox.out) extended after
+  pub ends : Ends ByPeer (is_frame_of local old.outbox.out) extended after
   pub answer_is : answer ≡ Accepted (length (entries_in came))
-  pub new_is : new ≡ record old {
+  pub new_is : new ≡ record (with_dialogue old local after) {
     entries = old.entries + length (entries_in came);
-    rows = keep old.rows local after;
     ready = old.ready ++ joins local (not (is_ready before) && is_ready after);
     outbox = without_frames_of local old.outbox;
     totals = more_accepted old.totals (entries_in came);
-    gone = gone_with old.gone after;
     log = logged old.log (posted_line came answer);
   }
 
@@ -353,12 +342,7 @@ pub record ClosesDialogue (old : Shelf) (local : ℕ) (new : Shelf) : Type 0 whe
   pub after : Row
   pub was : get old.rows local ≡ Some before
   pub ends : Ends Closed (is_frame_of local old.outbox.out) before after
-  pub new_is : new ≡ record old {
-    rows = keep old.rows local after;
-    ready = without local old.ready;
-    outbox = without_frames_of local old.outbox;
-    gone = gone_with old.gone after;
-  }
+  pub new_is : new ≡ record (with_dialogue old local after) { ready = without local old.ready; outbox = without_frames_of local old.outbox }
 
 abbrev pub ClosesOne : Shelf → Option ℕ → Shelf → Type 0
 ClosesOne old None new = new ≡ old
@@ -404,8 +388,8 @@ abbrev pub Follows : Verdict → Shelf → Prepared → Posted → Shelf → Typ
 Follows Discard old came answer new = Discards old came answer new
 Follows (Refuse cause closes) old came answer new = Refuses old cause closes came answer new
 Follows (Open peer) old came answer new = OpensDialogue old peer came answer new
-Follows (Extend local None) old came answer new = ExtendsDialogue old local came answer new
-Follows (Extend local (Some ending)) old came answer new = EndsDialogue old local ending came answer new
+Follows (Extend local false) old came answer new = ExtendsDialogue old local came answer new
+Follows (Extend local true) old came answer new = EndsDialogue old local came answer new
 
 -- what is counted then, by the answer: the entries of a message that was accepted
 abbrev pub posted_totals : Totals → Prepared → Posted → Totals
@@ -420,7 +404,7 @@ abbrev pub accepts : Verdict → Bool
 accepts Discard = false
 accepts (Refuse cause closes) = false
 accepts (Open peer) = true
-accepts (Extend local ending) = true
+accepts (Extend local ends) = true
 
 abbrev pub are_some : List Entry → Bool
 are_some [] = false
@@ -431,7 +415,7 @@ abbrev pub asks_for_memory : Verdict → Prepared → Bool
 asks_for_memory Discard came = false
 asks_for_memory (Refuse cause closes) came = false
 asks_for_memory (Open peer) came = true
-asks_for_memory (Extend local ending) came = are_some (entries_in came)
+asks_for_memory (Extend local ends) came = are_some (entries_in came)
 
 -- The first line that fits decides; or, where a message would be accepted, memory was asked for and wanting, and it is
 -- as one that was lost.

@@ -1,5 +1,5 @@
 -- What becomes of the dialogues of a link where one of them changes.
-use Rattle.std.specs.Prelude.{◌≡◌, ℕ, ◌+◌, ◌&&◌, Bool, false, not, min, nat_lt, Option, Some, None, List, [], ◌∷◌, ◌++◌, length}
+use Rattle.std.specs.Prelude.{◌≡◌, ℕ, ◌+◌, ◌&&◌, Bool, true, false, not, min, nat_lt, Option, Some, None, List, [], ◌∷◌, ◌++◌}
 use Rattle.std.specs.Option.{option_map_or}
 use Rattle.std.specs.Ordering.{nat_cmp}
 use Rattle.std.specs.FinMap.{FinMap, get, insert, remove}
@@ -7,22 +7,21 @@ use Rattle.fp_book.specs.declared.dialogues.Dropped.{Dropped}
 use Rattle.fp_book.specs.declared.dialogues.Left.{Left}
 use Rattle.fp_book.specs.declared.answers.Posted.{Posted}
 use Rattle.fp_book.specs.declared.answers.Posted.TheVariants.{Aborted}
-use Rattle.fp_book.specs.Calls.{abort_for, closed_answer}
+use Rattle.fp_book.specs.Calls.{closed_answer}
 use Rattle.fp_book.specs.Outbox.{Outbox}
 use Rattle.fp_book.specs.Shelf.{keep}
 use Rattle.fp_ber.specs.Canon.{canon}
 use Rattle.fp_frames.specs.Frame.{framed}
 use Rattle.fp_q773.specs.declared.provider_abort.AbortCause.{AbortCause}
 use Rattle.fp_q773.specs.ProviderAbort.{cause_code, provider_abort}
-use Rattle.fp_q773.specs.Tid.{octets_of}
-use Rattle.fp_reply.specs.declared.provider_abort.AbortFrame.{AbortFrame}
-use Rattle.fp_reply.specs.ProviderAbort.{frame_octets}
+use Rattle.fp_q773.specs.Tid.{octets_of, Tid}
+use Rattle.fp_reply.specs.ProviderAbort.{AbortFrame, frame_octets}
 use Rattle.fp_entry.specs.declared.entry.Entry.{Entry}
 use Rattle.fp_entry.specs.declared.entry.EntryKind.TheVariants.{Clock}
 use Rattle.fp_entry.specs.Entries.{entry_at}
-use Rattle.fp_q773.specs.declared.tid.Tid.{Tid}
 use Rattle.fp_row.specs.declared.done.Done.{Done}
 use Rattle.fp_row.specs.declared.ending.Ending.{Ending}
+use Rattle.fp_row.specs.declared.ending.Ending.TheVariants.{ByPeer}
 use Rattle.fp_row.specs.declared.requested.Requested.{Requested}
 use Rattle.fp_row.specs.declared.row.Row.{Row}
 use Rattle.fp_row.specs.declared.turn.Turn.{Turn}
@@ -41,31 +40,25 @@ abbrev pub with_deadline : FinMap nat_cmp ℕ → ℕ → Option ℕ → FinMap 
 with_deadline deadlines local None = remove deadlines local
 with_deadline deadlines local (Some deadline) = insert deadlines local deadline
 
--- the dialogue hands out a turn
-pub record HandsOutAt (old : Rows) (local : ℕ) (turn : Turn) (new : Rows) : Type 0 where
+-- one dialogue changes so, and goes where nothing of it is left
+pub record Changes (R : Row → Row → Type 0) (old : Rows) (local : ℕ) (new : Rows) : Type 0 where
   pub before : Row
   pub after : Row
   pub was : get old local ≡ Some before
-  pub takes : HandsOut before turn after
-  pub rows : new ≡ insert old local after
+  pub does : R before after
+  pub rows : new ≡ keep old local after
 
--- the dialogue takes its turn back, served, and goes where nothing of it is left
-pub record GivesAt (old : Rows) (done : Done) (requested : Requested) (left : Left) (new : Rows) : Type 0 where
-  pub before : Row
-  pub after : Row
-  pub was : get old done.turn.local ≡ Some before
-  pub gives : Gives before done requested after
-  pub left_is : left ≡ left_as after
-  pub rows : new ≡ keep old done.turn.local after
+-- the dialogue hands out a turn
+abbrev pub HandsOutAt : Rows → ℕ → Turn → Rows → Type 0
+HandsOutAt old local turn new = Changes (λ before after. HandsOut before turn after) old local new
+
+-- it takes its turn back, served
+abbrev pub GivesAt : Rows → Done → Requested → Left → Rows → Type 0
+GivesAt old done requested left new = Changes (λ before after. Gives before done requested after × (left ≡ left_as after)) old done.turn.local new
 
 -- it takes it back, not served, and is ready then or not
-pub record PutsBackAt (old : Rows) (turn : Turn) (joins : Bool) (new : Rows) : Type 0 where
-  pub before : Row
-  pub after : Row
-  pub was : get old turn.local ≡ Some before
-  pub puts : PutsBack before turn after
-  pub joins_is : joins ≡ is_ready after
-  pub rows : new ≡ keep old turn.local after
+abbrev pub PutsBackAt : Rows → Turn → Bool → Rows → Type 0
+PutsBackAt old turn joins new = Changes (λ before after. PutsBack before turn after × (joins ≡ is_ready after)) old turn.local new
 
 -- whether a frame of the dialogue is kept that wasn't sent
 abbrev pub is_unsent : Option Row → Bool
@@ -73,20 +66,12 @@ is_unsent None = false
 is_unsent (Some row) = nat_lt row.sent row.kept
 
 -- one more of its frames was sent
-pub record SendsAt (old : Rows) (local : ℕ) (new : Rows) : Type 0 where
-  pub before : Row
-  pub after : Row
-  pub was : get old local ≡ Some before
-  pub sends : SendsOne before after
-  pub rows : new ≡ keep old local after
+abbrev pub SendsAt : Rows → ℕ → Rows → Type 0
+SendsAt old local new = Changes SendsOne old local new
 
 -- it is ended from outside
-pub record EndsAt (old : Rows) (local : ℕ) (ending : Ending) (is_sending : Bool) (new : Rows) : Type 0 where
-  pub before : Row
-  pub after : Row
-  pub was : get old local ≡ Some before
-  pub ends : Ends ending is_sending before after
-  pub rows : new ≡ keep old local after
+abbrev pub EndsAt : Rows → ℕ → Ending → Bool → Rows → Type 0
+EndsAt old local ending is_sending new = Changes (Ends ending is_sending) old local new
 
 -- whether a dialogue that is ended drops frames that wait: those that are kept and weren't sent, but the one that is
 -- being sent
@@ -101,21 +86,14 @@ dropped_of row is_sending = record { was_ready = is_ready row; frames = drops_fr
 abbrev pub takes_more : Option Row → Bool
 takes_more o = option_map_or is_admitted o false
 
--- it is ended, if it is
-abbrev pub EndsIf : Option Ending → Bool → Row → Row → Type 0
-EndsIf None is_sending extended after = after ≡ extended
-EndsIf (Some ending) is_sending extended after = Ends ending is_sending extended after
+-- entries stand behind its others, and then its peer ends it, or not
+abbrev pub Grows : List Entry → Bool → Bool → Row → Row → Type 0
+Grows entries false is_sending before after = Extends before entries after
+Grows entries true is_sending before after = (extended : Row) × Extends before entries extended × Ends ByPeer is_sending extended after
 
--- entries stand behind its others, and it is ended, if it is
-pub record ExtendsAt (old : Rows) (local : ℕ) (entries : List Entry) (ending : Option Ending) (is_sending : Bool) (left : Left) (new : Rows) : Type 0 where
-  pub before : Row
-  pub extended : Row
-  pub after : Row
-  pub was : get old local ≡ Some before
-  pub extends : Extends before entries extended
-  pub ends : EndsIf ending is_sending extended after
-  pub left_is : left ≡ record { is_ready = not (is_ready before) && is_ready after; deadline = deadline_of after }
-  pub rows : new ≡ keep old local after
+abbrev pub ExtendsAt : Rows → ℕ → List Entry → Bool → Bool → Left → Rows → Type 0
+ExtendsAt old local entries ends is_sending left new =
+    Changes (λ before after. Grows entries ends is_sending before after × (left ≡ record { is_ready = not (is_ready before) && is_ready after; deadline = deadline_of after })) old local new
 
 -- a dialogue is opened with these entries
 pub record OpensAt (old : Rows) (local : ℕ) (peer : Tid) (birth moment : ℕ) (entries : List Entry) (left : Left) (new : Rows) : Type 0 where
@@ -147,6 +125,3 @@ AnsweredBy old (Some (peer, cause)) closed answer new =
     × ((frame : AbortFrame)
     × (frame_octets frame ≡ framed (canon (provider_abort (octets_of peer) (cause_code cause))))
     × (new ≡ record old { aborts = old.aborts ++ frame ∷ [] }))
-
-abbrev pub AnswersBy : Outbox → Option AbortCause → Option Tid → Option ℕ → Posted → Outbox → Type 0
-AnswersBy old cause peer closed answer new = AnsweredBy old (abort_for (length old.aborts) cause peer) closed answer new

@@ -1,5 +1,5 @@
--- What holds of all logs, what the calls of a book keep, and what that says of the frames of a dialogue.
-use Rattle.std.specs.Prelude.{◌≡◌, ℕ, ◌+◌, ◌<◌, List, [], ◌∷◌, ◌++◌, length, filter, nat_lt, Bool, not, is_some, unwrap_or, None, Some, if◌then◌else◌}
+-- What holds of all logs, what the calls of a book keep, and what that says of each dialogue.
+use Rattle.std.specs.Prelude.{◌≡◌, ℕ, ◌+◌, ◌<◌, List, [], ◌∷◌, ◌++◌, length, filter, map, nat_lt, Bool, true, false, not, is_some, IsSome, option_map, option_to_list, unwrap_or, Option, None, Some, if◌then◌else◌}
 use Rattle.std.specs.FinMap.{get}
 use mathlib.Core.List.{IsPrefix}
 use Rattle.fp_book.specs.declared.line.LoggedStep.{LoggedStep}
@@ -11,12 +11,18 @@ use Rattle.fp_book.specs.declared.parcel.Content.{Content}
 use Rattle.fp_book.specs.declared.parcel.Parcel.{Parcel}
 use Rattle.fp_book.specs.declared.taken.Taken.{Taken}
 use Rattle.fp_book.specs.Calls.{GivesDone, GoesDown, PicksParcel, Posts, PutsTurnBack, Sends, Takes, Ticks, Unsends}
-use Rattle.fp_book.specs.Shelf.{Shelf, Sound, unsent_for}
+use Rattle.fp_book.specs.Shelf.{Shelf, Sound, frame_out, frames_for}
+use Rattle.fp_entry.specs.declared.entry.Entry.{Entry}
 use Rattle.fp_entry.specs.declared.prepared.Prepared.{Prepared}
+use Rattle.fp_q773.specs.Tid.{Tid, octets_of}
+use Rattle.fp_reply.specs.Reply.{frame_of}
 use Rattle.fp_row.specs.declared.done.Done.{Done}
 use Rattle.fp_row.specs.declared.row.Row.{Row}
 use Rattle.fp_row.specs.declared.turn.Turn.{Turn}
-use Rattle.fp_row.specs.Row.{frames_of, sent_of}
+use Rattle.fp_row.specs.Row.{is_closed, sent_of, served_of, start_of, turn_out, waiting_of}
+use Rattle.fp_service.specs.declared.request.Request.{Request}
+use Rattle.fp_service.specs.Dialogue.{is_over}
+use Rattle.fp_service.specs.Fold.{core_after, cut, requests}
 
 -- how many steps a log accounts for: each that it tells, and as many as its gaps count
 abbrev pub accounted : List LoggedStep → ℕ
@@ -77,11 +83,34 @@ UnsendingKeepsSound = (old new : Shelf) (parcel : Parcel) → Sound old → Unse
 abbrev pub TickingKeepsSound : Type 0
 TickingKeepsSound = (old new : Shelf) (moment added wanting : ℕ) → Sound old → Ticks old moment added wanting new → Sound new
 
--- The frames of a dialogue that were sent, then the one that is being sent, then those that wait, are the frames of
--- what its served entries request, in their order: all of them, or a front of them where it was ended from outside.
-pub record GoOutInOrder (s : Shelf) (local : ℕ) (row : Row) : Type 0 where
-  pub front : IsPrefix (sent_of row ++ unsent_for local s.outbox) (frames_of row)
-  pub whole : row.ended ≡ None → sent_of row ++ unsent_for local s.outbox ≡ frames_of row
+-- the entry of the turn that is out
+abbrev pub entry_in : Option Turn → List Entry
+entry_in out = option_to_list (option_map (λ (turn : Turn). turn.entry) out)
 
-abbrev pub FramesGoOutInOrder : Type 0
-FramesGoOutInOrder = (s : Shelf) → Sound s → (local : ℕ) (row : Row) → get s.rows local ≡ Some row → GoOutInOrder s local row
+-- the frames of what is requested, under the identifiers of a dialogue
+abbrev pub frames_under : ℕ → Tid → List Request → List (List ℕ)
+frames_under local peer asked = map (λ request. frame_of request local (octets_of peer)) asked
+
+-- What the type of a book keeps of a dialogue that is held, the whole of it.
+pub record IsKeptInOrder (s : Shelf) (local : ℕ) (row : Row) : Type 0 where
+  -- it stands under its own identifier
+  pub local_is : row.local ≡ local
+  -- the entries served are the first of those accepted, and none is behind the one that ends the dialogue
+  pub served : IsPrefix (served_of row) (cut (start_of row) row.accepted)
+  -- its core is the one that results from them
+  pub core : row.core ≡ core_after (start_of row) (served_of row)
+  -- a turn that is out is of this dialogue, at the place behind them, and holds that core
+  pub turn : (turn : Turn) → turn_out row ≡ Some turn
+      → turn ≡ record { local = local; peer = row.peer; position = length (served_of row); entry = turn.entry; before = core_after (start_of row) (served_of row) }
+  pub is_there : row.is_out ≡ true → IsSome (turn_out row)
+  -- the entries served, the one that is out and those that wait are those accepted, or the first of them where the
+  -- dialogue was closed or its core is over
+  pub entries : IsPrefix (served_of row ++ (entry_in (turn_out row) ++ waiting_of row)) row.accepted
+  pub all_entries : is_closed row.ended ≡ false → is_over row.core ≡ false → served_of row ++ (entry_in (turn_out row) ++ waiting_of row) ≡ row.accepted
+  -- the frames sent, the one that is being sent and those that wait are those that it requests on the entries served,
+  -- under its identifiers, or the first of them where it was ended from outside
+  pub frames : IsPrefix (sent_of row ++ (frame_out local s.outbox.out ++ frames_for local s.outbox.frames)) (frames_under local row.peer (requests (start_of row) (served_of row)))
+  pub all_frames : row.ended ≡ None → sent_of row ++ (frame_out local s.outbox.out ++ frames_for local s.outbox.frames) ≡ frames_under local row.peer (requests (start_of row) (served_of row))
+
+abbrev pub DialoguesAreKeptInOrder : Type 0
+DialoguesAreKeptInOrder = (s : Shelf) → Sound s → (local : ℕ) (row : Row) → get s.rows local ≡ Some row → IsKeptInOrder s local row

@@ -7,6 +7,7 @@ pub mod Log
 pub mod Outbox
 pub mod Parcel
 pub mod ReadyQueue
+pub mod Receipt
 pub mod Sending
 pub mod Shelf
 pub mod Totals

@@ -20,7 +20,6 @@ use Rattle.fp_q773.specs.declared.kind.Kind.{Kind}
 use Rattle.fp_q773.specs.declared.kind.Kind.TheVariants.{Unidirectional, Begin, End, Continue, Abort, Unknown}
 use Rattle.fp_q773.specs.declared.provider_abort.AbortCause.TheVariants as cause
 use Rattle.fp_records.specs.Table.{Contents}
-use Rattle.fp_row.specs.declared.ending.Ending.TheVariants.{ByPeer}
 use Rattle.fp_row.specs.Row.{unserved}
 
 -- each line is a test, and what is done where it is met: the first that fits decides
@@ -137,8 +136,8 @@ last_lines s came kind dialogue =
     -- 7. Else it is taken: a Begin opens a dialogue, a Continue goes on with the one that it names, and an End or an
     -- Abort ends that.
     ∷ (is_begin kind, option_map_or (λ peer. Open peer) (arrival_of came).ids.orig Discard)
-    ∷ (is_continue kind, option_map_or (λ local. Extend local None) dialogue Discard)
-    ∷ (is_end kind || is_abort kind, option_map_or (λ local. Extend local (Some ByPeer)) dialogue Discard)
+    ∷ (is_continue kind, option_map_or (λ local. Extend local false) dialogue Discard)
+    ∷ (is_end kind || is_abort kind, option_map_or (λ local. Extend local true) dialogue Discard)
     ∷ []
 
 -- all lines for what came, the book's own tests before the sixth

@@ -1,6 +1,6 @@
 -- What waits to be sent on a link, and what is being sent.
 use Rattle.std.specs.Prelude.{◌≡◌, ℕ, ◌+◌, ◌≤◌, List, [], ◌∷◌, ◌++◌, length, filter, nat_lt, Bool, if◌then◌else◌, Option, Some, None, IsSome}
-use Rattle.fp_reply.specs.declared.provider_abort.AbortFrame.{AbortFrame}
+use Rattle.fp_reply.specs.ProviderAbort.{AbortFrame}
 use Rattle.fp_book.specs.declared.parcel.Content.{Content}
 use Rattle.fp_book.specs.declared.parcel.Content.TheVariants as contents
 use Rattle.fp_book.specs.declared.parcel.Picked.{Picked}

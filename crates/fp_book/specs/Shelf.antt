@@ -100,6 +100,10 @@ keep rows local row = if is_held row then insert rows local row else remove rows
 abbrev pub gone_with : Totals → Row → Totals
 gone_with gone row = if is_held row then gone else with_row gone row
 
+-- a book in which a dialogue is this, or gone if nothing of it is left
+abbrev pub with_dialogue : Shelf → ℕ → Row → Shelf
+with_dialogue s local row = record s { rows = keep s.rows local row; gone = gone_with s.gone row }
+
 -- one for each dialogue of a kind
 abbrev pub one_if : Bool → ℕ
 one_if true = 1

@@ -1,5 +1,5 @@
 -- What is to be done with a message, by the dialogues that there are: the first line that fits decides.
-use Rattle.std.specs.Prelude.{ℕ, Bool, false, ◌+◌, ◌*◌, ◌^◌, ◌||◌, List, [], ◌∷◌, Option, Some, None, length, nat_le, nat_lt, nat_eq, if◌then◌else◌}
+use Rattle.std.specs.Prelude.{ℕ, Bool, true, false, ◌+◌, ◌*◌, ◌^◌, ◌||◌, List, [], ◌∷◌, Option, Some, None, length, nat_le, nat_lt, nat_eq, if◌then◌else◌}
 use Rattle.std.specs.Option.{option_and_then, option_map_or}
 use Rattle.std.specs.Ordering.{nat_cmp}
 use Rattle.std.specs.FinMap.{FinMap, get, len}
@@ -14,10 +14,7 @@ use Rattle.fp_q773.specs.declared.ids.Ids.{Ids}
 use Rattle.fp_q773.specs.declared.kind.Kind.{Kind}
 use Rattle.fp_q773.specs.declared.kind.Kind.TheVariants.{Unidirectional, Begin, End, Continue, Abort, Unknown}
 use Rattle.fp_q773.specs.declared.provider_abort.AbortCause.TheVariants as cause
-use Rattle.fp_q773.specs.declared.tid.Tid.{Tid}
-use Rattle.fp_q773.specs.Tid.{octets_of}
-use Rattle.fp_row.specs.declared.ending.Ending.{Ending}
-use Rattle.fp_row.specs.declared.ending.Ending.TheVariants.{ByPeer}
+use Rattle.fp_q773.specs.Tid.{Tid, octets_of}
 use Rattle.fp_row.specs.declared.row.Row.{Row}
 use Rattle.fp_row.specs.Row.{is_admitted, places_taken}
 
@@ -75,24 +72,24 @@ begin_of s (Some peer) incoming =
     else Open peer
 
 -- a Continue or an End of an admitted dialogue
-abbrev pub more_of : Shelf → ℕ → Option Ending → Incoming → Verdict
-more_of s local ending incoming =
+abbrev pub more_of : Shelf → ℕ → Bool → Incoming → Verdict
+more_of s local ends incoming =
     if too_many incoming || (no_place_left (get s.rows local) (place_count incoming.entries) || is_full s)
     then Refuse (Some cause.ResourceLimitation) (Some local)
-    else Extend local ending
+    else Extend local ends
 
 -- an Abort of an admitted dialogue
 abbrev pub abort_of : ℕ → Incoming → Verdict
-abort_of local incoming = if nat_lt 1 (length incoming.entries) then Refuse None (Some local) else Extend local (Some ByPeer)
+abort_of local incoming = if nat_lt 1 (length incoming.entries) then Refuse None (Some local) else Extend local true
 
 -- a readable message
 abbrev pub message_of : Shelf → Ids → Incoming → Kind → Option ℕ → Verdict
 message_of s ids incoming Unidirectional dialogue = Discard
 message_of s ids incoming Begin dialogue = begin_of s ids.orig incoming
 message_of s ids incoming Continue None = Refuse (Some cause.UnrecognizedTransactionIdentifier) None
-message_of s ids incoming Continue (Some local) = more_of s local None incoming
+message_of s ids incoming Continue (Some local) = more_of s local false incoming
 message_of s ids incoming End None = Discard
-message_of s ids incoming End (Some local) = more_of s local (Some ByPeer) incoming
+message_of s ids incoming End (Some local) = more_of s local true incoming
 message_of s ids incoming Abort None = Discard
 message_of s ids incoming Abort (Some local) = abort_of local incoming
 message_of s ids incoming Unknown dialogue = Discard
@@ -106,7 +103,3 @@ arrived s (Message arrival incoming) = message_of s arrival.ids incoming arrival
 -- what came; a link that is down takes nothing
 abbrev pub verdict : Shelf → Prepared → Verdict
 verdict s prepared = if s.is_down then Discard else arrived s prepared
-
--- so of a readable message
-abbrev pub verdict_on : Shelf → Ids → Incoming → Verdict
-verdict_on s ids incoming = if s.is_down then Discard else message_of s ids incoming ids.kind (named s ids)

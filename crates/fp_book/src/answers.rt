@@ -1,5 +1,7 @@
 //! What the steps of a link answer.
 
+ghost use Rattle.std.specs.Prelude.{◌≡◌};
+
 use fp_q773::AbortCause;
 
 /// What becomes of a message that is posted.
@@ -16,6 +18,30 @@ pub enum Posted {
     Ended,
     /// No dialogue accepted it, none was closed, and nothing is sent.
     Discarded,
+}
+
+/// What [`Book::post_with_receipt`](crate::Book::post_with_receipt) says of a message.
+#[derive(Clone, Copy, Debug, PartialEq, Eq)]
+pub struct Receipt {
+    /// What became of it.
+    pub posted: Posted,
+    /// How many of its components were accepted, 0 where it wasn't accepted.
+    pub components: u32,
+    /// Whether memory ran out for it, so that it was treated as lost, and the log has a `Lost`.
+    pub lost: bool,
+}
+
+impl Receipt {
+    /// Of a message that wasn't accepted.
+    pub(crate) fn not_accepted(posted: Posted, lost: bool) -> Receipt
+        ensures { result ≡ record { posted = posted; components = 0; lost = lost } }
+    {
+        Receipt {
+            posted,
+            components: 0,
+            lost,
+        }
+    }
 }
 
 /// What becomes of the request of a turn that is given back.

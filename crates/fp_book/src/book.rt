@@ -1,6 +1,6 @@
 //! The book of a link.
 
-ghost use Rattle.std.specs.Prelude.{◌≡◌, ◌+◌, ◌-◌, ◌<◌, ◌≤◌, [], IfOk, vec_capacity, vec_len};
+ghost use Rattle.std.specs.Prelude.{◌≡◌, ◌+◌, ◌-◌, ◌<◌, ◌≤◌, [], IfOk, length, vec_capacity, vec_len};
 ghost use Rattle.fp_book.specs.Calls.{DrainsBook};
 ghost use Rattle.fp_book.specs.Log.{Drains};
 ghost use Rattle.fp_book.specs.Outbox.{frames_held};
@@ -111,6 +111,13 @@ impl Book {
         ensures sound { Sound self.now }
     {
         self.is_down
+    }
+
+    /// How many lines the log has, at most [`Log::MOST`]. Takes no memory.
+    pub fn line_count(&self) -> usize
+        ensures value { result ≡ length self.now.log }
+    {
+        self.log.len()
     }
 
     /// Moves the oldest lines of the log behind `lines`, as many as `lines` has room for, and changes nothing else.

@@ -1,10 +1,11 @@
 //! The dialogues of a link where one of them changes.
 
-ghost use Rattle.std.specs.Prelude.{◌≡◌, ◌≢◌, [], ◌↔◌, true, Some, IfErr, IfOk, IsOk, IsTrue, OnErr, ◌&&◌, is_some, if◌then◌else◌};
+ghost use Rattle.std.specs.Prelude.{◌≡◌, ◌≢◌, [], ◌↔◌, not, true, Some, IfErr, IfOk, IsOk, IsTrue, OnErr, ◌&&◌, if◌then◌else◌};
 ghost use Rattle.std.specs.FinMap.{contains_key, get, remove};
 ghost use Rattle.fp_book.specs.Calls.{turn_of};
 ghost use Rattle.fp_book.specs.Dialogues.{ClockedAt, EndsAt, ExtendsAt, GivesAt, HandsOutAt, OpensAt, PutsBackAt, SendsAt, dropped_of, drops_frames, is_due_at, is_unsent, left_as, takes_more};
 ghost use Rattle.fp_row.specs.declared.row.Row.{Row};
+ghost use Rattle.fp_row.specs.Row.{is_ready};
 ghost use Rattle.fp_book.specs.Shelf.{ready_count};
 
 use fp_digits::Moment;
@@ -59,6 +60,13 @@ pub(crate) struct Dropped {
     pub(crate) was_ready: bool,
     /// Whether frames of it wait.
     pub(crate) frames: bool,
+}
+
+/// Whether a dialogue has become ready, by whether it was.
+fn has_become_ready(row: &Row, was_ready: bool) -> bool
+    ensures { result ≡ (not was_ready && is_ready row.now) }
+{
+    !was_ready && row.is_ready()
 }
 
 /// Takes a dialogue off of which nothing is left. Takes no memory.
@@ -161,20 +169,20 @@ pub(crate) fn end(rows: &mut Rows, local: u32, ending: Ending, is_sending: bool)
     Dropped { was_ready, frames }
 }
 
-/// Puts entries behind those of a dialogue that takes messages, and ends it from outside, where it is ended. It goes
+/// Puts entries behind those of a dialogue that takes messages, and ends it, where its peer does. It goes
 /// where nothing of it is left. Tells whether it has become ready. Where memory is wanting, which it never is for no
 /// entries, nothing changes, and the entries are gone.
 pub(crate) fn extend(
     rows: &mut Rows,
     local: u32,
     entries: Entries,
-    ending: Option<Ending>,
+    ends: bool,
     is_sending: bool,
 ) -> Result<Extended, AllocError>
     requires { takes_more (get rows.old local) ≡ true }
-    ensures ok { IfOk result (λ extended. ExtendsAt rows.old local entries ending is_sending extended.left rows.new) }
+    ensures ok { IfOk result (λ extended. ExtendsAt rows.old local entries ends is_sending extended.left rows.new) }
     ensures only { OnErr result (entries ≢ []) }
-    ensures drops { IfOk result (λ extended. (row : Row) → get rows.old local ≡ Some row → extended.drops_frames ≡ (is_some ending && drops_frames row is_sending)) }
+    ensures drops { IfOk result (λ extended. (row : Row) → get rows.old local ≡ Some row → extended.drops_frames ≡ (ends && drops_frames row is_sending)) }
     ensures err { OnErr result (rows.new ≡ rows.old) }
 {
     putting_back_changes_nothing();
@@ -183,12 +191,13 @@ pub(crate) fn extend(
     };
     let was_ready = row.is_ready();
     row.accept(entries)?;
-    let drops_frames = match ending {
-        Some(ending) => row.end(ending, is_sending),
-        None => false,
+    let drops_frames = if ends {
+        row.end(Ending::ByPeer, is_sending)
+    } else {
+        false
     };
     let left = Left {
-        is_ready: !was_ready && row.is_ready(),
+        is_ready: has_become_ready(row, was_ready),
         deadline: row.deadline(),
     };
     let is_held = row.is_held();
@@ -232,5 +241,5 @@ pub(crate) fn clock(rows: &mut Rows, local: u32, moment: Moment) -> Result<bool,
     };
     let was_ready = row.is_ready();
     row.accept_clock(moment)?;
-    Ok(!was_ready && row.is_ready())
+    Ok(has_become_ready(row, was_ready))
 }

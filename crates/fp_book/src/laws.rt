@@ -1,7 +1,6 @@
-//! What holds of all logs, what the calls of a book keep, by which line a message is taken, and in which order frames
-//! go out.
+//! What holds of all logs, what the calls of a book keep, by which line a message is taken, and how dialogues are kept.
 
-ghost use Rattle.fp_book.specs.Laws.{EachStepIsAccountedFor, FramesGoOutInOrder, GivingKeepsSound, GoingDownKeepsSound, PickingKeepsSound, PostingKeepsSound, PuttingBackKeepsSound, SendingKeepsSound, TakingKeepsSound, TickingKeepsSound, ToldStepsStay, UnsendingKeepsSound};
+ghost use Rattle.fp_book.specs.Laws.{DialoguesAreKeptInOrder, EachStepIsAccountedFor, GivingKeepsSound, GoingDownKeepsSound, PickingKeepsSound, PostingKeepsSound, PuttingBackKeepsSound, SendingKeepsSound, TakingKeepsSound, TickingKeepsSound, ToldStepsStay, UnsendingKeepsSound};
 ghost use Rattle.fp_book.specs.Lines.{MessagesGetTheirLine, ReadMessagesHaveFewEntries, SevenLinesDecide};
 
 use fp_q773::{identifiers_are_those_of_the_message, ids_are_one};
@@ -72,10 +71,13 @@ pub fn read_messages_have_few_entries()
     ids_are_one();
 }
 
-/// Of each dialogue what was sent, then what is being sent, then what waits are the frames of what its served entries
-/// request, in their order, or a front of them where it was ended from outside.
-pub fn frames_go_out_in_order()
-    ensures { FramesGoOutInOrder }
+/// Of each dialogue that is held: the entries served are the first of those that its service logic serves of the
+/// accepted ones, its core is that after them, and the turn that is out has this core and the next entry. Served, out
+/// and waiting entries are together those accepted, or the first of them where it was closed or its core is over. What
+/// was sent, what is being sent and what waits are the frames of what its served entries request, in their order, under
+/// its own identifiers, or the first of them where it was ended from outside.
+pub fn dialogues_are_kept_in_order()
+    ensures { DialoguesAreKeptInOrder }
 {
     rows_keep_their_order();
 }

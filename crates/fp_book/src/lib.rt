@@ -3,12 +3,13 @@
 //!
 //! The layer is handed messages that were prepared, moments, turns that were served and word of what was sent, and says
 //! what is to be done next. It knows no clock, no thread and no socket, and asks the system for nothing but memory:
-//! what [`Book::new`] reserves is never grown, and after it nothing but [`Book::post`], [`Book::tick`] and
-//! [`Book::take`] takes any.
+//! what [`Book::new`] reserves is never grown, and after it nothing but [`Book::post`] (or
+//! [`Book::post_with_receipt`]), [`Book::tick`] and [`Book::take`] takes any.
 //!
 //! | Call | What comes | What is answered |
 //! |---|---|---|
 //! | [`Book::post`] | a message | [`Posted`]: what became of it |
+//! | [`Book::post_with_receipt`] | a message | [`Receipt`]: that, what was counted, and whether memory ran out |
 //! | [`Book::tick`] | a moment | [`Ticked`]: how many dialogues were given a Clock |
 //! | [`Book::take`] | a worker is free | [`Taken`]: the turn of the dialogue that has been ready longest, or why none |
 //! | [`Book::give`] | a turn that was served | [`Given`]: what became of its request |
@@ -30,23 +31,26 @@
 //!
 //! What a call costs, by the number of dialogues that are held: `post`, `take`, `give`, `put_back` and `sent` look one of
 //! them up by halves, and where one comes or goes those with greater identifiers move; setting a deadline moves those of
-//! greater identifiers. `tick` goes through all deadlines once for each that is due, and once more; where memory was
+//! greater identifiers. `tick` goes through all deadlines once for each that is due, and twice more; where memory was
 //! wanting, through all dialogues. A message that is refused or ends its dialogue goes through the frames that wait only
 //! where one of them is that dialogue's, and through the order of service only where that dialogue stands in it. `down`
-//! and `unsent` go through everything. Nothing else grows with what other dialogues have.
+//! and `unsent` go through everything, and move what is left for each dialogue that goes. Nothing else grows with what
+//! other dialogues have.
 //!
 //! The layer above may rely on this: contracts see a [`Book`] as a `Shelf` (`specs/Shelf.antt`), and its type keeps
 //! what `Sound` says: identifiers are those of the link, each of a serial that was given; of each dialogue what was
 //! sent, then what is being sent, then what waits is what is kept of the frames that its served entries request (its
 //! [`Row`](fp_row::Row) keeps the rest of it); each dialogue that is ready stands once in the order of service; all
-//! limits; and each total is the sum over the dialogues held and those gone. Each call says of the whole shelf what it
-//! is then (`specs/Calls.antt`), which line decides on a message is said by `specs/Verdict.antt`, and that a strange
-//! turn or parcel comes back, and the right one never, by the clauses named `known`. Laws say what follows:
+//! limits; and no total is below the sum over the dialogues that are held. Each call says of the whole shelf what it is
+//! then (`specs/Calls.antt`), so that the totals are the sums over the dialogues held and those gone; which line decides
+//! on a message is said by `specs/Verdict.antt`, and that a strange turn or parcel comes back, and the right one never,
+//! by the clauses named `known`. Laws say what follows:
 //!
 //! * [`messages_get_their_line`]: the first line of `specs/Lines.antt` that fits a message says what is done with it.
 //! * [`read_messages_have_few_entries`]: on a frame that was prepared the seven of them alone decide.
-//! * [`frames_go_out_in_order`]: what was sent of a dialogue, what is being sent and what waits are the frames of what
-//!   its served entries request, in their order, or a front of them where it was ended from outside.
+//! * [`dialogues_are_kept_in_order`]: of each dialogue that is held the entries served, the one that is out and those
+//!   that wait are those accepted; and the frames sent, the one that is being sent and those that wait are those that it
+//!   requests on the entries served. Where it was closed, is over or was ended from outside they are the first of these.
 #![tactic(auto)]
 
 mod answers;
@@ -68,10 +72,10 @@ mod ticking;
 mod totals;
 mod verdict;
 
-pub use answers::{Given, Posted};
+pub use answers::{Given, Posted, Receipt};
 pub use book::Book;
 pub use laws::{
-    clocks_keep_a_book_sound, frames_go_out_in_order, going_down_keeps_a_book_sound,
+    clocks_keep_a_book_sound, dialogues_are_kept_in_order, going_down_keeps_a_book_sound,
     messages_get_their_line, messages_keep_a_book_sound, read_messages_have_few_entries,
     sending_keeps_a_book_sound, steps_are_told_or_counted, turns_keep_a_book_sound,
 };

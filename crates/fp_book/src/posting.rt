@@ -1,18 +1,21 @@
 //! What a book does with a message.
 
-ghost use Rattle.std.specs.Prelude.{◌≡◌, ◌≢◌, [], false, IfErr, IfOk, OnErr, length, if◌then◌else◌};
+ghost use Rattle.std.specs.Prelude.{◌≡◌, false, length, if◌then◌else◌};
 ghost use Rattle.std.specs.FinMap.{get};
 ghost use Rattle.fp_book.specs.declared.verdict.Verdict.TheVariants as verdicts;
 ghost use Rattle.fp_entry.specs.declared.prepared.Prepared.TheVariants as prepared;
-ghost use Rattle.fp_book.specs.Calls.{without, Discards, Follows, OpensDialogue, Posts, Refuses, accepts, posted_line, posted_totals};
-ghost use Rattle.fp_book.specs.Dialogues.{AnswersBy};
+ghost use Rattle.fp_book.specs.Calls.{without, abort_for, Discards, Follows, Posts, Refuses, posted_line, posted_totals};
+ghost use Rattle.fp_book.specs.Dialogues.{AnsweredBy};
 ghost use Rattle.fp_book.specs.Outbox.{without_frames_of};
+ghost use Rattle.fp_book.specs.Receipt.{IsReceipt};
 ghost use Rattle.fp_book.specs.Shelf.{Sound};
-ghost use Rattle.fp_book.specs.Verdict.{abort_of, begin_of, is_full, lost_of, message_of, more_of, named, no_dialogue_left, no_place_left, number_of, refused_of, too_many, verdict, verdict_on};
+ghost use Rattle.fp_book.specs.Verdict.{abort_of, begin_of, is_full, lost_of, message_of, more_of, named, no_dialogue_left, no_place_left, number_of, refused_of, too_many, verdict};
 
 use crate::serving::{join, set_deadline};
 use crate::verdict::Verdict;
-use crate::{Book, LoggedStep, Outbox, Posted, ReadyQueue, dialogues, messages_keep_a_book_sound};
+use crate::{
+    Book, LoggedStep, Outbox, Posted, ReadyQueue, Receipt, dialogues, messages_keep_a_book_sound,
+};
 use fp_entry::{Arrival, Incoming, Prepared};
 use fp_q773::{AbortCause, Ids, Kind, Tid};
 use fp_reply::abort_frame;
@@ -61,10 +64,7 @@ fn abort_of(local: u32, incoming: &Incoming) -> Verdict
             closes: Some(local),
         };
     }
-    Verdict::Extend {
-        local,
-        ending: Some(Ending::ByPeer),
-    }
+    Verdict::Extend { local, ends: true }
 }
 
 /// Whether a message holds more elements in its component portion than are taken.
@@ -106,7 +106,7 @@ fn answer_by(
     peer: Option<Tid>,
     closed: Option<u32>,
 ) -> Posted
-    ensures { AnswersBy outbox.old cause peer closed result outbox.new }
+    ensures { AnsweredBy outbox.old (abort_for (length outbox.old.aborts) cause peer) closed result outbox.new }
 {
     if let (Some(cause), Some(peer)) = (cause, peer) {
         if outbox.add_abort(abort_frame(peer, cause)) {
@@ -194,8 +194,8 @@ impl Book {
     }
 
     /// What is to be done with a Continue or an End of an admitted dialogue.
-    fn more_of(&self, local: u32, ending: Option<Ending>, incoming: &Incoming) -> Verdict
-        ensures { result ≡ more_of self.now local ending incoming.now }
+    fn more_of(&self, local: u32, ends: bool, incoming: &Incoming) -> Verdict
+        ensures { result ≡ more_of self.now local ends incoming.now }
     {
         let places = incoming.entries.place_count();
         if too_many(incoming) || self.no_place_left(local, places) || self.is_full() {
@@ -204,7 +204,7 @@ impl Book {
                 closes: Some(local),
             };
         }
-        Verdict::Extend { local, ending }
+        Verdict::Extend { local, ends }
     }
 
     /// What is to be done with a readable message, which names this admitted dialogue or none.
@@ -215,14 +215,14 @@ impl Book {
             Kind::Unidirectional | Kind::Unknown => Verdict::Discard,
             Kind::Begin => self.begin_of(ids.orig, incoming),
             Kind::Continue => match dialogue {
-                Some(local) => self.more_of(local, None, incoming),
+                Some(local) => self.more_of(local, false, incoming),
                 None => Verdict::Refuse {
                     cause: Some(AbortCause::UnrecognizedTransactionIdentifier),
                     closes: None,
                 },
             },
             Kind::End => match dialogue {
-                Some(local) => self.more_of(local, Some(Ending::ByPeer), incoming),
+                Some(local) => self.more_of(local, true, incoming),
                 None => Verdict::Discard,
             },
             Kind::Abort => match dialogue {
@@ -232,48 +232,35 @@ impl Book {
         }
     }
 
-    /// What is to be done with a readable message.
-    fn verdict_on(&self, ids: &Ids, incoming: &Incoming) -> Verdict
-        ensures { result ≡ verdict_on self.now ids.now incoming.now }
-    {
-        if self.is_down {
-            return Verdict::Discard;
-        }
-        self.message_of(ids, incoming, self.named(ids))
-    }
-
     /// What is to be done with what came: the first line that fits decides.
     fn verdict(&self, came: &Prepared) -> Verdict
-        ensures { result ≡ verdict self.now came.now }
+        ensures value { result ≡ verdict self.now came.now }
+        ensures sound { Sound self.now }
     {
         let ids = &came.arrival().ids;
         if self.is_down {
             return Verdict::Discard;
         }
+        let dialogue = self.named(ids);
         match came {
-            Prepared::Message { incoming, .. } => self.verdict_on(ids, incoming),
-            Prepared::Refused { .. } => refused_of(ids.kind, self.named(ids)),
-            Prepared::Lost { .. } => lost_of(ids.kind, self.named(ids)),
+            Prepared::Message { incoming, .. } => self.message_of(ids, incoming, dialogue),
+            Prepared::Refused { .. } => refused_of(ids.kind, dialogue),
+            Prepared::Lost { .. } => lost_of(ids.kind, dialogue),
         }
     }
 
-    /// Opens a dialogue for a Begin. Where memory is wanting nothing changes, and what is known of the Begin comes
-    /// back.
-    fn open(
-        &mut self,
-        alloc: Global,
-        peer: Tid,
-        arrival: Arrival,
-        incoming: Incoming,
-    ) -> Result<Posted, Arrival>
-        requires { verdict self.old (prepared.Message arrival incoming) ≡ verdicts.Open peer }
-        ensures ok { IfOk result (λ answer. OpensDialogue self.old peer (prepared.Message arrival incoming) answer self.new) }
-        ensures err { IfErr result (λ back. (back ≡ arrival) × (self.new ≡ self.old)) }
+    /// Opens a dialogue for a Begin. If memory runs out, the Begin is treated as lost.
+    fn open(&mut self, alloc: Global, peer: Tid, came: Prepared) -> Receipt
+        requires { verdict self.old came ≡ verdicts.Open peer }
+        ensures { IsReceipt self.old came result self.new }
     {
         messages_keep_a_book_sound();
+        let Prepared::Message { arrival, incoming } = came else {
+            unreachable!()
+        };
         let Incoming { entries, .. } = incoming;
         let count = entries.len() as u64;
-        let components = entries.component_count() as u64;
+        let components = entries.component_count();
         let moment = arrival.moment;
         let Some(local) = self.ids.next() else {
             unreachable!()
@@ -281,59 +268,61 @@ impl Book {
         let birth = self.births + 1;
         let Ok(left) = dialogues::open(alloc, &mut self.rows, local, peer, birth, moment, entries)
         else {
-            return Err(arrival);
+            return Receipt::not_accepted(self.lose(arrival), true);
         };
         self.ids.give();
         self.births = birth;
         self.entries += count;
-        self.totals.accepted += components;
+        self.totals.accepted += components as u64;
         set_deadline(&mut self.deadlines, local, left.deadline);
         join(&mut self.ready, local, left.is_ready);
-        let answer = Posted::Opened(local);
-        let message = arrival.frame;
+        let posted = Posted::Opened(local);
         self.log.add(LoggedStep::Post {
             moment,
-            message,
-            answer,
+            message: arrival.frame,
+            answer: posted,
         });
-        Ok(answer)
+        Receipt {
+            posted,
+            components: components as u32,
+            lost: false,
+        }
     }
 
     /// Puts the entries of a message behind those of its dialogue, and ends that, where the message is its peer's end
-    /// or abort. Where memory is wanting nothing changes, and what is known of the message comes back.
-    fn extend(
-        &mut self,
-        local: u32,
-        ending: Option<Ending>,
-        arrival: Arrival,
-        incoming: Incoming,
-    ) -> Result<Posted, Arrival>
-        requires { verdict self.old (prepared.Message arrival incoming) ≡ verdicts.Extend local ending }
-        ensures ok { IfOk result (λ answer. Follows (verdicts.Extend local ending) self.old (prepared.Message arrival incoming) answer self.new) }
-        ensures err { IfErr result (λ back. (back ≡ arrival) × (self.new ≡ self.old)) }
-        ensures only { OnErr result (incoming.entries ≢ []) }
+    /// or abort. If memory runs out, the message is treated as lost.
+    fn extend(&mut self, local: u32, ends: bool, came: Prepared) -> Receipt
+        requires { verdict self.old came ≡ verdicts.Extend local ends }
+        ensures { IsReceipt self.old came result self.new }
     {
         messages_keep_a_book_sound();
+        let Prepared::Message { arrival, incoming } = came else {
+            unreachable!()
+        };
         let Incoming { entries, .. } = incoming;
         let count = entries.len();
-        let components = entries.component_count() as u64;
+        let components = entries.component_count();
         let is_sending = self.outbox.is_sending(local);
-        let Ok(extended) = dialogues::extend(&mut self.rows, local, entries, ending, is_sending)
+        let Ok(extended) = dialogues::extend(&mut self.rows, local, entries, ends, is_sending)
         else {
-            return Err(arrival);
+            return Receipt::not_accepted(self.lose(arrival), true);
         };
         drop_frames_if(&mut self.outbox, local, extended.drops_frames);
         self.entries += count as u64;
-        self.totals.accepted += components;
+        self.totals.accepted += components as u64;
         set_deadline(&mut self.deadlines, local, extended.left.deadline);
         join(&mut self.ready, local, extended.left.is_ready);
-        let answer = Posted::Accepted(count as u32);
+        let posted = Posted::Accepted(count as u32);
         self.log.add(LoggedStep::Post {
             moment: arrival.moment,
             message: arrival.frame,
-            answer,
+            answer: posted,
         });
-        Ok(answer)
+        Receipt {
+            posted,
+            components: components as u32,
+            lost: false,
+        }
     }
 
     /// Refuses a message: closes the dialogue that it names, if one is to be closed, and answers by an Abort of the
@@ -366,32 +355,32 @@ impl Book {
         Posted::Discarded
     }
 
-    /// Refuses or discards a message. Takes no memory.
-    fn turn_away(&mut self, came: Prepared) -> Posted
-        requires { accepts (verdict self.old came) ≡ false }
-        ensures { Follows (verdict self.old came) self.old came result self.new }
+    /// Treats a message, for which memory ran out though the link is up, as one that was lost. Takes no memory.
+    fn lose(&mut self, arrival: Arrival) -> Posted
+        requires { self.old.is_down ≡ false }
+        ensures { Follows (verdict self.old (prepared.Lost arrival)) self.old (prepared.Lost arrival) result self.new }
     {
-        match self.verdict(&came) {
-            Verdict::Refuse { cause, closes } => self.refuse(cause, closes, came),
-            Verdict::Discard => self.discard(came),
+        match lost_of(arrival.ids.kind, self.named(&arrival.ids)) {
+            Verdict::Refuse { cause, closes } => {
+                self.refuse(cause, closes, Prepared::Lost { arrival })
+            }
+            Verdict::Discard => self.discard(Prepared::Lost { arrival }),
             Verdict::Open { .. } | Verdict::Extend { .. } => unreachable!(),
         }
     }
 
-    /// Posts a readable message.
-    fn post_message(&mut self, alloc: Global, arrival: Arrival, incoming: Incoming) -> Posted
-        ensures { Posts self.old (prepared.Message arrival incoming) result self.new }
+    /// Does with a message what the first line says that fits it.
+    fn receive(&mut self, alloc: Global, came: Prepared) -> Receipt
+        ensures receipt { IsReceipt self.old came result self.new }
+        ensures sound { Sound self.old }
     {
-        let accepted = match self.verdict_on(&arrival.ids, &incoming) {
-            Verdict::Open { peer } => self.open(alloc, peer, arrival, incoming),
-            Verdict::Extend { local, ending } => self.extend(local, ending, arrival, incoming),
-            Verdict::Refuse { .. } | Verdict::Discard => {
-                return self.turn_away(Prepared::Message { arrival, incoming });
+        match self.verdict(&came) {
+            Verdict::Open { peer } => self.open(alloc, peer, came),
+            Verdict::Extend { local, ends } => self.extend(local, ends, came),
+            Verdict::Refuse { cause, closes } => {
+                Receipt::not_accepted(self.refuse(cause, closes, came), false)
             }
-        };
-        match accepted {
-            Ok(answer) => answer,
-            Err(arrival) => self.turn_away(Prepared::Lost { arrival }),
+            Verdict::Discard => Receipt::not_accepted(self.discard(came), false),
         }
     }
 
@@ -417,16 +406,18 @@ impl Book {
         ensures totals { self.new.totals ≡ posted_totals self.old.totals came result }
         ensures sound { Sound self.new }
     {
+        self.post_with_receipt(alloc, came).posted
+    }
+
+    /// Takes a message, or refuses it, as [`Book::post`], and says besides how many of its components were accepted, and
+    /// whether memory ran out for it.
+    pub fn post_with_receipt(&mut self, alloc: Global, came: Prepared) -> Receipt
+        ensures receipt { IsReceipt self.old came result self.new }
+        ensures posts { Posts self.old came result.posted self.new }
+        ensures totals { self.new.totals ≡ posted_totals self.old.totals came result.posted }
+        ensures sound { Sound self.new }
+    {
         messages_keep_a_book_sound();
-        if self.is_down {
-            return self.discard(came);
-        }
-        match came {
-            Prepared::Message { arrival, incoming } => self.post_message(alloc, arrival, incoming),
-            Prepared::Refused { arrival, fault } => {
-                self.turn_away(Prepared::Refused { arrival, fault })
-            }
-            Prepared::Lost { arrival } => self.turn_away(Prepared::Lost { arrival }),
-        }
+        self.receive(alloc, came)
     }
 }

@@ -1,7 +1,6 @@
 //! What is to be done with a message.
 
 use fp_q773::{AbortCause, Tid};
-use fp_row::Ending;
 
 /// What is to be done with a message that is posted, by the dialogues that there are.
 #[derive(Clone, Copy, Debug)]
@@ -24,7 +23,7 @@ pub enum Verdict {
     Extend {
         /// The local transaction identifier of the dialogue.
         local: u32,
-        /// How the dialogue ends with it, where it does.
-        ending: Option<Ending>,
+        /// Whether the dialogue ends with it.
+        ends: bool,
     },
 }

@@ -2,13 +2,12 @@
 use Rattle.std.specs.Prelude.{◌≡◌, ℕ, ◌+◌, ◌≤◌, Result, Ok, Err}
 use Rattle.std.specs.declared.sync.ledger.Blank.{Blank}
 use Rattle.fp_book.specs.declared.answers.Posted.{Posted}
-use Rattle.fp_book.specs.declared.answers.Posted.TheVariants.{Opened, Accepted, Aborted, Ended, Discarded}
 use Rattle.fp_book.specs.declared.parcel.Content.{Content}
 use Rattle.fp_book.specs.declared.parcel.Content.TheVariants as content
 use Rattle.fp_book.specs.declared.parcel.Parcel.{Parcel}
 use Rattle.fp_book.specs.declared.totals.Totals.{Totals}
+use Rattle.fp_book.specs.Receipt.{accepted_components}
 use Rattle.fp_entry.specs.declared.prepared.Prepared.{Prepared}
-use Rattle.fp_entry.specs.Prepared.{components_of}
 
 -- what contracts see of a seat: its parts of each of the three ledgers, and its amounts in them
 pub record Shares : Type 0 where
@@ -61,17 +60,9 @@ pub record Within (s : Shares) (totals : Totals) : Type 0 where
 abbrev pub amounts : Shares → Totals
 amounts s = record { accepted = s.accepted; served = s.served; sent = s.sent }
 
--- the count if the message was accepted, and else 0
-abbrev pub if_accepted : Posted → ℕ → ℕ
-if_accepted (Opened local) count = count
-if_accepted (Accepted entries) count = count
-if_accepted (Aborted cause) count = 0
-if_accepted Ended count = 0
-if_accepted Discarded count = 0
-
 -- the seat after a message was posted: more by its components, if it was accepted
 abbrev pub after_post : Shares → Prepared → Posted → Shares
-after_post s came answer = record s { accepted = s.accepted + if_accepted answer (components_of came) }
+after_post s came answer = record s { accepted = s.accepted + accepted_components answer came }
 
 -- one, if nothing comes back
 abbrev pub one_if_ok : {T E : Type 0} → Result T E → ℕ

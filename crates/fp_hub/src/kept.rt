@@ -1,18 +1,16 @@
 //! What the lock of a link keeps.
 
-ghost use Rattle.std.specs.Prelude.{◌≡◌, ◌↔◌, ◌<◌, ◌-◌, Some, IfErr, IfOk, IsOk, OnOk, vec_capacity, vec_len};
+ghost use Rattle.std.specs.Prelude.{◌≡◌, ◌↔◌, ◌<◌, ◌-◌, Some, IfErr, IfOk, IsOk, OnOk, length, vec_capacity, vec_len};
 ghost use Rattle.std.specs.FinMap.{get};
 ghost use Rattle.fp_book.specs.declared.line.LoggedStep.TheVariants as line;
-ghost use Rattle.fp_book.specs.Calls.{DrainsBook, GivesDone, GoesDown, Hands, IsOut, NoneReady, Posts, PutsTurnBack, Sends, Takes, Ticks, Unsends, entries_in, posted_totals, turn_of};
+ghost use Rattle.fp_book.specs.Calls.{DrainsBook, GivesDone, GoesDown, Hands, IsOut, NoneReady, Posts, PutsTurnBack, Sends, Takes, Ticks, Unsends, posted_totals, turn_of};
 ghost use Rattle.fp_book.specs.Shelf.{Sound, empty_shelf};
-ghost use Rattle.fp_entry.specs.Entries.{component_count};
-ghost use Rattle.fp_entry.specs.Prepared.{components_of};
 ghost use Rattle.fp_hub.specs.Next.{Finds};
-ghost use Rattle.fp_hub.specs.Shares.{AreBlanks, Whole, Within, after_give, after_post, after_sent, amounts, blank, if_accepted};
+ghost use Rattle.fp_hub.specs.Shares.{AreBlanks, Whole, Within, after_give, after_post, after_sent, amounts, blank};
 
 use crate::next::Next;
 use crate::{PARTS, Seat};
-use fp_book::{Book, Given, Line, Log, Parcel, Picked, Posted, Taken, Ticked, Totals};
+use fp_book::{Book, Given, Line, Parcel, Picked, Posted, Taken, Ticked, Totals};
 use fp_digits::Moment;
 use fp_entry::Prepared;
 use fp_row::{Done, Turn};
@@ -31,8 +29,6 @@ use std::sync::ledger::{Blank, Ledger};
 #[derive(Drop)]
 pub struct Kept<A: Ledger, B: Ledger, C: Ledger> {
     book: Book,
-    // How many lines the book's log has.
-    line_count: usize,
     accepted: ledger::Book<A>,
     served: ledger::Book<B>,
     sent: ledger::Book<C>,
@@ -55,37 +51,6 @@ impl<A: Ledger, B: Ledger, C: Ledger> Model for Kept<A, B, C> {
     ghost invariant = { λ k. (k.accepted.total ≡ k.book.totals.accepted) × (k.served.total ≡ k.book.totals.served) × (k.sent.total ≡ k.book.totals.sent) };
 }
 
-/// How many of the entries of a message come from components, as the book counts them.
-fn components_of(came: &Prepared) -> u64
-    ensures value { result ≡ components_of came.now }
-    ensures entries { result ≡ component_count (entries_in came.now) }
-{
-    match came {
-        Prepared::Message { incoming, .. } => incoming.entries.component_count() as u64,
-        Prepared::Refused { .. } | Prepared::Lost { .. } => 0,
-    }
-}
-
-/// The count if the message was accepted, and else 0.
-fn if_accepted(answer: Posted, count: u64) -> u64
-    ensures { result ≡ if_accepted answer count }
-{
-    match answer {
-        Posted::Opened(_) | Posted::Accepted(_) => count,
-        Posted::Aborted(_) | Posted::Ended | Posted::Discarded => 0,
-    }
-}
-
-/// The number of lines in a log that had this number before a call: one more if the call is logged. A full log counts
-/// the line in the gap at its end.
-fn count_after(line_count: usize, is_logged: bool) -> usize {
-    if is_logged && line_count < Log::MOST {
-        line_count + 1
-    } else {
-        line_count
-    }
-}
-
 impl<A: Ledger, B: Ledger, C: Ledger> Kept<A, B, C> {
     /// The book of a link, 0 to 7, and its first seat, which has all parts. If memory runs out, the blanks are spent.
     pub fn new(
@@ -106,7 +71,6 @@ impl<A: Ledger, B: Ledger, C: Ledger> Kept<A, B, C> {
         let (sent, all_sent) = for_sent.open::<C>();
         let kept = Kept {
             book,
-            line_count: 0,
             accepted,
             served,
             sent,
@@ -140,12 +104,10 @@ impl<A: Ledger, B: Ledger, C: Ledger> Kept<A, B, C> {
         ensures within { Within seat.old self.old.totals }
     {
         self.compare(seat);
-        let components = components_of(&came);
-        let answer = self.book.post(alloc, came);
-        let count = if_accepted(answer, components);
-        self.accepted.add(&mut seat.accepted, count);
-        self.line_count = count_after(self.line_count, true);
-        answer
+        let receipt = self.book.post_with_receipt(alloc, came);
+        self.accepted
+            .add(&mut seat.accepted, u64::from(receipt.components));
+        receipt.posted
     }
 
     /// Time goes by, as for [`Book::tick`].
@@ -153,10 +115,7 @@ impl<A: Ledger, B: Ledger, C: Ledger> Kept<A, B, C> {
         ensures ticks { Ticks self.old moment result.added result.wanting self.new }
         ensures sound { Sound self.new }
     {
-        let ticked = self.book.tick(moment);
-        let is_logged = ticked.added > 0 || ticked.wanting > 0;
-        self.line_count = count_after(self.line_count, is_logged);
-        ticked
+        self.book.tick(moment)
     }
 
     /// Hands out a turn, as [`Book::take`].
@@ -165,10 +124,7 @@ impl<A: Ledger, B: Ledger, C: Ledger> Kept<A, B, C> {
         ensures none { NoneReady result self.old }
         ensures sound { Sound self.new }
     {
-        let taken = self.book.take();
-        let is_logged = matches!(&taken, Taken::Turn(_));
-        self.line_count = count_after(self.line_count, is_logged);
-        taken
+        self.book.take()
     }
 
     /// Takes back a turn that was served, as [`Book::give`].
@@ -184,7 +140,6 @@ impl<A: Ledger, B: Ledger, C: Ledger> Kept<A, B, C> {
         match self.book.give(done) {
             Ok(given) => {
                 self.served.add(&mut seat.served, 1);
-                self.line_count = count_after(self.line_count, true);
                 Ok(given)
             }
             Err(foreign) => Err(foreign),
@@ -198,9 +153,7 @@ impl<A: Ledger, B: Ledger, C: Ledger> Kept<A, B, C> {
         ensures known { IsOk result ↔ (turn_of (get self.old.rows turn.local) ≡ Some turn) }
         ensures sound { Sound self.new }
     {
-        let back = self.book.put_back(turn);
-        self.line_count = count_after(self.line_count, back.is_ok());
-        back
+        self.book.put_back(turn)
     }
 
     /// Hands out what is sent next, as [`Book::pick`].
@@ -208,10 +161,7 @@ impl<A: Ledger, B: Ledger, C: Ledger> Kept<A, B, C> {
         ensures hands { Hands self.old result self.new }
         ensures sound { Sound self.new }
     {
-        let picked = self.book.pick();
-        let is_logged = matches!(&picked, Picked::Parcel(_));
-        self.line_count = count_after(self.line_count, is_logged);
-        picked
+        self.book.pick()
     }
 
     /// Takes back the parcel that was sent, as [`Book::sent`].
@@ -228,7 +178,6 @@ impl<A: Ledger, B: Ledger, C: Ledger> Kept<A, B, C> {
         match self.book.sent(parcel) {
             Ok(()) => {
                 self.sent.add(&mut seat.sent, count);
-                self.line_count = count_after(self.line_count, true);
                 Ok(())
             }
             Err(foreign) => Err(foreign),
@@ -242,9 +191,7 @@ impl<A: Ledger, B: Ledger, C: Ledger> Kept<A, B, C> {
         ensures known { IsOk result ↔ IsOut self.old parcel }
         ensures sound { Sound self.new }
     {
-        let unsent = self.book.unsent(parcel);
-        self.line_count = count_after(self.line_count, unsent.is_ok());
-        unsent
+        self.book.unsent(parcel)
     }
 
     /// The link goes down, as by [`Book::down`].
@@ -253,7 +200,6 @@ impl<A: Ledger, B: Ledger, C: Ledger> Kept<A, B, C> {
         ensures sound { Sound self.new }
     {
         self.book.down();
-        self.line_count = count_after(self.line_count, true);
     }
 
     /// Moves the oldest lines of the log to the end of `lines`, as [`Book::drain`].
@@ -262,19 +208,14 @@ impl<A: Ledger, B: Ledger, C: Ledger> Kept<A, B, C> {
         ensures capacity { vec_capacity lines.new ≡ vec_capacity lines.old }
         ensures sound { Sound self.new }
     {
-        let had = lines.len();
         self.book.drain(lines);
-        self.line_count = if lines.len() < lines.capacity() {
-            0
-        } else {
-            self.line_count
-                .saturating_sub(lines.len().saturating_sub(had))
-        };
     }
 
     /// How many lines the log has.
-    pub(crate) fn line_count(&self) -> usize {
-        self.line_count
+    pub(crate) fn line_count(&self) -> usize
+        ensures { result ≡ length self.now.log }
+    {
+        self.book.line_count()
     }
 
     /// Whether the link is down, as [`Book::is_down`].

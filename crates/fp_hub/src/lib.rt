@@ -11,7 +11,7 @@
 //! * [`Kept`] is what the lock keeps: the book, and the books of three ledgers (of components accepted, entries served
 //!   and frames sent), whose totals its type keeps equal to the book's.
 //! * `Hold` (`src/hold.rt`) is the lock while it is held. Its release publishes whether the log is filling, and wakes the
-//!   clock if it is half full.
+//!   clock if the lines of this hold made it half full.
 //! * [`Seat`] is what a thread has of the three ledgers. The first one has all 64 parts. It is split among the threads of
 //!   the link, each of which counts what it does in its own, and joined again when they have ended.
 //! * [`worker`] serves turns: it waits for a hint, and then takes, serves and gives until no turn is ready. Between

@@ -1,5 +1,7 @@
 //! The rest of the thread that runs the clock of a link and drains its log.
 
+ghost use Rattle.std.specs.Prelude.{◌↔◌, ◌<◌, ◌≤◌, IsTrue};
+
 use fp_book::Log;
 use std::sync::Wait;
 use std::sync::atomic::{AtomicBool, Ordering};
@@ -29,9 +31,12 @@ impl Resting {
         }
     }
 
-    /// Publishes the number of lines in the log, before the lock of the link is released. `true`: half of the places are
-    /// taken now, and weren't at the number before, so the resting thread is to be woken.
-    pub(crate) fn publish(&self, before: usize, now: usize) -> bool {
+    /// Publishes whether the log is filling, before the lock of the link is released: it had so many lines when the
+    /// lock was taken, and has so many now. `true`: half of the places are taken now, and weren't before, so the resting
+    /// thread is to be woken.
+    pub(crate) fn publish(&self, before: usize, now: usize) -> bool
+        ensures { IsTrue result ↔ ((before < 4096) × (4096 ≤ now)) }
+    {
         let is_log_filling = now >= LINES_OF_A_FILLING_LOG;
         if is_log_filling != (before >= LINES_OF_A_FILLING_LOG) {
             self.is_log_filling.store(is_log_filling, Ordering::SeqCst);

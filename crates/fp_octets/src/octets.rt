@@ -147,6 +147,19 @@ impl<const MOST: usize> Octets<MOST> {
         self.used += 1;
     }
 
+    /// Puts octets behind the others. There is room for them.
+    pub fn extend(&mut self, octets: &[u8])
+        requires most { MOST ≤ 255 }
+        requires room { length self.old + length octets.now ≤ MOST }
+        ensures { self.new ≡ self.old ++ octets.now }
+    {
+        let mut rest = octets;
+        while let [octet, others @ ..] = rest {
+            self.push(*octet);
+            rest = others;
+        }
+    }
+
     /// Takes the last octet away. There is one.
     pub fn drop_last(&mut self)
         requires { 0 < length self.old }

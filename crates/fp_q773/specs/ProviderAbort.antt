@@ -4,8 +4,6 @@ use Rattle.fp_ber.specs.declared.element.Class.TheVariants.{Application}
 use Rattle.fp_ber.specs.Tree.{Tree, primitive, constructed, none, more}
 use Rattle.fp_q773.specs.declared.provider_abort.AbortCause.{AbortCause}
 use Rattle.fp_q773.specs.declared.provider_abort.AbortCause.TheVariants.{UnrecognizedMessageType, UnrecognizedTransactionIdentifier, BadlyFormattedTransactionPortion, IncorrectTransactionPortion, ResourceLimitation}
-use Rattle.fp_q773.specs.declared.provider_abort.AbortOctets.{AbortOctets}
-use Rattle.fp_q773.specs.declared.provider_abort.AbortOctets.TheVariants.{Eight, Nine, Ten, Eleven}
 
 -- the value of a cause
 abbrev pub cause_code : AbortCause → ℕ
@@ -14,13 +12,6 @@ cause_code UnrecognizedTransactionIdentifier = 1
 cause_code BadlyFormattedTransactionPortion = 2
 cause_code IncorrectTransactionPortion = 3
 cause_code ResourceLimitation = 4
-
--- the octets that were written
-abbrev pub abort_octets : AbortOctets → List ℕ
-abort_octets (Eight octets) = octets
-abort_octets (Nine octets) = octets
-abort_octets (Ten octets) = octets
-abort_octets (Eleven octets) = octets
 
 -- tag 67, holding the destination identifier, tag 49, and the cause, tag 4A
 abbrev pub provider_abort : List ℕ → ℕ → Tree

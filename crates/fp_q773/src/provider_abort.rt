@@ -4,9 +4,10 @@ ghost use Rattle.std.specs.Prelude.{◌≡◌, IfSome};
 ghost use Rattle.fp_ber.specs.Canon.{canon};
 ghost use Rattle.fp_q773.specs.Tid.{octets_of};
 ghost use Rattle.fp_q773.specs.declared.provider_abort.AbortCause.{AbortCause};
-ghost use Rattle.fp_q773.specs.ProviderAbort.{cause_code, abort_octets, provider_abort};
+ghost use Rattle.fp_q773.specs.ProviderAbort.{cause_code, provider_abort};
 
 use crate::tid::Tid;
+use fp_octets::Octets;
 
 /// The tag of an Abort.
 const ABORT: u8 = 0x67;
@@ -60,54 +61,15 @@ impl AbortCause {
     }
 }
 
-/// The octets of an Abort of the provider: eight to eleven.
-#[derive(Clone, Copy, Debug, PartialEq, Eq)]
-pub enum AbortOctets {
-    /// With an identifier of one octet.
-    Eight([u8; 8]),
-    /// With an identifier of two octets.
-    Nine([u8; 9]),
-    /// With an identifier of three octets.
-    Ten([u8; 10]),
-    /// With an identifier of four octets.
-    Eleven([u8; 11]),
-}
-
-impl AbortOctets {
-    /// The octets.
-    pub fn as_slice(&self) -> &[u8]
-        ensures { result.now ≡ abort_octets self.now }
-    {
-        match self {
-            AbortOctets::Eight(octets) => octets,
-            AbortOctets::Nine(octets) => octets,
-            AbortOctets::Ten(octets) => octets,
-            AbortOctets::Eleven(octets) => octets,
-        }
-    }
-}
-
-/// The octets of an Abort of the provider (Q.773, 4.2.1), in the canonical spelling. Takes no memory.
-pub fn write_abort(destination: Tid, cause: AbortCause) -> AbortOctets
-    ensures { abort_octets result ≡ canon (provider_abort (octets_of destination) (cause_code cause)) }
+/// The octets of an Abort of the provider (Q.773, 4.2.1), in the canonical spelling: eight to eleven. Takes no memory.
+pub fn write_abort(destination: Tid, cause: AbortCause) -> Octets<11>
+    ensures { result ≡ canon (provider_abort (octets_of destination) (cause_code cause)) }
 {
-    let cause = cause.code();
-    match destination {
-        Tid::One(octets) => {
-            let [a] = octets;
-            AbortOctets::Eight([ABORT, 6, DESTINATION, 1, a, CAUSE, 1, cause])
-        }
-        Tid::Two(octets) => {
-            let [a, b] = octets;
-            AbortOctets::Nine([ABORT, 7, DESTINATION, 2, a, b, CAUSE, 1, cause])
-        }
-        Tid::Three(octets) => {
-            let [a, b, c] = octets;
-            AbortOctets::Ten([ABORT, 8, DESTINATION, 3, a, b, c, CAUSE, 1, cause])
-        }
-        Tid::Four(octets) => {
-            let [a, b, c, d] = octets;
-            AbortOctets::Eleven([ABORT, 9, DESTINATION, 4, a, b, c, d, CAUSE, 1, cause])
-        }
-    }
+    let identifier = destination.as_slice();
+    let size = identifier.len() as u8;
+    let mut octets = Octets::new();
+    octets.extend(&[ABORT, size + 5, DESTINATION, size]);
+    octets.extend(identifier);
+    octets.extend(&[CAUSE, 1, cause.code()]);
+    octets
 }

@@ -3,17 +3,28 @@
 ghost use Rattle.std.specs.Prelude.{◌≡◌, ◌↔◌, length, IsSome, IfSome, MatchOption};
 ghost use Rattle.fp_q773.specs.Tid.{octets_of, octets_of_number, IsTid};
 
-/// A transaction identifier: one to four octets, kept as they came.
+use fp_octets::Octets;
+use std::marker::Model;
+
+/// A transaction identifier: one to four octets, kept as they came. Contracts see it as their list, and two are equal
+/// exactly where they have the same octets.
 #[derive(Clone, Copy, Debug, PartialEq, Eq)]
-pub enum Tid {
-    /// One octet.
-    One([u8; 1]),
-    /// Two octets.
-    Two([u8; 2]),
-    /// Three octets.
-    Three([u8; 3]),
-    /// Four octets.
-    Four([u8; 4]),
+pub struct Tid {
+    octets: Octets<4>,
+}
+
+impl Model for Tid {
+    ghost use Rattle.std.specs.Prelude.{ℕ, ◌≤◌, List, length};
+
+    ghost Value = { List ℕ };
+
+    ghost view = { λ tid. tid.octets };
+
+    ghost invariant = { λ tid. 1 ≤ length tid.octets };
+
+    ghost inverse = { λ list. record { octets = list } };
+
+    ghost inverse_ok = { λ tid some i. record { octets = tid.octets } };
 }
 
 impl Tid {
@@ -21,20 +32,22 @@ impl Tid {
     pub fn new(octets: &[u8]) -> Option<Tid>
         ensures { MatchOption result (¬ IsTid octets.now) (λ tid. octets_of tid ≡ octets.now) }
     {
-        match octets {
-            [a] => Some(Tid::One([*a])),
-            [a, b] => Some(Tid::Two([*a, *b])),
-            [a, b, c] => Some(Tid::Three([*a, *b, *c])),
-            [a, b, c, d] => Some(Tid::Four([*a, *b, *c, *d])),
-            _ => None,
+        if octets.is_empty() {
+            return None;
         }
+        let Some(octets) = Octets::from_slice(octets) else {
+            return None;
+        };
+        Some(Tid { octets })
     }
 
     /// The identifier of a number: four octets, the most significant one first.
     pub fn of_number(number: u32) -> Tid
         ensures { octets_of result ≡ octets_of_number number }
     {
-        Tid::Four(number.to_be_bytes())
+        let mut octets = Octets::new();
+        octets.extend(&number.to_be_bytes());
+        Tid { octets }
     }
 
     /// The number whose identifier this is; `None` for fewer than four octets.
@@ -53,11 +66,6 @@ impl Tid {
         ensures value { result.now ≡ octets_of self.now }
         ensures size { IsTid (octets_of self.now) }
     {
-        match self {
-            Tid::One(octets) => octets,
-            Tid::Two(octets) => octets,
-            Tid::Three(octets) => octets,
-            Tid::Four(octets) => octets,
-        }
+        self.octets.as_slice()
     }
 }

@@ -20,7 +20,7 @@ use Rattle.fp_q773.specs.ProviderAbort.{cause_code}
 use Rattle.fp_q773.specs.declared.provider_abort.AbortCause.{AbortCause}
 use Rattle.fp_q773.specs.declared.provider_abort.AbortCause.TheVariants as cause
 use Rattle.fp_streams.specs.Line.{IsOneLine}
-use Rattle.fp_replay.specs.Format.{IsLine, IsPosted, IsStep, fields_of, given_text, identifier_text, posted_text, text_of}
+use Rattle.fp_replay.specs.Format.{IsLine, IsInRange, IsStep, fields_of, given_text, identifier_text, posted_text, text_of}
 
 -- NO LINE FEED
 
@@ -74,7 +74,7 @@ cause_small cause.ResourceLimitation = omega arith
 behind : (octet : ℕ) (text : List ℕ) → (octet ≡ 10 → ⊥) → IsOneLine text → IsOneLine (octet ∷ text)
 behind octet text other plain = All-cons (λ o. o ≢ 10) octet text other plain
 
-posted_plain : (answer : Posted) → IsPosted answer → IsOneLine (posted_text answer)
+posted_plain : (answer : Posted) → IsInRange answer → IsOneLine (posted_text answer)
 posted_plain (Opened local) is = behind 79 (identifier_text local) (λ e. omega (arith, e)) (octets_plain (to_be_bytes w32 local))
 posted_plain (Accepted entries) is = behind 65 (decimal entries) (λ e. omega (arith, e)) (decimal_plain entries (omega (arith, is)))
 posted_plain (Aborted c) is = behind 88 (decimal (cause_code c)) (λ e. omega (arith, e)) (decimal_plain (cause_code c) (omega (arith, cause_small c)))
@@ -144,7 +144,7 @@ decimal_short n fits = length-decimal-le 20 n (omega arith) (omega (arith, fits)
 local_length : (local : ℕ) → length (identifier_text local) ≡ 8
 local_length local = length-encode_with upper_digits (to_be_bytes w32 local)
 
-posted_short : (answer : Posted) → IsPosted answer → length (posted_text answer) ≤ 21
+posted_short : (answer : Posted) → IsInRange answer → length (posted_text answer) ≤ 21
 posted_short (Opened local) is = omega (arith, local_length local)
 posted_short (Accepted entries) is = omega (arith, decimal_short entries (omega (arith, is)))
 posted_short (Aborted c) is = omega (arith, decimal_short (cause_code c) (omega (arith, cause_small c)))

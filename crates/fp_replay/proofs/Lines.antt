@@ -18,7 +18,7 @@ use Rattle.fp_book.specs.declared.line.LoggedStep.{LoggedStep}
 use Rattle.fp_book.specs.declared.line.LoggedStep.TheVariants as steps
 use Rattle.std.proofs.lemmas.List.Elements.{All-cons, All-nil}
 use Rattle.fp_replay.specs.Fields.{IsField}
-use Rattle.fp_replay.specs.Format.{IsLine, IsPosted, IsStep, given_text, identifier_text, posted_text, text_of}
+use Rattle.fp_replay.specs.Format.{IsLine, IsInRange, IsStep, given_text, identifier_text, posted_text, text_of}
 use Rattle.fp_replay.specs.Reading.{step_text}
 use Rattle.fp_replay.proofs.Cutting.{decimal_is_field, one_cut}
 use Rattle.fp_replay.proofs.Hexadecimal.{identifier_octets, octets_are_field}
@@ -75,7 +75,7 @@ one_cause ResourceLimitation IncorrectTransactionPortion e = let no : ◌≡◌ 
 one_cause ResourceLimitation ResourceLimitation e = refl
 
 -- no two answers have one text
-one_posted : (a b : Posted) → IsPosted a → IsPosted b → posted_text a ≡ posted_text b → a ≡ b
+one_posted : (a b : Posted) → IsInRange a → IsInRange b → posted_text a ≡ posted_text b → a ≡ b
 one_posted (Opened local) (Opened local') p q e = ap Opened (one_identifier local local' p q (ap (drop 1) e))
 one_posted (Opened local) (Accepted entries') p q e = let no : ◌≡◌ {A = ℕ} 79 65 = ap first e in absurd (omega arith)
 one_posted (Opened local) (Aborted cause') p q e = let no : ◌≡◌ {A = ℕ} 79 88 = ap first e in absurd (omega arith)

@@ -13,7 +13,7 @@ use Rattle.fp_book.specs.declared.line.Line.{Line}
 use Rattle.fp_book.specs.declared.line.Line.TheVariants.{Head, Step}
 use Rattle.fp_book.specs.declared.line.LoggedStep.{LoggedStep}
 use Rattle.fp_book.specs.declared.line.LoggedStep.TheVariants.{Down, Gap, Give, Lost, Pick, Post, PutBack, Sent, Take, Tick, Unsent}
-pub use Rattle.fp_steps.specs.LogLines.{IsLine, IsPosted, IsPosting, IsStep}
+pub use Rattle.fp_steps.specs.LogLines.{IsLine, IsInRange, IsPosting, IsStep}
 
 -- a local transaction identifier: its four octets
 abbrev pub identifier_text : ℕ → List ℕ

@@ -5,7 +5,7 @@ ghost use Rattle.fp_book.specs.declared.answers.Given.{Given};
 ghost use Rattle.fp_book.specs.declared.answers.Posted.{Posted};
 ghost use Rattle.fp_q773.specs.ProviderAbort.{cause_code};
 ghost use Rattle.fp_q773.specs.declared.provider_abort.AbortCause.{AbortCause};
-ghost use Rattle.fp_replay.specs.Format.{IsPosted, given_text, posted_text};
+ghost use Rattle.fp_replay.specs.Format.{IsInRange, given_text, posted_text};
 ghost use Rattle.fp_replay.specs.Writing.{KeepsFront};
 
 use crate::number::{number_in, short_number_in, write_number};
@@ -50,8 +50,8 @@ fn cause_in(field: &[u8]) -> Option<AbortCause>
 
 /// What became of a message, by a field.
 pub(crate) fn posted_in(field: &[u8]) -> Option<Posted>
-    ensures found { IfSome result (λ answer. IsPosted answer × (field.now ≡ posted_text answer)) }
-    ensures only { (answer : Posted) → IsPosted answer → field.now ≡ posted_text answer → result ≡ Some answer }
+    ensures found { IfSome result (λ answer. IsInRange answer × (field.now ≡ posted_text answer)) }
+    ensures only { (answer : Posted) → IsInRange answer → field.now ≡ posted_text answer → result ≡ Some answer }
 {
     let [letter, behind @ ..] = field else {
         return None;

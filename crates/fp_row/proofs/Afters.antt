@@ -1,5 +1,5 @@
--- Which identifier comes next.
-use Rattle.std.proofs.Common.{◌≡◌, ℕ, ◌+◌, ◌<◌, ◌≤◌, Bool, true, false, cond, eqb, is_some, IsTrue, List, length, slice_index, slice_index_or, Option, Some, None, refl, sym, ap, subst, ◌∙◌, arith}
+-- Which identifier comes next, and what stays where a row is put back.
+use Rattle.std.proofs.Common.{◌≡◌, ℕ, ◌+◌, ◌<◌, ◌≤◌, Bool, true, false, cond, eqb, is_some, IsTrue, Box, List, length, slice_index, slice_index_or, Option, Some, None, refl, sym, ap, subst, ◌∙◌, arith}
 use Rattle.std.proofs.lemmas.Bool.{eqb-true}
 use Rattle.std.specs.Ordering.{nat_cmp}
 use Rattle.std.specs.Cmp.{nat_cmp_total}
@@ -7,8 +7,8 @@ use Rattle.std.specs.FinMap as map
 use Rattle.fp_row.specs.declared.row.Row.{Row}
 use Rattle.fp_row.specs.Keys.{keys_of, IsInOrder, IsAt, IsGapFor, IsAbove, IsFirstAbove}
 use Rattle.fp_row.specs.Rows.{IsAfter, AfterIsOne, PuttingBackChangesNothing}
-use Rattle.fp_row.proofs.Lookups.{found, eq_by_cmp-eqb, key_at, length-keys_of}
-use Rattle.fp_row.proofs.Maps.{map_of, get-map_of, get-map_of-at}
+use Rattle.fp_row.proofs.Maps.{eq_by_cmp-eqb, found, get-map_of-at, map_of}
+use Rattle.fp_row.proofs.Order.{key_at, length-keys_of}
 
 -- behind the place of a key, and from the place of its gap on, the keys are above it
 pub first_above_at : (ks : List ℕ) → IsInOrder ks → (k place : ℕ) → IsAt ks k place → IsFirstAbove ks (Some k) (place + 1)
@@ -22,37 +22,37 @@ pub first_above_gap : (ks : List ℕ) (k place : ℕ) → IsGapFor ks k place �
 first_above_gap ks k place gap = record {
   in_range = gap.in_range;
   none_before = λ i lt above. absurd (omega (arith, gap.smaller_before i lt, above));
-  above_after = λ i le lt. gap.greater_after i le lt;
+  above_after = gap.greater_after;
 }
 
 -- every key is above none
 pub first_above_none : (ks : List ℕ) → IsFirstAbove ks None 0
 first_above_none ks = record { in_range = omega arith; none_before = λ i lt above. absurd (omega (arith, lt)); above_after = λ i le lt. tt }
 
-module _ (l : List (ℕ × Row)) (sorted : IsInOrder (keys_of l)) (local : Option ℕ) (place : ℕ) (first : IsFirstAbove (keys_of l) local place) where
+module _ {A : Type 0} (l : List (ℕ × Box Row A)) (sorted : IsInOrder (keys_of l)) (local : Option ℕ) (place : ℕ) (first : IsFirstAbove (keys_of l) local place) where
   -- a key that has a row and is above stands at the place or behind it
-  from_place : (other : ℕ) → IsTrue (map.contains_key (map_of l) other) → IsAbove local other → record { at : ℕ; in_range : at < length (keys_of l); has_key : slice_index (keys_of l) at ≡ other; behind : place ≤ at }
+  from_place : (other : ℕ) → IsTrue (map.contains_key (map_of l) other) → IsAbove local other → (at : ℕ) × IsAt (keys_of l) other at × (place ≤ at)
   from_place other has above =
-      let f = found l other (ap is_some (sym (get-map_of l other)) ∙ has) in
-      let behind : (f.place < place → ⊥) = λ lt. first.none_before f.place lt (subst (IsAbove local) (sym f.has_key) above) in
-      record { at = f.place; in_range = f.in_range; has_key = f.has_key; behind = omega (arith, behind) }
+      let f = found l other has in
+      let behind : (f.0 < place → ⊥) = λ lt. first.none_before f.0 lt (subst (IsAbove local) (sym f.1.has_key) above) in
+      (f.0, f.1, omega (arith, behind))
 
   -- no place is left: no key is above
   pub after_none : length l ≤ place → IsAfter (map_of l) local None
   after_none le other has above =
       let f = from_place other has above in
-      absurd (omega (arith, f.in_range, f.behind, le, length-keys_of l))
+      absurd (omega (arith, f.1.in_range, f.2, le, length-keys_of l))
 
   -- the key at the place is the least above
-  pub after_some : (entry : ℕ × Row) → place < length l → entry ≡ slice_index_or l place entry → IsAfter (map_of l) local (Some entry.0)
+  pub after_some : (entry : ℕ × Box Row A) → place < length l → entry ≡ slice_index_or l place entry → IsAfter (map_of l) local (Some entry.0)
   after_some entry lt is =
       let in_keys : place < length (keys_of l) = omega (arith, lt, length-keys_of l) in
-      let is_key : slice_index (keys_of l) place ≡ entry.0 = sym (key_at l place entry in_keys) ∙ ap (λ (e : ℕ × Row). e.0) (sym is) in (
+      let is_key : slice_index (keys_of l) place ≡ entry.0 = sym (key_at l place entry in_keys) ∙ ap (λ (e : ℕ × Box Row A). e.0) (sym is) in (
         ap is_some (get-map_of-at l sorted entry.0 place (record { in_range = in_keys; has_key = is_key }) entry is),
         subst (IsAbove local) is_key (first.above_after place (omega arith) in_keys),
         λ other has above.
             let f = from_place other has above in
-            grind (arith, is_key, f.has_key, f.behind, f.in_range, sorted place f.at, λ (same : place ≡ f.at). ap (λ n. slice_index (keys_of l) n) same),
+            grind (arith, is_key, f.1.has_key, f.2, f.1.in_range, sorted place f.0, λ (same : place ≡ f.0). ap (λ n. slice_index (keys_of l) n) same),
       )
 
 -- the least above is one, or none is

@@ -1,5 +1,5 @@
 -- Fronts of lists, and what stays of them where a list grows at its end.
-use Rattle.std.proofs.Common.{◌≡◌, ℕ, zero, suc, ◌+◌, ◌≤◌, ◌<◌, Some, List, [], ◌∷◌, ◌++◌, ◌⊎◌, inl, inr, length, take, drop, refl, sym, ◌∙◌, ap, arith, append-nil}
+use Rattle.std.proofs.Common.{◌≡◌, ℕ, zero, suc, ◌+◌, ◌≤◌, ◌<◌, Bool, true, false, cond, Some, List, [], ◌∷◌, ◌++◌, length, take, drop, refl, sym, ◌∙◌, ap, arith, append-nil, length-append}
 use Rattle.std.proofs.lemmas.List.{take_more, take-take, take-append-le, take-append-drop, take_all, length-take-le}
 use Rattle.std.proofs.lemmas.Option.{slice_get_within, get_or_from_slice_get}
 use Rattle.std.proofs.Math.Seq.{take-append-add}
@@ -26,17 +26,11 @@ one_more xs m n x rest less within is =
     ∙ take-append-add (take m xs) (x ∷ rest) 1
 
 -- what is added behind the part that counts: nothing, or all where the whole list counts
-pub more_counted : {A : Type 0} (xs more counted : List A) (n : ℕ) → n ≤ length xs → (counted ≡ []) ⊎ ((counted ≡ more) × (n ≡ length xs)) → take (n + length counted) (xs ++ more) ≡ take n xs ++ counted
-more_counted xs more counted n within (inl none) =
-    ap (λ (ys : List _). take (n + length ys) (xs ++ more)) none
-    ∙ ap (λ k. take k (xs ++ more)) (let e : n + 0 ≡ n = omega arith in e)
-    ∙ take-append-le n xs more within ∙ sym (append-nil (take n xs)) ∙ ap (λ ys. take n xs ++ ys) (sym none)
-more_counted xs more counted n within (inr all) =
-    ap (λ k. take (k + length counted) (xs ++ more)) all.1
-    ∙ take-append-add xs more (length counted)
-    ∙ ap (λ ys. xs ++ ys) (take_all (length counted) more (let e : length counted ≡ length more = ap length all.0 in omega arith))
-    ∙ ap (λ front. front ++ more) (sym (take_all n xs (omega arith)))
-    ∙ ap (λ ys. take n xs ++ ys) (sym all.0)
+pub more_counted : {A : Type 0} (drops : Bool) (xs more : List A) (n : ℕ) → n ≤ length xs → (drops ≡ false → n ≡ length xs) → take (n + length (cond drops [] more)) (xs ++ more) ≡ take n xs ++ cond drops [] more
+more_counted true xs more n within whole = ap (λ k. take k (xs ++ more)) (let e : n + 0 ≡ n = omega arith in e) ∙ take-append-le n xs more within ∙ sym (append-nil (take n xs))
+more_counted false xs more n within whole =
+    let all : n ≡ length xs = whole refl in
+    take_all (n + length more) (xs ++ more) (omega (arith, length-append xs more)) ∙ ap (λ front. front ++ more) (sym (take_all n xs (omega arith)))
 
 -- an element of the list before stays where it was
 pub slice_get_append : {A : Type 0} (xs more : List A) (n : ℕ) → n < length xs → slice_get (xs ++ more) n ≡ slice_get xs n

@@ -1,6 +1,5 @@
 -- What stays of a row where its entries grow, and which turn is out.
-use Rattle.std.proofs.Common.{◌≡◌, ◌≢◌, ℕ, ◌+◌, ◌≤◌, ◌<◌, Bool, true, false, not, ◌&&◌, cond, nat_lt, nat_le, nat_eq, Option, Some, None, List, ◌++◌, length, take, map, refl, sym, ◌∙◌, ap, arith, length-append}
-use Rattle.std.proofs.lemmas.Bool.{false≢true}
+use Rattle.std.proofs.Common.{◌≡◌, ◌≢◌, ℕ, ◌≤◌, ◌<◌, Bool, true, false, not, ◌&&◌, cond, nat_lt, nat_le, nat_eq, Option, Some, None, List, ◌++◌, length, take, map, refl, sym, ◌∙◌, ap, arith, length-append}
 use Rattle.std.proofs.lemmas.Bool.Decides.{nat_tests}
 use Rattle.std.proofs.lemmas.List.{length-map}
 use Rattle.std.specs.Prelude.{option_map, slice_get}
@@ -28,11 +27,10 @@ frames_count row = length-map (requests_of row) (framed row)
 
 -- what was accepted for sending is within the frames
 pub queued_within : (row : Row) → row.queued ≤ length (frames_of row)
-queued_within row = let count : length (frames_of row) ≡ length (requests_of row) = frames_count row in omega (arith, row.queued_within)
+queued_within row = omega (arith, frames_count row, row.queued_within)
 
 pub sent_within : (row : Row) → row.sent ≤ length (frames_of row)
-sent_within row =
-    omega (arith, queued_within row, row.kept_within, row.sent_within)
+sent_within row = omega (arith, queued_within row, row.kept_within, row.sent_within)
 
 -- more entries change none of the frames
 pub frames_stay : (row : Row) (accepted more : List Entry) → accepted ≡ row.accepted ++ more → frames_from row (take row.served accepted) ≡ frames_of row
@@ -40,8 +38,7 @@ frames_stay row accepted more grown = ap (frames_from row) (taken row.served row
 
 -- where a turn is out, an entry is left
 pub next_within : (is_out : Bool) (n m : ℕ) → (is_out && nat_le m n) ≡ false → is_out ≡ true → n < m
-next_within true n m left out = grind (arith, nat_tests)
-next_within false n m left out = absurd (false≢true out)
+next_within is_out n m left out = grind (arith, nat_tests)
 
 -- more entries don't change the turn that is out
 turn_by : {A B : Type 0} (is_out : Bool) (f : A → B) (xs more : List A) (n : ℕ) → (is_out && nat_le (length xs) n) ≡ false
@@ -55,28 +52,16 @@ turn_stays row accepted more grown =
     ap (λ xs. cond row.is_out (option_map (turn_of row) (slice_get xs row.served)) None) grown
     ∙ turn_by row.is_out (turn_of row) row.accepted more row.served row.out_is_next
 
--- three tests and a last one, which may only come true
-all_four : (a b c d e : Bool) → (d ≡ true → e ≡ true) → (a && (b && (c && d))) ≡ true → (a && (b && (c && e))) ≡ true
-all_four true true true d e more all = more all
-all_four true true false d e more all = absurd (false≢true all)
-all_four true false c d e more all = absurd (false≢true all)
-all_four false b c d e more all = absurd (false≢true all)
-
-less_stays : (n m k : ℕ) → m ≤ k → nat_lt n m ≡ true → nat_lt n k ≡ true
-less_stays n m k le less = grind (arith, nat_tests)
-
 -- a dialogue that is ready stays so where entries are added
 pub ready_stays : (a b c : Bool) (n : ℕ) (xs more ys : List Entry) → ys ≡ xs ++ more → (a && (b && (c && nat_lt n (length xs)))) ≡ true
     → (a && (b && (c && nat_lt n (length ys)))) ≡ true
-ready_stays a b c n xs more ys grown =
-    let count : length ys ≡ length xs + length more = ap length grown ∙ length-append xs more in
-    all_four a b c (nat_lt n (length xs)) (nat_lt n (length ys)) (less_stays n (length xs) (length ys) (omega arith))
+ready_stays a b c n xs more ys grown ready =
+    let count = ap length grown ∙ length-append xs more in
+    grind (arith, nat_tests)
 
 -- where a row says that a turn is out, there is one
 some_by : {A B : Type 0} (is_out : Bool) (f : A → B) (o : Option A) (x : A) → is_out ≡ true → o ≡ Some x → cond is_out (option_map f o) None ≢ None
-some_by true f None x out at none = (cc)
-some_by true f (Some y) x out at none = (cc)
-some_by false f o x out at none = absurd (false≢true out)
+some_by is_out f o x out at none = grind (arith, nat_tests)
 
 pub turn_is_next : (row : Row) → row.is_out ≡ true → turn_out row ≢ None
 turn_is_next row out =
@@ -89,38 +74,25 @@ pub record IsOut (row : Row) (turn : Turn) : Type 0 where
   pub at : slice_get row.accepted row.served ≡ Some turn.entry
   pub turn_is : turn_of row turn.entry ≡ turn
 
-record Parts {A B : Type 0} (is_out : Bool) (f : A → B) (o : Option A) (y : B) : Type 0 where
-  pub out : is_out ≡ true
-  pub element : A
-  pub at : o ≡ Some element
-  pub is : f element ≡ y
-
-parts_of : {A B : Type 0} (is_out : Bool) (f : A → B) (o : Option A) (y : B) → cond is_out (option_map f o) None ≡ Some y → Parts is_out f o y
-parts_of true f (Some x) y e = record { out = refl; element = x; at = refl; is = cc }
+parts_of : {A B : Type 0} (is_out : Bool) (f : A → B) (o : Option A) (y : B) → cond is_out (option_map f o) None ≡ Some y
+    → (x : A) × (is_out ≡ true) × (o ≡ Some x) × (f x ≡ y)
+parts_of true f (Some x) y e = (x, refl, refl, cc)
 parts_of true f None y e = absurd (cc)
 parts_of false f o y e = absurd (cc)
 
 pub known_turn : (row : Row) (turn : Turn) → turn_out row ≡ Some turn → IsOut row turn
 known_turn row turn e =
-    let parts : Parts row.is_out (turn_of row) (slice_get row.accepted row.served) turn =
-    parts_of row.is_out (turn_of row) (slice_get row.accepted row.served) turn e in
-    let same : parts.element ≡ turn.entry = ap (λ (t : Turn). t.entry) parts.is in
-    record {
-      is_out = parts.out;
-      at = parts.at ∙ ap Some same;
-      turn_is = ap (turn_of row) (sym same) ∙ parts.is;
-    }
+    let parts = parts_of row.is_out (turn_of row) (slice_get row.accepted row.served) turn e in
+    let same : parts.0 ≡ turn.entry = ap (λ (t : Turn). t.entry) parts.3 in
+    record { is_out = parts.1; at = parts.2 ∙ ap Some same; turn_is = ap (turn_of row) (sym same) ∙ parts.3 }
 
 -- a turn that is out is of a dialogue that isn't over
 pub going : (is_out over : Bool) → (is_out && over) ≡ false → is_out ≡ true → over ≡ false
-going true over live out = live
-going false over live out = absurd (false≢true out)
+going is_out over live out = grind (arith, nat_tests)
 
 -- which requests are kept where nothing ended the dialogue from outside: all
 pub all_of : (ended : Bool) (m n : ℕ) → (not ended && not (nat_eq m n)) ≡ false → ended ≡ false → m ≡ n
-all_of true m n all free = absurd (false≢true (sym free))
-all_of false m n all free = grind (arith, nat_tests)
+all_of ended m n all free = grind (arith, nat_tests)
 
 pub all_by : (ended : Bool) (m n : ℕ) → (ended ≡ false → m ≡ n) → (not ended && not (nat_eq m n)) ≡ false
-all_by true m n all = refl
-all_by false m n all = let same : m ≡ n = all refl in grind (arith, nat_tests)
+all_by ended m n all = grind (arith, nat_tests, all)

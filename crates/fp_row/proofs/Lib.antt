@@ -1,7 +1,4 @@
 mod Afters
-mod Boxes
-mod Entries
-mod Lookups
 mod Maps
 mod Order
 mod Searches

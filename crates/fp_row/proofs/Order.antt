@@ -1,6 +1,8 @@
--- Edits of entries keep their keys in order.
+-- The keys of entries, and edits that keep them in order.
 use Rattle.std.proofs.Common.{◌≡◌, ℕ, zero, suc, ◌+◌, ◌-◌, ◌<◌, ◌≤◌, Bool, true, false, if◌then◌else◌, List, [], ◌∷◌, length, set, slice_index, slice_index_or, refl, sym, ap, subst, ◌∙◌, arith}
 use Rattle.std.specs.List.{insert, remove}
+use Rattle.std.proofs.Math.Seq.{map-set_same}
+use Rattle.std.proofs.lemmas.List.{get_or-map, length-map}
 use Rattle.std.proofs.lemmas.List.Edits.{length-insert, get_or-insert_below, get_or-insert_at, get_or-insert_above, length-remove, get_or-remove_below, get_or-remove_above}
 use Rattle.fp_row.specs.Keys.{keys_of, IsInOrder, IsAt, IsGapFor}
 
@@ -24,12 +26,18 @@ in_order_remove ks sorted at within i j lt in_range =
     grind (arith, length_new, below i, above i, below j, above j, sorted i j, sorted i (j + 1), sorted (i + 1) (j + 1))
 
 module _ {X : Type 0} where
-  -- the keys of entries after an edit
-  keys-set : (l : List (ℕ × X)) (i : ℕ) (found : ℕ × X) (v : X) → found ≡ slice_index_or l i found → keys_of (set l i (found.0, v)) ≡ keys_of l
-  keys-set [] i found v is = refl
-  keys-set (e ∷ l) zero found v is = ap (λ (x : ℕ × X). x.0 ∷ keys_of l) is
-  keys-set (e ∷ l) (suc i) found v is = ap (λ ks. e.0 ∷ ks) (keys-set l i found v is)
+  -- the keys are as many as the entries, and each stands at its entry's place
+  pub length-keys_of : (l : List (ℕ × X)) → length (keys_of l) ≡ length l
+  length-keys_of l = length-map l (λ e. e.0)
 
+  pub key_at : (l : List (ℕ × X)) (i : ℕ) (d : ℕ × X) → i < length (keys_of l) → (slice_index_or l i d).0 ≡ slice_index (keys_of l) i
+  key_at l i d within = sym (get_or-map (λ (e : ℕ × X). e.0) l i d 0 (subst (λ n. i < n) (length-keys_of l) within))
+
+  -- the entry at the place of a key has it
+  pub key_of-at : (l : List (ℕ × X)) (k at : ℕ) → IsAt (keys_of l) k at → (found : ℕ × X) → found ≡ slice_index_or l at found → found.0 ≡ k
+  key_of-at l k at is_at found is = ap (λ (e : ℕ × X). e.0) is ∙ key_at l at found is_at.in_range ∙ is_at.has_key
+
+  -- the keys of entries after an edit
   keys-insert : (l : List (ℕ × X)) (i k : ℕ) (v : X) → keys_of (insert l i (k, v)) ≡ insert (keys_of l) i k
   keys-insert l zero k v = refl
   keys-insert [] (suc i) k v = refl
@@ -43,7 +51,8 @@ module _ {X : Type 0} where
 
   -- a value is written over
   pub in_order-set : (l : List (ℕ × X)) → IsInOrder (keys_of l) → (i : ℕ) (found : ℕ × X) (v : X) → found ≡ slice_index_or l i found → IsInOrder (keys_of (set l i (found.0, v)))
-  in_order-set l sorted i found v is = subst IsInOrder (sym (keys-set l i found v is)) sorted
+  in_order-set l sorted i found v is =
+      subst IsInOrder (sym (map-set_same (λ (e : ℕ × X). e.0) l i (found.0, v) found (ap (λ (e : ℕ × X). e.0) is))) sorted
 
   -- an entry is added in the gap for it, or for want of memory none is
   pub in_order-added : (l new : List (ℕ × X)) → IsInOrder (keys_of l) → (k at : ℕ) (v : X) → IsGapFor (keys_of l) k at → (is_added : Bool) → new ≡ (if is_added then insert l at (k, v) else l) → IsInOrder (keys_of new)

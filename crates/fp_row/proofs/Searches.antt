@@ -6,7 +6,7 @@ use Rattle.std.proofs.lemmas.Cmp.{ranked}
 use Rattle.std.proofs.lemmas.List.Sorted.{IsNonDecreasingBy-from_default}
 use Rattle.std.proofs.lemmas.Bool.Decides.{nat_tests}
 use Rattle.fp_row.specs.Keys.{keys_of, IsInOrder, IsAt, IsGapFor}
-use Rattle.fp_row.proofs.Lookups.{key_at, length-keys_of}
+use Rattle.fp_row.proofs.Order.{key_at, length-keys_of}
 
 module _ {X : Type 0} where
   module _ (l : List (ℕ × X)) (sorted : IsInOrder (keys_of l)) (k : ℕ) (d : ℕ × X) where
@@ -37,10 +37,6 @@ module _ {X : Type 0} where
   searched [] sorted k (Ok at) in_range equal = absurd (omega (arith, in_range))
   searched [] sorted k (Err at) in_range parted = record {
     found = tt;
-    missing = record {
-      in_range = in_range;
-      smaller_before = λ j lt. absurd (omega (arith, lt, in_range));
-      greater_after = λ j le lt. absurd (omega (arith, lt));
-    };
+    missing = record { in_range = in_range; smaller_before = λ j lt. absurd (omega (arith, lt, in_range)); greater_after = λ j le lt. absurd (omega (arith, lt)) };
   }
   searched (e ∷ l) sorted k r in_range answer = searched_by (e ∷ l) sorted k e r in_range answer

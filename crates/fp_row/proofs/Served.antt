@@ -1,6 +1,5 @@
 -- What a row has once the entry of the turn that is out was served.
-use Rattle.std.proofs.Common.{◌≡◌, ℕ, suc, ◌+◌, ◌≤◌, ◌<◌, false, not, ◌&&◌, ◌||◌, cond, nat_eq, Option, Some, None, List, [], ◌∷◌, ◌++◌, ◌⊎◌, inl, inr, length, take, drop, map, refl, sym, ◌∙◌, ap, subst, arith, length-append}
-use Rattle.std.proofs.lemmas.Bool.{false≢true}
+use Rattle.std.proofs.Common.{◌≡◌, ℕ, ◌+◌, ◌≤◌, ◌<◌, Bool, true, false, not, ◌&&◌, ◌||◌, cond, nat_eq, Option, Some, None, List, [], ◌∷◌, ◌++◌, length, take, drop, map, refl, sym, ◌∙◌, ap, arith, length-append}
 use Rattle.std.proofs.lemmas.List.{length-map, map-append, take-append-le}
 use Rattle.std.proofs.lemmas.Option.{slice_get_within}
 use Rattle.std.specs.Prelude.{option_map, option_to_list, is_some}
@@ -37,146 +36,102 @@ served_then row = take (row.served + 1) row.accepted
 abbrev pub asked : Row → Done → Option Request
 asked row done = request_of row.core done.turn.entry
 
-one_served : (row : Row) (done : Done) → IsOut row done.turn → served_then row ≡ served_of row ++ done.turn.entry ∷ []
-one_served row done out = more_taken row.accepted row.served done.turn.entry out.at
-
-pub served_within : (row : Row) (done : Done) (requested : Requested) (count : ℕ) → Served row done requested count → row.served + 1 ≤ length row.accepted
-served_within row done requested count s =
-    let out : IsOut row done.turn = known_turn row done.turn s.out in
-    let within : row.served < length row.accepted = slice_get_within row.accepted row.served done.turn.entry out.at in
-    omega arith
-
--- the core, the frame and the request are those of the row
-before_is : (row : Row) (done : Done) → IsOut row done.turn → done.turn.before ≡ row.core
-before_is row done out = sym (ap (λ (t : Turn). t.before) out.turn_is)
-
-pub core_is : (row : Row) (done : Done) (requested : Requested) (count : ℕ) → Served row done requested count → done.after ≡ core_after (start_of row) (served_then row)
-core_is row done requested count s =
-    let out : IsOut row done.turn = known_turn row done.turn s.out in
-    done.after_is ∙ ap (λ core. next core done.turn.entry) (before_is row done out ∙ row.core_is)
-    ∙ sym (s.laws.core_after_one (start_of row) (served_of row) done.turn.entry) ∙ ap (core_after (start_of row)) (sym (one_served row done out))
-
-pub cut_is : (row : Row) (done : Done) (requested : Requested) (count : ℕ) → Served row done requested count → cut (start_of row) (served_then row) ≡ served_then row
-cut_is row done requested count s =
-    let out : IsOut row done.turn = known_turn row done.turn s.out in
-    let live : is_over row.core ≡ false = going row.is_out (is_over row.core) row.out_is_live out.is_out in
-    ap (cut (start_of row)) (one_served row done out)
-    ∙ s.laws.cut_of_one (start_of row) (served_of row) done.turn.entry (ap is_over (sym row.core_is) ∙ live)
-    ∙ sym (one_served row done out)
-
-pub requests_are : (row : Row) (done : Done) (requested : Requested) (count : ℕ) → Served row done requested count → requests (start_of row) (served_then row) ≡ requests_of row ++ option_to_list (asked row done)
-requests_are row done requested count s =
-    let out : IsOut row done.turn = known_turn row done.turn s.out in
-    ap (requests (start_of row)) (one_served row done out)
-    ∙ s.laws.requests_of_one (start_of row) (served_of row) done.turn.entry
-    ∙ ap (λ core. requests_of row ++ option_to_list (request_of core done.turn.entry)) (sym row.core_is)
-
-frame_is : (row : Row) (done : Done) → IsOut row done.turn → done.frame ≡ option_map (framed row) (asked row done)
-frame_is row done out = done.frame_is ∙ ap frame_for (sym out.turn_is)
-
 -- a list of what may be absent
 listed : {A B : Type 0} (f : A → B) (o : Option A) → map f (option_to_list o) ≡ option_to_list (option_map f o)
 listed f None = refl
 listed f (Some x) = refl
 
-pub frames_are : (row : Row) (done : Done) (requested : Requested) (count : ℕ) → Served row done requested count → frames_from row (served_then row) ≡ frames_of row ++ option_to_list done.frame
-frames_are row done requested count s =
-    let out : IsOut row done.turn = known_turn row done.turn s.out in
-    ap (map (framed row)) (requests_are row done requested count s)
-    ∙ map-append (framed row) (requests_of row) (option_to_list (asked row done))
-    ∙ ap (λ more. frames_of row ++ more) (listed (framed row) (asked row done) ∙ ap option_to_list (sym (frame_is row done out)))
+-- what is to be sent: nothing of a dialogue that was ended from outside, and else all that is requested
+sent_by : (ended : Option Ending) (frame : Option (List ℕ)) → frames_in (requested_of ended frame) ≡ cond (is_some ended) [] (option_to_list frame)
+sent_by None None = refl
+sent_by None (Some frame) = refl
+sent_by (Some ending) None = refl
+sent_by (Some ending) (Some frame) = refl
 
--- what is to be sent: nothing, or all that is requested
-abbrev Kept : Option Ending → List (List ℕ) → List (List ℕ) → Type 0
-Kept ended kept all = ((kept ≡ []) × (is_some ended ≡ false → all ≡ [])) ⊎ ((kept ≡ all) × (is_some ended ≡ false))
+at_most : {A : Type 0} (drops : Bool) (all : List A) → length (cond drops [] all) ≤ length all
+at_most true all = omega arith
+at_most false all = omega arith
 
-kept_by : (ended : Option Ending) (frame : Option (List ℕ)) → Kept ended (frames_in (requested_of ended frame)) (option_to_list frame)
-kept_by None None = inl (refl, λ _. refl)
-kept_by None (Some frame) = inr (refl, refl)
-kept_by (Some ending) None = inl (refl, λ _. refl)
-kept_by (Some ending) (Some frame) = inl (refl, λ free. absurd (false≢true (sym free)))
+module _ (row : Row) (done : Done) (requested : Requested) (count : ℕ) (s : Served row done requested count) where
+  out : IsOut row done.turn
+  out = known_turn row done.turn s.out
 
-kept_is : (row : Row) (done : Done) (requested : Requested) (count : ℕ) → Served row done requested count → Kept row.ended (frames_in requested) (option_to_list done.frame)
-kept_is row done requested count s =
-    subst (λ (r : Requested). Kept row.ended (frames_in r) (option_to_list done.frame)) (sym s.requested_is) (kept_by row.ended done.frame)
+  live : is_over row.core ≡ false
+  live = going row.is_out (is_over row.core) row.out_is_live out.is_out
 
--- how many they are
-at_most : (ended : Option Ending) (kept all : List (List ℕ)) → Kept ended kept all → length kept ≤ length all
-at_most ended kept all (inl none) = let e : length kept ≡ 0 = ap length none.0 in omega arith
-at_most ended kept all (inr every) = let e : length kept ≡ length all = ap length every.0 in omega arith
+  one_served : served_then row ≡ served_of row ++ done.turn.entry ∷ []
+  one_served = more_taken row.accepted row.served done.turn.entry out.at
 
-all_counted : (ended : Option Ending) (kept all : List (List ℕ)) → Kept ended kept all → is_some ended ≡ false → length kept ≡ length all
-all_counted ended kept all (inl none) free = ap length none.0 ∙ sym (ap length (none.1 free))
-all_counted ended kept all (inr every) free = ap length every.0
+  pub served_within : row.served + 1 ≤ length row.accepted
+  served_within =
+      let within : row.served < length row.accepted = slice_get_within row.accepted row.served done.turn.entry out.at in
+      omega arith
 
--- how many frames and requests there are then
-count_then : (row : Row) (done : Done) (requested : Requested) (count : ℕ) → Served row done requested count
-    → length (requests (start_of row) (served_then row)) ≡ length (requests_of row) + length (option_to_list done.frame)
-count_then row done requested count s =
-    sym (length-map (requests (start_of row) (served_then row)) (framed row))
-    ∙ ap length (frames_are row done requested count s)
-    ∙ length-append (frames_of row) (option_to_list done.frame)
-    ∙ ap (λ n. n + length (option_to_list done.frame)) (frames_count row)
+  -- the core, the frame and the request are those of the row
+  pub core_is : done.after ≡ core_after (start_of row) (served_then row)
+  core_is =
+      done.after_is ∙ ap (λ core. next core done.turn.entry) (sym (ap (λ (t : Turn). t.before) out.turn_is) ∙ row.core_is)
+      ∙ sym (s.laws.core_after_one (start_of row) (served_of row) done.turn.entry) ∙ ap (core_after (start_of row)) (sym one_served)
 
-pub queued_fits : (row : Row) (done : Done) (requested : Requested) (count : ℕ) → Served row done requested count → row.queued + count ≤ length (requests (start_of row) (served_then row))
-queued_fits row done requested count s =
-    let total = count_then row done requested count s in
-    let most : length (frames_in requested) ≤ length (option_to_list done.frame) = at_most row.ended _ _ (kept_is row done requested count s) in
-    omega (arith, s.count_is, row.queued_within)
+  pub cut_is : cut (start_of row) (served_then row) ≡ served_then row
+  cut_is =
+      ap (cut (start_of row)) one_served
+      ∙ s.laws.cut_of_one (start_of row) (served_of row) done.turn.entry (ap is_over (sym row.core_is) ∙ live) ∙ sym one_served
 
--- where nothing ended the dialogue from outside, all are kept
-kept_all : (row : Row) → is_some row.ended ≡ false → row.kept ≡ length (requests_of row)
-kept_all row free = all_of (is_some row.ended) row.kept (length (requests_of row)) row.all_kept free
+  requests_are : requests (start_of row) (served_then row) ≡ requests_of row ++ option_to_list (asked row done)
+  requests_are =
+      ap (requests (start_of row)) one_served
+      ∙ s.laws.requests_of_one (start_of row) (served_of row) done.turn.entry
+      ∙ ap (λ core. requests_of row ++ option_to_list (request_of core done.turn.entry)) (sym row.core_is)
 
-pub all_kept : (row : Row) (done : Done) (requested : Requested) (count : ℕ) → Served row done requested count
-    → (not (is_some row.ended) && not (nat_eq (row.kept + count) (length (requests (start_of row) (served_then row))))) ≡ false
-all_kept row done requested count s =
-    all_by (is_some row.ended) (row.kept + count) (length (requests (start_of row) (served_then row))) (λ free.
-    let total = count_then row done requested count s in
-    let every : length (frames_in requested) ≡ length (option_to_list done.frame) = all_counted row.ended _ _ (kept_is row done requested count s) free in
-    let kept : row.kept ≡ length (requests_of row) = kept_all row free in
-    omega (arith, s.count_is))
+  pub frames_are : frames_from row (served_then row) ≡ frames_of row ++ option_to_list done.frame
+  frames_are =
+      ap (map (framed row)) requests_are
+      ∙ map-append (framed row) (requests_of row) (option_to_list (asked row done))
+      ∙ ap (λ more. frames_of row ++ more) (listed (framed row) (asked row done) ∙ ap option_to_list (sym (done.frame_is ∙ ap frame_for (sym out.turn_is))))
 
--- the frames that count
-counted : (row : Row) (kept all : List (List ℕ)) (n : ℕ) → Kept row.ended kept all → (is_some row.ended ≡ false → n ≡ length (frames_of row)) → (kept ≡ []) ⊎ ((kept ≡ all) × (n ≡ length (frames_of row)))
-counted row kept all n (inl none) whole = inl none.0
-counted row kept all n (inr every) whole = inr (every.0, whole every.1)
+  -- how many are to be sent, and how many there are then
+  sent_is : frames_in requested ≡ cond (is_some row.ended) [] (option_to_list done.frame)
+  sent_is = ap frames_in s.requested_is ∙ sent_by row.ended done.frame
 
-front_then : (row : Row) (done : Done) (requested : Requested) (count n : ℕ) → Served row done requested count → n ≤ length (frames_of row)
-    → (is_some row.ended ≡ false → n ≡ length (frames_of row)) → take (n + count) (frames_from row (served_then row)) ≡ take n (frames_of row) ++ frames_in requested
-front_then row done requested count n s within whole =
-    ap (take (n + count)) (frames_are row done requested count s)
-    ∙ ap (λ k. take (n + k) (frames_of row ++ option_to_list done.frame)) s.count_is
-    ∙ more_counted (frames_of row) (option_to_list done.frame) (frames_in requested) n within
-    (counted row (frames_in requested) (option_to_list done.frame) n (kept_is row done requested count s) whole)
+  count_is : count ≡ length (cond (is_some row.ended) [] (option_to_list done.frame))
+  count_is = s.count_is ∙ ap length sent_is
 
-pub kept_frames : (row : Row) (done : Done) (requested : Requested) (count : ℕ) → Served row done requested count
-    → take (row.kept + count) (frames_from row (served_then row)) ≡ kept_of row ++ frames_in requested
-kept_frames row done requested count s =
-    front_then row done requested count row.kept s
-    (let within : row.queued ≤ length (frames_of row) = queued_within row in omega (arith, row.kept_within))
-    (λ free. kept_all row free ∙ sym (frames_count row))
+  count_then : length (requests (start_of row) (served_then row)) ≡ length (requests_of row) + length (option_to_list done.frame)
+  count_then =
+      sym (length-map (requests (start_of row) (served_then row)) (framed row))
+      ∙ ap length frames_are
+      ∙ length-append (frames_of row) (option_to_list done.frame)
+      ∙ ap (λ n. n + length (option_to_list done.frame)) (frames_count row)
 
-pub queued_frames : (row : Row) (done : Done) (requested : Requested) (count : ℕ) → Served row done requested count
-    → take (row.queued + count) (frames_from row (served_then row)) ≡ queued_of row ++ frames_in requested
-queued_frames row done requested count s =
-    front_then row done requested count row.queued s (queued_within row) (λ free.
-    let within : row.queued ≤ length (frames_of row) = queued_within row in
-    let frames : length (frames_of row) ≡ length (requests_of row) = frames_count row in
-    let kept : row.kept ≡ length (requests_of row) = kept_all row free in
-    omega (arith, row.kept_within))
+  pub queued_fits : row.queued + count ≤ length (requests (start_of row) (served_then row))
+  queued_fits = omega (arith, count_then, count_is, at_most (is_some row.ended) (option_to_list done.frame), row.queued_within)
 
-pub sent_frames : (row : Row) (done : Done) (requested : Requested) (count : ℕ) → Served row done requested count
-    → take row.sent (frames_from row (served_then row)) ≡ sent_of row
-sent_frames row done requested count s =
-    ap (take row.sent) (frames_are row done requested count s)
-    ∙ take-append-le row.sent (frames_of row) (option_to_list done.frame) (sent_within row)
+  -- where nothing ended the dialogue from outside, all are kept
+  kept_all : is_some row.ended ≡ false → row.kept ≡ length (frames_of row)
+  kept_all free = all_of (is_some row.ended) row.kept (length (requests_of row)) row.all_kept free ∙ sym (frames_count row)
 
--- the entries that wait then
-pub waiting_then : (row : Row) (done : Done) (requested : Requested) (count : ℕ) → Served row done requested count
-    → cond (is_closed row.ended || is_over done.after) [] (drop (row.served + 1) row.accepted) ≡ cond (is_over done.after) [] (waiting_of row)
-waiting_then row done requested count s =
-    let out : IsOut row done.turn = known_turn row done.turn s.out in
-    let live : is_over row.core ≡ false = going row.is_out (is_over row.core) row.out_is_live out.is_out in
-    ap (λ n. cond (is_closed row.ended || is_over done.after) [] (drop n row.accepted)) (let e : row.served + 1 ≡ suc row.served = omega arith in e)
-    ∙ waiting_served (is_closed row.ended) (is_over row.core) (is_over done.after) row.is_out row.accepted row.served out.is_out live
+  pub all_kept : (not (is_some row.ended) && not (nat_eq (row.kept + count) (length (requests (start_of row) (served_then row))))) ≡ false
+  all_kept = all_by (is_some row.ended) (row.kept + count) (length (requests (start_of row) (served_then row))) (λ free.
+      omega (arith, count_then, count_is, ap (λ drops. length (cond drops [] (option_to_list done.frame))) free, kept_all free, frames_count row))
+
+  -- a front that is whole where all are kept grows by what is to be sent
+  front_then : (n : ℕ) → n ≤ length (frames_of row) → (is_some row.ended ≡ false → n ≡ length (frames_of row)) → take (n + count) (frames_from row (served_then row)) ≡ take n (frames_of row) ++ frames_in requested
+  front_then n within whole =
+      ap (take (n + count)) frames_are
+      ∙ ap (λ k. take (n + k) (frames_of row ++ option_to_list done.frame)) count_is
+      ∙ more_counted (is_some row.ended) (frames_of row) (option_to_list done.frame) n within whole
+      ∙ ap (λ more. take n (frames_of row) ++ more) (sym sent_is)
+
+  pub kept_frames : take (row.kept + count) (frames_from row (served_then row)) ≡ kept_of row ++ frames_in requested
+  kept_frames = front_then row.kept (omega (arith, queued_within row, row.kept_within)) kept_all
+
+  pub queued_frames : take (row.queued + count) (frames_from row (served_then row)) ≡ queued_of row ++ frames_in requested
+  queued_frames = front_then row.queued (queued_within row) (λ free. omega (arith, queued_within row, kept_all free, row.kept_within))
+
+  pub sent_frames : take row.sent (frames_from row (served_then row)) ≡ sent_of row
+  sent_frames = ap (take row.sent) frames_are ∙ take-append-le row.sent (frames_of row) (option_to_list done.frame) (sent_within row)
+
+  -- the entries that wait then
+  pub waiting_then : cond (is_closed row.ended || is_over done.after) [] (drop (row.served + 1) row.accepted) ≡ cond (is_over done.after) [] (waiting_of row)
+  waiting_then = waiting_served (is_closed row.ended) (is_over row.core) (is_over done.after) row.is_out row.accepted row.served out.is_out live

@@ -1,28 +1,20 @@
 -- The entries that wait, behind those that were served and the one that is out.
-use Rattle.std.proofs.Common.{◌≡◌, ℕ, zero, suc, ◌-◌, ◌≤◌, ◌<◌, Bool, true, false, not, ◌&&◌, ◌||◌, cond, nat_lt, nat_le, Option, Some, None, List, [], ◌∷◌, ◌++◌, length, take, drop, refl, sym, ◌∙◌, ap, arith, append_assoc, append-nil}
+use Rattle.std.proofs.Common.{◌≡◌, ℕ, zero, suc, ◌+◌, ◌≤◌, ◌<◌, Bool, true, false, not, ◌&&◌, ◌||◌, cond, nat_lt, nat_le, Option, Some, None, List, [], ◌∷◌, ◌++◌, length, take, drop, refl, sym, ◌∙◌, ap, arith, append_assoc, append-nil}
 use Rattle.std.proofs.lemmas.Bool.{false≢true}
 use Rattle.std.proofs.lemmas.Bool.Decides.{nat_tests}
-use Rattle.std.proofs.lemmas.List.{drop-append-le, length-drop, take-append-drop}
+use Rattle.std.proofs.lemmas.List.{drop-append-le, drop-drop, length-drop, take-append-drop}
 use Rattle.std.proofs.lemmas.Option.{slice_get_read}
 use Rattle.std.proofs.Math.ListN.{get_or}
-use Rattle.std.specs.Prelude.{is_some, option_map, slice_get}
-use Rattle.fp_entry.specs.declared.entry.Entry.{Entry}
+use Rattle.std.specs.Prelude.{is_some, slice_get}
 use mathlib.Core.List.{IsPrefix}
-use Rattle.fp_row.proofs.Keeping.{IsOut, known_turn, next_within}
+use Rattle.fp_row.proofs.Keeping.{IsOut, known_turn}
 use Rattle.fp_row.specs.declared.ending.Ending.{Ending}
 use Rattle.fp_row.specs.declared.row.Row.{Row}
 use Rattle.fp_row.specs.declared.turn.Turn.{Turn}
-use Rattle.fp_row.specs.Row.{entry_out, is_closed, turn_of, turn_out}
-
--- what stands behind one element more
-pub drop_one : {A : Type 0} (xs : List A) (n : ℕ) → drop 1 (drop n xs) ≡ drop (suc n) xs
-drop_one [] zero = refl
-drop_one [] (suc n) = refl
-drop_one (x ∷ xs) zero = refl
-drop_one (x ∷ xs) (suc n) = drop_one xs n
+use Rattle.fp_row.specs.Row.{entry_out, is_closed, turn_out}
 
 -- the element at a place, and what stands behind it
-pub drop_at : {A : Type 0} (xs : List A) (n : ℕ) (x : A) → slice_get xs n ≡ Some x → drop n xs ≡ x ∷ drop 1 (drop n xs)
+drop_at : {A : Type 0} (xs : List A) (n : ℕ) (x : A) → slice_get xs n ≡ Some x → drop n xs ≡ x ∷ drop 1 (drop n xs)
 drop_at [] n x at = absurd (cc)
 drop_at (y ∷ ys) zero x at = cc
 drop_at (y ∷ ys) (suc n) x at = drop_at ys n x at
@@ -44,9 +36,7 @@ parts_by true xs n k = (
 )
 
 pub whole_by : {A : Type 0} (closed over : Bool) (xs : List A) (n k : ℕ) → closed ≡ false → over ≡ false → parts_in (closed || over) xs n k ≡ xs
-whole_by false false xs n k unclosed live = going_whole xs n k
-whole_by false true xs n k unclosed live = absurd (false≢true (sym live))
-whole_by true over xs n k unclosed live = absurd (false≢true (sym unclosed))
+whole_by closed over xs n k unclosed live = cc (going_whole xs n k)
 
 -- the entry that is out is that of the turn
 first_at : {A : Type 0} (is_out : Bool) (xs : List A) (n : ℕ) (x : A) → is_out ≡ true → slice_get xs n ≡ Some x → take (cond is_out 1 0) (drop n xs) ≡ x ∷ []
@@ -60,11 +50,7 @@ entry_is_out row turn e =
 
 -- the entry that is out is one of those that weren't served
 out_within : {A : Type 0} (is_out : Bool) (xs : List A) (n : ℕ) → (is_out && nat_le (length xs) n) ≡ false → cond is_out 1 0 ≤ length (drop n xs)
-out_within true xs n left =
-    let within : n < length xs = next_within true n (length xs) left refl in
-    let count : length (drop n xs) ≡ length xs - n = length-drop n xs in
-    omega arith
-out_within false xs n left = omega arith
+out_within is_out xs n left = grind (arith, nat_tests, length-drop n xs)
 
 -- entries that are added wait behind the others
 pub waiting_grown : {A : Type 0} (ended : Option Ending) (over is_out : Bool) (xs more ys : List A) (n : ℕ) → n ≤ length xs → (is_out && nat_le (length xs) n) ≡ false → ys ≡ xs ++ more
@@ -79,41 +65,23 @@ waiting_grown (Some ending) over is_out xs more ys n within left grown admitted 
 
 -- the entries that wait are the same once the entry that was out is served
 pub waiting_served : {A : Type 0} (closed over after is_out : Bool) (xs : List A) (n : ℕ) → is_out ≡ true → over ≡ false
-    → cond (closed || after) [] (drop (suc n) xs) ≡ cond after [] (cond (closed || over) [] (drop (cond is_out 1 0) (drop n xs)))
-waiting_served true over true is_out xs n out live = refl
-waiting_served true over false is_out xs n out live = refl
-waiting_served false over true is_out xs n out live = refl
-waiting_served false false false true xs n out live = sym (drop_one xs n)
-waiting_served false false false false xs n out live = absurd (false≢true out)
-waiting_served false true false is_out xs n out live = absurd (false≢true (sym live))
+    → cond (closed || after) [] (drop (n + 1) xs) ≡ cond after [] (cond (closed || over) [] (drop (cond is_out 1 0) (drop n xs)))
+waiting_served closed over after is_out xs n out live = let one = drop-drop 1 n xs in grind (arith, nat_tests)
 
 -- an entry that is put back is the first of those that wait
 pub waiting_put_back : {A : Type 0} (closed over is_out : Bool) (xs : List A) (n : ℕ) (x : A) → is_out ≡ true → over ≡ false → slice_get xs n ≡ Some x
     → cond (closed || over) [] (drop n xs) ≡ cond closed [] (x ∷ cond (closed || over) [] (drop (cond is_out 1 0) (drop n xs)))
-waiting_put_back true over is_out xs n x out live at = refl
-waiting_put_back false false true xs n x out live at = drop_at xs n x at
-waiting_put_back false false false xs n x out live at = absurd (false≢true out)
-waiting_put_back false true is_out xs n x out live at = absurd (false≢true (sym live))
+waiting_put_back closed over is_out xs n x out live at = let first = drop_at xs n x at in grind (arith, nat_tests)
 
 -- an entry that is taken out was the first of those that waited
 pub waiting_taken : {A : Type 0} (closed over is_out : Bool) (xs : List A) (n : ℕ) (x : A)
     → (not is_out && (not closed && (not over && nat_lt n (length xs)))) ≡ true → slice_get xs n ≡ Some x
     → cond (closed || over) [] (drop (cond is_out 1 0) (drop n xs)) ≡ x ∷ cond (closed || over) [] (drop 1 (drop n xs))
-waiting_taken false false false xs n x ready at = drop_at xs n x at
-waiting_taken true over false xs n x ready at = absurd (false≢true ready)
-waiting_taken false true false xs n x ready at = absurd (false≢true ready)
-waiting_taken closed over true xs n x ready at = absurd (false≢true ready)
-
--- the turn of the next entry
-pub turn_taken : (row : Row) (entry : Entry) → slice_get row.accepted row.served ≡ Some entry → option_map (turn_of row) (slice_get row.accepted row.served) ≡ Some (turn_of row entry)
-turn_taken row entry at = ap (option_map (turn_of row)) at
+waiting_taken closed over is_out xs n x ready at = let first = drop_at xs n x at in grind (arith, nat_tests)
 
 -- a dialogue that is ready has an entry that waits
 pub ready_within : (a b c : Bool) (n m : ℕ) → (a && (b && (c && nat_lt n m))) ≡ true → n < m
-ready_within true true true n m ready = grind (arith, nat_tests)
-ready_within true true false n m ready = absurd (false≢true ready)
-ready_within true false c n m ready = absurd (false≢true ready)
-ready_within false b c n m ready = absurd (false≢true ready)
+ready_within a b c n m ready = grind (arith, nat_tests)
 
 -- a copy of the element at a place
 pub copied : {A : Type 0} (xs ys : List A) (n : ℕ) (x y : A) → ys ≡ xs → y ≡ x → x ≡ get_or ys n x → n < length xs → slice_get xs n ≡ Some y

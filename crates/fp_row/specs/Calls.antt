@@ -4,7 +4,7 @@ use Rattle.std.specs.Prelude.{◌≡◌, ℕ, ◌+◌, Bool, true, false, List, 
 use Rattle.fp_entry.specs.declared.entry.Entry.{Entry}
 use Rattle.fp_entry.specs.declared.entry.EntryKind.TheVariants.{Clock}
 use Rattle.fp_entry.specs.Entries.{entry_at}
-use Rattle.fp_q773.specs.declared.tid.Tid.{Tid}
+use Rattle.fp_q773.specs.Tid.{Tid}
 use Rattle.fp_row.specs.declared.done.Done.{Done}
 use Rattle.fp_row.specs.declared.ending.Ending.{Ending}
 use Rattle.fp_row.specs.declared.ending.Ending.TheVariants.{ByPeer, Closed}

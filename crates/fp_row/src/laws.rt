@@ -25,11 +25,13 @@ pub fn turns_are_served_by_the_step()
 {}
 
 /// What [`Rows::after`](crate::Rows::after) answers is one identifier, or none.
+#[tactic(auto, using(crate::proofs::Afters::after_is_one))]
 pub fn after_is_one()
     ensures { AfterIsOne }
 {}
 
 /// To put a row under the identifier under which it stands changes nothing.
+#[tactic(auto, using(crate::proofs::Afters::putting_back_changes_nothing))]
 pub fn putting_back_changes_nothing()
     ensures { PuttingBackChangesNothing }
 {}

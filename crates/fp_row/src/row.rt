@@ -144,7 +144,8 @@ impl Row {
         self.is_admitted() || self.is_out || self.waits() || self.sent < self.kept
     }
 
-    /// How many of the entries that weren't served take a place of the dialogue, while it is admitted.
+    /// How many of the entries that weren't served, that of the turn that is out among them, take a place of the
+    /// dialogue.
     pub fn places_taken(&self) -> usize
         ensures { result ≡ places_taken self.now }
     {
@@ -158,8 +159,7 @@ impl Row {
     fn has_clock(&self) -> bool
         ensures { result ≡ has_clock self.now }
     {
-        let clocks = self.unserved().iter().filter(|entry| entry.kind.is_clock());
-        clocks.count() > 0
+        self.unserved().iter().any(|entry| entry.kind.is_clock())
     }
 
     /// The earliest moment at which it is given a Clock, in milliseconds since 1970-01-01T00:00:00Z: none where it
@@ -167,7 +167,7 @@ impl Row {
     pub fn deadline(&self) -> Option<u64>
         ensures { result ≡ deadline_of self.now }
     {
-        if self.has_clock() || !self.is_admitted() {
+        if !self.is_admitted() || self.has_clock() {
             return None;
         }
         Some(self.core.next_due())
@@ -290,7 +290,7 @@ impl Row {
         folds_along_a_grown_list();
         entries_ask_once_at_most();
         let Done { turn, after, frame } = done;
-        turn.abandon();
+        turn.spend();
         let requested = Requested::of(self.ended, frame);
         let count = requested.frame_count();
         self.served += 1;
@@ -311,7 +311,7 @@ impl Row {
         if !self.is_turn_out(&turn) {
             return Err(turn);
         }
-        turn.abandon();
+        turn.spend();
         self.is_out = false;
         Ok(())
     }

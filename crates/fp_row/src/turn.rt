@@ -87,6 +87,11 @@ impl Turn {
 
     /// Spends a turn that nobody serves. The dialogue whose turn is out and was abandoned stays held. Takes no memory.
     pub fn abandon(self) {
+        self.spend();
+    }
+
+    /// Spends a turn that came back to its dialogue. Takes no memory.
+    pub(crate) fn spend(self) {
         let Turn {
             local: _,
             peer: _,

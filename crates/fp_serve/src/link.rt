@@ -39,7 +39,7 @@ impl<R: Wait + Clock, L: LinkWrite + Drop, A: Ledger, B: Ledger, C: Ledger> Link
 > {
     /// Ends the link: it goes down, so that its sending thread and its clock end; its socket is shut down, so that its
     /// receiving thread ends, and a write of its sending thread; and its hub is closed, so that its workers end. A second
-    /// time changes nothing.
+    /// time changes nothing but the log.
     pub(crate) fn end(&self) {
         if !self.hub.is_down(self.rt) {
             self.hub.down(self.rt);

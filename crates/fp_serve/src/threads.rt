@@ -93,12 +93,14 @@ impl<
             self.fail(ServeFault::Memory);
             return;
         };
-        if let Some(seat) = self.seat.split() {
-            let link = self.link;
-            let run = move || serve_turns(link, alloc, gate, hints, seat);
-            let handle = self.scope.spawn(run).ok();
-            self.keep(handle);
-        }
+        let Some(seat) = self.seat.split() else {
+            self.fail(ServeFault::LostSeat);
+            return;
+        };
+        let link = self.link;
+        let run = move || serve_turns(link, alloc, gate, hints, seat);
+        let handle = self.scope.spawn(run).ok();
+        self.keep(handle);
     }
 
     /// Starts this number of workers, which pass this gate with each turn.
@@ -110,11 +112,13 @@ impl<
 
     /// Starts the sending thread.
     fn start_sender(&mut self) {
-        if let Some(seat) = self.seat.split() {
-            let link = self.link;
-            let handle = self.scope.spawn(move || send_all(link, seat)).ok();
-            self.keep(handle);
-        }
+        let Some(seat) = self.seat.split() else {
+            self.fail(ServeFault::LostSeat);
+            return;
+        };
+        let link = self.link;
+        let handle = self.scope.spawn(move || send_all(link, seat)).ok();
+        self.keep(handle);
     }
 
     /// Starts the clock, which has no seat.
@@ -129,12 +133,14 @@ impl<
 
     /// Starts the receiving thread.
     fn start_receiver(&mut self, service: Service<'s>) {
-        if let Some(seat) = self.seat.split() {
-            let link = self.link;
-            let run = move || receive_all(link, service, seat);
-            let handle = self.scope.spawn(run).ok();
-            self.keep(handle);
-        }
+        let Some(seat) = self.seat.split() else {
+            self.fail(ServeFault::LostSeat);
+            return;
+        };
+        let link = self.link;
+        let run = move || receive_all(link, service, seat);
+        let handle = self.scope.spawn(run).ok();
+        self.keep(handle);
     }
 }
 

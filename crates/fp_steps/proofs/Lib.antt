@@ -1,52 +1,66 @@
--- A dialogue that a book holds has what the history tells of its birth
-mod Stories
-mod Dialogues
-mod Born
--- and each step keeps that
-mod Nexts
+-- EACH STEP: its answers, and what its book then is
 mod Cases
-mod Served
-mod Parcels
-mod Downs
-mod Refused
-mod Endings
-mod Grown
-mod Ticked
-mod Made
--- What waits to be sent, and who is ready, stand in the order that the history tells
-mod Frames
-mod Numbers
-mod Order
-mod Queue
-mod Lining
-mod Clocking
-mod Posting
-mod Waits
--- Each output is the answer that the history tells
-mod Births
-mod Answered
-mod Asked
-mod Helds
-mod Verdicts
-mod Few
-mod Posted
-mod Answering
--- The tokens that are kept are those that the book handed out
-mod Found
-mod Holds
--- What a log tells
-mod Lines
-mod Tellings
-mod Names
-mod Places
-mod Logs
-mod LogCounts
--- Totals
-mod Added
-mod Tally
--- Runs, and what holds of all of them
-mod Idle
-mod Afterwards
-mod Runs
-mod Alike
+-- THE TIE: a dialogue that a book holds has what the history tells of its birth
+-- what a history tells of a dialogue, and of one that a book holds
+mod HeldDialogues
+-- which dialogues were opened, and what their identifiers name
+mod OpenedDialogues
+-- what a step owes to keep the tie
+mod TieNext
+-- which it does: a turn is taken, given or put back
+mod TieAtTurns
+-- a parcel is picked or sent; the link goes down
+mod TieAtParcels
+-- a message is discarded or refused, opens a dialogue, or is accepted by one
+mod TieAtMessages
+-- dialogues that are due are given a Clock
+mod TieAtTicks
+-- of a message that is accepted: it has few components, and ends its dialogue as its peer
+mod AcceptedMessages
+-- all of it, and the headline from it
+mod TieKept
+-- WHAT WAITS: frames and dialogues stand in the order that the history tells
+-- the frames that wait, and their numbers
+mod FramesInOrder
+-- the dialogues that are ready, and what each call makes of their queue
+mod QueueInOrder
+-- what a step owes to keep both orders: turns, parcels, the end of the link
+mod WaitingAtSteps
+-- ticks
+mod WaitingAtTicks
+-- messages
+mod WaitingAtMessages
+-- all of it
+mod WaitingKept
+-- ANSWERS: each output is the one that the history tells
+-- how many dialogues are such, by those that a book holds
+mod SumsOverBirths
+-- how many are held
+mod HeldCount
+-- a message, by the first line that fits
+mod MessageAnswers
+-- each step, by its cases
+mod StepAnswers
+-- TOKENS: those that a run keeps are those that its book handed out
+mod TokensKept
+-- THE LOG
+-- the line that a book logs of a step
+mod LoggedLines
+-- the lines of a run so far, and what is kept to tell them
+mod LogSoFar
+-- what can be counted in retold lines
+mod LogTotals
+-- TOTALS
+-- of outputs
+mod OutputTotals
+-- as sums over dialogues
+mod DialogueTotals
+-- RUNS
+-- where a link is idle nothing is left to do
+mod IdleDone
+-- a step behind a history, and a run so far
+mod RunsSoFar
+-- what is sent of equal dialogues
+mod SentAlike
+-- a step has one answer, and a run one history
 mod OneAnswer

@@ -4,63 +4,45 @@ use Rattle.std.specs.Prelude.{IfSome, map, option_map, reverse}
 use Rattle.std.specs.List.{AllByRecursion}
 use Rattle.std.proofs.lemmas.List.{reverse-reverse}
 use Rattle.std.proofs.lemmas.Bool.{cases_Bool, eq-eqb, eqb-true, false≢true}
+use Rattle.fp_book.specs.Lines.{is_lost}
+use Rattle.fp_entry.specs.Arrival.{SameArrival}
+use Rattle.fp_entry.specs.Laws.{PreparedIsOne}
+use Rattle.fp_entry.specs.Prepared.{Answers, IsLost, SameIncoming, arrival_of}
 use Rattle.fp_entry.specs.declared.arrival.Arrival.{Arrival}
 use Rattle.fp_entry.specs.declared.entry.Entry.{Entry}
 use Rattle.fp_entry.specs.declared.incoming.Incoming.{Incoming}
 use Rattle.fp_entry.specs.declared.prepared.Prepared.{Prepared}
 use Rattle.fp_entry.specs.declared.prepared.Prepared.TheVariants as prepared
-use Rattle.fp_entry.specs.Arrival.{SameArrival}
-use Rattle.fp_entry.specs.Laws.{PreparedIsOne}
-use Rattle.fp_entry.specs.Prepared.{Answers, IsLost, SameIncoming, arrival_of}
-use Rattle.fp_book.specs.Lines.{is_lost}
+use Rattle.fp_q773.specs.Tid.{octets_of, Tid}
 use Rattle.fp_q773.specs.declared.kind.Kind.{Kind}
-use Rattle.fp_q773.specs.declared.tid.Tid.{Tid}
-use Rattle.fp_q773.specs.declared.tid.Tid.TheVariants.{One, Two, Three, Four}
-use Rattle.fp_q773.specs.Tid.{octets_of}
 use Rattle.fp_records.specs.Table.{Contents}
-use Rattle.fp_steps.specs.declared.output.Output.{Output}
-use Rattle.fp_steps.specs.declared.output.Output.TheVariants as outputs
-use Rattle.fp_steps.specs.declared.step.Step.{Step}
-use Rattle.fp_steps.specs.declared.step.Step.TheVariants as steps
 use Rattle.fp_steps.specs.Accepted.{positions}
 use Rattle.fp_steps.specs.Answers.{AllAnswered, IsAnswer, IsLongestReady, IsNext, IsPicked, IsPosted, IsTaken}
-use Rattle.fp_steps.specs.History.{AreWhole, Event, IsCame, IsNone, IsWholeTid, outputs_of}
+use Rattle.fp_steps.specs.Births.{local_of}
+use Rattle.fp_steps.specs.History.{Event, IsCame, IsNone, outputs_of}
 use Rattle.fp_steps.specs.Laws.{AnswersAreOne, LinesAreRetoldOnce, RunsAreOne}
 use Rattle.fp_steps.specs.Retold.{RetellsOne}
 use Rattle.fp_steps.specs.Sending.{out}
 use Rattle.fp_steps.specs.Turns.{IsReadyBefore, ready_for}
 use Rattle.fp_steps.specs.Waiting.{QueuedFrame, aborts_waiting, places, waiting}
-use Rattle.fp_steps.proofs.Posted.{lost_prepared}
-use Rattle.fp_steps.specs.Births.{local_of}
+use Rattle.fp_steps.specs.declared.output.Output.{Output}
+use Rattle.fp_steps.specs.declared.output.Output.TheVariants as outputs
+use Rattle.fp_steps.specs.declared.step.Step.{Step}
+use Rattle.fp_steps.specs.declared.step.Step.TheVariants as steps
+use Rattle.fp_steps.proofs.MessageAnswers.{lost_prepared}
 
 -- WHAT CAME
 
--- an identifier, by how many octets it has
-abbrev tid_by : ℕ → List ℕ → Tid
-tid_by (suc zero) octets = One octets
-tid_by (suc (suc zero)) octets = Two octets
-tid_by (suc (suc (suc zero))) octets = Three octets
-tid_by count octets = Four octets
+same_option : (a b : Option Tid) → option_map octets_of a ≡ option_map octets_of b → a ≡ b
+same_option None None same = refl
+same_option None (Some y) same = absurd (cc)
+same_option (Some x) None same = absurd (cc)
+same_option (Some x) (Some y) same = same
 
-tid_back : (a : Tid) → IsWholeTid a → tid_by (length (octets_of a)) (octets_of a) ≡ a
-tid_back (One x) p = ap (λ n. tid_by n x) p
-tid_back (Two x) p = ap (λ n. tid_by n x) p
-tid_back (Three x) p = ap (λ n. tid_by n x) p
-tid_back (Four x) p = ap (λ n. tid_by n x) p
-
-one_tid : (a b : Tid) → IsWholeTid a → IsWholeTid b → octets_of a ≡ octets_of b → a ≡ b
-one_tid a b p q same = sym (tid_back a p) ∙ ap (λ o. tid_by (length o) o) same ∙ tid_back b q
-
-one_option : (a b : Option Tid) → IfSome a IsWholeTid → IfSome b IsWholeTid → option_map octets_of a ≡ option_map octets_of b → a ≡ b
-one_option None None p q same = refl
-one_option None (Some y) p q same = absurd (cc)
-one_option (Some x) None p q same = absurd (cc)
-one_option (Some x) (Some y) p q same = let octets : octets_of x ≡ octets_of y = cc in ap Some (one_tid x y p q octets)
-
-one_arrival : (a b : Arrival) → AreWhole a.ids → AreWhole b.ids → SameArrival a b → a ≡ b
-one_arrival a b p q same =
-    let orig : a.ids.orig ≡ b.ids.orig = one_option a.ids.orig b.ids.orig p.0 q.0 same.identifiers.originating in
-    let dest : a.ids.dest ≡ b.ids.dest = one_option a.ids.dest b.ids.dest p.1 q.1 same.identifiers.destination in
+one_arrival : (a b : Arrival) → SameArrival a b → a ≡ b
+one_arrival a b same =
+    let orig : a.ids.orig ≡ b.ids.orig = same_option a.ids.orig b.ids.orig same.identifiers.originating in
+    let dest : a.ids.dest ≡ b.ids.dest = same_option a.ids.dest b.ids.dest same.identifiers.destination in
     let make : List ℕ → ℕ → Kind → Option Tid → Option Tid → Arrival = λ f m k o d. record { frame = f; moment = m; ids = record { kind = k; orig = o; dest = d } } in
     ap (λ f. make f a.moment a.ids.kind a.ids.orig a.ids.dest) same.frames ∙ ap (λ m. make b.frame m a.ids.kind a.ids.orig a.ids.dest) same.moments
     ∙ ap (λ k. make b.frame b.moment k a.ids.orig a.ids.dest) same.identifiers.kinds ∙ ap (λ o. make b.frame b.moment b.ids.kind o a.ids.dest) orig
@@ -72,18 +54,18 @@ one_incoming a b same =
     ap (λ es. make es a.elements) same.entries ∙ ap (λ n. make b.entries n) same.elements
 
 -- a message that was read
-one_read : (x y : Prepared) → is_lost x ≡ false → is_lost y ≡ false → AreWhole (arrival_of x).ids → AreWhole (arrival_of y).ids → Answers x y → x ≡ y
-one_read (prepared.Message a i) (prepared.Message b j) r t p q same = ap (λ x. prepared.Message x i) (one_arrival a b p q same.same_arrival) ∙ ap (λ x. prepared.Message b x) (one_incoming i j same.same_reading)
-one_read (prepared.Refused a f) (prepared.Refused b g) r t p q same = ap (λ x. prepared.Refused x f) (one_arrival a b p q same.same_arrival) ∙ ap (λ x. prepared.Refused b x) same.same_reading
-one_read (prepared.Lost a) y r t p q same = absurd (false≢true (sym r))
-one_read x (prepared.Lost b) r t p q same = absurd (false≢true (sym t))
-one_read x y r t p q same = absurd same.same_reading
+one_read : (x y : Prepared) → is_lost x ≡ false → is_lost y ≡ false → Answers x y → x ≡ y
+one_read (prepared.Message a i) (prepared.Message b j) r t same = ap (λ x. prepared.Message x i) (one_arrival a b same.same_arrival) ∙ ap (λ x. prepared.Message b x) (one_incoming i j same.same_reading)
+one_read (prepared.Refused a f) (prepared.Refused b g) r t same = ap (λ x. prepared.Refused x f) (one_arrival a b same.same_arrival) ∙ ap (λ x. prepared.Refused b x) same.same_reading
+one_read (prepared.Lost a) y r t same = absurd (false≢true (sym r))
+one_read x (prepared.Lost b) r t same = absurd (false≢true (sym t))
+one_read x y r t same = absurd same.same_reading
 
 -- one that wasn't
-one_lost : (octets : List ℕ) (moment : ℕ) (x y : Prepared) → IsLost octets moment x → IsLost octets moment y → AreWhole (arrival_of x).ids → AreWhole (arrival_of y).ids → Answers x y → x ≡ y
-one_lost octets moment (prepared.Lost a) (prepared.Lost b) l m p q same = ap (λ x. prepared.Lost x) (one_arrival a b p q same.same_arrival)
-one_lost octets moment (prepared.Lost a) y l m p q same = absurd m
-one_lost octets moment x y l m p q same = absurd l
+one_lost : (octets : List ℕ) (moment : ℕ) (x y : Prepared) → IsLost octets moment x → IsLost octets moment y → Answers x y → x ≡ y
+one_lost octets moment (prepared.Lost a) (prepared.Lost b) l m same = ap (λ x. prepared.Lost x) (one_arrival a b same.same_arrival)
+one_lost octets moment (prepared.Lost a) y l m same = absurd m
+one_lost octets moment x y l m same = absurd l
 
 no_message : (x y : Option Prepared) → IsNone x → IsNone y → x ≡ y
 no_message None None p q = refl
@@ -93,11 +75,11 @@ no_message (Some a) y p q = absurd p
 came_is_one : PreparedIsOne → (contents : Contents) (contexts : List (List ℕ)) (step : Step) (x y : Option Prepared) → IsCame contents contexts step x → IsCame contents contexts step y → x ≡ y
 came_is_one one contents contexts (steps.Post frame moment) None y p q = absurd p
 came_is_one one contents contexts (steps.Post frame moment) (Some a) None p q = absurd q
-came_is_one one contents contexts (steps.Post frame moment) (Some a) (Some b) p q = ap Some (one_read a b p.1 q.1 p.2 q.2 (one contents contexts frame moment a b p.0 q.0))
+came_is_one one contents contexts (steps.Post frame moment) (Some a) (Some b) p q = ap Some (one_read a b p.1 q.1 (one contents contexts frame moment a b p.0 q.0))
 came_is_one one contents contexts (steps.Lost frame moment) None y p q = absurd p
 came_is_one one contents contexts (steps.Lost frame moment) (Some a) None p q = absurd q
 came_is_one one contents contexts (steps.Lost frame moment) (Some a) (Some b) p q =
-    ap Some (one_lost frame moment a b p.0 q.0 p.1 q.1 (one contents contexts frame moment a b (lost_prepared contents contexts frame moment a p.0) (lost_prepared contents contexts frame moment b q.0)))
+    ap Some (one_lost frame moment a b p q (one contents contexts frame moment a b (lost_prepared contents contexts frame moment a p) (lost_prepared contents contexts frame moment b q)))
 came_is_one one contents contexts step x y p q = no_message x y p q
 
 -- ANSWERS

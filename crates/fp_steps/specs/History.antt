@@ -1,12 +1,9 @@
 -- What a run tells: its steps, what their messages were prepared to, and what was answered. A history holds them, the
 -- newest first.
-use Rattle.std.specs.Prelude.{◌≡◌, ℕ, false, List, [], ◌∷◌, Option, Some, None, IfSome, length, map, reverse, ⊤}
+use Rattle.std.specs.Prelude.{◌≡◌, ℕ, false, List, [], ◌∷◌, Option, Some, None, map, reverse, ⊤}
 use Rattle.std.specs.List.{AllByRecursion}
 use Rattle.fp_entry.specs.declared.prepared.Prepared.{Prepared}
-use Rattle.fp_entry.specs.Prepared.{IsLost, IsPrepared, arrival_of}
-use Rattle.fp_q773.specs.declared.ids.Ids.{Ids}
-use Rattle.fp_q773.specs.declared.tid.Tid.{Tid}
-use Rattle.fp_q773.specs.declared.tid.Tid.TheVariants.{One, Two, Three, Four}
+use Rattle.fp_entry.specs.Prepared.{IsLost, IsPrepared}
 use Rattle.fp_records.specs.Table.{Contents}
 use Rattle.fp_book.specs.Lines.{is_lost}
 use Rattle.fp_steps.specs.declared.output.Output.{Output}
@@ -28,26 +25,16 @@ abbrev pub IsNone : Option Prepared → Type 0
 IsNone None = ⊤
 IsNone (Some came) = ⊥
 
--- an identifier has as many octets as it says, as each has that a program makes
-abbrev pub IsWholeTid : Tid → Type 0
-IsWholeTid (One octets) = length octets ≡ 1
-IsWholeTid (Two octets) = length octets ≡ 2
-IsWholeTid (Three octets) = length octets ≡ 3
-IsWholeTid (Four octets) = length octets ≡ 4
-
-abbrev pub AreWhole : Ids → Type 0
-AreWhole ids = IfSome ids.orig IsWholeTid × IfSome ids.dest IsWholeTid
-
 -- a message is prepared to what its octets are, by the records and the names of the application contexts
 abbrev pub IsRead : Contents → List (List ℕ) → List ℕ → ℕ → Option Prepared → Type 0
 IsRead contents contexts octets moment None = ⊥
 IsRead contents contexts octets moment (Some came) =
-    IsPrepared contents contexts octets moment came × (is_lost came ≡ false) × AreWhole (arrival_of came).ids
+    IsPrepared contents contexts octets moment came × (is_lost came ≡ false)
 
 -- a message that isn't read
 abbrev pub IsUnread : List ℕ → ℕ → Option Prepared → Type 0
 IsUnread octets moment None = ⊥
-IsUnread octets moment (Some came) = IsLost octets moment came × AreWhole (arrival_of came).ids
+IsUnread octets moment (Some came) = IsLost octets moment came
 
 -- this is what the message of a step is prepared to
 abbrev pub IsCame : Contents → List (List ℕ) → Step → Option Prepared → Type 0

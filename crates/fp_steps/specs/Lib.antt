@@ -26,8 +26,7 @@ pub mod Laws
 pub mod Tokens
 pub mod Makes
 pub mod Log
--- how its book stands to its history
+-- WHAT `LinkRun` HANDS ON FROM STEP TO STEP: how its book stands to its history, and that it does so
 pub mod Tied
 pub mod Lined
--- and that it does so, which `LinkRun` hands on from step to step
 pub mod After

@@ -17,12 +17,12 @@ use Rattle.fp_steps.specs.History.{Event, Tells}
 use Rattle.fp_steps.specs.Told.{log_of}
 
 -- the numbers of an answer have at most 32 bits
-abbrev pub IsPosted : Posted → Type 0
-IsPosted (Opened local) = local < 2 ^ 32
-IsPosted (Accepted entries) = entries < 2 ^ 32
-IsPosted (Aborted cause) = ⊤
-IsPosted Ended = ⊤
-IsPosted Discarded = ⊤
+abbrev pub IsInRange : Posted → Type 0
+IsInRange (Opened local) = local < 2 ^ 32
+IsInRange (Accepted entries) = entries < 2 ^ 32
+IsInRange (Aborted cause) = ⊤
+IsInRange Ended = ⊤
+IsInRange Discarded = ⊤
 
 -- each of these is an octet
 abbrev pub AreOctets : List ℕ → Type 0
@@ -33,7 +33,7 @@ pub record IsPosting (moment : ℕ) (message : List ℕ) (answer : Posted) : Typ
   pub in_time : moment < END
   pub size : IsMessageLength (length message)
   pub octets : AreOctets message
-  pub numbers : IsPosted answer
+  pub numbers : IsInRange answer
 
 -- what a step may hold: moments before the year 2100, identifiers and numbers of dialogues of at most 32 bits,
 -- positions and numbers of lost steps of at most 64

@@ -4,7 +4,7 @@ use Rattle.std.specs.Option.{option_map_or}
 use Rattle.std.specs.FinMap.{get}
 use mathlib.Core.List.{IsPrefix}
 use Rattle.fp_book.specs.declared.parcel.Content.{Content}
-use Rattle.fp_book.specs.Parcel.{local_of, octets_of}
+use Rattle.fp_book.specs.Parcel.{local_of as parcel_local, octets_of}
 use Rattle.fp_book.specs.Shelf.{Shelf}
 use Rattle.fp_entry.specs.declared.entry.Entry.{Entry}
 use Rattle.fp_q773.specs.Tid.{octets_of as octets_of_tid}
@@ -17,7 +17,7 @@ use Rattle.fp_service.specs.Dialogue.{fresh, is_over}
 use Rattle.fp_service.specs.Fold.{core_after, cut, requests}
 use Rattle.fp_tids.specs.Identifiers.{identifier}
 use Rattle.fp_steps.specs.Accepted.{accepted, ending, entry_count, in_places, positions}
-use Rattle.fp_steps.specs.Births.{Beginning, beginning, births, named}
+use Rattle.fp_steps.specs.Births.{Beginning, beginning, births, local_of, named}
 use Rattle.fp_steps.specs.Headline.{numbers}
 use Rattle.fp_steps.specs.History.{Event}
 use Rattle.fp_steps.specs.Sending.{Handed, abort_out, aborts, aborts_sent, frame_from, out, queued, sent}
@@ -106,9 +106,23 @@ TiedAt births d t (Some row) = IsTied d t row
 abbrev pub untold : Story
 untold = record { began = None; accepts = []; places = []; queues = []; sends = []; ended = None; out = false }
 
+-- the local transaction identifier with which a dialogue was opened, and 0 for one that wasn't
+abbrev pub began_with : Option Beginning → ℕ
+began_with began = option_map_or (λ (b : Beginning). b.local) began 0
+
+-- The dialogues with the births 1 to n were opened, each with the identifier of its birth, which names it.
+pub record OpenedTo (link n : ℕ) (naming : ℕ → Option ℕ) (began : ℕ → Option Beginning) : Type 0 where
+  pub begins : (d : ℕ) (b : Beginning) → began d ≡ Some b → (0 < d) × (d ≤ n)
+  pub locals : (d : ℕ) → 0 < d → d ≤ n → began_with (began d) ≡ identifier link d
+  pub names : (local d : ℕ) → naming local ≡ Some d → (local ≡ began_with (began d)) × (0 < d) × (d ≤ n)
+  pub are_named : (d : ℕ) → 0 < d → d ≤ n → naming (began_with (began d)) ≡ Some d
+
+abbrev pub Opened : ℕ → List Event → Type 0
+Opened link h = OpenedTo link (births h) (named h) (beginning h)
+
 -- what is out to be sent
 abbrev pub handed : List Event → Content → Handed
-handed h content = record { local = local_of content; dialogue = named h (local_of content); octets = octets_of content }
+handed h content = record { local = parcel_local content; dialogue = named h (parcel_local content); octets = octets_of content }
 
 -- the Aborts of the provider that were answered: those that were sent, that which is out, and then those that wait
 pub record AbortsTied (h : List Event) (s : Shelf) : Type 0 where
@@ -119,12 +133,9 @@ pub record AbortsTied (h : List Event) (s : Shelf) : Type 0 where
 pub record Tied (h : List Event) (s : Shelf) : Type 0 where
   pub births_are : births h ≡ s.births
   pub entries_are : entry_count h ≡ s.entries
+  pub opened : Opened s.link h
   -- each dialogue is the one that the book holds under its identifier, if it holds one
-  pub rows : (d : ℕ) → TiedAt (births h) d (story h d) (get s.rows (identifier s.link d))
-  pub own : (local : ℕ) (row : Row) → get s.rows local ≡ Some row → local ≡ identifier s.link row.birth
-  pub names : (local d : ℕ) → named h local ≡ Some d → (local ≡ identifier s.link d) × (0 < d) × (d ≤ births h)
-  pub are_named : (d : ℕ) → 0 < d → d ≤ births h → named h (identifier s.link d) ≡ Some d
-  pub begins : (d : ℕ) (b : Beginning) → beginning h d ≡ Some b → b.local ≡ identifier s.link d
+  pub rows : (d : ℕ) → TiedAt (births h) d (story h d) (get s.rows (local_of h d))
   pub later : (d : ℕ) → births h < d → story h d ≡ untold
   pub is_out : out h ≡ option_map (handed h) s.outbox.out
   pub aborts_are : AbortsTied h s

@@ -9,7 +9,7 @@ ghost use Rattle.fp_row.specs.declared.turn.Turn.{Turn};
 ghost use Rattle.fp_steps.specs.Makes.{GivesTo, PicksTo, PostsBy, PutsBackTo, SendsTo, TakesTo, TicksTo, TriesTo, UnsendsTo};
 ghost use Rattle.fp_steps.specs.Tokens.{Holds};
 
-use crate::parts::{components_if, identifiers_are_whole, index_of, is_lost};
+use crate::parts::{components_if, index_of, is_lost};
 use crate::{Output, Step};
 use bytes::Bytes;
 use fp_apdu::Name;
@@ -249,12 +249,10 @@ impl Engine {
                 if is_lost(&came) {
                     return Err(AllocError);
                 }
-                identifiers_are_whole(&came);
                 Ok(self.post(alloc, came))
             }
             Step::Lost(frame, moment) => {
                 let came = Prepared::lost(frame.try_clone()?, *moment);
-                identifiers_are_whole(&came);
                 Ok(self.post(alloc, came))
             }
             Step::Tick(moment) => self.tick(*moment),

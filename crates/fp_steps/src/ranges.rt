@@ -2,7 +2,7 @@
 
 ghost use Rattle.std.specs.Prelude.{◌<◌, ◌^◌, length};
 ghost use Rattle.fp_frames.specs.Frame.{IsMessageLength};
-ghost use Rattle.fp_steps.specs.LogLines.{AreOctets, IsPosted, IsPosting, IsStep};
+ghost use Rattle.fp_steps.specs.LogLines.{AreOctets, IsInRange, IsPosting, IsStep};
 
 use fp_book::{LoggedStep, Posted};
 use fp_digits::Moment;
@@ -32,7 +32,7 @@ fn message_is_in_range(message: &Frame)
 
 /// The numbers of an answer have at most 32 bits.
 fn answer_is_in_range(answer: Posted)
-    ensures { IsPosted answer }
+    ensures { IsInRange answer }
 {
     match answer {
         Posted::Opened(_local) => {}
@@ -43,7 +43,7 @@ fn answer_is_in_range(answer: Posted)
     }
 }
 
-/// So does a message with its moment and its answer.
+/// A message, its moment and the numbers of its answer are in range.
 fn posting_is_in_range(moment: Moment, message: &Frame, answer: Posted)
     ensures { IsPosting moment message.now answer }
 {
@@ -52,14 +52,14 @@ fn posting_is_in_range(moment: Moment, message: &Frame, answer: Posted)
     answer_is_in_range(answer);
 }
 
-/// So do the numbers of a dialogue or of due dialogues.
+/// The numbers of a dialogue and of due dialogues have at most 32 bits.
 fn is_number(number: u32)
     ensures { number < 2 ^ 32 }
 {
     let _number = number;
 }
 
-/// Positions and numbers of lost steps have at most 64.
+/// Positions and numbers of lost steps have at most 64 bits.
 fn is_long_number(number: u64)
     ensures { number < 2 ^ 64 }
 {

@@ -50,6 +50,8 @@ fn make_all(
 /// nothing is left to do: all that a dialogue accepted was served, up to its end, unless a refused message closed it;
 /// all that its service logic requests on that was sent, unless something ended it from outside; and all Aborts of the
 /// provider that were answered were sent.
+///
+/// What the log of the run tells of its steps ([`lines_of`](crate::lines_of)) fits a history with the same totals.
 pub fn run(
     alloc: Global,
     table: &Table,

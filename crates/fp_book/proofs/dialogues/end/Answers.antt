@@ -1,6 +1,6 @@
 use Rattle.std.proofs.Common.{sym}
-use Rattle.fp_book.proofs.Closes.{keep_after}
-use Rattle.fp_book.proofs.Drops.{dropped_at}
+use Rattle.fp_book.proofs.Closes.{dropped_at}
+use Rattle.fp_book.proofs.Sums.{keep_after}
 use Rattle.fp_book.proofs.dialogues.end.Goals as goal
 
 pub returns-clause-ends : goal.returns-clause-ends
@@ -8,8 +8,8 @@ returns-clause-ends c = record {
   before = c.in-Some.row.now;
   after = c.end-frames.new.self;
   was = sym c.in-Some.ensures.value;
-  ends = c.end-frames.ensures.ends;
-  rows = keep_after c.args.rows.now c.keep.new.rows c.args.local c.end-frames.new.self c.is_held-is_held.result c.is_held-is_held.ensures c.keep.ensures;
+  does = c.end-frames.ensures.ends;
+  rows = keep_after _ _ _ _ _ c.is_held-is_held.ensures c.keep.ensures;
 }
 
 pub returns-clause-dropped : goal.returns-clause-dropped

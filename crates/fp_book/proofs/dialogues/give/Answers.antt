@@ -1,6 +1,7 @@
 use Rattle.std.proofs.Common.{◌≡◌, sym, ◌∙◌, ap}
 use Rattle.std.specs.FinMap as map
-use Rattle.fp_book.proofs.Serves.{kept_is}
+use Rattle.fp_book.proofs.Sums.{keep_after}
+use Rattle.fp_book.specs.Shelf.{keep}
 use Rattle.fp_row.specs.declared.turn.Turn.{Turn}
 use Rattle.fp_book.proofs.dialogues.give.Goals as goal
 
@@ -11,7 +12,6 @@ returns-clause-ok c =
       before = c.in-Some.row.now;
       after = c.give.new.self;
       was = ap (map.get c.args.rows.now) (sym here) ∙ sym c.in-Some.ensures.value;
-      gives = c.in-Ok.ensures.ok;
-      left_is = c.of-left.ensures;
-      rows = kept_is c.args.rows.now c.keep.new.rows c.local-local.result c.args.done.turn.local c.give.new.self c.is_held-is_held.result c.keep.ensures c.is_held-is_held.ensures here;
+      does = (c.in-Ok.ensures.ok, c.of-left.ensures);
+      rows = keep_after _ _ _ _ _ c.is_held-is_held.ensures c.keep.ensures ∙ ap (λ l. keep c.args.rows.now l c.give.new.self) here;
     }

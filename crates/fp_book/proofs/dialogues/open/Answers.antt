@@ -1,4 +1,4 @@
-use Rattle.fp_book.proofs.Opens.{opened_at}
+use Rattle.fp_book.proofs.Grows.{opened_at}
 use Rattle.fp_book.proofs.dialogues.open.Goals.{in-Ok, in-Err}
 use Rattle.fp_book.proofs.dialogues.open.Goals as goal
 

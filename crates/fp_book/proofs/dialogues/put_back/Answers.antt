@@ -1,6 +1,7 @@
 use Rattle.std.proofs.Common.{sym, ◌∙◌, ap}
 use Rattle.std.specs.FinMap as map
-use Rattle.fp_book.proofs.Serves.{kept_is}
+use Rattle.fp_book.proofs.Sums.{keep_after}
+use Rattle.fp_book.specs.Shelf.{keep}
 use Rattle.fp_book.proofs.dialogues.put_back.Goals as goal
 
 pub returns-clause-ok : goal.returns-clause-ok
@@ -8,7 +9,6 @@ returns-clause-ok c = record {
   before = c.in-Some.row.now;
   after = c.put_back.new.self;
   was = ap (map.get c.args.rows.now) (sym c.local-local.ensures) ∙ sym c.in-Some.ensures.value;
-  puts = c.in-Ok.ensures.ok;
-  joins_is = c.is_ready-is_ready.ensures;
-  rows = kept_is c.args.rows.now c.keep.new.rows c.local-local.result c.args.turn.local c.put_back.new.self c.is_held-is_held.result c.keep.ensures c.is_held-is_held.ensures c.local-local.ensures;
+  does = (c.in-Ok.ensures.ok, c.is_ready-is_ready.ensures);
+  rows = keep_after _ _ _ _ _ c.is_held-is_held.ensures c.keep.ensures ∙ ap (λ l. keep c.args.rows.now l c.put_back.new.self) c.local-local.ensures;
 }

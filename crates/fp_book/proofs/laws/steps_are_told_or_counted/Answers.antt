@@ -2,8 +2,8 @@ use Rattle.std.proofs.Common.{length, nat_lt}
 use Rattle.fp_book.proofs.Accounts.{step_accounted, step_told}
 use Rattle.fp_book.proofs.laws.steps_are_told_or_counted.Goals as goal
 
-pub returns-clause-counted : goal.returns-clause-counted
-returns-clause-counted c = λ list step none few. step_accounted list step none few (nat_lt (length list) 8191)
-
-pub returns-clause-told : goal.returns-clause-told
-returns-clause-told c = λ list step none. step_told list step none (nat_lt (length list) 8191)
+pub returns : goal.returns
+returns c = record {
+  counted = λ list step none few. step_accounted list step none few (nat_lt (length list) 8191);
+  told = λ list step none. step_told list step none (nat_lt (length list) 8191);
+}

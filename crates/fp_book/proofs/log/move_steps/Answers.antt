@@ -1,6 +1,6 @@
 use Rattle.std.proofs.Common.{◌≡◌, ◌-◌, ◌<◌, length, min, ap, ◌∙◌, arith}
 use Rattle.std.proofs.lemmas.List.{length-drop}
-use Rattle.fp_book.proofs.Drains.{one_moved, all_moved}
+use Rattle.fp_book.proofs.Accounts.{all_moved, one_moved}
 use Rattle.fp_book.proofs.log.move_steps.Goals.{in-Some, in_default}
 use Rattle.fp_book.proofs.log.move_steps.Goals as goal
 

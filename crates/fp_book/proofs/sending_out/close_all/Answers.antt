@@ -1,4 +1,4 @@
-use Rattle.std.proofs.Common.{Some, subst}
+use Rattle.std.proofs.Common.{Some, subst, arith}
 use Rattle.fp_book.proofs.Closes.{ClosedBelow, less_ahead, none_closed, one_closed}
 use Rattle.fp_book.proofs.sending_out.close_all.Goals as goal
 
@@ -12,18 +12,16 @@ so_far : (c : goal.After-after-next-in-Some) → ClosedBelow c.args.outbox.now.o
 so_far c = subst (λ next. ClosedBelow c.args.outbox.now.out c.args.rows.now c.loop-next.rows c.loop-next.deadlines next) c.in-Some.is c.loop-next.invariant
 
 pub loop-next-smaller : goal.loop-next-smaller
-loop-next-smaller c =
-    rw c.in-Some.is (less_ahead c.args.outbox.now.out c.args.rows.now c.loop-next.rows c.end.new.rows c.loop-next.deadlines c.in-Some.local c.after-next-in-Some.result
-    (so_far c) c.after-next-in-Some.ensures)
+loop-next-smaller c = rw c.in-Some.is (less_ahead c.end.new.rows c.in-Some.local c.after-next-in-Some.result (omega arith) c.after-next-in-Some.ensures)
 
 pub loop-next-preserved : goal.loop-next-preserved
 loop-next-preserved c =
     rw c.clear.ensures (one_closed c.args.outbox.now.out c.args.rows.now c.loop-next.rows c.end.new.rows c.loop-next.deadlines c.is_sending-is_sending.result c.in-Some.local c.after-next-in-Some.result
     (so_far c) c.is_sending-is_sending.ensures c.end.ensures.ends c.after-next-in-Some.ensures)
 
-pub returns-clause-closes : goal.returns-clause-closes
-returns-clause-closes c = λ local.
-    (subst (λ next. ClosedBelow c.args.outbox.now.out c.args.rows.now c.loop-next.rows c.loop-next.deadlines next) c.in_default.is c.loop-next.invariant).done local tt
-
-pub returns-clause-timed : goal.returns-clause-timed
-returns-clause-timed c = c.loop-next.invariant.timed
+pub returns : goal.returns
+returns c = record {
+  closes = λ local.
+      (subst (λ next. ClosedBelow c.args.outbox.now.out c.args.rows.now c.loop-next.rows c.loop-next.deadlines next) c.in_default.is c.loop-next.invariant).done local tt;
+  timed = c.loop-next.invariant.timed;
+}

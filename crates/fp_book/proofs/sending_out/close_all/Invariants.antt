@@ -5,4 +5,4 @@ abbrev pub invariant-loop-next : goal.invariant-loop-next
 invariant-loop-next l = ClosedBelow l.outbox.out l.fn.rows l.rows l.deadlines l.next
 
 abbrev pub decreases-loop-next : goal.decreases-loop-next
-decreases-loop-next l = ahead l.fn.rows l.next
+decreases-loop-next l = ahead l.next

@@ -1,6 +1,5 @@
 use Rattle.std.proofs.Common.{◌≤◌, arith}
-use Rattle.fp_book.proofs.Dues.{one_more}
-use Rattle.fp_book.proofs.Ticks.{begins, few_added, fewer, same_still}
+use Rattle.fp_book.proofs.Ticks.{begins, few_added, fewer, one_more, same_still}
 use Rattle.fp_book.proofs.ticking.clock_all.Goals as goal
 
 pub loop-added-init : goal.loop-added-init
@@ -30,12 +29,8 @@ returns-clause-clocks c =
     c.loop-added.invariant c.loop-added-test.ensures
 
 -- the deadlines are still those of the dialogues, of which there are no more
-pub count_due-wanting-requires-clause-timed : goal.count_due-wanting-requires-clause-timed
-count_due-wanting-requires-clause-timed c =
-    (same_still c.args.moment c.args.rows.now c.args.ready.now c.loop-added.rows c.loop-added.deadlines c.loop-added.ready c.loop-added.added c.clock_first.new.rows c.clock_first.new.deadlines c.clock_first.new.ready
-    c.loop-added.invariant c.loop-added-test.ensures).agreed.timed
-
-pub count_due-wanting-requires-clause-held : goal.count_due-wanting-requires-clause-held
-count_due-wanting-requires-clause-held c =
-    (same_still c.args.moment c.args.rows.now c.args.ready.now c.loop-added.rows c.loop-added.deadlines c.loop-added.ready c.loop-added.added c.clock_first.new.rows c.clock_first.new.deadlines c.clock_first.new.ready
-    c.loop-added.invariant c.loop-added-test.ensures).agreed.held
+pub count_due-wanting-requires : goal.count_due-wanting-requires
+count_due-wanting-requires c =
+    let still = same_still c.args.moment c.args.rows.now c.args.ready.now c.loop-added.rows c.loop-added.deadlines c.loop-added.ready c.loop-added.added c.clock_first.new.rows c.clock_first.new.deadlines c.clock_first.new.ready
+    c.loop-added.invariant c.loop-added-test.ensures in
+    record { timed = still.agreed.timed; held = still.agreed.held }

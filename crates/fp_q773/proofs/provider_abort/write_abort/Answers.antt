@@ -1,9 +1,8 @@
--- The octets of an identifier of four octets are these.
-use Rattle.std.proofs.Common.{◌≡◌, length, rules}
-use Rattle.fp_q773.proofs.Spellings.{abort_of_four}
+-- What was put together is the spelling, whatever the length of the identifier.
+use Rattle.fp_q773.proofs.Spellings.{abort_of}
 use Rattle.fp_q773.proofs.provider_abort.write_abort.Goals as goal
 
-pub returns-in-Four : goal.returns-in-Four
-returns-in-Four c =
-    let size : length c.in-Four.octets ≡ 4 = search rules in
-    rw (c.in-Four.is, c.code-cause.ensures) (abort_of_four c.in-Four.octets _ size)
+pub returns : goal.returns
+returns c =
+    rw (c.extend-3.ensures, c.extend-2.ensures, c.extend.ensures, c.new-octets.ensures, c.as_slice-identifier.ensures.value, c.code.ensures)
+    (abort_of c.args.destination _ c.as_slice-identifier.ensures.size)

@@ -1,5 +1,5 @@
 use Rattle.std.proofs.Common.{◌∙◌}
-use Rattle.fp_steps.proofs.Tally.{exact, so_far_all, so_far_next, so_far_none}
+use Rattle.fp_steps.proofs.OutputTotals.{exact, so_far_all, so_far_next, so_far_none}
 use Rattle.fp_steps.proofs.counting.totals.Goals as goal
 
 pub loop-output-init : goal.loop-output-init

@@ -1,5 +1,5 @@
 use Rattle.std.specs.Prelude.{take}
-use Rattle.fp_steps.proofs.Tally.{CountedSoFar}
+use Rattle.fp_steps.proofs.OutputTotals.{CountedSoFar}
 use Rattle.fp_steps.proofs.counting.totals.Given as goal
 
 -- what was counted so far

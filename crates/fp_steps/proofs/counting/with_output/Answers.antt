@@ -1,6 +1,6 @@
 use Rattle.std.proofs.Common.{◌+◌, cond, ℕ, ◌∙◌, ap}
 use Rattle.fp_steps.specs.Totals.{capped}
-use Rattle.fp_steps.proofs.Tally.{same}
+use Rattle.fp_steps.proofs.OutputTotals.{same}
 use Rattle.fp_steps.proofs.counting.with_output.Goals as goal
 
 pub returns : goal.returns

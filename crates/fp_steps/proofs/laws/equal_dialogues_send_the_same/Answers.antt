@@ -1,4 +1,4 @@
-use Rattle.fp_steps.proofs.Alike.{sent_alike}
+use Rattle.fp_steps.proofs.SentAlike.{sent_alike}
 use Rattle.fp_steps.proofs.laws.equal_dialogues_send_the_same.Goals as goal
 
 pub returns : goal.returns

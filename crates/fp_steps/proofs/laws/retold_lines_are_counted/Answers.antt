@@ -1,4 +1,4 @@
-use Rattle.fp_steps.proofs.LogCounts.{retold_counted}
+use Rattle.fp_steps.proofs.LogTotals.{retold_counted}
 use Rattle.fp_steps.proofs.laws.retold_lines_are_counted.Goals as goal
 
 pub returns : goal.returns

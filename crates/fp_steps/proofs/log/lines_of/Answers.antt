@@ -4,7 +4,7 @@ use Rattle.std.proofs.lemmas.Slice.Zip.{zip_turn}
 use Rattle.std.specs.Iterator.Adapters.{zip_first, zip_second}
 use Rattle.std.specs.Slice.Iter.{iter_rest}
 use Rattle.std.specs.Prelude.{take}
-use Rattle.fp_steps.proofs.Logs.{Logging, logging_next}
+use Rattle.fp_steps.proofs.LogSoFar.{Logging, logging_next}
 use Rattle.fp_steps.proofs.log.lines_of.Goals as goal
 
 pub loop-step-preserved : goal.loop-step-preserved

@@ -1,5 +1,5 @@
 use Rattle.std.proofs.Common.{length, take}
-use Rattle.fp_steps.proofs.Logs.{Logging}
+use Rattle.fp_steps.proofs.LogSoFar.{Logging}
 use Rattle.fp_steps.proofs.log.lines_of.Given as goal
 
 -- the log so far

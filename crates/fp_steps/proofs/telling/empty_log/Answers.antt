@@ -1,5 +1,5 @@
 use Rattle.std.proofs.Common.{refl, sym}
-use Rattle.fp_steps.proofs.Lines.{log_more, log_none, took_none, took_one}
+use Rattle.fp_steps.proofs.LoggedLines.{log_more, log_none, took_none, took_one}
 use Rattle.fp_steps.proofs.telling.empty_log.Goals as goal
 
 pub loop-init : goal.loop-init

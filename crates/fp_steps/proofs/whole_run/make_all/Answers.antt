@@ -1,6 +1,6 @@
 use Rattle.std.proofs.Common.{refl, ◌∙◌, arith}
 use Rattle.std.proofs.lemmas.List.{take_all}
-use Rattle.fp_steps.proofs.Runs.{Going-all, Going-more, Going-none}
+use Rattle.fp_steps.proofs.RunsSoFar.{Going-all, Going-more, Going-none}
 use Rattle.fp_steps.proofs.whole_run.make_all.Goals as goal
 
 pub loop-step-preserved : goal.loop-step-preserved

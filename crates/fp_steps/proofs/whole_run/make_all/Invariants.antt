@@ -1,5 +1,5 @@
 use Rattle.std.proofs.Common.{◌≡◌, take}
-use Rattle.fp_steps.proofs.Runs.{SoFar}
+use Rattle.fp_steps.proofs.RunsSoFar.{SoFar}
 use Rattle.fp_steps.proofs.whole_run.make_all.Given as goal
 
 -- what the steps so far have done

@@ -1,4 +1,5 @@
-use Rattle.fp_book.proofs.Unsents.{Leaves, down_book, gone_down}
+use Rattle.fp_book.proofs.Kept.{Leaves}
+use Rattle.fp_book.proofs.Downs.{down_book, gone_down}
 use Rattle.fp_book.specs.declared.line.LoggedStep.TheVariants as line
 use Rattle.fp_book.specs.Calls.{GoesDown}
 use Rattle.fp_book.specs.Views.{shelf_of}
@@ -14,8 +15,5 @@ leaves c =
 pub invariant_of-self : goal.invariant_of-self
 invariant_of-self c = (leaves c).kept
 
-pub returns-clause-down : goal.returns-clause-down
-returns-clause-down c = rw (← c.self.view_is) (leaves c).is
-
-pub returns-clause-sound : goal.returns-clause-sound
-returns-clause-sound c = (leaves c).kept.sound
+pub returns : goal.returns
+returns c = record { down = rw (← c.self.view_is) (leaves c).is; sound = (leaves c).kept.sound }

@@ -1,40 +1,54 @@
-use Rattle.std.proofs.Common.{◌≡◌, ◌+◌, ◌&&◌, Some, is_some, length, refl, sym, ◌∙◌, ap, subst, arith}
-use Rattle.fp_book.specs.Calls.{Follows}
-use Rattle.fp_book.specs.Verdict.{verdict}
-use Rattle.fp_book.specs.Views.{IsKept, shelf_of}
-use Rattle.std.specs.FinMap.{get}
-use Rattle.fp_book.specs.Dialogues.{ExtendsAt, drops_frames}
-use Rattle.fp_book.specs.Sending.{is_frame_of}
-use Rattle.fp_row.specs.declared.row.Row.{Row}
-use Rattle.fp_book.proofs.Drops.{drops_as}
-use Rattle.fp_book.proofs.Turns.{frames_at}
-use Rattle.fp_book.specs.Log.{logged}
+use Rattle.std.proofs.Common.{◌≡◌, ℕ, Bool, ◌≤◌, ◌+◌, ◌++◌, cond, length, inl, refl, sym, ◌∙◌, ap, subst, arith}
 use Rattle.fp_book.specs.declared.answers.Posted.TheVariants.{Accepted}
 use Rattle.fp_book.specs.declared.book.Book.TheInside.{Inside}
+use Rattle.fp_book.specs.declared.dialogues.Left.{Left}
 use Rattle.fp_book.specs.declared.line.LoggedStep.TheVariants as line
 use Rattle.fp_book.specs.declared.verdict.Verdict.TheVariants.{Extend}
+use Rattle.fp_book.specs.Calls.{Follows, are_some, entries_in, joins, more_accepted}
+use Rattle.fp_book.specs.Dialogues.{ExtendsAt, with_deadline}
+use Rattle.fp_book.specs.Log.{logged}
+use Rattle.fp_book.specs.Sending.{is_frame_of}
+use Rattle.fp_book.specs.Shelf.{Shelf, gone_with}
+use Rattle.fp_book.specs.Verdict.{verdict}
+use Rattle.fp_book.specs.Views.{shelf_of}
+use Rattle.fp_entry.specs.declared.prepared.Prepared.{Prepared}
 use Rattle.fp_entry.specs.declared.prepared.Prepared.TheVariants.{Message}
-use Rattle.fp_book.proofs.Kept.{place_to_join, room_for}
-use Rattle.fp_book.proofs.Grows.{ExtendsBook, can_extend, extended_book, outbox_is, was_idle}
+use Rattle.fp_entry.specs.Prepared.{arrival_of}
+use Rattle.fp_book.proofs.Closes.{drops_as}
+use Rattle.fp_book.proofs.Fits.{can_extend}
+use Rattle.fp_book.proofs.Grows.{grown_out, grown_shelf, was_idle}
+use Rattle.fp_book.proofs.Kept.{Leaves, leaves, place_to_join, room_for, same_parts, timed_by, turns_by}
+use Rattle.fp_book.proofs.Counts.{receipt_lost, receipt_of, some_of, up_if}
+use Rattle.fp_book.proofs.Turns.{components_few, frames_at}
 use Rattle.fp_book.proofs.book.Book.extend.Goals as goal
 
 -- the dialogue takes messages
 pub extend-requires : goal.extend-requires
-extend-requires c = (can_extend c.self.inside c.args.self.now (Message c.args.arrival c.args.incoming) c.args.local c.args.ending c.self.view_is c.requires).admitted
+extend-requires c = (can_extend (shelf_of c.self.inside) c.args.self.now c.args.came c.args.local c.args.ends c.self.view_is c.requires).0
 
 -- there is a place for its deadline
 pub set_deadline-requires : goal.set_deadline-requires
-set_deadline-requires c = let g = c.in-Ok.ensures.ok in room_for _ _ _ g.before c.self.invariant.timed g.was c.self.invariant.sound.held
+set_deadline-requires c = let h = c.in-Ok.ensures.ok in room_for _ _ _ h.before c.self.invariant.timed h.was c.self.invariant.sound.held
 
 -- and for it among those that are ready, where it has become so
 pub join-requires : goal.join-requires
-join-requires c is = let g = c.in-Ok.ensures.ok in place_to_join _ _ g.before c.self.invariant.sound g.was (was_idle _ _ _ _ _ _ _ g is)
+join-requires c is = let h = c.in-Ok.ensures.ok in place_to_join _ _ h.before c.self.invariant.sound h.was (was_idle h.before h.after c.in-Ok.extended.left _ h.does.1 is)
 
 -- a message has few entries
-pub overflow_cast-answer : goal.overflow_cast-answer
-overflow_cast-answer c =
-    let can = can_extend c.self.inside c.args.self.now (Message c.args.arrival c.args.incoming) c.args.local c.args.ending c.self.view_is c.requires in
-    omega (arith, c.len-count.ensures, can.few)
+few : (s : Shelf) (came message : Prepared) (local : ℕ) (ends : Bool) → verdict s came ≡ Extend local ends → came ≡ message → length (entries_in message) ≤ 17
+few s came message local ends is same = subst (λ (m : Prepared). length (entries_in m) ≤ 17) same (can_extend s s came local ends refl is).1
+
+pub overflow_cast-posted : goal.overflow_cast-posted
+overflow_cast-posted c = omega (arith, c.len-count.ensures, few c.args.self.now c.args.came _ c.args.local c.args.ends c.requires c.in-Message.is)
+
+-- and few components
+pub overflow_cast-result : goal.overflow_cast-result
+overflow_cast-result c =
+    omega (arith, c.component_count-components.ensures, components_few c.in-Message.incoming.entries, few c.args.self.now c.args.came _ c.args.local c.args.ends c.requires c.in-Message.is)
+
+-- the link is up
+pub lose-requires : goal.lose-requires
+lose-requires c = ap (λ (s : Shelf). s.is_down) c.self.view_is ∙ up_if c.args.self.now c.args.came (Extend c.args.local c.args.ends) c.requires refl
 
 -- the parts of the book then
 abbrev after : goal.After-add → Inside
@@ -48,46 +62,46 @@ after c = record c.self.inside {
   log = c.add.new.self;
 }
 
--- the dialogue before
-abbrev before : goal.After-add → Row
-before c = c.in-Ok.ensures.ok.before
-
-was : (c : goal.After-add) → get c.self.inside.rows c.args.local ≡ Some (before c)
-was c = c.in-Ok.ensures.ok.was
-
--- whether frames of it are dropped
-drops : (c : goal.After-add) → c.in-Ok.extended.drops_frames ≡ (is_some c.args.ending && drops_frames (before c) (is_frame_of c.args.local c.self.inside.outbox.out))
-drops c = c.in-Ok.ensures.drops (before c) (was c) ∙ ap (λ b. is_some c.args.ending && drops_frames (before c) b) c.is_sending-is_sending.ensures
-
-extends : (c : goal.After-add) → ExtendsBook c.self.inside (after c) c.args.local c.args.ending c.args.arrival c.args.incoming c.in-Ok.extended.left
-extends c = record {
-  extends = subst (λ b. ExtendsAt c.self.inside.rows c.args.local c.args.incoming.entries c.args.ending b c.in-Ok.extended.left c.extend.new.rows) c.is_sending-is_sending.ensures c.in-Ok.ensures.ok;
-  link = refl;
-  ids = refl;
-  births = refl;
-  entries = ap (λ n. c.self.inside.entries + n) c.len-count.ensures;
-  deadlines = c.set_deadline.ensures;
-  ready = c.join.ensures;
-  outbox =
-      c.drop_frames_if.ensures
-      ∙ drops_as (shelf_of c.self.inside) c.args.local (before c) (is_some c.args.ending) c.in-Ok.extended.drops_frames (frames_at (shelf_of c.self.inside) c.args.local (Some (before c)) c.self.invariant.sound (was c)) (drops c)
-      ∙ outbox_is c.args.ending c.args.local c.self.inside.outbox;
-  turns = refl;
-  totals = ap (λ n. record c.self.inside.totals { accepted = c.self.inside.totals.accepted + n }) c.component_count-components.ensures;
-  log = c.add.ensures ∙ ap (λ n. logged c.self.inside.log (line.Post c.args.arrival.moment c.args.arrival.frame (Accepted n))) c.len-count.ensures;
-  is_down = refl;
-}
-
-extended : (c : goal.After-add) → IsKept (after c) × Follows (Extend c.args.local c.args.ending) (shelf_of c.self.inside) (Message c.args.arrival c.args.incoming) (Accepted (length c.args.incoming.entries)) (shelf_of (after c))
+-- the dialogue has accepted the message
+extended : (c : goal.After-add)
+    → Leaves (after c) (Follows (Extend c.args.local c.args.ends) (shelf_of c.self.inside) (Message c.in-Message.arrival c.in-Message.incoming) (Accepted c.len-count.result))
 extended c =
-    let is : verdict (shelf_of c.self.inside) (Message c.args.arrival c.args.incoming) ≡ Extend c.args.local c.args.ending = subst (λ s. verdict s (Message c.args.arrival c.args.incoming) ≡ Extend c.args.local c.args.ending) (sym c.self.view_is) c.requires in
-    extended_book c.messages_keep_a_book_sound.ensures c.self.inside (after c) c.args.local c.args.ending c.args.arrival c.args.incoming c.in-Ok.extended.left c.self.invariant is (extends c)
+    let b = c.self.inside in
+    let s = shelf_of b in
+    let k = c.self.invariant in
+    let local = c.args.local in
+    let ends = c.args.ends in
+    let left = c.in-Ok.extended.left in
+    let came = Message c.in-Message.arrival c.in-Message.incoming in
+    let answer = Accepted c.len-count.result in
+    let h : ExtendsAt b.rows local c.in-Message.incoming.entries ends (is_frame_of local b.outbox.out) left c.extend.new.rows = rw (← c.is_sending-is_sending.ensures) c.in-Ok.ensures.ok in
+    let is : verdict s came ≡ Extend local ends = subst (λ (m : Prepared). verdict s m ≡ Extend local ends) c.in-Message.is (subst (λ t. verdict t c.args.came ≡ Extend local ends) (sym c.self.view_is) c.requires) in
+    let drops : c.in-Ok.extended.drops_frames ≡ _ = c.in-Ok.ensures.drops h.before h.was in
+    leaves (after c) (gone_with s.gone h.after) (Follows (Extend local ends) s came answer)
+    (λ then does. c.messages_keep_a_book_sound.ensures s then came answer k.sound (inl (subst (λ v. Follows v s came answer then) (sym is) does)))
+    (grown_shelf s _ came local ends left c.extend.new.rows answer h (can_extend s s came local ends refl is).0 (ap Accepted c.len-count.ensures)
+    (rw (c.len-count.ensures, c.component_count-components.ensures) (same_parts (record s {
+      entries = b.entries + length c.in-Message.incoming.entries;
+      totals = more_accepted b.totals c.in-Message.incoming.entries;
+      gone = gone_with s.gone h.after;
+    }) h.rows (c.join.ensures ∙ ap (λ (x : Left). b.ready ++ joins local x.is_ready) h.does.1)
+    (c.drop_frames_if.ensures ∙ drops_as s local h.before ends c.in-Ok.extended.drops_frames (frames_at s local _ k.sound h.was) (rw (← c.is_sending-is_sending.ensures) drops))
+    (c.add.ensures ∙ ap (λ n. logged b.log (line.Post c.in-Message.arrival.moment c.in-Message.arrival.frame (Accepted n))) c.len-count.ensures))))
+    k.links
+    (turns_by b.turns b.turns h k.turns (omega (arith, ap (λ b. cond {A = ℕ} b 1 0) (grown_out c.in-Message.incoming.entries ends (is_frame_of local b.outbox.out) h.before h.after h.does.0))))
+    (timed_by b.deadlines c.set_deadline.new.deadlines h k.timed (c.set_deadline.ensures ∙ ap (λ (x : Left). with_deadline b.deadlines local x.deadline) h.does.1))
 
 pub invariant_of-self-2 : goal.invariant_of-self-2
-invariant_of-self-2 c = (extended c).0
+invariant_of-self-2 c = (extended c).kept
 
--- the dialogue has accepted the message
-pub returns-clause-ok : goal.returns-clause-ok
-returns-clause-ok c =
-    subst (λ n. Follows (Extend c.args.local c.args.ending) c.args.self.now (Message c.args.arrival c.args.incoming) (Accepted n) (shelf_of (after c))) (sym c.len-count.ensures)
-    (subst (λ s. Follows (Extend c.args.local c.args.ending) s (Message c.args.arrival c.args.incoming) (Accepted (length c.args.incoming.entries)) (shelf_of (after c))) c.self.view_is (extended c).1)
+pub returns : goal.returns
+returns c =
+    rw c.in-Message.is (receipt_of (Extend c.args.local c.args.ends) c.args.self.now (shelf_of (after c)) (Message c.in-Message.arrival c.in-Message.incoming) (Accepted c.len-count.result) c.component_count-components.result
+    (subst (λ (m : Prepared). verdict c.args.self.now m ≡ Extend c.args.local c.args.ends) c.in-Message.is c.requires) c.component_count-components.ensures (rw (← c.self.view_is) (extended c).is))
+
+-- memory ran out
+pub returns-in_default-extend : goal.returns-in_default-extend
+returns-in_default-extend c =
+    rw c.not_accepted.ensures (receipt_lost (Extend c.args.local c.args.ends) c.args.self.now (shelf_of (record c.self.inside { rows = c.extend.new.rows })) c.lose.new.self c.args.came c.in-Message.arrival c.lose.result c.requires
+    (ap (λ (m : Prepared). are_some (entries_in m)) c.in-Message.is ∙ some_of c.in-Message.incoming.entries c.in_default-extend.ensures.only)
+    (sym (ap arrival_of c.in-Message.is)) (ap (λ rows. shelf_of (record c.self.inside { rows = rows })) c.in_default-extend.ensures.err ∙ c.self.view_is) c.lose.ensures)

@@ -1,20 +1,22 @@
-use Rattle.std.proofs.Common.{◌≡◌, ◌++◌, sym, ◌∙◌, ap, subst, arith}
+use Rattle.std.proofs.Common.{◌≡◌, ◌++◌, ◌-◌, sym, ◌∙◌, ap, subst, arith}
+use Rattle.fp_book.specs.declared.book.Book.TheInside.{Inside}
+use Rattle.fp_book.specs.declared.dialogues.Left.{Left}
 use Rattle.fp_book.specs.declared.line.LoggedStep.TheVariants as line
-use Rattle.fp_book.proofs.Kept.{few_entries, few_served, place_to_join, place_to_queue, room_for}
-use Rattle.fp_book.proofs.Serves.{book_given, given_was_out, gives, turn_there}
-use Rattle.fp_book.proofs.Turns.{not_ready_out}
-use Rattle.fp_book.specs.Calls.{GivesDone, joins, waiting_in}
+use Rattle.fp_book.proofs.Kept.{Leaves, few_entries, few_served, leaves, place_to_join, place_to_queue, room_for, same_parts, timed_by}
+use Rattle.fp_book.proofs.Turns.{fewer_turns, is_out, not_ready_out, turn_there}
+use Rattle.fp_book.specs.Calls.{GivesDone, joins, one_served, waiting_in}
 use Rattle.fp_book.specs.Dialogues.{GivesAt, with_deadline}
 use Rattle.fp_book.specs.Log.{logged}
-use Rattle.fp_book.specs.Views.{IsKept, shelf_of}
+use Rattle.fp_book.specs.Shelf.{gone_with}
+use Rattle.fp_book.specs.Views.{shelf_of}
 use Rattle.fp_row.specs.declared.turn.Turn.{Turn}
 use Rattle.fp_timers.specs.Deadlines.{HasRoom}
 use Rattle.fp_book.proofs.book.Book.give.Goals as goal
 
 pub overflow_sub-self : goal.overflow_sub-self
 overflow_sub-self c =
-    let h : GivesAt c.self.inside.rows c.args.done c.in-Ok.served.requested c.in-Ok.served.left c.give.new.rows = c.in-Ok.ensures.ok in
-    turn_there c.self.inside c.args.done.turn.local h.before c.self.invariant h.was (given_was_out c.self.inside.rows c.args.done c.in-Ok.served.requested c.in-Ok.served.left c.give.new.rows h)
+    let h = c.in-Ok.ensures.ok in
+    turn_there c.self.inside c.args.done.turn.local h.before c.self.invariant h.was (is_out h.before c.args.done.turn h.does.0.was_out).is_out
 
 pub overflow_add-self : goal.overflow_add-self
 overflow_add-self c =
@@ -23,52 +25,68 @@ overflow_add-self c =
 
 pub set_deadline-requires : goal.set_deadline-requires
 set_deadline-requires c =
-    let h : GivesAt c.self.inside.rows c.args.done c.in-Ok.served.requested c.in-Ok.served.left c.give.new.rows = c.in-Ok.ensures.ok in
+    let h = c.in-Ok.ensures.ok in
     let here : c.local-local.result ≡ c.args.done.turn.local = c.local-local.ensures ∙ ap (λ (turn : Turn). turn.local) c.turn.ensures in
     subst (HasRoom c.self.inside.deadlines) (sym here)
     (room_for c.self.inside.deadlines c.self.inside.rows c.args.done.turn.local h.before c.self.invariant.timed h.was c.self.invariant.sound.held)
 
 pub join-requires : goal.join-requires
 join-requires c = λ _.
-    let h : GivesAt c.self.inside.rows c.args.done c.in-Ok.served.requested c.in-Ok.served.left c.give.new.rows = c.in-Ok.ensures.ok in
+    let h = c.in-Ok.ensures.ok in
     place_to_join (shelf_of c.self.inside) c.args.done.turn.local h.before c.self.invariant.sound h.was
-    (not_ready_out h.before (given_was_out c.self.inside.rows c.args.done c.in-Ok.served.requested c.in-Ok.served.left c.give.new.rows h))
+    (not_ready_out h.before (is_out h.before c.args.done.turn h.does.0.was_out).is_out)
 
 pub queue-given-requires : goal.queue-given-requires
 queue-given-requires c =
-    let h : GivesAt c.self.inside.rows c.args.done c.in-Ok.served.requested c.in-Ok.served.left c.give.new.rows = c.in-Ok.ensures.ok in
-    place_to_queue (shelf_of c.self.inside) c.args.done.turn.local h.before c.self.invariant.sound h.was
-    (given_was_out c.self.inside.rows c.args.done c.in-Ok.served.requested c.in-Ok.served.left c.give.new.rows h)
+    let h = c.in-Ok.ensures.ok in
+    place_to_queue (shelf_of c.self.inside) c.args.done.turn.local h.before c.self.invariant.sound h.was (is_out h.before c.args.done.turn h.does.0.was_out).is_out
 
-given : (c : goal.After-add)
-    → GivesDone (shelf_of c.self.inside) c.args.done c.queue-given.result
-    (shelf_of (book_given c.self.inside c.give.new.rows c.set_deadline.new.deadlines c.join.new.ready c.queue-given.new.outbox c.add.new.self))
-    × IsKept (book_given c.self.inside c.give.new.rows c.set_deadline.new.deadlines c.join.new.ready c.queue-given.new.outbox c.add.new.self)
+-- the parts of the book then
+abbrev after : goal.After-add → Inside
+after c = record c.self.inside {
+  rows = c.give.new.rows;
+  deadlines = c.set_deadline.new.deadlines;
+  ready = c.join.new.ready;
+  outbox = c.queue-given.new.outbox;
+  turns = c.self.inside.turns - 1;
+  totals = one_served c.self.inside.totals;
+  log = c.add.new.self;
+}
+
+given : (c : goal.After-add) → Leaves (after c) (GivesDone (shelf_of c.self.inside) c.args.done c.queue-given.result)
 given c =
     let b = c.self.inside in
     let done = c.args.done in
-    let left = c.in-Ok.served.left in
+    let l = done.turn.local in
     let asked = c.in-Ok.served.requested in
-    let here : c.local-local.result ≡ done.turn.local = c.local-local.ensures ∙ ap (λ (turn : Turn). turn.local) c.turn.ensures in
+    let left = c.in-Ok.served.left in
+    let h : GivesAt b.rows done asked left c.give.new.rows = c.in-Ok.ensures.ok in
+    let here : c.local-local.result ≡ l = c.local-local.ensures ∙ ap (λ (turn : Turn). turn.local) c.turn.ensures in
     let place : c.position-position.result ≡ done.turn.position = c.position-position.ensures ∙ ap (λ (turn : Turn). turn.position) c.turn-2.ensures in
-    gives b done asked left c.queue-given.result c.give.new.rows c.set_deadline.new.deadlines c.join.new.ready c.queue-given.new.outbox c.add.new.self
-    c.turns_keep_a_book_sound.ensures.gives c.self.invariant c.in-Ok.ensures.ok
-    (c.set_deadline.ensures ∙ ap (λ l. with_deadline b.deadlines l left.deadline) here)
-    (c.join.ensures ∙ ap (λ l. b.ready ++ joins l left.is_ready) here)
-    (c.queue-given.ensures.value ∙ ap (λ l. record b.outbox { frames = b.outbox.frames ++ waiting_in l asked }) here)
-    c.queue-given.ensures.given
-    (c.add.ensures ∙ ap (λ l. logged b.log (line.Give l c.position-position.result c.queue-given.result)) here
-    ∙ ap (λ p. logged b.log (line.Give done.turn.local p c.queue-given.result)) place)
+    leaves (after c) (gone_with (shelf_of b).gone h.after) (GivesDone (shelf_of b) done c.queue-given.result)
+    (λ s does. c.turns_keep_a_book_sound.ensures.gives (shelf_of b) s done c.queue-given.result c.self.invariant.sound does)
+    (record {
+      before = h.before;
+      after = h.after;
+      asked = asked;
+      was = h.was;
+      gives = h.does.0;
+      given_is = c.queue-given.ensures.given;
+      new_is = same_parts (record (shelf_of b) { totals = one_served b.totals; gone = gone_with (shelf_of b).gone h.after }) h.rows
+          (c.join.ensures ∙ ap (λ l. b.ready ++ joins l left.is_ready) here ∙ ap (λ (x : Left). b.ready ++ joins l x.is_ready) h.does.1)
+          (c.queue-given.ensures.value ∙ ap (λ l. record b.outbox { frames = b.outbox.frames ++ waiting_in l asked }) here)
+          (c.add.ensures ∙ ap (λ l. logged b.log (line.Give l c.position-position.result c.queue-given.result)) here ∙ ap (λ p. logged b.log (line.Give l p c.queue-given.result)) place);
+    })
+    c.self.invariant.links
+    (fewer_turns b h c.self.invariant (is_out h.before done.turn h.does.0.was_out).is_out h.does.0.is_out)
+    (timed_by b.deadlines c.set_deadline.new.deadlines h c.self.invariant.timed
+    (c.set_deadline.ensures ∙ ap (λ l. with_deadline b.deadlines l left.deadline) here ∙ ap (λ (x : Left). with_deadline b.deadlines l x.deadline) h.does.1))
 
 pub invariant_of-self-2 : goal.invariant_of-self-2
-invariant_of-self-2 c = (given c).1
+invariant_of-self-2 c = (given c).kept
 
 pub returns-clause-ok : goal.returns-clause-ok
-returns-clause-ok c = subst
-    (λ s.
-    GivesDone s c.args.done c.queue-given.result
-    (shelf_of (book_given c.self.inside c.give.new.rows c.set_deadline.new.deadlines c.join.new.ready c.queue-given.new.outbox c.add.new.self)))
-    c.self.view_is (given c).0
+returns-clause-ok c = rw (← c.self.view_is) (given c).is
 
 pub returns-clause-sound : goal.returns-clause-sound
-returns-clause-sound c = (given c).1.sound
+returns-clause-sound c = (given c).kept.sound

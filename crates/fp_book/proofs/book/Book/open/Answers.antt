@@ -1,25 +1,46 @@
-use Rattle.std.proofs.Common.{◌≡◌, ◌+◌, Some, refl, sym, ap, subst, ◌∙◌}
-use Rattle.fp_book.specs.Calls.{OpensDialogue}
-use Rattle.fp_book.specs.Views.{IsKept, shelf_of}
+use Rattle.std.proofs.Common.{◌≡◌, ◌≤◌, ◌+◌, ◌++◌, ℕ, cond, length, Some, inl, refl, sym, ap, subst, ◌∙◌, arith}
+use Rattle.std.specs.FinMap as map
 use Rattle.fp_book.specs.declared.answers.Posted.TheVariants.{Opened}
 use Rattle.fp_book.specs.declared.book.Book.TheInside.{Inside}
+use Rattle.fp_book.specs.declared.dialogues.Left.{Left}
 use Rattle.fp_book.specs.declared.verdict.Verdict.TheVariants.{Open}
+use Rattle.fp_book.specs.Calls.{Follows, OpensDialogue, entries_in, joins, more_accepted}
+use Rattle.fp_book.specs.Dialogues.{OpensAt}
+use Rattle.fp_book.specs.Shelf.{Shelf, turns_of}
+use Rattle.fp_book.specs.Totals.{sum_of}
 use Rattle.fp_book.specs.Verdict.{verdict}
+use Rattle.fp_book.specs.Views.{shelf_of}
+use Rattle.fp_entry.specs.declared.prepared.Prepared.{Prepared}
 use Rattle.fp_entry.specs.declared.prepared.Prepared.TheVariants.{Message}
-use Rattle.fp_tids.specs.Identifiers.{Gives}
-use Rattle.fp_book.proofs.Kept.{place_for_new, room_for_new}
-use Rattle.fp_book.proofs.Opens.{OpensBook, can_open, opened_book}
+use Rattle.fp_entry.specs.Prepared.{arrival_of}
+use Rattle.fp_row.specs.Calls.{Opens}
+use Rattle.fp_row.specs.Row.{is_ready}
+use Rattle.fp_tids.specs.Identifiers.{Gives, LocalIds, identifier}
+use Rattle.fp_book.proofs.Extends.{is_fresh}
+use Rattle.fp_book.proofs.Fits.{can_open}
+use Rattle.fp_book.proofs.Kept.{Leaves, leaves, place_for_new, room_for_new, same_parts, timed_inserted}
+use Rattle.fp_book.proofs.Counts.{receipt_lost, receipt_of, up_if}
+use Rattle.fp_book.proofs.Sums.{inserted}
+use Rattle.fp_book.proofs.Turns.{components_few}
 use Rattle.fp_book.proofs.book.Book.open.Goals as goal
 
 -- there are fewer deadlines than places for them
 pub set_deadline-requires : goal.set_deadline-requires
-set_deadline-requires c =
-    room_for_new _ _ _ c.self.invariant.timed (can_open c.self.inside c.args.self.now (Message c.args.arrival c.args.incoming) c.args.peer c.self.view_is c.requires).rows
+set_deadline-requires c = room_for_new _ _ _ c.self.invariant.timed (can_open (shelf_of c.self.inside) c.args.self.now c.args.came c.args.peer c.self.view_is c.requires).rows
 
 -- and fewer dialogues that are ready
 pub join-requires : goal.join-requires
-join-requires c is =
-    place_for_new _ c.self.invariant.sound (can_open c.self.inside c.args.self.now (Message c.args.arrival c.args.incoming) c.args.peer c.self.view_is c.requires).rows
+join-requires c is = place_for_new _ c.self.invariant.sound (can_open (shelf_of c.self.inside) c.args.self.now c.args.came c.args.peer c.self.view_is c.requires).rows
+
+-- the link is up
+pub lose-requires : goal.lose-requires
+lose-requires c = ap (λ (s : Shelf). s.is_down) c.self.view_is ∙ up_if c.args.self.now c.args.came (Open c.args.peer) c.requires refl
+
+-- a message has few components
+pub overflow_cast-result : goal.overflow_cast-result
+overflow_cast-result c =
+    let few = subst (λ (m : Prepared). length (entries_in m) ≤ 17) c.in-Message.is (can_open (shelf_of c.self.inside) c.args.self.now c.args.came c.args.peer c.self.view_is c.requires).grow.few in
+    omega (arith, c.component_count-components.ensures, components_few c.in-Message.incoming.entries, few)
 
 -- the parts of the book then
 abbrev after : goal.After-add → Inside
@@ -34,33 +55,51 @@ after c = record c.self.inside {
   log = c.add.new.self;
 }
 
-given : (c : goal.After-add) → Gives c.self.inside.ids (Some c.in-Some.local) c.give.new.self
-given c = subst (λ o. Gives c.self.inside.ids o c.give.new.self) (c.give.ensures.next ∙ sym c.in-Some.ensures) c.give.ensures.gives
-
-opens : (c : goal.After-add) → OpensBook c.self.inside (after c) c.in-Some.local c.args.peer c.args.arrival c.args.incoming c.in-Ok.left
-opens c = record {
-  gives = given c;
-  opens = c.in-Ok.ensures.ok;
-  link = refl;
-  births = refl;
-  entries = ap (λ n. c.self.inside.entries + n) c.len-count.ensures;
-  deadlines = c.set_deadline.ensures;
-  ready = c.join.ensures;
-  outbox = refl;
-  turns = refl;
-  totals = ap (λ n. record c.self.inside.totals { accepted = c.self.inside.totals.accepted + n }) c.component_count-components.ensures;
-  log = c.add.ensures;
-  is_down = refl;
-}
-
-opened : (c : goal.After-add) → IsKept (after c) × OpensDialogue (shelf_of c.self.inside) c.args.peer (Message c.args.arrival c.args.incoming) (Opened c.in-Some.local) (shelf_of (after c))
+-- the dialogue is open
+opened : (c : goal.After-add) → Leaves (after c) (OpensDialogue (shelf_of c.self.inside) c.args.peer (Message c.in-Message.arrival c.in-Message.incoming) (Opened c.in-Some.local))
 opened c =
-    let is : verdict (shelf_of c.self.inside) (Message c.args.arrival c.args.incoming) ≡ Open c.args.peer = subst (λ s. verdict s (Message c.args.arrival c.args.incoming) ≡ Open c.args.peer) (sym c.self.view_is) c.requires in
-    opened_book c.messages_keep_a_book_sound.ensures c.self.inside (after c) c.in-Some.local c.args.peer c.args.arrival c.args.incoming c.in-Ok.left c.self.invariant is (opens c)
+    let b = c.self.inside in
+    let s = shelf_of b in
+    let k = c.self.invariant in
+    let arrival = c.in-Message.arrival in
+    let came = Message arrival c.in-Message.incoming in
+    let local = c.in-Some.local in
+    let l = identifier b.link (b.ids.given + 1) in
+    let gives : Gives b.ids (Some local) c.give.new.self = subst (λ o. Gives b.ids o c.give.new.self) (c.give.ensures.next ∙ sym c.in-Some.ensures) c.give.ensures.gives in
+    let same : local ≡ l = gives.1 ∙ ap (λ link. identifier link (b.ids.given + 1)) k.links in
+    let h : OpensAt b.rows local c.args.peer (b.births + 1) arrival.moment c.in-Message.incoming.entries c.in-Ok.left c.open.new.rows = c.in-Ok.ensures.ok in
+    let rows : c.open.new.rows ≡ map.insert b.rows l h.after = h.rows ∙ ap (λ x. map.insert b.rows x h.after) same in
+    let is : verdict s came ≡ Open c.args.peer = subst (λ (m : Prepared). verdict s m ≡ Open c.args.peer) c.in-Message.is (subst (λ t. verdict t c.args.came ≡ Open c.args.peer) (sym c.self.view_is) c.requires) in
+    leaves (after c) s.gone (OpensDialogue s c.args.peer came (Opened local))
+    (λ then does. c.messages_keep_a_book_sound.ensures s then came (Opened local) k.sound (inl (subst (λ v. Follows v s came (Opened local) then) (sym is) does)))
+    (record {
+      opened = h.opened;
+      after = h.after;
+      opens = subst (λ x. Opens x c.args.peer (b.births + 1) arrival.moment h.opened) same h.opens;
+      extends = h.extends;
+      answer_is = ap Opened same;
+      new_is = rw (c.len-count.ensures, c.component_count-components.ensures, gives.2) (same_parts (record s {
+        given = b.ids.given + 1;
+        births = b.births + 1;
+        entries = b.entries + length c.in-Message.incoming.entries;
+        totals = more_accepted b.totals c.in-Message.incoming.entries;
+      }) rows (c.join.ensures ∙ ap (λ (x : Left). b.ready ++ joins local x.is_ready) h.left_is ∙ ap (λ x. b.ready ++ joins x (is_ready h.after)) same) refl c.add.ensures);
+    })
+    (ap (λ (i : LocalIds). i.link) gives.2 ∙ k.links)
+    (omega (arith, k.turns, ap (sum_of turns_of) rows, (inserted b.rows l _ h.after (is_fresh s k.sound)).sums turns_of, ap (λ b. cond {A = ℕ} b 1 0) (h.extends.is_out ∙ h.opens.is_out)))
+    (rw (h.rows, c.set_deadline.ensures, h.left_is) (timed_inserted b.deadlines b.rows local (map.get b.rows local) h.after refl k.timed))
 
 pub invariant_of-self-2 : goal.invariant_of-self-2
-invariant_of-self-2 c = (opened c).0
+invariant_of-self-2 c = (opened c).kept
 
--- the dialogue is open
-pub returns-clause-ok : goal.returns-clause-ok
-returns-clause-ok c = subst (λ s. OpensDialogue s c.args.peer (Message c.args.arrival c.args.incoming) (Opened c.in-Some.local) (shelf_of (after c))) c.self.view_is (opened c).1
+pub returns : goal.returns
+returns c =
+    let came = Message c.in-Message.arrival c.in-Message.incoming in
+    rw c.in-Message.is (receipt_of (Open c.args.peer) c.args.self.now (shelf_of (after c)) came (Opened c.in-Some.local) c.component_count-components.result
+    (subst (λ (m : Prepared). verdict c.args.self.now m ≡ Open c.args.peer) c.in-Message.is c.requires) c.component_count-components.ensures (rw (← c.self.view_is) (opened c).is))
+
+-- memory ran out
+pub returns-in_default-open : goal.returns-in_default-open
+returns-in_default-open c =
+    rw c.not_accepted.ensures (receipt_lost (Open c.args.peer) c.args.self.now (shelf_of (record c.self.inside { rows = c.open.new.rows })) c.lose.new.self c.args.came c.in-Message.arrival c.lose.result c.requires refl
+    (sym (ap arrival_of c.in-Message.is)) (ap (λ rows. shelf_of (record c.self.inside { rows = rows })) c.in_default-open.ensures.err ∙ c.self.view_is) c.lose.ensures)

@@ -1,43 +1,55 @@
-use Rattle.std.proofs.Common.{◌++◌, ◌∙◌, ap, subst}
+use Rattle.std.proofs.Common.{◌++◌, ◌-◌, refl, ◌∙◌, ap}
+use Rattle.fp_book.specs.declared.book.Book.TheInside.{Inside}
 use Rattle.fp_book.specs.declared.line.LoggedStep.TheVariants as line
-use Rattle.fp_book.proofs.Kept.{place_to_join}
-use Rattle.fp_book.proofs.Serves.{book_put, put_was_out, puts, turn_there}
-use Rattle.fp_book.proofs.Turns.{not_ready_out}
+use Rattle.fp_book.proofs.Kept.{Leaves, leaves, place_to_join, same_parts, timed_still}
+use Rattle.fp_book.proofs.Turns.{fewer_turns, is_out, not_ready_out, turn_there}
 use Rattle.fp_book.specs.Calls.{PutsTurnBack, joins}
 use Rattle.fp_book.specs.Dialogues.{PutsBackAt}
 use Rattle.fp_book.specs.Log.{logged}
-use Rattle.fp_book.specs.Views.{IsKept, shelf_of}
+use Rattle.fp_book.specs.Shelf.{gone_with}
+use Rattle.fp_book.specs.Views.{shelf_of}
 use Rattle.fp_book.proofs.book.Book.put_back.Goals as goal
 
 pub overflow_sub-self : goal.overflow_sub-self
 overflow_sub-self c =
-    let h : PutsBackAt c.self.inside.rows c.args.turn c.in-Ok.is_ready c.put_back.new.rows = c.in-Ok.ensures.ok in
-    turn_there c.self.inside c.args.turn.local h.before c.self.invariant h.was (put_was_out c.self.inside.rows c.args.turn c.in-Ok.is_ready c.put_back.new.rows h)
+    let h = c.in-Ok.ensures.ok in
+    turn_there c.self.inside c.args.turn.local h.before c.self.invariant h.was (is_out h.before c.args.turn h.does.0.was_out).is_out
 
 pub join-requires : goal.join-requires
 join-requires c = λ _.
-    let h : PutsBackAt c.self.inside.rows c.args.turn c.in-Ok.is_ready c.put_back.new.rows = c.in-Ok.ensures.ok in
-    place_to_join (shelf_of c.self.inside) c.args.turn.local h.before c.self.invariant.sound h.was
-    (not_ready_out h.before (put_was_out c.self.inside.rows c.args.turn c.in-Ok.is_ready c.put_back.new.rows h))
+    let h = c.in-Ok.ensures.ok in
+    place_to_join (shelf_of c.self.inside) c.args.turn.local h.before c.self.invariant.sound h.was (not_ready_out h.before (is_out h.before c.args.turn h.does.0.was_out).is_out)
 
-put : (c : goal.After-add)
-    → PutsTurnBack (shelf_of c.self.inside) c.args.turn (shelf_of (book_put c.self.inside c.put_back.new.rows c.join.new.ready c.add.new.self))
-    × IsKept (book_put c.self.inside c.put_back.new.rows c.join.new.ready c.add.new.self)
+-- the parts of the book then
+abbrev after : goal.After-add → Inside
+after c = record c.self.inside { rows = c.put_back.new.rows; ready = c.join.new.ready; turns = c.self.inside.turns - 1; log = c.add.new.self }
+
+put : (c : goal.After-add) → Leaves (after c) (PutsTurnBack (shelf_of c.self.inside) c.args.turn)
 put c =
     let b = c.self.inside in
     let turn = c.args.turn in
-    puts b turn c.in-Ok.is_ready c.put_back.new.rows c.join.new.ready c.add.new.self c.turns_keep_a_book_sound.ensures.puts_back c.self.invariant c.in-Ok.ensures.ok
-    (c.join.ensures ∙ ap (λ l. b.ready ++ joins l c.in-Ok.is_ready) c.local-local.ensures)
-    (c.add.ensures ∙ ap (λ l. logged b.log (line.PutBack l c.position-position.result)) c.local-local.ensures
-    ∙ ap (λ p. logged b.log (line.PutBack turn.local p)) c.position-position.ensures)
+    let h : PutsBackAt b.rows turn c.in-Ok.is_ready c.put_back.new.rows = c.in-Ok.ensures.ok in
+    leaves (after c) (gone_with (shelf_of b).gone h.after) (PutsTurnBack (shelf_of b) turn)
+    (λ s does. c.turns_keep_a_book_sound.ensures.puts_back (shelf_of b) s turn c.self.invariant.sound does)
+    (record {
+      before = h.before;
+      after = h.after;
+      was = h.was;
+      puts = h.does.0;
+      new_is = same_parts (record (shelf_of b) { gone = gone_with (shelf_of b).gone h.after }) h.rows
+          (c.join.ensures ∙ ap (λ l. b.ready ++ joins l c.in-Ok.is_ready) c.local-local.ensures ∙ ap (λ j. b.ready ++ joins turn.local j) h.does.1) refl
+          (c.add.ensures ∙ ap (λ l. logged b.log (line.PutBack l c.position-position.result)) c.local-local.ensures
+          ∙ ap (λ p. logged b.log (line.PutBack turn.local p)) c.position-position.ensures);
+    })
+    c.self.invariant.links
+    (fewer_turns b h c.self.invariant (is_out h.before turn h.does.0.was_out).is_out h.does.0.is_out)
+    (timed_still b.deadlines h c.self.invariant.timed h.does.0.deadline)
 
 pub invariant_of-self-2 : goal.invariant_of-self-2
-invariant_of-self-2 c = (put c).1
+invariant_of-self-2 c = (put c).kept
 
 pub returns-clause-ok : goal.returns-clause-ok
-returns-clause-ok c = subst
-    (λ s. PutsTurnBack s c.args.turn (shelf_of (book_put c.self.inside c.put_back.new.rows c.join.new.ready c.add.new.self)))
-    c.self.view_is (put c).0
+returns-clause-ok c = rw (← c.self.view_is) (put c).is
 
 pub returns-clause-sound : goal.returns-clause-sound
-returns-clause-sound c = (put c).1.sound
+returns-clause-sound c = (put c).kept.sound

@@ -1,13 +1,23 @@
-use Rattle.std.proofs.Common.{refl, arith}
-use Rattle.fp_book.proofs.Unsents.{Leaves, abort_sent, frame_sent, picked_book, sent_book, sent_fits, unsent_out}
+use Rattle.std.proofs.Common.{cond, ℕ, refl, ap, arith}
+use Rattle.fp_book.proofs.Kept.{Leaves, leaves, same_parts, timed_still, turns_by}
+use Rattle.fp_book.proofs.Downs.{abort_sends, frame_sends, sent_fits, unsent_out}
+use Rattle.fp_book.specs.declared.book.Book.TheInside.{Inside}
 use Rattle.fp_book.specs.Calls.{Sends, one_sent}
+use Rattle.fp_book.specs.Dialogues.{SendsAt}
+use Rattle.fp_book.specs.Shelf.{gone_with}
 use Rattle.fp_book.specs.Views.{shelf_of}
 use Rattle.fp_book.proofs.book.Book.sent.Goals as goal
 
-abort : (c : goal.After-add) → Leaves (picked_book c.self.inside c.take_back.new.self c.add.new.self) (λ new. Sends (shelf_of c.self.inside) c.args.parcel.content new)
+-- an Abort comes back: the parts of the book then
+abbrev after_abort : goal.After-add → Inside
+after_abort c = record c.self.inside { outbox = c.take_back.new.self; log = c.add.new.self }
+
+abort : (c : goal.After-add) → Leaves (after_abort c) (Sends (shelf_of c.self.inside) c.args.parcel.content)
 abort c =
-    abort_sent c.self.inside c.args.parcel.content c.take_back.new.self c.add.new.self c.sending_keeps_a_book_sound.ensures.sends c.self.invariant c.in_default.ensures
-    (c.in-Ok.ensures.known.0 refl).1 c.in-Ok.ensures.ok c.add.ensures
+    let s = shelf_of c.self.inside in
+    leaves (after_abort c) s.gone (Sends s c.args.parcel.content) (λ then does. c.sending_keeps_a_book_sound.ensures.sends s then c.args.parcel.content c.self.invariant.sound does)
+    (abort_sends s _ c.args.parcel.content c.in_default.ensures (c.in-Ok.ensures.known.0 refl).1 (same_parts s refl refl c.in-Ok.ensures.ok c.add.ensures))
+    c.self.invariant.links c.self.invariant.turns c.self.invariant.timed
 
 pub invariant_of-self-in_default : goal.invariant_of-self-in_default
 invariant_of-self-in_default c = (abort c).kept
@@ -21,10 +31,21 @@ sent-requires c = unsent_out c.self.inside c.args.parcel.content c.in-Some.local
 pub overflow_add-self : goal.overflow_add-self
 overflow_add-self c = omega (arith, sent_fits c.entries_ask_once_at_most.ensures c.self.inside c.self.invariant)
 
-frame : (c : goal.After-add-2) → Leaves (sent_book c.self.inside c.sent.new.rows c.take_back.new.self (one_sent c.self.inside.totals) c.add-2.new.self) (λ new. Sends (shelf_of c.self.inside) c.args.parcel.content new)
+-- a frame comes back: the parts of the book then
+abbrev after_frame : goal.After-add-2 → Inside
+after_frame c = record c.self.inside { rows = c.sent.new.rows; outbox = c.take_back.new.self; totals = one_sent c.self.inside.totals; log = c.add-2.new.self }
+
+frame : (c : goal.After-add-2) → Leaves (after_frame c) (Sends (shelf_of c.self.inside) c.args.parcel.content)
 frame c =
-    frame_sent c.self.inside c.args.parcel.content c.in-Some.local c.sent.new.rows c.take_back.new.self c.add-2.new.self c.sending_keeps_a_book_sound.ensures.sends c.self.invariant c.in-Some.ensures
-    (c.in-Ok.ensures.known.0 refl).1 c.in-Ok.ensures.ok c.sent.ensures c.add-2.ensures
+    let b = c.self.inside in
+    let s = shelf_of b in
+    let h : SendsAt b.rows c.in-Some.local c.sent.new.rows = c.sent.ensures in
+    leaves (after_frame c) (gone_with s.gone h.after) (Sends s c.args.parcel.content) (λ then does. c.sending_keeps_a_book_sound.ensures.sends s then c.args.parcel.content c.self.invariant.sound does)
+    (frame_sends s _ c.args.parcel.content c.in-Some.local c.sent.new.rows c.in-Some.ensures (c.in-Ok.ensures.known.0 refl).1 h
+    (same_parts (record s { totals = one_sent b.totals; gone = gone_with s.gone h.after }) h.rows refl c.in-Ok.ensures.ok c.add-2.ensures))
+    c.self.invariant.links
+    (turns_by b.turns b.turns h c.self.invariant.turns (omega (arith, ap (λ b. cond {A = ℕ} b 1 0) h.does.is_out)))
+    (timed_still b.deadlines h c.self.invariant.timed h.does.deadline)
 
 pub invariant_of-self-2 : goal.invariant_of-self-2
 invariant_of-self-2 c = (frame c).kept

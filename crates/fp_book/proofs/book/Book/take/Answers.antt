@@ -1,38 +1,52 @@
-use Rattle.std.proofs.Common.{◌≡◌, ◌<◌, ◌∷◌, sym, ◌∙◌, ap, subst}
+use Rattle.std.proofs.Common.{◌≡◌, true, false, ◌<◌, ◌+◌, ◌∷◌, refl, sym, ◌∙◌, ap, subst, arith}
+use Rattle.fp_book.specs.declared.book.Book.TheInside.{Inside}
 use Rattle.fp_book.specs.declared.line.LoggedStep.TheVariants as line
-use Rattle.fp_book.proofs.Serves.{book_taken, first_is, first_is_ready, takes, turn_is_of}
+use Rattle.fp_book.specs.declared.taken.Taken.TheVariants.{Turn as ATurn}
+use Rattle.fp_book.proofs.Kept.{Leaves, leaves, same_parts, timed_still, turns_by}
+use Rattle.fp_book.proofs.Turns.{first_is, first_is_ready, held_out, idle, turn_is_of, turns_are}
+use Rattle.fp_book.proofs.Sums.{put_held}
 use Rattle.fp_book.specs.Calls.{TakesTurn}
 use Rattle.fp_book.specs.Dialogues.{HandsOutAt}
 use Rattle.fp_book.specs.Log.{logged}
 use Rattle.fp_book.specs.Shelf.{places_held}
-use Rattle.fp_book.specs.Views.{IsKept, shelf_of}
+use Rattle.fp_book.specs.Views.{shelf_of}
 use Rattle.fp_book.proofs.book.Book.take.Goals as goal
 
 pub take-requires : goal.take-requires
 take-requires c = first_is_ready (shelf_of c.self.inside) c.in-Some.local c.self.invariant.sound (sym c.first.ensures ∙ c.in-Some.is)
 
-taken : (c : goal.After-add)
-    → TakesTurn (shelf_of c.self.inside) c.in-Ok.turn (shelf_of (book_taken c.self.inside c.take.new.rows c.next.new.self c.add.new.self))
-    × IsKept (book_taken c.self.inside c.take.new.rows c.next.new.self c.add.new.self)
+-- the parts of the book then
+abbrev after : goal.After-add → Inside
+after c = record c.self.inside { rows = c.take.new.rows; ready = c.next.new.self; turns = c.self.inside.turns + 1; log = c.add.new.self }
+
+taken : (c : goal.After-add) → Leaves (after c) (TakesTurn (shelf_of c.self.inside) c.in-Ok.turn)
 taken c =
     let b = c.self.inside in
     let turn = c.in-Ok.turn in
     let here : turn.local ≡ c.in-Some.local = turn_is_of (shelf_of b) c.in-Some.local turn c.take.new.rows c.self.invariant.sound c.in-Ok.ensures.ok in
-    let hands : HandsOutAt b.rows turn.local turn c.take.new.rows = subst (λ l. HandsOutAt b.rows l turn c.take.new.rows) (sym here) c.in-Ok.ensures.ok in
-    let room : places_held (shelf_of b) < 8192 = subst (λ n. n < 8192) (c.places_held.ensures ∙ sym (ap places_held c.self.view_is)) c.if-places_held-ge-MOST_FRAMES.false in
-    takes b turn c.take.new.rows c.next.new.self c.add.new.self c.turns_keep_a_book_sound.ensures.takes c.self.invariant hands
-    (first_is b.ready c.next.new.self c.in-Some.local c.next.result (sym c.first.ensures ∙ c.in-Some.is) c.next.ensures.taken c.next.ensures.none
-    ∙ ap (λ l. l ∷ c.next.new.self) (sym here))
-    room
-    (c.add.ensures ∙ ap (λ l. logged b.log (line.Take l c.position-position.result)) (sym here) ∙ ap (λ p. logged b.log (line.Take turn.local p)) c.position-position.ensures)
+    let h : HandsOutAt b.rows turn.local turn c.take.new.rows = subst (λ l. HandsOutAt b.rows l turn c.take.new.rows) (sym here) c.in-Ok.ensures.ok in
+    leaves (after c) (shelf_of b).gone (TakesTurn (shelf_of b) turn)
+    (λ s does. c.turns_keep_a_book_sound.ensures.takes (shelf_of b) s (ATurn turn) c.self.invariant.sound does)
+    (record {
+      before = h.before;
+      after = h.after;
+      rest = c.next.new.self;
+      was = h.was;
+      takes = h.does;
+      first = first_is b.ready c.next.new.self c.in-Some.local c.next.result (sym c.first.ensures ∙ c.in-Some.is) c.next.ensures.taken c.next.ensures.none ∙ ap (λ l. l ∷ c.next.new.self) (sym here);
+      room = subst (λ n. n < 8192) (c.places_held.ensures ∙ sym (ap places_held c.self.view_is)) c.if-places_held-ge-MOST_FRAMES.false;
+      new_is = same_parts (shelf_of b) (h.rows ∙ sym (put_held b.rows turn.local h.after (held_out h.after h.does.is_out))) refl refl
+          (c.add.ensures ∙ ap (λ l. logged b.log (line.Take l c.position-position.result)) (sym here) ∙ ap (λ p. logged b.log (line.Take turn.local p)) c.position-position.ensures);
+    })
+    c.self.invariant.links
+    (turns_by b.turns (b.turns + 1) h c.self.invariant.turns (omega (arith, turns_are h.before false (idle h.before h.does.was_ready), turns_are h.after true h.does.is_out)))
+    (timed_still b.deadlines h c.self.invariant.timed h.does.deadline)
 
 pub invariant_of-self-2 : goal.invariant_of-self-2
-invariant_of-self-2 c = (taken c).1
+invariant_of-self-2 c = (taken c).kept
 
 pub returns-clause-takes : goal.returns-clause-takes
-returns-clause-takes c = subst
-    (λ s. TakesTurn s c.in-Ok.turn (shelf_of (book_taken c.self.inside c.take.new.rows c.next.new.self c.add.new.self)))
-    c.self.view_is (taken c).0
+returns-clause-takes c = rw (← c.self.view_is) (taken c).is
 
 pub returns-clause-sound : goal.returns-clause-sound
-returns-clause-sound c = (taken c).1.sound
+returns-clause-sound c = (taken c).kept.sound

@@ -1,5 +1,6 @@
 use Rattle.std.proofs.Common.{None, refl, ◌∙◌, ap, subst}
-use Rattle.fp_book.proofs.Unsents.{Leaves, down_book, gone_down}
+use Rattle.fp_book.proofs.Kept.{Leaves}
+use Rattle.fp_book.proofs.Downs.{down_book, gone_down}
 use Rattle.fp_book.specs.declared.line.LoggedStep.TheVariants as line
 use Rattle.fp_book.specs.Calls.{ClosesAt, GoesDown}
 use Rattle.fp_book.specs.Log.{logged}

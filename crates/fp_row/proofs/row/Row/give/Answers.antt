@@ -1,4 +1,4 @@
-use Rattle.std.proofs.Common.{◌+◌, ap, refl}
+use Rattle.std.proofs.Common.{rules, ◌+◌, ap, refl}
 use Rattle.fp_row.proofs.Served.{Served, all_kept, core_is, cut_is, frames_are, kept_frames, queued_fits, queued_frames, sent_frames, served_within, waiting_then}
 use Rattle.fp_row.proofs.row.Row.give.Goals as goal
 use Rattle.fp_row.proofs.row.Row.give.Goals.{After-frame_count-count}
@@ -35,22 +35,6 @@ returns-clause-ok c =
       requested_is = c.of-requested.ensures;
       count_is = c.frame_count-count.ensures.value;
     } in
-    record {
-      was_out = s.out;
-      requested_is = s.requested_is;
-      same = record { local = refl; peer = refl; birth = refl; opened = refl };
-      accepted = refl;
-      served = refl;
-      core = refl;
-      queued = ap (λ n. c.args.self.now.queued + n) s.count_is;
-      kept = ap (λ n. c.args.self.now.kept + n) s.count_is;
-      sent = refl;
-      is_out = refl;
-      ended = refl;
-      turn = refl;
-      waiting = waiting_then _ _ _ _ s;
-      all_frames = frames_are _ _ _ _ s;
-      queued_frames = queued_frames _ _ _ _ s;
-      kept_frames = kept_frames _ _ _ _ s;
-      sent_frames = sent_frames _ _ _ _ s;
-    }
+    let queued = ap (λ n. c.args.self.now.queued + n) s.count_is in
+    let kept = ap (λ n. c.args.self.now.kept + n) s.count_is in
+    search (rules, waiting_then _ _ _ _ s, frames_are _ _ _ _ s, queued_frames _ _ _ _ s, kept_frames _ _ _ _ s, sent_frames _ _ _ _ s)

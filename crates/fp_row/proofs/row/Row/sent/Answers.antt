@@ -1,4 +1,4 @@
-use Rattle.std.proofs.Common.{◌<◌, refl, arith}
+use Rattle.std.proofs.Common.{rules, ◌<◌, ◌≡◌, true, nat_lt, arith}
 use Rattle.std.proofs.lemmas.Bool.Decides.{nat_tests}
 use Rattle.fp_row.proofs.Fronts.{one_more}
 use Rattle.fp_row.proofs.Keeping.{sent_within}
@@ -9,23 +9,6 @@ pub returns : goal.returns
 returns c =
     let row = c.args.self.now in
     let less : row.sent < row.kept = omega (arith, row.sent_within) in
-    record {
-      left = grind (arith, nat_tests);
-      same = record { local = refl; peer = refl; birth = refl; opened = refl };
-      accepted = refl;
-      served = refl;
-      core = refl;
-      queued = refl;
-      kept = refl;
-      sent = refl;
-      is_out = refl;
-      ended = refl;
-      turn = refl;
-      waiting = refl;
-      deadline = refl;
-      all_frames = refl;
-      kept_frames = refl;
-      queued_frames = refl;
-      one_more = λ frame rest is. one_more (frames_of row) row.sent row.kept frame rest less (sent_within row) is;
-      ready_stays = refl;
-    }
+    let left : nat_lt row.sent row.kept ≡ true = grind (arith, nat_tests) in
+    let within = sent_within row in
+    search (rules, one_more (frames_of row) row.sent row.kept)

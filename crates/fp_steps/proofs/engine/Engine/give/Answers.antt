@@ -1,19 +1,17 @@
 use Rattle.std.proofs.lemmas.Bool.{false≢true}
-use Rattle.std.proofs.Common.{◌≡◌, eqb, slice_index_or, refl, sym, ◌∙◌, ap, subst}
+use Rattle.std.proofs.Common.{◌≡◌, eqb, refl, sym, ◌∙◌, ap, subst}
 use Rattle.std.specs.List.{position}
 use Rattle.fp_steps.specs.Tokens.{Holds}
-use Rattle.fp_steps.proofs.Holds.{At, here_at, holds_gives, holds_puts_back, no_stranger, none_kept}
+use Rattle.fp_steps.proofs.TokensKept.{At, here_at, holds_gives, holds_puts_back, no_stranger, none_kept}
 use Rattle.fp_row.specs.declared.turn.Turn.{Turn}
-use Rattle.fp_steps.proofs.Found.{found}
 use Rattle.fp_steps.proofs.engine.Engine.give.Goals as goal
 
 pub returns-in-Ok-give-clause-makes : goal.returns-in-Ok-give-clause-makes
 returns-in-Ok-give-clause-makes c =
-    let local : c.remove.result.local ≡ c.args.local =
-    found c.deref.result.now c.args.local c.in-Some.index c.remove.result (sym c.index_of.ensures ∙ c.in-Some.is)
-    (c.remove.ensures.value ∙ ap (λ xs. slice_index_or xs c.in-Some.index c.remove.result) (sym c.deref.ensures.value))
+    let here : At c.args.self.now.turns.items c.args.local c.in-Some.index c.remove.result =
+    here_at c.args.self.now.turns.items c.deref.result.now c.args.local c.in-Some.index c.remove.result c.index_of.result c.deref.ensures.value c.index_of.ensures c.in-Some.is c.remove.ensures.value
     in
-    (refl, (c.in-Ok.done, ap (λ (t : Turn). t.local) c.in-Ok.ensures.turn ∙ local, sym (c.position-position.ensures ∙ ap (λ (t : Turn). t.position) c.turn.ensures), c.in-Ok-give.ensures.ok))
+    (refl, (c.in-Ok.done, ap (λ (t : Turn). t.local) c.in-Ok.ensures.turn ∙ here.local_is, sym (c.position-position.ensures ∙ ap (λ (t : Turn). t.position) c.turn.ensures), c.in-Ok-give.ensures.ok))
 
 pub returns-in_default-clause-makes : goal.returns-in_default-clause-makes
 returns-in_default-clause-makes c = (

@@ -5,21 +5,21 @@ use Rattle.fp_steps.specs.declared.output.Output.TheVariants as outputs
 use Rattle.fp_steps.specs.declared.step.Step.{Step}
 use Rattle.fp_steps.specs.declared.step.Step.TheVariants as steps
 use Rattle.fp_steps.specs.Makes.{GivesTo, PicksTo, TakesTo, TicksTo, TriesTo}
-use Rattle.fp_steps.proofs.Lines.{if_ok}
+use Rattle.fp_steps.proofs.LoggedLines.{if_ok}
 use Rattle.fp_steps.proofs.engine.Engine.make.Goals as goal
 
 pub returns-else-is_lost-clause-makes : goal.returns-else-is_lost-clause-makes
 returns-else-is_lost-clause-makes c =
     subst (λ (s : Step). TriesTo c.args.table.now c.args.contexts.now c.args.self.now.book s c.post.result c.post.new.self.book) (sym c.in-Post.is) (
       Some c.read-came.result,
-      (subst (λ frame. IsPrepared c.args.table.now c.args.contexts.now frame c.in-Post.moment c.read-came.result) c.in_ok-try_clone-in-Post.ensures c.read-came.ensures.is, sym c.is_lost.ensures ∙ c.if-is_lost.false, c.identifiers_are_whole.ensures),
+      (subst (λ frame. IsPrepared c.args.table.now c.args.contexts.now frame c.in-Post.moment c.read-came.result) c.in_ok-try_clone-in-Post.ensures c.read-came.ensures.is, sym c.is_lost.ensures ∙ c.if-is_lost.false),
       c.post.ensures.makes,
     )
 
 pub returns-in_ok-try_clone-in-Lost-clause-makes : goal.returns-in_ok-try_clone-in-Lost-clause-makes
 returns-in_ok-try_clone-in-Lost-clause-makes c =
     subst (λ (s : Step). TriesTo c.args.table.now c.args.contexts.now c.args.self.now.book s c.post-in-Lost.result c.post-in-Lost.new.self.book) (sym c.in-Lost.is)
-    (Some c.lost-came.result, (subst (λ frame. IsLost frame c.in-Lost.moment c.lost-came.result) c.in_ok-try_clone-in-Lost.ensures c.lost-came.ensures, c.identifiers_are_whole-in-Lost.ensures), c.post-in-Lost.ensures.makes)
+    (Some c.lost-came.result, subst (λ frame. IsLost frame c.in-Lost.moment c.lost-came.result) c.in_ok-try_clone-in-Lost.ensures c.lost-came.ensures, c.post-in-Lost.ensures.makes)
 
 pub returns-in-Tick-clause-makes : goal.returns-in-Tick-clause-makes
 returns-in-Tick-clause-makes c =

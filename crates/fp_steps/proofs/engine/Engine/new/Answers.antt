@@ -1,8 +1,8 @@
 use Rattle.std.proofs.Common.{[], None, refl, sym, subst}
 use Rattle.fp_book.specs.Shelf.{Shelf, empty_shelf}
 use Rattle.fp_steps.specs.Tokens.{Holds}
-use Rattle.fp_steps.proofs.Holds.{holds_none}
-use Rattle.fp_steps.proofs.Made.{none_there}
+use Rattle.fp_steps.proofs.TokensKept.{holds_none}
+use Rattle.fp_steps.proofs.TieKept.{none_there}
 use Rattle.fp_steps.proofs.engine.Engine.new.Goals as goal
 
 pub returns-clause-holds : goal.returns-clause-holds

@@ -1,5 +1,5 @@
-use Rattle.fp_steps.proofs.Holds.{holds_untouched, posts_untouched}
-use Rattle.fp_steps.proofs.Lines.{components_are}
+use Rattle.fp_steps.proofs.TokensKept.{holds_untouched, posts_untouched}
+use Rattle.fp_steps.proofs.LoggedLines.{components_are}
 use Rattle.fp_steps.proofs.engine.Engine.post.Goals as goal
 
 pub returns-clause-makes : goal.returns-clause-makes

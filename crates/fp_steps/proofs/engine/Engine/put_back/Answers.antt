@@ -1,19 +1,17 @@
 use Rattle.std.proofs.lemmas.Bool.{false≢true}
-use Rattle.std.proofs.Common.{◌≡◌, eqb, slice_index_or, refl, sym, ◌∙◌, ap, subst}
+use Rattle.std.proofs.Common.{eqb, refl, sym, ◌∙◌, ap, subst}
 use Rattle.std.specs.List.{position}
 use Rattle.fp_row.specs.declared.turn.Turn.{Turn}
 use Rattle.fp_steps.specs.Tokens.{Holds}
-use Rattle.fp_steps.proofs.Holds.{At, here_at, holds_puts_back, no_stranger, none_kept}
-use Rattle.fp_steps.proofs.Found.{found}
+use Rattle.fp_steps.proofs.TokensKept.{At, here_at, holds_puts_back, no_stranger, none_kept}
 use Rattle.fp_steps.proofs.engine.Engine.put_back.Goals as goal
 
 pub returns-in-Ok-clause-makes : goal.returns-in-Ok-clause-makes
 returns-in-Ok-clause-makes c =
-    let local : c.remove.result.local ≡ c.args.local =
-    found c.deref.result.now c.args.local c.in-Some.index c.remove.result (sym c.index_of.ensures ∙ c.in-Some.is)
-    (c.remove.ensures.value ∙ ap (λ xs. slice_index_or xs c.in-Some.index c.remove.result) (sym c.deref.ensures.value))
+    let here : At c.args.self.now.turns.items c.args.local c.in-Some.index c.remove.result =
+    here_at c.args.self.now.turns.items c.deref.result.now c.args.local c.in-Some.index c.remove.result c.index_of.result c.deref.ensures.value c.index_of.ensures c.in-Some.is c.remove.ensures.value
     in
-    (c.remove.result, local, c.in-Ok.ensures.ok)
+    (c.remove.result, here.local_is, c.in-Ok.ensures.ok)
 
 pub returns-in_default-clause-makes : goal.returns-in_default-clause-makes
 returns-in_default-clause-makes c = (

@@ -1,6 +1,6 @@
 use Rattle.std.proofs.Common.{sym, subst}
 use Rattle.fp_steps.specs.Tokens.{Holds}
-use Rattle.fp_steps.proofs.Holds.{holds_sends}
+use Rattle.fp_steps.proofs.TokensKept.{holds_sends}
 use Rattle.fp_steps.proofs.engine.Engine.sent.Goals as goal
 
 pub returns-in-Ok-clause-holds : goal.returns-in-Ok-clause-holds

@@ -1,6 +1,6 @@
 use Rattle.std.proofs.Common.{[], ◌∷◌, ◌++◌, sym, ◌∙◌, ap, subst}
 use Rattle.fp_steps.specs.Tokens.{Holds}
-use Rattle.fp_steps.proofs.Holds.{holds_takes}
+use Rattle.fp_steps.proofs.TokensKept.{holds_takes}
 use Rattle.fp_steps.proofs.engine.Engine.take.Goals as goal
 
 pub returns-in-Turn-clause-holds : goal.returns-in-Turn-clause-holds

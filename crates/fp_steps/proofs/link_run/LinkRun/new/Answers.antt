@@ -1,7 +1,7 @@
 use Rattle.std.proofs.Common.{[], sym, subst}
 use Rattle.fp_book.specs.Shelf.{Shelf}
 use Rattle.fp_steps.specs.After.{IsAfter}
-use Rattle.fp_steps.proofs.Afterwards.{after_none}
+use Rattle.fp_steps.proofs.RunsSoFar.{after_none}
 use Rattle.fp_steps.proofs.link_run.LinkRun.new.Goals as goal
 
 pub returns-clause-after : goal.returns-clause-after

@@ -3,7 +3,7 @@ use Rattle.fp_book.specs.Shelf.{Shelf, Sound}
 use Rattle.fp_steps.specs.After.{Follows}
 use Rattle.fp_steps.specs.Makes.{TriesTo}
 use Rattle.fp_steps.specs.Told.{written}
-use Rattle.fp_steps.proofs.Afterwards.{followed, followed_link, followed_unwritten}
+use Rattle.fp_steps.proofs.RunsSoFar.{followed, followed_link, followed_unwritten}
 use Rattle.fp_steps.proofs.link_run.LinkRun.step.Goals as goal
 
 pub returns-clause-link : goal.returns-clause-link

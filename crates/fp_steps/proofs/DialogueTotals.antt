@@ -1,0 +1,350 @@
+-- Each step adds to the totals of its book, and to the sums over all dialogues, what its output tells.
+use Rattle.std.proofs.Common.{◌≡◌, ℕ, ◌<◌, ◌≤◌, ◌+◌, ◌^◌, Bool, true, false, cond, eqb, not, Option, Some, None, List, [], ◌∷◌, ◌++◌, length, refl, sym, ◌∙◌, ap, subst, arith, zero, suc, ⊎_elim, add-one, length-append}
+use Rattle.std.specs.Prelude.{is_none, option_map, ⊤}
+use Rattle.std.proofs.lemmas.Bool.{cases_Bool, eqb-false, eqb-true, ne_eqb}
+use Rattle.std.proofs.lemmas.List.{length-map}
+use Rattle.std.proofs.lemmas.List.Sums.{sum_by-append}
+use Rattle.fp_book.proofs.Sums.{sum-le}
+use Rattle.fp_book.proofs.Tells.{BeginsAnew, Tells, verdict_tells}
+use Rattle.fp_book.specs.Calls.{Answers, ClosesOne, Follows, Sends, abort_for, entries_in}
+use Rattle.fp_book.specs.Shelf.{Shelf, Sound, no_totals}
+use Rattle.fp_book.specs.Totals.{sent_by, served_by, sum_of}
+use Rattle.fp_book.specs.Verdict.{verdict}
+use Rattle.fp_book.specs.declared.answers.Posted.{Posted}
+use Rattle.fp_book.specs.declared.answers.Posted.TheVariants.{Aborted, Accepted, Discarded, Ended, Opened}
+use Rattle.fp_book.specs.declared.parcel.Content.{Content}
+use Rattle.fp_book.specs.declared.parcel.Content.TheVariants as contents
+use Rattle.fp_book.specs.declared.totals.Totals.{Totals}
+use Rattle.fp_book.specs.declared.verdict.Verdict.{Verdict}
+use Rattle.fp_book.specs.declared.verdict.Verdict.TheVariants.{Discard, Extend, Open, Refuse}
+use Rattle.fp_entry.specs.Entries.{component_count, entry_at, is_from_component}
+use Rattle.fp_entry.specs.Prepared.{arrival_of, components_of as components_came}
+use Rattle.fp_entry.specs.declared.entry.Entry.{Entry}
+use Rattle.fp_entry.specs.declared.entry.EntryKind.TheVariants.{Clock}
+use Rattle.fp_entry.specs.declared.prepared.Prepared.{Prepared}
+use Rattle.fp_entry.specs.declared.prepared.Prepared.TheVariants as prepared
+use Rattle.fp_q773.specs.Tid.{octets_of, Tid}
+use Rattle.fp_q773.specs.declared.provider_abort.AbortCause.{AbortCause}
+use Rattle.fp_reply.specs.Reply.{frame_of}
+use Rattle.fp_row.specs.Laws.{RowsKeepTheirOrder}
+use Rattle.fp_row.specs.Row.{frames_of, requests_of}
+use Rattle.fp_row.specs.declared.row.Row.{Row}
+use Rattle.fp_service.specs.declared.request.Request.{Request}
+use Rattle.fp_tids.specs.Identifiers.{identifier}
+use Rattle.fp_steps.specs.Accepted.{accepted, accepted_in, course, position_in, positions, receiver, served}
+use Rattle.fp_steps.specs.Births.{births, births_after, destination, for_one, named, opened_by, opened_in}
+use Rattle.fp_steps.specs.Headline.{Headline}
+use Rattle.fp_steps.specs.History.{Event, outputs_of}
+use Rattle.fp_steps.specs.Lines.{answer_by, components_in}
+use Rattle.fp_steps.specs.Makes.{Drained, MakesOf}
+use Rattle.fp_steps.specs.Sending.{frame_for, out, sent, sent_in}
+use Rattle.fp_steps.specs.Tied.{Story, Tied, handed, story, untold}
+use Rattle.fp_steps.specs.Totals.{AddUp, AreFew, is_sent, plus, sum_to, totals_of, totals_over}
+use Rattle.fp_steps.specs.declared.output.Output.{Output}
+use Rattle.fp_steps.specs.declared.output.Output.TheVariants as outputs
+use Rattle.fp_steps.specs.declared.step.Step.{Step}
+use Rattle.fp_steps.specs.declared.step.Step.TheVariants as steps
+use Rattle.fp_steps.proofs.Cases.{Cases, by_made}
+use Rattle.fp_steps.proofs.HeldDialogues.{event, for_other, for_own, held_of, none_named, not_abort}
+use Rattle.fp_steps.proofs.MessageAnswers.{answer_is, answer_of, components_counted}
+use Rattle.fp_steps.proofs.OutputTotals.{added, local_in, make, none_more, one_if, plus_none, same, totals_next}
+use Rattle.fp_steps.proofs.SumsOverBirths.{sum_to_same}
+use Rattle.fp_steps.proofs.TieAtMessages.{dest_of, posts}
+use Rattle.fp_steps.proofs.TieNext.{Tied-drained}
+
+-- SUMS
+
+sum_none : (n : ℕ) (of : ℕ → ℕ) → ((d : ℕ) → d ≤ n → of d ≡ 0) → sum_to n of ≡ 0
+sum_none zero of none = refl
+sum_none (suc n) of none =
+    let rest : sum_to n of ≡ 0 = sum_none n of (λ d le. none d (omega (arith, le))) in
+    let here : of (suc n) ≡ 0 = none (suc n) (omega arith) in
+    omega (arith, rest, here)
+
+zeros : (n : ℕ) → sum_to n (λ d. 0) ≡ 0
+zeros n = sum_none n (λ d. 0) (λ d le. refl)
+
+-- where one of the births alone has so much
+sum_one : (n b much : ℕ) (of : ℕ → ℕ) → 0 < b → b ≤ n → of b ≡ much → ((d : ℕ) → eqb d b ≡ false → of d ≡ 0) → sum_to n of ≡ much
+sum_one zero b much of first last own others = absurd (omega (arith, first, last))
+sum_one (suc n) b much of first last own others =
+    ⊎_elim
+    (λ e.
+    let same : suc n ≡ b = eqb-true (suc n) b e in
+    let rest : sum_to n of ≡ 0 = sum_none n of (λ d to. others d (ne_eqb d b (λ is. omega (arith, to, is, same)))) in
+    let here : of (suc n) ≡ much = subst (λ m. of m ≡ much) (sym same) own in
+    omega (arith, rest, here))
+    (λ ne.
+    let rest : sum_to n of ≡ much = sum_one n b much of first (omega (arith, last, eqb-false (suc n) b ne)) own others in
+    let here : of (suc n) ≡ 0 = others (suc n) ne in
+    omega (arith, rest, here))
+    (cases_Bool (eqb (suc n) b))
+
+-- what one dialogue gets of a list
+sum_for : {X : Type 0} → (size : List X → ℕ) (n : ℕ) (o : Option ℕ) (b : ℕ) (xs : List X) → size [] ≡ 0 → o ≡ Some b → 0 < b → b ≤ n → sum_to n (λ d. size (for_one o d xs)) ≡ size xs
+sum_for size n o b xs empty is first last =
+    sum_one n b (size xs) (λ d. size (for_one o d xs)) first last (ap size (for_own o b xs is)) (λ d ne. ap size (for_other o d b xs is ne) ∙ empty)
+
+sum_more : (n : ℕ) (f g more : ℕ → ℕ) → ((d : ℕ) → g d ≡ f d + more d) → sum_to n g ≡ sum_to n f + sum_to n more
+sum_more zero f g more each = refl
+sum_more (suc n) f g more each =
+    let rest : sum_to n g ≡ sum_to n f + sum_to n more = sum_more n f g more each in
+    let here : g (suc n) ≡ f (suc n) + more (suc n) = each (suc n) in
+    omega (arith, rest, here)
+
+-- one birth more, that has nothing
+sum_new : (o : Option ℕ) (n : ℕ) (of : ℕ → ℕ) → of (n + 1) ≡ 0 → sum_to (births_after o n) of ≡ sum_to n of
+sum_new None n of none = refl
+sum_new (Some local) n of none =
+    let next : sum_to (n + 1) of ≡ sum_to n of + of (suc n) = ap (λ m. sum_to m of) (add-one n) in
+    let here : of (suc n) ≡ 0 = ap of (sym (add-one n)) ∙ none in
+    omega (arith, next, here)
+
+-- SUMS OVER DIALOGUES
+
+abbrev components_at : List Event → ℕ → ℕ
+components_at h d = component_count (accepted h d)
+
+abbrev served_at : List Event → ℕ → ℕ
+served_at h d = length (positions h d)
+
+abbrev sent_at : List Event → ℕ → ℕ
+sent_at h d = length (sent h d)
+
+-- over the dialogues of these births, with the places that were served
+abbrev sums : ℕ → List Event → Totals
+sums n h = make (sum_to n (components_at h)) (sum_to n (served_at h)) (sum_to n (sent_at h))
+
+-- what all of them get of an event
+abbrev shares : ℕ → List Event → Event → Totals
+shares n h e = make (sum_to n (λ d. component_count (accepted_in e h d (course h d) e.output))) (sum_to n (λ d. length (position_in e.output h d))) (sum_to n (λ d. length (sent_in e.output h d)))
+
+count_more : (xs ys : List Entry) → component_count (xs ++ ys) ≡ component_count xs + component_count ys
+count_more xs ys = sum_by-append (λ (entry : Entry). cond {A = ℕ} (is_from_component entry.kind) 1 0) xs ys
+
+-- each dialogue has what it had and its share; one that is new had nothing
+sums_next : (h : List Event) (e : Event) → story h (births h + 1) ≡ untold → sums (births (e ∷ h)) (e ∷ h) ≡ plus (sums (births h) h) (shares (births (e ∷ h)) h e)
+sums_next h e none =
+    let n = births (e ∷ h) in
+    let had : (f : Story → ℕ) → f untold ≡ 0 → sum_to n (λ d. f (story h d)) ≡ sum_to (births h) (λ d. f (story h d)) = λ f nothing. sum_new (opened_in e.output) (births h) (λ d. f (story h d)) (ap f none ∙ nothing) in
+    same (sums n (e ∷ h)) (plus (sums (births h) h) (shares n h e))
+    (sum_more n (components_at h) (components_at (e ∷ h)) (λ d. component_count (accepted_in e h d (course h d) e.output)) (λ d. count_more (accepted h d) (accepted_in e h d (course h d) e.output))
+    ∙ ap (λ m. m + sum_to n (λ d. component_count (accepted_in e h d (course h d) e.output))) (had (λ t. component_count t.accepts) refl))
+    (sum_more n (served_at h) (served_at (e ∷ h)) (λ d. length (position_in e.output h d)) (λ d. length-append (positions h d) (position_in e.output h d))
+    ∙ ap (λ m. m + sum_to n (λ d. length (position_in e.output h d))) (had (λ t. length t.places) refl))
+    (sum_more n (sent_at h) (sent_at (e ∷ h)) (λ d. length (sent_in e.output h d)) (λ d. length-append (sent h d) (sent_in e.output h d))
+    ∙ ap (λ m. m + sum_to n (λ d. length (sent_in e.output h d))) (had (λ t. length t.sends) refl))
+
+-- each place that was served holds an entry
+by_places : (h : List Event) → Headline h → totals_over h ≡ sums (births h) h
+by_places h l =
+    ap (λ n. make (sum_to (births h) (components_at h)) n (sum_to (births h) (sent_at h)))
+    (sum_to_same (births h) (λ d. length (served h d)) (served_at h) (λ d first last. l.each_there d))
+
+-- EVENTS
+
+-- the dialogues and the book get what the output tells
+record Counts (h : List Event) (e : Event) (old new : Shelf) : Type 0 where
+  shared : shares (births (e ∷ h)) h e ≡ added h e
+  counted : new.totals ≡ plus old.totals (added h e)
+
+-- one that adds nothing
+quiet : (h : List Event) (e : Event) (old new : Shelf) → new.totals ≡ old.totals → added h e ≡ no_totals → shares (births (e ∷ h)) h e ≡ no_totals → Counts h e old new
+quiet h e old new stay nothing none = record { shared = none ∙ sym nothing; counted = stay ∙ plus_none old.totals ∙ ap (plus old.totals) (sym nothing) }
+
+none_shared : (n : ℕ) → make (sum_to n (λ d. 0)) (sum_to n (λ d. 0)) (sum_to n (λ d. 0)) ≡ no_totals
+none_shared n = same (make (sum_to n (λ d. 0)) (sum_to n (λ d. 0)) (sum_to n (λ d. 0))) no_totals (zeros n) (zeros n) (zeros n)
+
+-- ticks
+clock_none : (b : Bool) (moment : ℕ) → component_count (cond b (entry_at moment Clock ∷ []) []) ≡ 0
+clock_none true moment = refl
+clock_none false moment = refl
+
+ticked : (h : List Event) (came : Option Prepared) (moment many wanting : ℕ) (old new : Shelf) → new.totals ≡ old.totals → Counts h (event (steps.Tick moment) came (outputs.Ticked many wanting)) old new
+ticked h came moment many wanting old new stay =
+    let e = event (steps.Tick moment) came (outputs.Ticked many wanting) in
+    quiet h e old new stay refl
+    (same (shares (births h) h e) no_totals (sum_none (births h) (λ d. component_count (accepted_in e h d (course h d) e.output)) (λ d le. clock_none _ moment)) (zeros (births h)) (zeros (births h)))
+
+-- what is out to be sent
+out_is : (h : List Event) (s : Shelf) (content : Content) → Tied h s → s.outbox.out ≡ Some content → out h ≡ Some (handed h content)
+out_is h s content t was = t.is_out ∙ ap (option_map (handed h)) was
+
+-- a frame of a dialogue, whose identifier isn't 0, is sent, or an Abort of the provider
+frame_sent : (h : List Event) (came : Option Prepared) (old new : Shelf) (content : Content) → Tied h old → Sound old → Sends old content new → Counts h (event steps.Sent came outputs.Sent) old new
+frame_sent h came old new (contents.Abort frame) t k g =
+    let is = out_is h old (contents.Abort frame) t g.was_out in
+    let octets = (handed h (contents.Abort frame)).octets in
+    let e = event steps.Sent came outputs.Sent in
+    quiet h e old new (ap (λ (s : Shelf). s.totals) g.new_is) (ap (λ o. make 0 0 (one_if (is_sent outputs.Sent (local_in o)))) is)
+    (same (shares (births h) h e) no_totals (zeros (births h)) (zeros (births h))
+    (ap (λ o. sum_to (births h) (λ d. length (frame_for o d))) is
+    ∙ ap (λ o. sum_to (births h) (λ d. length (for_one o d (octets ∷ [])))) (none_named old.link h (named h 0) t.opened refl) ∙ zeros (births h)))
+frame_sent h came old new (contents.Frame w) t k g =
+    let is = out_is h old (contents.Frame w) t g.was_out in
+    let born = held_of h old w.local g.before t k g.was in
+    let e = event steps.Sent came outputs.Sent in
+    let one : one_if (is_sent outputs.Sent (local_in (out h))) ≡ 1 =
+    ap (λ o. one_if (is_sent outputs.Sent (local_in o))) is ∙ ap (λ b. one_if (not b)) (not_abort h old w.local g.before t k g.was)
+    in
+    let share : sum_to (births h) (λ d. length (frame_for (out h) d)) ≡ 1 =
+    ap (λ o. sum_to (births h) (λ d. length (frame_for o d))) is ∙ sum_for length (births h) (named h w.local) g.before.birth (w.frame ∷ []) refl born.name born.first born.last
+    in
+    record {
+      shared = same (shares (births h) h e) (added h e) (zeros (births h)) (zeros (births h)) (share ∙ sym one);
+      counted = ap (λ (s : Shelf). s.totals) g.new_is
+          ∙ same (make old.totals.accepted old.totals.served (old.totals.sent + 1)) (plus old.totals (added h e)) (none_more old.totals.accepted) (none_more old.totals.served) (ap (λ n. old.totals.sent + n) (sym one));
+    }
+
+-- MESSAGES
+
+components_are : (came : Prepared) → components_came came ≡ component_count (entries_in came)
+components_are (prepared.Message arrival incoming) = refl
+components_are came = refl
+
+-- the dialogue that accepts one is there
+abbrev Receives : List Event → Prepared → Posted → Type 0
+Receives h came (Accepted count) = (b : ℕ) × (destination h (Some came) ≡ Some b) × (0 < b) × (b ≤ births h)
+Receives h came _ = ⊤
+
+received : (h : List Event) (came : Prepared) (answer : Posted) → Receives h came answer
+    → sum_to (births_after (opened_by answer) (births h)) (λ d. component_count (for_one (receiver answer (Some came) h) d (entries_in came))) ≡ components_in answer came
+received h came (Opened local) r =
+    sum_for component_count (births h + 1) (Some (births h + 1)) (births h + 1) (entries_in came) refl refl (omega arith) (omega arith) ∙ sym (components_are came)
+received h came (Accepted count) r = sum_for component_count (births h) (destination h (Some came)) r.0 (entries_in came) refl r.1 r.2 r.3 ∙ sym (components_are came)
+received h came (Aborted cause) r = zeros (births h)
+received h came Ended r = zeros (births h)
+received h came Discarded r = zeros (births h)
+
+-- what a book counts of it, by its answer
+abbrev Grows : Shelf → Prepared → Posted → Shelf → Type 0
+Grows old came answer new = new.totals ≡ plus old.totals (make (components_in answer came) 0 0)
+
+message : (h : List Event) (step : Step) (came : Prepared) (answer : Posted) (components : ℕ) (old new : Shelf) → Receives h came answer → components ≡ components_in answer came → Grows old came answer new
+    → Counts h (posts step came answer components) old new
+message h step came answer components old new r count grows =
+    let e = posts step came answer components in
+    let n = births_after (opened_by answer) (births h) in
+    record {
+      shared = same (shares n h e) (added h e) (received h came answer r ∙ sym count) (zeros n) (zeros n);
+      counted = grows ∙ ap (λ n. plus old.totals (make n 0 0)) (sym count);
+    }
+
+closed_totals : (old : Shelf) (closes : Option ℕ) (closed : Shelf) → ClosesOne old closes closed → closed.totals ≡ old.totals
+closed_totals old None closed g = ap (λ (s : Shelf). s.totals) g
+closed_totals old (Some local) closed g = ap (λ (s : Shelf). s.totals) g.new_is
+
+answered_totals : (old : Shelf) (closes : Option ℕ) (abort : Option (Tid × AbortCause)) (answer : Posted) (answered : Shelf) → Answers old closes abort answer answered → answered.totals ≡ old.totals
+answered_totals old closes None answer answered g = ap (λ (s : Shelf). s.totals) g.1
+answered_totals old closes (Some (peer, cause)) answer answered g = ap (λ (s : Shelf). s.totals) g.1.new_is
+
+-- a refused message has no components, and no dialogue receives it
+refused : (h : List Event) (old new : Shelf) (came : Prepared) (abort : Option (Tid × AbortCause)) (b : Bool) → new.totals ≡ old.totals → Receives h came (answer_by abort b) × Grows old came (answer_by abort b) new
+refused h old new came None true stay = (tt, stay ∙ plus_none old.totals)
+refused h old new came None false stay = (tt, stay ∙ plus_none old.totals)
+refused h old new came (Some (peer, cause)) b stay = (tt, stay ∙ plus_none old.totals)
+
+-- an accepted one has them
+accepts : (old new : Shelf) (came : Prepared) → new.totals ≡ make (old.totals.accepted + component_count (entries_in came)) old.totals.served old.totals.sent → new.totals ≡ plus old.totals (make (components_came came) 0 0)
+accepts old new came is =
+    is ∙ same (make (old.totals.accepted + component_count (entries_in came)) old.totals.served old.totals.sent) (plus old.totals (make (components_came came) 0 0))
+    (ap (λ n. old.totals.accepted + n) (sym (components_are came))) (none_more old.totals.served) (none_more old.totals.sent)
+
+-- by the verdict
+posted : (h : List Event) (came : Prepared) (answer : Posted) (old new : Shelf) (waiting next : ℕ) (v : Verdict) → Tied h old → Sound old → Tells old came v → Follows v old came answer new
+    → Receives h came (answer_of waiting next came v) × Grows old came (answer_of waiting next came v) new
+posted h came answer old new waiting next Discard t k told g = (tt, ap (λ (s : Shelf). s.totals) g.new_is ∙ plus_none old.totals)
+posted h came answer old new waiting next (Refuse cause closes) t k told g =
+    refused h old new came (abort_for waiting cause (arrival_of came).ids.orig) (is_none closes)
+    (ap (λ (s : Shelf). s.totals) g.new_is ∙ answered_totals g.closed closes (abort_for (length old.outbox.aborts) cause (arrival_of came).ids.orig) answer g.answered g.answering ∙ closed_totals old closes g.closed g.closing)
+posted h came answer old new waiting next (Open peer) t k told g = (tt, accepts old new came (ap (λ (s : Shelf). s.totals) g.new_is))
+posted h came answer old new waiting next (Extend local false) t k told g =
+    let born = held_of h old local g.before t k g.was in
+    ((g.before.birth, dest_of h old came local g.before t k told.0 g.was, born.first, born.last), accepts old new came (ap (λ (s : Shelf). s.totals) g.new_is))
+posted h came answer old new waiting next (Extend local true) t k told g =
+    let born = held_of h old local g.before t k g.was in
+    ((g.before.birth, dest_of h old came local g.before t k told.0 g.was, born.first, born.last), accepts old new came (ap (λ (s : Shelf). s.totals) g.new_is))
+
+-- EACH STEP
+
+abbrev CountsBy : List Event → Option Prepared → Shelf → Shelf → Step → Output → Type 0
+CountsBy h came old new step output = Counts h (event step came output) old new
+
+counts : (h : List Event) (came : Option Prepared) (old new : Shelf) → ((p : Prepared) → came ≡ Some p → BeginsAnew (arrival_of p).ids) → Tied h old → Sound old → Cases (CountsBy h came old new) came old new
+counts h came old new anew t k =
+    let none : (step : Step) (output : Output) → new.totals ≡ old.totals → added h (event step came output) ≡ no_totals → shares (births (event step came output ∷ h)) h (event step came output) ≡ no_totals → CountsBy h came old new step output =
+    λ step output. quiet h (event step came output) old new
+    in
+    let stays : new ≡ old → new.totals ≡ old.totals = ap (λ (s : Shelf). s.totals) in
+    let empty = none_shared (births h) in
+    record {
+      posted = λ step posting p answer components is count g.
+          let v = verdict old p in
+          let waiting = length old.outbox.aborts in
+          let next = identifier old.link (old.given + 1) in
+          let says = answer_is old new p answer v g in
+          let r = posted h p answer old new waiting next v t k (verdict_tells old p (anew p is)) g in
+          subst (λ c. Counts h (event step c (outputs.Posted answer components)) old new) (sym is)
+          (message h step p answer components old new (subst (Receives h p) (sym says) r.0) (count ∙ components_counted old p waiting next answer says) (subst (λ a. Grows old p a new) (sym says) r.1));
+      ticked = λ moment many wanting zero g. ticked h came moment many wanting old new (ap (λ (s : Shelf). s.totals) g.new_is);
+      took = λ turn g. none steps.Take (outputs.Took turn.local turn.position) (ap (λ (s : Shelf). s.totals) g.new_is) refl empty;
+      no_room = λ some full same. none steps.Take outputs.NoRoom (stays same) refl empty;
+      none_taken = λ none_ready same. none steps.Take outputs.Nothing (stays same) refl empty;
+      gave = λ done given g.
+          let local = done.turn.local in
+          let born = held_of h old local g.before t k g.was in
+          let e = event (steps.Give local) came (outputs.Gave local done.turn.position given) in
+          record {
+            shared = same (shares (births h) h e) (added h e) (zeros (births h)) (sum_for length (births h) (named h local) g.before.birth (done.turn.position ∷ []) refl born.name born.first born.last) (zeros (births h));
+            counted = ap (λ (s : Shelf). s.totals) g.new_is
+                ∙ same (make old.totals.accepted (old.totals.served + 1) old.totals.sent) (plus old.totals (added h e)) (none_more old.totals.accepted) refl (none_more old.totals.sent);
+          };
+      none_given = λ local out same. none (steps.Give local) outputs.Nothing (stays same) refl empty;
+      went_back = λ turn g. none (steps.PutBack turn.local) outputs.WentBack (ap (λ (s : Shelf). s.totals) g.new_is) refl empty;
+      none_back = λ local out same. none (steps.PutBack local) outputs.Nothing (stays same) refl empty;
+      picked = λ content frame octets g. none steps.Pick (outputs.Picked _ frame) (ap (λ (s : Shelf). s.totals) g.new_is) refl empty;
+      busy = λ some same. none steps.Pick outputs.Busy (stays same) refl empty;
+      none_picked = λ none_waits same. none steps.Pick outputs.Nothing (stays same) refl empty;
+      sent = λ content g. frame_sent h came old new content t k g;
+      none_sent = λ none_out same. none steps.Sent outputs.Nothing (stays same) refl empty;
+      unsent = λ parcel g. none steps.Unsent outputs.Unsent (ap (λ (s : Shelf). s.totals) g.down.new_is) refl empty;
+      none_unsent = λ none_out same. none steps.Unsent outputs.Nothing (stays same) refl empty;
+      down = λ g. none steps.Down outputs.Down (ap (λ (s : Shelf). s.totals) g.new_is) refl empty;
+    }
+
+-- THE BOUND
+
+pub none_few : AreFew no_totals
+none_few = let low : 0 ≤ 2 ^ 63 + 8192 = omega arith in record { accepted = low; served = low; sent = low }
+
+sent_most : RowsKeepTheirOrder → (row : Row) → row.sent ≤ row.served
+sent_most law row =
+    let few : length (frames_of row) ≤ row.served = (law row).few_frames in
+    let count : length (frames_of row) ≡ length (requests_of row) = length-map (requests_of row) (λ (request : Request). frame_of request row.local (octets_of row.peer)) in
+    omega (arith, few, count, row.queued_within, row.kept_within, row.sent_within)
+
+few_counted : RowsKeepTheirOrder → (s : Shelf) → Sound s → AreFew s.totals
+few_counted law s k =
+    let served : sum_of served_by s.rows ≤ sum_of (λ (row : Row). length row.accepted) s.rows = sum-le served_by (λ (row : Row). length row.accepted) s.rows (λ row. row.served_within) in
+    let sent : sum_of sent_by s.rows ≤ sum_of served_by s.rows = sum-le sent_by served_by s.rows (sent_most law) in
+    record {
+      accepted = omega (arith, k.few_accepted, k.entries);
+      served = omega (arith, served, k.served, k.all_entries, k.entries);
+      sent = omega (arith, sent, served, k.sent, k.gone_sent, k.all_entries, k.entries);
+    }
+
+-- a step more, after a history whose totals the book has
+pub add_up_next : RowsKeepTheirOrder → (h : List Event) (e : Event) (old new : Shelf) → ((p : Prepared) → e.came ≡ Some p → BeginsAnew (arrival_of p).ids) → Tied h old → Drained (MakesOf e.step e.came e.output) old new → Sound new
+    → Headline h → Headline (e ∷ h) → AddUp (outputs_of h) h → old.totals ≡ totals_of (outputs_of h) → AddUp (outputs_of (e ∷ h)) (e ∷ h) × (new.totals ≡ totals_of (outputs_of (e ∷ h)))
+add_up_next law h e old new anew t g sound held holds k was =
+    let before : Shelf = record old { log = g.before } in
+    let c : Counts h e before g.after = by_made (CountsBy h e.came before g.after) e.step e.came e.output before g.after (counts h e.came before g.after anew (Tied-drained h old g.before t) g.sound) g.makes in
+    let more : totals_of (outputs_of (e ∷ h)) ≡ plus (totals_of (outputs_of h)) (added h e) = totals_next h e in
+    let counted : new.totals ≡ totals_of (outputs_of (e ∷ h)) = ap (λ (s : Shelf). s.totals) g.new_is ∙ c.counted ∙ ap (λ t. plus t (added h e)) was ∙ sym more in
+    let all : sums (births (e ∷ h)) (e ∷ h) ≡ plus (sums (births h) h) (added h e) = sums_next h e (t.later (births h + 1) (omega arith)) ∙ ap (plus (sums (births h) h)) c.shared in (
+      record {
+        totals = more ∙ ap (λ t. plus t (added h e)) (k.totals ∙ by_places h held) ∙ sym all ∙ sym (by_places (e ∷ h) holds);
+        few = subst AreFew counted (few_counted law new sound);
+      },
+      counted,
+    )

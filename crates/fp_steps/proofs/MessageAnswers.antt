@@ -1,0 +1,241 @@
+-- Each message is answered as its history tells: by the first line that fits.
+use Rattle.std.proofs.Common.{Bool, List, None, Option, Some, [], ap, arith, cond, drop, false, inl, inr, is_none, length, refl, subst, sym, true, ℕ, ⊎_elim, ◌++◌, ◌+◌, ◌∙◌, ◌∷◌, ◌≡◌, ◌≤◌, ◌⊎◌}
+use Rattle.std.specs.Prelude.{map as map_list, min}
+use Rattle.std.specs.Option.{option_and_then, option_map_or}
+use Rattle.std.proofs.lemmas.Bool.{cases_Bool}
+use Rattle.std.proofs.lemmas.List.{length-map}
+use Rattle.std.specs.FinMap as map
+use Rattle.std.proofs.lemmas.Option.{none-some, same_Some}
+use Rattle.fp_book.specs.Calls.{Answers, Follows, abort_for, entries_in}
+use Rattle.fp_book.specs.Lines.{SevenLinesDecide, first_lines, first_that_fits, going_on, is_begin, last_lines, seven_lines, unserved_in}
+use Rattle.fp_book.specs.Shelf.{Shelf, Sound, of_row}
+use Rattle.fp_book.specs.Verdict.{admitted, named as named_in, verdict}
+use Rattle.fp_book.specs.declared.answers.Posted.{Posted}
+use Rattle.fp_book.specs.declared.answers.Posted.TheVariants as answers
+use Rattle.fp_book.specs.declared.verdict.Verdict.{Verdict}
+use Rattle.fp_book.specs.declared.verdict.Verdict.TheVariants.{Discard, Extend, Open, Refuse}
+use Rattle.fp_entry.specs.Prepared.{IsLost, IsPrepared, arrival_of, components_of}
+use Rattle.fp_entry.specs.declared.prepared.Prepared.{Prepared}
+use Rattle.fp_entry.specs.declared.prepared.Prepared.TheVariants as prepared
+use Rattle.fp_q773.specs.declared.kind.Kind.{Kind}
+use Rattle.fp_q773.specs.declared.provider_abort.AbortCause.{AbortCause}
+use Rattle.fp_q773.specs.Tid.{Tid}
+use Rattle.fp_records.specs.Table.{Contents}
+use Rattle.fp_reply.specs.ProviderAbort.{frame_octets}
+use Rattle.fp_row.specs.Laws.{RowsKeepTheirOrder}
+use Rattle.fp_row.specs.Row.{is_admitted, unserved as row_unserved}
+use Rattle.fp_row.specs.declared.row.Row.{Row}
+use Rattle.fp_tids.specs.Identifiers.{identifier}
+use Rattle.fp_steps.specs.Accepted.{accepted, admits, entry_count}
+use Rattle.fp_steps.specs.Births.{births, local_of, named}
+use Rattle.fp_steps.specs.History.{Event, IsCame}
+use Rattle.fp_steps.specs.Lined.{Lined}
+use Rattle.fp_steps.specs.Lines.{addressee, answer_by, answer_to, answers_by, begun, components_in, first_answer, refused, taking, unserved}
+use Rattle.fp_steps.specs.Makes.{components_by}
+use Rattle.fp_steps.specs.Tied.{IsTied, Tied, TiedAt, story}
+use Rattle.fp_steps.specs.Waiting.{aborts_waiting, held, is_down}
+use Rattle.fp_steps.specs.declared.output.Output.TheVariants as outputs
+use Rattle.fp_steps.specs.declared.step.Step.{Step}
+use Rattle.fp_steps.specs.declared.step.Step.TheVariants as steps
+use Rattle.fp_steps.proofs.AcceptedMessages.{Owes, verdict_owes}
+use Rattle.fp_steps.proofs.HeldCount.{held_is}
+use Rattle.fp_steps.proofs.HeldDialogues.{count_tied, held_of}
+use Rattle.fp_steps.proofs.TieAtMessages.{admits_is, number_in}
+use Rattle.fp_steps.proofs.WaitingAtSteps.{aborts_wait}
+
+-- what a verdict is answered
+abbrev pub answer_of : ℕ → ℕ → Prepared → Verdict → Posted
+answer_of waiting next came Discard = answers.Discarded
+answer_of waiting next came (Refuse named closes) = refused waiting came named (is_none closes)
+answer_of waiting next came (Open peer) = answers.Opened next
+answer_of waiting next came (Extend local ends) = answers.Accepted (length (entries_in came))
+
+refused_is : (s : Shelf) (closes : Option ℕ) (abort : Option (Tid × AbortCause)) (answer : Posted) (answered : Shelf) → Answers s closes abort answer answered → answer ≡ answer_by abort (is_none closes)
+refused_is s None None answer answered g = g.0
+refused_is s (Some local) None answer answered g = g.0
+refused_is s closes (Some (peer, named)) answer answered g = g.0
+
+pub answer_is : (old new : Shelf) (came : Prepared) (answer : Posted) (v : Verdict) → Follows v old came answer new → answer ≡ answer_of (length old.outbox.aborts) (identifier old.link (old.given + 1)) came v
+answer_is old new came answer Discard g = g.answer_is
+answer_is old new came answer (Refuse named closes) g = refused_is g.closed closes (abort_for (length old.outbox.aborts) named (arrival_of came).ids.orig) answer g.answered g.answering
+answer_is old new came answer (Open peer) g = g.answer_is
+answer_is old new came answer (Extend local false) g = g.answer_is
+answer_is old new came answer (Extend local true) g = g.answer_is
+
+-- so the first line that fits says it
+abbrev answered_line : ℕ → ℕ → Prepared → Bool × Verdict → Bool × Posted
+answered_line waiting next came line = (line.0, answer_of waiting next came line.1)
+
+first_by : (waiting next : ℕ) (came : Prepared) (b : Bool) (v w : Verdict) → answer_of waiting next came (cond b v w) ≡ cond b (answer_of waiting next came v) (answer_of waiting next came w)
+first_by waiting next came true v w = refl
+first_by waiting next came false v w = refl
+
+first_is : (waiting next : ℕ) (came : Prepared) (lines : List (Bool × Verdict)) → answer_of waiting next came (first_that_fits lines) ≡ first_answer (map_list (answered_line waiting next came) lines)
+first_is waiting next came [] = refl
+first_is waiting next came (line ∷ lines) =
+    first_by waiting next came line.0 line.1 (first_that_fits lines) ∙ ap (λ a. cond line.0 (answer_of waiting next came line.1) a) (first_is waiting next came lines)
+
+opened_by : (waiting next : ℕ) (came : Prepared) (o : Option Tid) → answer_of waiting next came (option_map_or (λ peer. Open peer) o Discard) ≡ option_map_or (λ (peer : Tid). answers.Opened next) o answers.Discarded
+opened_by waiting next came None = refl
+opened_by waiting next came (Some peer) = refl
+
+-- the lines of the book are the same, by what they ask for
+same_lines : (s : Shelf) (came : Prepared) (kind : Kind) (o : Option ℕ) (waiting next : ℕ) → map_list (answered_line waiting next came) (first_lines s came kind o ++ last_lines s came kind o)
+    ≡ answers_by s.is_down waiting (is_none o) (is_none (going_on kind o)) (unserved_in s (going_on kind o)) s.entries (map.len s.rows) s.given (answer_of waiting next came (option_map_or (λ peer. Open peer) (arrival_of came).ids.orig Discard)) came kind
+same_lines s came kind None waiting next = refl
+same_lines s came kind (Some local) waiting next = refl
+
+-- which dialogue a message names, by its birth and by its identifier
+
+record Both (h : List Event) (s : Shelf) (o p : Option ℕ) : Type 0 where
+  local : ℕ
+  birth : ℕ
+  row : Row
+  is : o ≡ Some local
+  also : p ≡ Some birth
+  was : map.get s.rows local ≡ Some row
+  tied : IsTied birth (story h birth) row
+
+row_there : (o : Option Row) → option_map_or is_admitted o false ≡ true → (row : Row) × (o ≡ Some row)
+row_there None e = absurd (cc)
+row_there (Some row) e = (row, refl)
+
+if_one : {x : Bool} (n : ℕ) (b : Bool) → b ≡ x → cond b (Some n) None ≡ cond x (Some n) None
+if_one n b e = ap (λ b. cond b (Some n) None) e
+
+unnamed_row : (h : List Event) (s : Shelf) (local : ℕ) (o : Option Row) → Tied h s → Sound s → map.get s.rows local ≡ o → named h local ≡ None → option_map_or is_admitted o false ≡ false
+unnamed_row h s local None t k was none = refl
+unnamed_row h s local (Some row) t k was none = absurd (none-some row.birth (sym none ∙ (held_of h s local row t k was).name))
+
+named_at : (h : List Event) (s : Shelf) (local : ℕ) (o : Option ℕ) → Tied h s → Sound s → named h local ≡ o
+    → ((admitted s.rows local ≡ None) × (option_and_then (taking h) o ≡ None)) ⊎ Both h s (admitted s.rows local) (option_and_then (taking h) o)
+named_at h s local None t k name = inl (if_one local (option_map_or is_admitted (map.get s.rows local) false) (unnamed_row h s local (map.get s.rows local) t k refl name), refl)
+named_at h s local (Some d) t k name =
+    let place : local ≡ local_of h d = (t.opened.names local d name).0 in
+    let same : admits h d ≡ option_map_or is_admitted (map.get s.rows local) false = admits_is h s d t k ∙ ap (λ l. option_map_or is_admitted (map.get s.rows l) false) (sym place) in
+    ⊎_elim
+    (λ e.
+    let row = row_there (map.get s.rows local) (sym same ∙ e) in
+    inr (record {
+      local = local;
+      birth = d;
+      row = row.0;
+      is = if_one local (option_map_or is_admitted (map.get s.rows local) false) (sym same ∙ e);
+      also = if_one d (admits h d) e;
+      was = row.1;
+      tied = subst (TiedAt (births h) d (story h d)) (ap (map.get s.rows) (sym place) ∙ row.1) (t.rows d);
+    }))
+    (λ e. inl (if_one local (option_map_or is_admitted (map.get s.rows local) false) (sym same ∙ e), if_one d (admits h d) e))
+    (cases_Bool (admits h d))
+
+named_both : (h : List Event) (s : Shelf) (n : Option ℕ) → Tied h s → Sound s
+    → ((option_and_then (admitted s.rows) n ≡ None) × (option_and_then (taking h) (option_and_then (named h) n) ≡ None)) ⊎ Both h s (option_and_then (admitted s.rows) n) (option_and_then (taking h) (option_and_then (named h) n))
+named_both h s None t k = inl (refl, refl)
+named_both h s (Some local) t k = named_at h s local (named h local) t k refl
+
+-- what the lines ask for of it
+record Asks (h : List Event) (s : Shelf) (kind : Kind) (o p : Option ℕ) : Type 0 where
+  names : is_none o ≡ is_none p
+  anew : is_none (going_on kind o) ≡ is_none (going_on kind p)
+  entries : unserved_in s (going_on kind o) ≡ unserved h (going_on kind p)
+
+asks_none : (h : List Event) (s : Shelf) (b : Bool) → unserved_in s (cond b None None) ≡ unserved h (cond b None None)
+asks_none h s true = refl
+asks_none h s false = refl
+
+asks_some : (h : List Event) (s : Shelf) (local d : ℕ) (row : Row) (b : Bool) → map.get s.rows local ≡ Some row → IsTied d (story h d) row
+    → (is_none (cond b None (Some local)) ≡ is_none (cond b None (Some d))) × (unserved_in s (cond b None (Some local)) ≡ unserved h (cond b None (Some d)))
+asks_some h s local d row true was k = (refl, refl)
+asks_some h s local d row false was k = (refl, ap (of_row row_unserved) was ∙ sym (ap (λ n. drop n (accepted h d)) (count_tied d (story h d) row k) ∙ ap (drop row.served) k.accepts))
+
+asks : (h : List Event) (s : Shelf) (came : Prepared) → Tied h s → Sound s → Asks h s (arrival_of came).ids.kind (named_in s (arrival_of came).ids) (addressee h came)
+asks h s came t k =
+    let kind = (arrival_of came).ids.kind in
+    ⊎_elim
+    (λ none.
+    subst (λ o. Asks h s kind o (addressee h came)) (sym none.0)
+    (subst (λ p. Asks h s kind None p) (sym none.1) (record { names = refl; anew = refl; entries = asks_none h s (is_begin kind) })))
+    (λ both.
+    subst (λ o. Asks h s kind o (addressee h came)) (sym both.is)
+    (subst (λ p. Asks h s kind (Some both.local) p) (sym both.also)
+    (let so = asks_some h s both.local both.birth both.row (is_begin kind) both.was both.tied in record { names = refl; anew = so.0; entries = so.1 })))
+    (named_both h s (number_in came) t k)
+
+-- what a message is answered
+pub answered_so : (h : List Event) (s : Shelf) (came : Prepared) → Tied h s → Sound s → Lined h s → held h ≡ map.len s.rows → verdict s came ≡ first_that_fits (seven_lines s came)
+    → answer_of (length s.outbox.aborts) (identifier s.link (s.given + 1)) came (verdict s came) ≡ answer_to s.link h came
+answered_so h s came t k l many seven =
+    let kind = (arrival_of came).ids.kind in
+    let waiting = length s.outbox.aborts in
+    let next = identifier s.link (s.given + 1) in
+    let o = named_in s (arrival_of came).ids in
+    let p = addressee h came in
+    let a : Asks h s kind o p = asks h s came t k in
+    let aborts : waiting ≡ length (aborts_waiting h) = sym (length-map s.outbox.aborts frame_octets) ∙ ap length (sym (aborts_wait h s t k l)) in
+    let given : s.given ≡ births h = sym (t.births_are ∙ k.births) in
+    let opens : answer_of waiting next came (option_map_or (λ peer. Open peer) (arrival_of came).ids.orig Discard) ≡ begun s.link h came =
+    opened_by waiting next came (arrival_of came).ids.orig ∙ ap (λ n. option_map_or (λ (peer : Tid). answers.Opened (identifier s.link (n + 1))) (arrival_of came).ids.orig answers.Discarded) given
+    in
+    ap (answer_of waiting next came) seven ∙ first_is waiting next came (seven_lines s came) ∙ ap first_answer (same_lines s came kind o waiting next)
+    ∙ ap (λ x. first_answer (answers_by s.is_down waiting (is_none o) (is_none (going_on kind o)) (unserved_in s (going_on kind o)) s.entries (map.len s.rows) s.given x came kind)) opens
+    ∙ ap (λ x. first_answer (answers_by x waiting (is_none o) (is_none (going_on kind o)) (unserved_in s (going_on kind o)) s.entries (map.len s.rows) s.given (begun s.link h came) came kind)) (sym l.down)
+    ∙ ap (λ x. first_answer (answers_by (is_down h) x (is_none o) (is_none (going_on kind o)) (unserved_in s (going_on kind o)) s.entries (map.len s.rows) s.given (begun s.link h came) came kind)) aborts
+    ∙ ap (λ x. first_answer (answers_by (is_down h) (length (aborts_waiting h)) x (is_none (going_on kind o)) (unserved_in s (going_on kind o)) s.entries (map.len s.rows) s.given (begun s.link h came) came kind)) a.names
+    ∙ ap (λ x. first_answer (answers_by (is_down h) (length (aborts_waiting h)) (is_none p) x (unserved_in s (going_on kind o)) s.entries (map.len s.rows) s.given (begun s.link h came) came kind)) a.anew
+    ∙ ap (λ x. first_answer (answers_by (is_down h) (length (aborts_waiting h)) (is_none p) (is_none (going_on kind p)) x s.entries (map.len s.rows) s.given (begun s.link h came) came kind)) a.entries
+    ∙ ap (λ x. first_answer (answers_by (is_down h) (length (aborts_waiting h)) (is_none p) (is_none (going_on kind p)) (unserved h (going_on kind p)) x (map.len s.rows) s.given (begun s.link h came) came kind)) (sym t.entries_are)
+    ∙ ap (λ x. first_answer (answers_by (is_down h) (length (aborts_waiting h)) (is_none p) (is_none (going_on kind p)) (unserved h (going_on kind p)) (entry_count h) x s.given (begun s.link h came) came kind)) (sym many)
+    ∙ ap (λ x. first_answer (answers_by (is_down h) (length (aborts_waiting h)) (is_none p) (is_none (going_on kind p)) (unserved h (going_on kind p)) (entry_count h) (held h) x (begun s.link h came) came kind)) given
+
+-- COMPONENTS
+
+least : (n : ℕ) → n ≤ 17 → min n 4294967295 ≡ n
+least n le = omega (arith, le)
+
+refused_count : (abort : Option (Tid × AbortCause)) (b : Bool) (came : Prepared) → components_by (answer_by abort b) came ≡ components_in (answer_by abort b) came
+refused_count None true came = refl
+refused_count None false came = refl
+refused_count (Some (peer, named)) b came = refl
+
+counted_by : (waiting next : ℕ) (came : Prepared) (v : Verdict) → Owes (components_of came) v → components_by (answer_of waiting next came v) came ≡ components_in (answer_of waiting next came v) came
+counted_by waiting next came Discard few = refl
+counted_by waiting next came (Refuse named closes) few = refused_count (abort_for waiting named (arrival_of came).ids.orig) _ came
+counted_by waiting next came (Open peer) few = least (components_of came) few
+counted_by waiting next came (Extend local ends) few = least (components_of came) few
+
+pub components_counted : (s : Shelf) (came : Prepared) (waiting next : ℕ) (answer : Posted) → answer ≡ answer_of waiting next came (verdict s came) → components_by answer came ≡ components_in answer came
+components_counted s came waiting next answer is =
+    ap (λ a. components_by a came) is ∙ counted_by waiting next came (verdict s came) (verdict_owes s came) ∙ ap (λ a. components_in a came) (sym is)
+
+-- EACH MESSAGE
+
+-- the seven lines decide on what a step posts
+abbrev pub Decided : Option Prepared → Type 0
+Decided came = (s : Shelf) (p : Prepared) → came ≡ Some p → verdict s p ≡ first_that_fits (seven_lines s p)
+
+decided_as : (p : Prepared) → ((s : Shelf) → verdict s p ≡ first_that_fits (seven_lines s p)) → Decided (Some p)
+decided_as p all s q same = subst (λ q. verdict s q ≡ first_that_fits (seven_lines s q)) (same_Some p q same) (all s)
+
+pub lost_prepared : (contents : Contents) (contexts : List (List ℕ)) (octets : List ℕ) (moment : ℕ) (p : Prepared) → IsLost octets moment p → IsPrepared contents contexts octets moment p
+lost_prepared contents contexts octets moment (prepared.Lost arrival) is = record { is_arrival = is; is_reading = tt }
+lost_prepared contents contexts octets moment p is = absurd is
+
+none_decided : Decided None
+none_decided s p same = absurd (cc)
+
+pub decided : SevenLinesDecide → (contents : Contents) (contexts : List (List ℕ)) (step : Step) (came : Option Prepared) → IsCame contents contexts step came → Decided came
+decided seven contents contexts step None is = none_decided
+decided seven contents contexts (steps.Post frame moment) (Some p) is = decided_as p (λ s. seven contents contexts frame moment s p is.0)
+decided seven contents contexts (steps.Lost frame moment) (Some p) is = decided_as p (λ s. seven contents contexts frame moment s p (lost_prepared contents contexts frame moment p is))
+decided seven contents contexts step (Some p) is = absurd is
+
+pub posted_is : RowsKeepTheirOrder → (h : List Event) (old new : Shelf) (p : Prepared) (answer : Posted) (components : ℕ) → Tied h old → Sound old → Lined h old
+    → verdict old p ≡ first_that_fits (seven_lines old p)
+    → components ≡ components_by answer p → Follows (verdict old p) old p answer new → outputs.Posted answer components ≡ outputs.Posted (answer_to old.link h p) (components_in (answer_to old.link h p) p)
+posted_is law h old new p answer components t k l seven count g =
+    let waiting = length old.outbox.aborts in
+    let next = identifier old.link (old.given + 1) in
+    let is : answer ≡ answer_of waiting next p (verdict old p) = answer_is old new p answer (verdict old p) g in
+    let so : answer ≡ answer_to old.link h p = is ∙ answered_so h old p t k l (held_is law h old t k l) seven in
+    let many : components ≡ components_in (answer_to old.link h p) p = count ∙ components_counted old p waiting next answer is ∙ ap (λ a. components_in a p) so in
+    ap (λ a. outputs.Posted a components) so ∙ ap (λ n. outputs.Posted (answer_to old.link h p) n) many

@@ -1,0 +1,180 @@
+-- Each step keeps the tie between a book and its history, and the tie gives the headline.
+use Rattle.std.proofs.Common.{◌≡◌, ℕ, ◌≤◌, ◌&&◌, nat_le, nat_lt, ⊎_elim, true, false, Option, Some, None, List, [], ◌∷◌, ◌++◌, refl, sym, ◌∙◌, ap, subst, arith, inl, inr, add-zero, ◌+◌, ◌<◌}
+use Rattle.std.specs.Prelude.{option_map}
+use Rattle.std.specs.FinMap as map
+use Rattle.std.specs.Ordering.{nat_cmp}
+use Rattle.std.proofs.lemmas.Bool.{and_right, lt-leb}
+use Rattle.std.proofs.lemmas.Bool.Decides.{leb_tells}
+use Rattle.std.proofs.lemmas.Option.{same_Some}
+use Rattle.fp_book.proofs.Tells.{BeginsAnew, Tells, verdict_tells}
+use Rattle.fp_book.specs.Calls.{Follows}
+use Rattle.fp_book.specs.Shelf.{Shelf, Sound, empty_shelf}
+use Rattle.fp_book.specs.Verdict.{verdict}
+use Rattle.fp_book.specs.declared.answers.Posted.{Posted}
+use Rattle.fp_book.specs.declared.verdict.Verdict.{Verdict}
+use Rattle.fp_book.specs.declared.verdict.Verdict.TheVariants.{Discard, Extend, Open, Refuse}
+use Rattle.fp_entry.specs.Arrival.{IsArrival}
+use Rattle.fp_entry.specs.Prepared.{IsLost, arrival_of, components_of}
+use Rattle.fp_entry.specs.declared.arrival.Arrival.{Arrival}
+use Rattle.fp_entry.specs.declared.prepared.Prepared.{Prepared}
+use Rattle.fp_entry.specs.declared.prepared.Prepared.TheVariants as prepared
+use Rattle.fp_q773.specs.Ids.{AreIds, AreIdsIn}
+use Rattle.fp_q773.specs.Tid.{octets_of, Tid}
+use Rattle.fp_q773.specs.declared.kind.Kind.{Kind}
+use Rattle.fp_q773.specs.declared.kind.Kind.TheVariants as kinds
+use Rattle.fp_records.specs.Table.{Contents}
+use Rattle.fp_row.specs.Laws.{RowsKeepTheirOrder}
+use Rattle.fp_row.specs.declared.row.Row.{Row}
+use Rattle.fp_tids.specs.Identifiers.{identifier}
+use Rattle.fp_steps.specs.Accepted.{entry_count, is_ending}
+use Rattle.fp_steps.specs.Births.{Beginning, beginning, births, local_of, opened_in}
+use Rattle.fp_steps.specs.Headline.{Headline}
+use Rattle.fp_steps.specs.History.{Event, IsCame}
+use Rattle.fp_steps.specs.Makes.{Makes}
+use Rattle.fp_steps.specs.Sending.{abort_out, aborts, aborts_sent, out}
+use Rattle.fp_steps.specs.Tied.{AbortsTied, IsGone, IsStraight, Story, Tied, TiedAt, began_with, story, untold}
+use Rattle.fp_steps.specs.declared.output.Output.TheVariants as outputs
+use Rattle.fp_steps.specs.declared.step.Step.{Step}
+use Rattle.fp_steps.specs.declared.step.Step.TheVariants as steps
+use Rattle.fp_steps.proofs.AcceptedMessages.{Owes, verdict_owes}
+use Rattle.fp_steps.proofs.Cases.{Cases, by_made}
+use Rattle.fp_steps.proofs.HeldDialogues.{event, stays, straight_tied}
+use Rattle.fp_steps.proofs.OpenedDialogues.{all_opened}
+use Rattle.fp_steps.proofs.TieAtMessages.{Tied-discards, Tied-ends, Tied-extends, Tied-opens, Tied-refuses, posts}
+use Rattle.fp_steps.proofs.TieAtParcels.{Tied-down, Tied-picks, Tied-sends, Tied-unsends}
+use Rattle.fp_steps.proofs.TieAtTicks.{Tied-ticks}
+use Rattle.fp_steps.proofs.TieAtTurns.{Tied-gives, Tied-puts_back, Tied-takes}
+use Rattle.fp_steps.proofs.TieNext.{Tied-drained, Tied-quiet, quiet}
+
+-- nothing changes
+still : (h : List Event) (e : Event) (old new : Shelf) → Tied h old → new ≡ old → opened_in e.output ≡ None → entry_count (e ∷ h) ≡ entry_count h + 0
+    → aborts (e ∷ h) ≡ aborts h ++ [] → aborts_sent (e ∷ h) ≡ aborts_sent h ++ [] → out (e ∷ h) ≡ out h → ((d : ℕ) → story (e ∷ h) d ≡ story h d)
+    → Tied (e ∷ h) new
+still h e old new t same none entries all sent_all out_stays told =
+    subst (Tied (e ∷ h)) (sym same) (Tied-quiet h e old old t (quiet h e old old t none (entries ∙ add-zero (entry_count h) ∙ t.entries_are) all sent_all out_stays refl refl refl refl refl) told refl)
+
+-- by the step, and by its answer
+
+made_by : RowsKeepTheirOrder → (h : List Event) (step : Step) (came : Prepared) (answer : Posted) (components : ℕ) (old new : Shelf) (v : Verdict) → Tied h old → Sound old → Tells old came v → Owes (components_of came) v → Follows v old came answer new
+    → Tied (posts step came answer components ∷ h) new
+made_by law h step came answer components old new Discard t k told peer g = Tied-discards h step came answer components old new t g
+made_by law h step came answer components old new (Refuse cause closes) t k told peer g = Tied-refuses law h step came answer components old new cause closes t k told g
+made_by law h step came answer components old new (Open sender) t k told peer g = Tied-opens h step came answer components old new sender t k told g
+made_by law h step came answer components old new (Extend local false) t k told peer g = Tied-extends h step came answer components old new local t k told.0 (ap is_ending told.1) g
+made_by law h step came answer components old new (Extend local true) t k told peer g =
+    Tied-ends law h step came answer components old new local t k told.0 (⊎_elim (λ kind. ap is_ending kind) (λ kind. ap is_ending kind) told.1) g
+
+made : RowsKeepTheirOrder → (h : List Event) (came : Option Prepared) (old new : Shelf) → Tied h old → Sound old → ((p : Prepared) → came ≡ Some p → BeginsAnew (arrival_of p).ids) → Cases (λ step output. Tied (event step came output ∷ h) new) came old new
+made law h came old new t k anew =
+    let none : (step : Step) → new ≡ old → Tied (event step came outputs.Nothing ∷ h) new = λ step same.
+    let e = event step came outputs.Nothing in
+    still h e old new t same refl refl refl refl refl (λ d. stays e h d refl refl refl refl refl refl refl)
+    in
+    let no_room = event steps.Take came outputs.NoRoom in
+    let busy = event steps.Pick came outputs.Busy in
+    record {
+      posted = λ step posting p answer components is count g.
+          subst (λ c. Tied (event step c (outputs.Posted answer components) ∷ h) new) (sym is)
+          (made_by law h step p answer components old new (verdict old p) t k (verdict_tells old p (anew p is)) (verdict_owes old p) g);
+      ticked = λ moment added wanting none g. Tied-ticks h came old new moment added wanting t k none g;
+      took = λ turn g. Tied-takes h came old new turn t k g;
+      no_room = λ some full same. still h no_room old new t same refl refl refl refl refl (λ d. stays no_room h d refl refl refl refl refl refl refl);
+      none_taken = λ empty same. none steps.Take same;
+      gave = λ done given g. Tied-gives law h came old new done given t k g;
+      none_given = λ local out same. none (steps.Give local) same;
+      went_back = λ turn g. Tied-puts_back law h came old new turn t k g;
+      none_back = λ local out same. none (steps.PutBack local) same;
+      picked = λ content frame is g. Tied-picks h came old new content frame t k is g;
+      busy = λ some same. still h busy old new t same refl refl refl refl refl (λ d. stays busy h d refl refl refl refl refl refl refl);
+      none_picked = λ empty same. none steps.Pick same;
+      sent = λ content g. Tied-sends law h came old new content t k g;
+      none_sent = λ empty same. none steps.Sent same;
+      unsent = λ parcel g. Tied-unsends law h came old new parcel t k g;
+      none_unsent = λ empty same. none steps.Unsent same;
+      down = λ g. Tied-down law h came old new t k g;
+    }
+
+-- a Begin has no destination
+
+no_octets : (o : Option Tid) → option_map octets_of o ≡ None → o ≡ None
+no_octets None e = refl
+no_octets (Some tid) e = absurd (cc)
+
+anew_in : (kind : Kind) (contents : List ℕ) (orig dest : Option (List ℕ)) → AreIdsIn kind contents orig dest → kind ≡ kinds.Begin → dest ≡ None
+anew_in kind contents orig dest ids is = let g : AreIdsIn kinds.Begin contents orig dest = subst (λ k. AreIdsIn k contents orig dest) is ids in g.1
+
+anew_by : (octets : List ℕ) (kind : Kind) (orig dest : Option (List ℕ)) → AreIds octets kind orig dest → kind ≡ kinds.Begin → dest ≡ None
+anew_by [] kind orig dest ids is = ids.2
+anew_by (first ∷ octets) kind orig dest (told, inl found) is = anew_in kind found.0 orig dest found.3 is
+anew_by (first ∷ octets) kind orig dest (told, inr none) is = none.2
+
+pub anew : (octets : List ℕ) (moment : ℕ) (arrival : Arrival) → IsArrival octets moment arrival → BeginsAnew arrival.ids
+anew octets moment arrival is begin = no_octets arrival.ids.dest (anew_by octets arrival.ids.kind (option_map octets_of arrival.ids.orig) (option_map octets_of arrival.ids.dest) is.has_ids begin)
+
+lost_arrival : (octets : List ℕ) (moment : ℕ) (came : Prepared) → IsLost octets moment came → IsArrival octets moment (arrival_of came)
+lost_arrival octets moment (prepared.Lost arrival) is = is
+lost_arrival octets moment came is = absurd is
+
+pub came_anew : (contents : Contents) (contexts : List (List ℕ)) (step : Step) (came : Option Prepared) → IsCame contents contexts step came → (p : Prepared) → came ≡ Some p → BeginsAnew (arrival_of p).ids
+came_anew contents contexts step None is p same = absurd (cc)
+came_anew contents contexts (steps.Post frame moment) (Some came) is p same = subst (λ (q : Prepared). BeginsAnew (arrival_of q).ids) (same_Some came p same) (anew frame moment (arrival_of came) is.0.is_arrival)
+came_anew contents contexts (steps.Lost frame moment) (Some came) is p same = subst (λ (q : Prepared). BeginsAnew (arrival_of q).ids) (same_Some came p same) (anew frame moment (arrival_of came) (lost_arrival frame moment came is))
+came_anew contents contexts step (Some came) is p same = absurd is
+
+-- each step keeps the tie
+pub Tied-makes : RowsKeepTheirOrder → (contents : Contents) (contexts : List (List ℕ)) (h : List Event) (e : Event) (old new : Shelf) → Tied h old → IsCame contents contexts e.step e.came → Makes old e new → Tied (e ∷ h) new
+Tied-makes law contents contexts h e old new t is g =
+    subst (Tied (e ∷ h)) (sym g.new_is)
+    (Tied-drained (e ∷ h) g.after g.left
+    (by_made (λ step output. Tied (event step e.came output ∷ h) g.after) e.step e.came e.output (record old { log = g.before }) g.after
+    (made law h e.came (record old { log = g.before }) g.after (Tied-drained h old g.before t) g.sound (came_anew contents contexts e.step e.came is)) g.makes))
+
+-- a book on which nothing came yet is tied to no history
+
+pub none_there : (link l : ℕ) → map.get (empty_shelf link).rows l ≡ None
+none_there link l = map.get-empty nat_cmp l
+
+none_born : (d : ℕ) → (nat_lt 0 d && nat_le d 0) ≡ false
+none_born d =
+    ⊎_elim (λ a. and_right (nat_lt 0 d) (nat_le d 0) (lt-leb d 0 (let lt : 1 ≤ d = a.1 in omega (arith, lt)))) (λ a. ap (λ b. b && nat_le d 0) a.0) (leb_tells 1 d)
+
+none_yet : (d : ℕ) → IsGone 0 d untold
+none_yet d = record {
+  straight = record { served_first = (_, refl); sent_first = (_, refl); each_once = refl; each_there = refl; sent_queued = ([], refl); queued_first = (_, refl) };
+  admitted = ap (λ b. b && true) (none_born d);
+  waits = refl;
+  outs = refl;
+  all_sent = λ live. refl;
+}
+
+pub Tied-none : (link : ℕ) → Tied [] (empty_shelf link)
+Tied-none link = record {
+  births_are = refl;
+  entries_are = refl;
+  opened = all_opened link [] tt;
+  rows = λ d. subst (TiedAt 0 d untold) (sym (none_there link 0)) (none_yet d);
+  later = λ d past. refl;
+  is_out = refl;
+  aborts_are = record { rest = []; all = refl; waiting = λ up. refl };
+}
+
+-- the tie gives the headline
+
+straight_at : RowsKeepTheirOrder → (n d : ℕ) (t : Story) (o : Option Row) → TiedAt n d t o → IsStraight d t
+straight_at law n d t None k = k.straight
+straight_at law n d t (Some row) k = straight_tied law d t row k
+
+pub headline : RowsKeepTheirOrder → (h : List Event) (s : Shelf) → Tied h s → Headline h
+headline law h s t =
+    let local : (d : ℕ) (b : Beginning) → beginning h d ≡ Some b → b.local ≡ identifier s.link d = λ d b at.
+    let there : (0 < d) × (d ≤ births h) = t.opened.begins d b at in
+    sym (ap began_with at) ∙ t.opened.locals d there.0 there.1
+    in
+    record {
+      dialogues = λ d.
+          let k : IsStraight d (story h d) = straight_at law (births h) d (story h d) (map.get s.rows (local_of h d)) (t.rows d) in
+          record { served_first = k.served_first; sent_first = k.sent_first; each_once = k.each_once; sent_queued = k.sent_queued; queued_first = k.queued_first };
+      apart = λ c d b g at_c at_d same. omega (arith, same, local c b at_c, local d g at_d);
+      each_there = λ d. (straight_at law (births h) d (story h d) (map.get s.rows (local_of h d)) (t.rows d)).each_there;
+      aborts_first = let a : AbortsTied h s = t.aborts_are in (abort_out (out h) ++ a.rest, a.all);
+    }
