@@ -5,9 +5,9 @@
 //! must come out, worked out by hand or taken from a standard. The program prints each case whose answer is another
 //! one, and at the end the number of cases and of those.
 //!
-//! A program has a type that is `Answers`: it writes what a case gives. `run` does the rest, and `run_scripts` for cases
-//! of several lines that name their messages. `first_word` and `Words` take an input apart; `octets_of` and
-//! `push_octets` have octets as hexadecimal text.
+//! A case may have several lines, and octets may have names (`scripts`). A program has a type that is `Answers`: it writes
+//! what a case gives. `run` does the rest. `first_word` takes an input apart; `octets_of` and `push_octets` have octets as
+//! hexadecimal text.
 #![tactic(auto)]
 
 mod octets;
@@ -15,9 +15,9 @@ mod scripts;
 mod words;
 
 pub use octets::{octets_of, push_octets};
-pub use scripts::run_scripts;
+pub use scripts::run;
 use std::alloc::Global;
-pub use words::{Words, first_word};
+pub use words::first_word;
 
 /// What answers the cases of a program.
 pub trait Answers {
@@ -43,34 +43,4 @@ fn fault_of<A: Answers>(
         Ok(()) => Ok(Some(format!(in alloc; "{input}: {out}, and not {wanted}")?)),
         Err(error) => Ok(Some(format!(in alloc; "{input}: {error}")?)),
     }
-}
-
-/// Answers the case of a line, and says what is wrong with it.
-fn fault<A: Answers>(alloc: Global, answers: &mut A, line: &str) -> anyhow::Result<Option<String>> {
-    match line.split_once(" => ") {
-        Some((input, wanted)) => fault_of(alloc, answers, input, wanted),
-        None => Ok(Some(format!(in alloc; "{line}: no case")?)),
-    }
-}
-
-/// Answers the cases of standard input, prints what is wrong with each, and at the end `N cases, M wrong`.
-pub fn run<R: Input + Print + AllocGlobal, A: Answers>(
-    rt: &R,
-    answers: &mut A,
-) -> anyhow::Result<()> {
-    let mut count: u32 = 0;
-    let mut wrong: u32 = 0;
-    for line in rt.lines(rt.alloc()) {
-        let line = line?;
-        if is_comment(line.as_str()) {
-            continue;
-        }
-        count = count.saturating_add(1);
-        if let Some(text) = fault(rt.alloc(), answers, line.as_str())? {
-            wrong = wrong.saturating_add(1);
-            println!(rt; "{text}")?;
-        }
-    }
-    println!(rt; "{count} cases, {wrong} wrong")?;
-    Ok(())
 }

@@ -138,7 +138,7 @@ fn read_scripts<R: Input + AllocGlobal>(rt: &R) -> anyhow::Result<Vec<Script>> {
 
 /// Answers the cases of standard input, which may have many steps and names for octets, prints what is wrong with each,
 /// and at the end `N cases, M wrong`.
-pub fn run_scripts<R: Input + Print + AllocGlobal, A: Answers>(
+pub fn run<R: Input + Print + AllocGlobal, A: Answers>(
     rt: &R,
     answers: &mut A,
 ) -> anyhow::Result<()> {

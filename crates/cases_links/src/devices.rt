@@ -63,8 +63,9 @@ impl Read for Octets<'_> {
         let Some(mut piece) = self.octets.get(self.given..end) else {
             return Ok(0);
         };
-        self.given = end;
-        piece.read(room)
+        let taken = piece.read(room)?;
+        self.given = self.given.saturating_add(taken);
+        Ok(taken)
     }
 }
 
@@ -106,6 +107,8 @@ pub(crate) struct Pieces {
     pub(crate) failing: u32,
     // Whether that write takes none, and doesn't fail.
     pub(crate) takes_none: bool,
+    // Whether a flush doesn't fail.
+    pub(crate) flushes: bool,
     // How many writes were made.
     pub(crate) made: u32,
 }
@@ -125,6 +128,9 @@ impl Write for Pieces {
     }
 
     fn flush(&mut self) -> io::Result<()> {
+        if !self.flushes {
+            return Err(io::Error::from(ErrorKind::Other));
+        }
         Ok(())
     }
 }

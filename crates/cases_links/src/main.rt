@@ -1,45 +1,124 @@
-//! Worked cases of what goes over a link, one a line: `INPUT => WANTED`. The library `cases` says how they are written.
-//! The first word of a case names what it is about; each module has a table of its own.
+//! Worked cases of a link, its dialogues and its log: `INPUT => WANTED`. The library `cases` says how they are written.
+//! The first word of a case says what it is about; each module has a table of its own.
 //!
-//! | Module | What it is about |
-//! |---|---|
-//! | `streams` | the frames of a stream of octets |
-//! | `receiving` | the loop that reads a link |
-//! | `sending` | the loop that writes a link |
+//! | First word | Module | What it is about |
+//! |---|---|---|
+//! | `stream`, .. | `streams` | the frames of a stream of octets |
+//! | `receive`, .. | `receiving` | the loop that reads a link |
+//! | `send`, .. | `sending` | the loop that writes a link |
+//! | `row` | `scene` | dialogues, their turns and their frames |
+//! | `rows` | `rows` | dialogues by their identifiers |
+//! | `log` | `log` | the log of a link |
+//! | `ready` | `ready` | the order in which dialogues are served |
+//! | `outbox` | `outbox` | what waits to be sent |
+//! | `book` | `book` | all dialogues of a link |
+//! | `run`, `random` | `runs` | whole runs of a link |
+//! | `text`, .. | `lines` | the text of a log line, read and written again |
+//! | `replay`, .. | `replays` | logs, replayed |
+//! | `logged-run`, `long-run` | `logged_runs` | the logs of whole runs, and their replay |
+//!
+//! Standard input has one case or more to each comment. A case about dialogues is what is done, step by step, and after
+//! ` => ` what each step must answer. Between steps, as between answers, is `; `. Each case begins without a dialogue, at
+//! noon, 2024-05-06T12:00:00Z. In a log and in a report `|` stands for a line feed.
 //!
 //! `devices` has readers and writers that do what a case says, `memory` an inbox and an outlet that keep what goes
-//! through them.
+//! through them, and `texts` words of steps and of answers.
 #![tactic(auto)]
 
+mod book;
 mod devices;
+mod held;
+mod lines;
+mod log;
+mod logged_runs;
 mod memory;
+mod messages;
+mod outbox;
+mod ready;
 mod receiving;
+mod replays;
+mod rows;
+mod runs;
+mod scene;
+mod script;
 mod sending;
 mod streams;
 mod texts;
 
-use cases::{Answers, first_word, run};
+use cases::{Answers, first_word};
+use fp_records::Table;
 use std::alloc::Global;
 
-/// The cases of all modules.
+/// Four numbers: with one destination, with two, with a rule that refuses, and with one that lets the call pass.
+const RECORDS: &str = "key,100,60
+800123456,,1234567,00:00,24:00,1,route,302223344
+800123457,,1234567,00:00,24:00,1,route,302223344,302223355
+800123458,,1234567,00:00,24:00,1,refuse
+800123459,,1234567,00:00,24:00,1,pass
+";
+
+/// The cases, which share their records.
 #[derive(Drop)]
-struct Modules {
+struct Links {
     alloc: Global,
+    table: Table,
 }
 
-/// Writes what a case gives, and says whether a module has a case of this kind.
-fn answer(alloc: Global, kind: &str, rest: &str, out: &mut String) -> anyhow::Result<bool> {
+/// Writes what a case of the link or of a line of its log gives, and says whether there is one of this kind.
+fn of_link(alloc: Global, kind: &str, rest: &str, out: &mut String) -> anyhow::Result<bool> {
     Ok(
         streams::answer(alloc, kind, rest, out)?
             || receiving::answer(alloc, kind, rest, out)?
-            || sending::answer(alloc, kind, rest, out)?,
+            || sending::answer(alloc, kind, rest, out)?
+            || lines::answer(alloc, kind, rest, out)?,
     )
 }
 
-impl Answers for Modules {
+/// Writes what a case of dialogues gives, and says whether there is one of this kind.
+fn of_dialogues(
+    alloc: Global,
+    table: &Table,
+    input: &str,
+    out: &mut String,
+) -> anyhow::Result<bool> {
+    let (kind, steps) = first_word(input);
+    let written = match kind {
+        "row" => scene::answer(alloc, table, input, out),
+        "rows" => rows::answer(alloc, steps, out),
+        "log" => log::answer(alloc, steps, out),
+        "ready" => ready::answer(alloc, steps, out),
+        "outbox" => outbox::answer(alloc, steps, out),
+        "book" => book::answer(alloc, table, steps, out),
+        "run" => runs::answer(alloc, table, steps, out),
+        "random" => runs::answer_random(alloc, table, steps, out),
+        _ => return Ok(false),
+    };
+    written?;
+    Ok(true)
+}
+
+/// Writes what a case of a log gives, and says whether there is one of this kind.
+fn of_log(
+    alloc: Global,
+    table: &Table,
+    kind: &str,
+    rest: &str,
+    out: &mut String,
+) -> anyhow::Result<bool> {
+    Ok(
+        replays::answer(alloc, table, kind, rest, out)?
+            || logged_runs::answer(alloc, table, kind, rest, out)?,
+    )
+}
+
+impl Answers for Links {
     fn answer(&mut self, input: &str, out: &mut String) -> anyhow::Result<()> {
+        let alloc = self.alloc;
         let (kind, rest) = first_word(input);
-        if !answer(self.alloc, kind, rest, out)? {
+        if !of_link(alloc, kind, rest, out)?
+            && !of_dialogues(alloc, &self.table, input, out)?
+            && !of_log(alloc, &self.table, kind, rest, out)?
+        {
             anyhow::bail!("no such case");
         }
         Ok(())
@@ -47,6 +126,7 @@ impl Answers for Modules {
 }
 
 fn main(rt: HostRuntime) -> anyhow::Result<()> {
-    let mut modules = Modules { alloc: rt.alloc() };
-    run(&rt, &mut modules)
+    let alloc = rt.alloc();
+    let table = Table::read(alloc, RECORDS.as_bytes())?;
+    cases::run(&rt, &mut Links { alloc, table })
 }

@@ -109,12 +109,22 @@ fn ways(alloc: Global, octets: &[u8], wanted: &str) -> anyhow::Result<u32> {
     Ok(ways)
 }
 
+/// Writes these messages of octets, and in how many ways of cutting they are the same.
+fn push_ways(alloc: Global, octets: &[u8], wanted: &str, out: &mut String) -> anyhow::Result<()> {
+    let ways = ways(alloc, octets, wanted)?;
+    Ok(write!(out, "{wanted}, {ways} ways")?)
+}
+
+/// Writes the messages of octets, however they are cut.
+fn push_cuts(alloc: Global, octets: &[u8], out: &mut String) -> anyhow::Result<()> {
+    let wanted = text_of(alloc, octets, 1, [0, 0])?;
+    push_ways(alloc, octets, wanted.as_str(), out)
+}
+
 /// The messages of octets, however they are cut.
 fn cuts(alloc: Global, text: &str, out: &mut String) -> anyhow::Result<()> {
     let octets = octets_of(alloc, text)?;
-    let wanted = text_of(alloc, octets.as_slice(), 1, [0, 0])?;
-    let ways = ways(alloc, octets.as_slice(), wanted.as_str())?;
-    Ok(write!(out, "{wanted}, {ways} ways")?)
+    push_cuts(alloc, octets.as_slice(), out)
 }
 
 /// Whether the first of these messages are those.
@@ -126,7 +136,24 @@ fn begin_with(all: &[Frame], front: &[Frame]) -> bool {
             .all(|(one, other)| one.octets() == other.octets())
 }
 
-/// Writes how many messages were handed on if this read of one octet fails. They must be the first of all.
+/// Writes how many messages were handed on by the loop that ended so, if this read fails. They must be the first of all.
+fn push_front(
+    all: &[Frame],
+    front: &[Frame],
+    ended: Ended,
+    failed: u64,
+    failing: u32,
+    out: &mut String,
+) -> anyhow::Result<()> {
+    ensure!(
+        ended == Ended::ReadFault && failed == 1,
+        "read {failing}: {ended:?}"
+    );
+    ensure!(begin_with(all, front), "read {failing}: other frames");
+    Ok(write!(out, "{}", front.len())?)
+}
+
+/// Writes how many messages were handed on if this read of one octet fails.
 fn push_failing(
     alloc: Global,
     octets: &[u8],
@@ -137,15 +164,7 @@ fn push_failing(
     let mut frames = Vec::new(alloc);
     let mut reader = reader_of(octets, 1, [0, 0], failing);
     let ended = received(alloc, &mut reader, MANY, &Cell::new(0), &mut frames)?;
-    ensure!(
-        ended == Ended::ReadFault && reader.failed == 1,
-        "read {failing}: {ended:?}"
-    );
-    ensure!(
-        begin_with(all, frames.as_slice()),
-        "read {failing}: other frames"
-    );
-    Ok(write!(out, "{}", frames.len())?)
+    push_front(all, frames.as_slice(), ended, reader.failed, failing, out)
 }
 
 /// Writes how many messages were handed on if each read fails in turn.
@@ -163,14 +182,18 @@ fn push_faults(
     Ok(())
 }
 
-/// How many messages were handed on if each read fails in turn.
-fn faults(alloc: Global, text: &str, out: &mut String) -> anyhow::Result<()> {
-    let octets = octets_of(alloc, text)?;
-    let octets = octets.as_slice();
+/// Writes how many of the messages of octets were handed on if each read fails in turn.
+fn push_all_faults(alloc: Global, octets: &[u8], out: &mut String) -> anyhow::Result<()> {
     let mut all = Vec::new(alloc);
     let mut reader = reader_of(octets, 1, [0, 0], 0);
     received(alloc, &mut reader, MANY, &Cell::new(0), &mut all)?;
     push_faults(alloc, octets, all.as_slice(), out)
+}
+
+/// How many messages were handed on if each read fails in turn.
+fn faults(alloc: Global, text: &str, out: &mut String) -> anyhow::Result<()> {
+    let octets = octets_of(alloc, text)?;
+    push_all_faults(alloc, octets.as_slice(), out)
 }
 
 /// Why the loop ended, where each read waits for the frames before it.

@@ -77,6 +77,7 @@ fn writer(alloc: Global, most: usize, failing: u32, takes_none: bool) -> Counted
         most,
         failing,
         takes_none,
+        flushes: true,
         made: 0,
     })
 }
@@ -233,17 +234,15 @@ fn expect(written: &[u8], octets: &[u8], outcome: Outcome, failing: u32) -> anyh
     expect_end(outcome, failing)
 }
 
-/// Writes how many parcels were reported sent if this write of one octet fails.
-fn push_failing(
-    alloc: Global,
-    aborts: u32,
+/// Writes how many parcels were reported sent by the loop that ended so, if this write fails.
+fn push_sent(
+    desk: &Desk,
+    writer: &Counted<Pieces>,
+    ended: Ended,
     failing: u32,
     octets: &[u8],
     out: &mut String,
 ) -> anyhow::Result<()> {
-    let mut desk = desk(alloc, aborts, false)?;
-    let mut writer = writer(alloc, 1, failing, false);
-    let ended = send_loop(&mut writer, MANY, &mut desk);
     let (sent, unsent) = reports(desk.calls.as_slice());
     let outcome = Outcome {
         ended,
@@ -255,16 +254,35 @@ fn push_failing(
     Ok(write!(out, "{sent}")?)
 }
 
+/// Writes how many parcels were reported sent if this write of one octet fails.
+fn push_failing(
+    alloc: Global,
+    aborts: u32,
+    failing: u32,
+    octets: &[u8],
+    out: &mut String,
+) -> anyhow::Result<()> {
+    let mut desk = desk(alloc, aborts, false)?;
+    let mut writer = writer(alloc, 1, failing, false);
+    let ended = send_loop(&mut writer, MANY, &mut desk);
+    push_sent(&desk, &writer, ended, failing, octets, out)
+}
+
+/// Writes how many parcels were reported sent if each write fails in turn.
+fn push_faults(alloc: Global, aborts: u32, octets: &[u8], out: &mut String) -> anyhow::Result<()> {
+    let mut failing: u32 = 0;
+    for _ in 0..=octets.len() {
+        failing = failing.saturating_add(1);
+        push_failing(alloc, aborts, failing, octets, out)?;
+    }
+    Ok(())
+}
+
 /// How many parcels were reported sent if each write fails in turn.
 fn faults(alloc: Global, text: &str, out: &mut String) -> anyhow::Result<()> {
     let aborts: u32 = text.parse()?;
     let octets = whole(alloc, aborts)?;
-    let mut failing: u32 = 0;
-    for _ in 0..=octets.len() {
-        failing = failing.saturating_add(1);
-        push_failing(alloc, aborts, failing, octets.as_slice(), out)?;
-    }
-    Ok(())
+    push_faults(alloc, aborts, octets.as_slice(), out)
 }
 
 /// Writes what a case of this module gives, and says whether it has one of this kind.

@@ -59,16 +59,26 @@ fn push_piece(
     push_all(out, reader)
 }
 
-/// What asking for frames gives after each piece.
-fn stream(alloc: Global, pieces: &str, out: &mut String) -> anyhow::Result<()> {
-    let mut reader = FrameReader::new(alloc);
+/// Feeds pieces, and writes what asking for frames gives after each.
+fn push_pieces(
+    alloc: Global,
+    reader: &mut FrameReader,
+    pieces: &str,
+    out: &mut String,
+) -> anyhow::Result<()> {
     for piece in pieces.split(' ') {
-        push_piece(alloc, &mut reader, piece, out)?;
+        push_piece(alloc, reader, piece, out)?;
     }
     if reader.is_empty() {
         out.push_str("; all handed out")?;
     }
     Ok(())
+}
+
+/// What asking for frames gives after each piece.
+fn stream(alloc: Global, pieces: &str, out: &mut String) -> anyhow::Result<()> {
+    let mut reader = FrameReader::new(alloc);
+    push_pieces(alloc, &mut reader, pieces, out)
 }
 
 /// Feeds a piece, and writes the messages of the frames that are whole then.
@@ -83,6 +93,22 @@ fn feed(reader: &mut FrameReader, piece: &[u8], out: &mut String) -> anyhow::Res
     bail!("no end")
 }
 
+/// Feeds octets that are cut at two places, and writes the messages of the frames that are whole then.
+fn feed_cut(
+    reader: &mut FrameReader,
+    octets: &[u8],
+    first: usize,
+    second: usize,
+    out: &mut String,
+) -> anyhow::Result<()>
+    requires rises { first ≤ second }
+    requires fits { second ≤ length octets.now }
+{
+    feed(reader, &octets[..first], out)?;
+    feed(reader, &octets[first..second], out)?;
+    feed(reader, &octets[second..], out)
+}
+
 /// The messages of octets that are cut at two places.
 fn cut_text(alloc: Global, octets: &[u8], first: usize, second: usize) -> anyhow::Result<String>
     requires rises { first ≤ second }
@@ -90,19 +116,23 @@ fn cut_text(alloc: Global, octets: &[u8], first: usize, second: usize) -> anyhow
 {
     let mut text = String::new(alloc);
     let mut reader = FrameReader::new(alloc);
-    feed(&mut reader, &octets[..first], &mut text)?;
-    feed(&mut reader, &octets[first..second], &mut text)?;
-    feed(&mut reader, &octets[second..], &mut text)?;
+    feed_cut(&mut reader, octets, first, second, &mut text)?;
     Ok(text)
+}
+
+/// Feeds octets one by one, and writes the messages of the frames that are whole then.
+fn feed_each(reader: &mut FrameReader, octets: &[u8], out: &mut String) -> anyhow::Result<()> {
+    for piece in octets.chunks(1) {
+        feed(reader, piece, out)?;
+    }
+    Ok(())
 }
 
 /// The messages of octets that come one by one.
 fn one_by_one_text(alloc: Global, octets: &[u8]) -> anyhow::Result<String> {
     let mut text = String::new(alloc);
     let mut reader = FrameReader::new(alloc);
-    for piece in octets.chunks(1) {
-        feed(&mut reader, piece, &mut text)?;
-    }
+    feed_each(&mut reader, octets, &mut text)?;
     Ok(text)
 }
 
@@ -137,12 +167,22 @@ fn ways(alloc: Global, octets: &[u8], wanted: &str) -> anyhow::Result<u32> {
     Ok(ways)
 }
 
+/// Writes these messages of octets, and in how many ways of cutting they are the same.
+fn push_ways(alloc: Global, octets: &[u8], wanted: &str, out: &mut String) -> anyhow::Result<()> {
+    let ways = ways(alloc, octets, wanted)?;
+    Ok(write!(out, "{wanted}: {ways} ways")?)
+}
+
+/// Writes the messages of octets, however they are cut.
+fn push_cuts(alloc: Global, octets: &[u8], out: &mut String) -> anyhow::Result<()> {
+    let wanted = one_by_one_text(alloc, octets)?;
+    push_ways(alloc, octets, wanted.as_str(), out)
+}
+
 /// The messages of octets, however they are cut.
 fn cuts(alloc: Global, text: &str, out: &mut String) -> anyhow::Result<()> {
     let octets = octets_of(alloc, text)?;
-    let wanted = one_by_one_text(alloc, octets.as_slice())?;
-    let ways = ways(alloc, octets.as_slice(), wanted.as_str())?;
-    Ok(write!(out, "{wanted}: {ways} ways")?)
+    push_cuts(alloc, octets.as_slice(), out)
 }
 
 /// The octets of a frame of this many octets 5A.
@@ -163,8 +203,7 @@ fn push_long(out: &mut String, fed: u32, octets: &[u8]) -> anyhow::Result<()> {
 }
 
 /// Feeds octets one at a time until a frame comes, and writes that.
-fn push_first(alloc: Global, octets: &[u8], out: &mut String) -> anyhow::Result<()> {
-    let mut reader = FrameReader::new(alloc);
+fn push_first(reader: &mut FrameReader, octets: &[u8], out: &mut String) -> anyhow::Result<()> {
     let mut fed: u32 = 0;
     for piece in octets.chunks(1) {
         reader.feed(piece)?;
@@ -181,7 +220,8 @@ fn long_stream(alloc: Global, text: &str, out: &mut String) -> anyhow::Result<()
     let count: u16 = text.parse()?;
     ensure!(0 < count && count <= 4_096, "not 1 to 4,096 octets");
     let octets = long_octets(alloc, count)?;
-    push_first(alloc, octets.as_slice(), out)
+    let mut reader = FrameReader::new(alloc);
+    push_first(&mut reader, octets.as_slice(), out)
 }
 
 /// Writes what a case of this module gives, and says whether it has one of this kind.

@@ -26,20 +26,13 @@ use Rattle.fp_service.specs.declared.dialogue.Core.{Core}
 use Rattle.fp_service.specs.Dialogue.{fresh, is_over}
 use Rattle.fp_tids.specs.Identifiers.{identifier}
 use Rattle.fp_ask.specs.Solo.{Outcome, Dialogue, LinkState, aborts, continued, discarded, ended, found, jobs_for, left_by, newborn, next_local, opened, refused, serve_all, without}
-use Rattle.fp_ask.specs.Tied.{Fit, GoesOn, IsServed, KeepsEnd, KeepsDialogues, Matches, Midway, Rest, Rows, Same, SameCounts, frames_in, is_out, jobs_in, jobs_of, live, dialogue_of, times, waiting_at}
+use Rattle.fp_ask.specs.Tied.{Came, Fit, GoesOn, IsServed, KeepsEnd, KeepsDialogues, Matches, Midway, Rest, Rows, Same, SameCounts, frames_in, is_out, jobs_in, jobs_of, live, dialogue_of, times, waiting_at}
 use Rattle.fp_ask.proofs.OneSent.{no_jobs}
 use Rattle.fp_ask.proofs.Resting.{next_is_free, quiet, stands_nowhere}
 use Rattle.fp_ask.proofs.Rows.{ended_gone, live_left, none_waits, out_left, waiting_left}
 use Rattle.fp_ask.proofs.Dialogues.{by_number, found_others, found_without, once_served, same_dialogue, serve_none, swapped, times-cons, times_fewer, unit, unit_most}
 
 -- THE BOOK AFTER IT, READY TO BE SERVED
-
--- as it is told by the list
-pub record Came (p : Outcome) (new : Shelf) : Type 0 where
-  pub midway : Midway new (record { dialogues = p.link.dialogues; frames = p.frames })
-  pub births : p.link.births ≡ new.births
-  pub entries : p.link.entries ≡ new.entries
-  pub once : (k : ℕ) → times k p.link.dialogues ≤ 1
 
 -- one dialogue may have changed, and no other has anything to be served
 pub record Arrives (s new : Shelf) (d : ℕ) (waiting : List Entry) : Type 0 where

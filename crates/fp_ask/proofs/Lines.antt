@@ -13,7 +13,7 @@ use Rattle.fp_entry.specs.Prepared.{IsPrepared}
 use Rattle.fp_ask.specs.declared.answerer.Answerer.{Answerer}
 use Rattle.fp_ask.specs.Answering.{Answers, IsAt}
 use Rattle.fp_ask.specs.Solo.{is_read, post, tick}
-use Rattle.fp_ask.specs.Tied.{Follows, Matches}
+use Rattle.fp_ask.specs.Tied.{LinkFollows, Tells}
 use Rattle.fp_ask.specs.Line.{Input, line_in, message, message_in, some_wait, text_of, wait, wait_in}
 use Rattle.fp_ask.specs.Lines.{IsBad, Solo, State, Takes, Written, written_at}
 use Rattle.fp_ask.proofs.Waits.{wait_in-over}
@@ -70,7 +70,8 @@ long_is_bad state line long = subst (IsBad state) (sym (by_start (starts_with na
 -- a message was taken
 pub taken_message : (contents : Contents) (contexts : List (List ℕ)) (state : State) (line octets : List ℕ) (came : Prepared) (frames : List (List ℕ)) (old new : Answerer)
     → line_in line ≡ Some (message octets) → IsAt state old → IsPrepared contents contexts octets old.moment came → is_read came ≡ true
-    → Follows (λ w. post w came) old.session new.session frames → new.moment ≡ old.moment → Answers contents contexts state line frames new
+    → LinkFollows (λ w. post w came) old.link new.link frames → new.moment ≡ old.moment
+    → Answers contents contexts state line new (λ text. text ≡ text_of frames)
 taken_message contents contexts state line octets came frames old new is at prepared read follows same =
     let goes = follows state.link at.tells in
     record {
@@ -82,13 +83,14 @@ taken_message contents contexts state line octets came frames old new is at prep
         written_is = refl;
       });
       text = ap text_of (sym goes.frames_are);
-      at = record { moment = at.moment ∙ sym same; tells = goes.matches };
+      at = record { moment = at.moment ∙ sym same; tells = goes.tells };
     }
 
 -- a wait was taken
 pub taken_wait : (contents : Contents) (contexts : List (List ℕ)) (state : State) (line : List ℕ) (milliseconds moment : ℕ) (frames : List (List ℕ)) (old new : Answerer)
     → line_in line ≡ Some (wait milliseconds) → IsAt state old → old.moment + milliseconds < END → moment ≡ old.moment + milliseconds
-    → Follows (λ w. tick w moment) old.session new.session frames → new.moment ≡ moment → Answers contents contexts state line frames new
+    → LinkFollows (λ w. tick w moment) old.link new.link frames → new.moment ≡ moment
+    → Answers contents contexts state line new (λ text. text ≡ text_of frames)
 taken_wait contents contexts state line milliseconds moment frames old new is at in_time later follows then =
     let goes = follows state.link at.tells in
     let moment_is : moment ≡ state.moment + milliseconds = later ∙ ap (λ m. m + milliseconds) (sym at.moment) in
@@ -103,7 +105,7 @@ taken_wait contents contexts state line milliseconds moment frames old new is at
       text = ap text_of (ap (λ m. (tick state.link m).frames) (sym moment_is) ∙ sym goes.frames_are);
       at = record {
         moment = sym moment_is ∙ sym then;
-        tells = subst (λ m. Matches (tick state.link m).link new.session) moment_is goes.matches;
+        tells = subst (λ m. Tells (tick state.link m).link new.link) moment_is goes.tells;
       };
     }
 

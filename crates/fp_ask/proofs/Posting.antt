@@ -1,16 +1,17 @@
 -- What is done with a message, by the book and by the list.
-use Rattle.std.proofs.Common.{◌≡◌, ℕ, Bool, true, false, cond, ◌||◌, ◌+◌, ◌≤◌, nat_lt, Option, Some, None, [], length, refl, sym, ◌∙◌, ap, subst, ⊎_elim, zero-add, arith}
+use Rattle.std.proofs.Common.{◌≡◌, ℕ, Bool, true, false, cond, ◌||◌, ◌+◌, ◌≤◌, nat_lt, Option, Some, None, length, refl, sym, ◌∙◌, ap, subst, zero-add, arith}
 use Rattle.std.specs.FinMap as fin
 use Rattle.std.proofs.lemmas.Bool.{false≢true, le-ltb, ltb-false}
-use Rattle.fp_book.specs.declared.answers.Posted.{Posted}
+use Rattle.fp_book.specs.declared.answers.Receipt.{Receipt}
 use Rattle.fp_book.specs.declared.verdict.Verdict.{Verdict}
 use Rattle.fp_book.specs.declared.verdict.Verdict.TheVariants.{Discard, Refuse, Open, Extend}
-use Rattle.fp_book.specs.Calls.{Answers, ClosesOne, Follows, Posts, abort_for, posted_line}
+use Rattle.fp_book.specs.Calls.{Follows}
 use Rattle.fp_book.specs.Lines.{IsAsRead, ReadMessagesHaveFewEntries}
-use Rattle.fp_book.specs.Log.{logged}
+use Rattle.fp_book.specs.Receipt.{IsReceipt, treated_as}
 use Rattle.fp_book.specs.Shelf.{Shelf, Sound}
 use Rattle.fp_book.specs.Verdict as book
 use Rattle.fp_book.proofs.Fits.{verdict_allowed}
+use Rattle.fp_book.proofs.Lines.{first_line_decides}
 use Rattle.fp_entry.specs.declared.arrival.Arrival.{Arrival}
 use Rattle.fp_entry.specs.declared.incoming.Incoming.{Incoming}
 use Rattle.fp_entry.specs.declared.prepared.Prepared.{Prepared}
@@ -19,13 +20,11 @@ use Rattle.fp_entry.specs.Entries.{place_count}
 use Rattle.fp_entry.specs.Prepared.{arrival_of}
 use Rattle.fp_q773.specs.declared.kind.Kind.{Kind}
 use Rattle.fp_q773.specs.declared.kind.Kind.TheVariants.{Unidirectional, Begin, End, Continue, Abort, Unknown}
-use Rattle.fp_q773.specs.declared.provider_abort.AbortCause.{AbortCause}
 use Rattle.fp_q773.specs.declared.provider_abort.AbortCause.TheVariants as cause
 use Rattle.fp_q773.specs.Tid.{Tid}
-use Rattle.fp_row.specs.declared.ending.Ending.TheVariants.{ByPeer}
 use Rattle.fp_ask.specs.Solo.{LinkState, begun, came as came_of, is_read, is_too_much, misread, no_dialogue_left, opened, post, refused, too_many, too_many_entries, is_full}
-use Rattle.fp_ask.specs.Tied.{Fit, IsOfFrame, Matches, Rest, is_lost, tells_lost}
-use Rattle.fp_ask.proofs.Arriving.{Came, done, follows_came, follows_fit}
+use Rattle.fp_ask.specs.Tied.{Came, Fit, IsOfFrame, Matches, Rest}
+use Rattle.fp_ask.proofs.Arriving.{done, follows_came, follows_fit}
 use Rattle.fp_ask.proofs.Resting.{dialogue_test, full_test, named_test, place_test}
 
 by_test : (a b : Bool) (x y : Verdict) (w : LinkState) (came : Prepared) → a ≡ b → cond a (done x w came) (done y w came) ≡ done (cond b x y) w came
@@ -87,7 +86,7 @@ misread_is w arrival came e Unknown dialogue = ap (λ (a : Arrival). refused w (
 -- the message was read, or refused
 
 up_verdict : (s : Shelf) (came : Prepared) → s.is_down ≡ false → book.verdict s came ≡ book.arrived s came
-up_verdict s came up = ap (λ b. cond b Discard (book.arrived s came)) up
+up_verdict s came up = sym (first_line_decides s came) ∙ ap (λ b. cond b Discard (book.arrived s came)) up
 
 -- the list does with a message what the book does
 pub post_is : (s : Shelf) (w : LinkState) (came : Prepared) → ReadMessagesHaveFewEntries → IsOfFrame came → Rest s → Matches w s → is_read came ≡ true → post w came ≡ done (book.verdict s came) w came
@@ -102,53 +101,17 @@ post_is s w (Refused arrival fault) law of r m is =
     ∙ ap (λ v. done v w (Refused arrival fault)) (sym (up_verdict s (Refused arrival fault) r.served.fit.up))
 post_is s w (Lost arrival) law of r m is = absurd (false≢true is)
 
--- WANT OF MEMORY IS TOLD BY THE LOG
+-- A MESSAGE FOR WHICH THERE WAS MEMORY
 
-answered_log : (closed answered : Shelf) (closes : Option ℕ) (abort : Option (Tid × AbortCause)) (answer : Posted) → Answers closed closes abort answer answered → answered.log ≡ closed.log
-answered_log closed answered closes None answer e = ap (λ (x : Shelf). x.log) e.1
-answered_log closed answered closes (Some (peer, cause)) answer e = ap (λ (x : Shelf). x.log) e.1.new_is
+module _ (s new : Shelf) (came : Prepared) (receipt : Receipt) (r : Rest s) (is : IsReceipt s came receipt new) (kept : receipt.lost ≡ false) where
+  followed : Follows (book.verdict s came) s came receipt.posted new
+  followed = subst (λ lost. Follows (book.verdict s (treated_as lost came)) s (treated_as lost came) receipt.posted new) kept is.follows
 
-closed_log : (s closed : Shelf) (closes : Option ℕ) → ClosesOne s closes closed → closed.log ≡ s.log
-closed_log s closed None e = ap (λ (x : Shelf). x.log) e
-closed_log s closed (Some local) e = ap (λ (x : Shelf). x.log) e.new_is
+  -- it is ready to be served,
+  pub posted_fit : Sound new → Fit new
+  posted_fit sound = follows_fit (book.verdict s came) s new came receipt.posted r sound (verdict_allowed s came) followed
 
-log_is : (v : Verdict) (s new : Shelf) (came : Prepared) (answer : Posted) → Follows v s came answer new → new.log ≡ logged s.log (posted_line came answer)
-log_is Discard s new came answer x = ap (λ (x : Shelf). x.log) x.new_is
-log_is (Refuse cause closes) s new came answer x =
-    ap (λ (x : Shelf). x.log) x.new_is ∙ ap (λ l. logged l (posted_line came answer))
-    (answered_log x.closed x.answered closes (abort_for (length s.outbox.aborts) cause (arrival_of came).ids.orig) answer x.answering ∙ closed_log s x.closed closes x.closing)
-log_is (Open peer) s new came answer x = ap (λ (x : Shelf). x.log) x.new_is
-log_is (Extend local false) s new came answer x = ap (λ (x : Shelf). x.log) x.new_is
-log_is (Extend local true) s new came answer x = ap (λ (x : Shelf). x.log) x.new_is
-
-first_told : (v : Verdict) (s new : Shelf) (came : Prepared) (answer : Posted) → s.log ≡ [] → Follows v s came answer new → is_lost new.log ≡ tells_lost (posted_line came answer)
-first_told v s new came answer none x = ap is_lost (log_is v s new came answer x ∙ ap (λ l. logged l (posted_line came answer)) none)
-
-lost_told : (came : Prepared) (answer : Posted) → tells_lost (posted_line came answer) ≡ false → is_read came ≡ true
-lost_told (Message arrival incoming) answer e = refl
-lost_told (Refused arrival fault) answer e = refl
-lost_told (Lost arrival) answer e = absurd (false≢true (sym e))
-
--- a message that wasn't lost was done with by its verdict
-pub record Done (s new : Shelf) (came : Prepared) (answer : Posted) : Type 0 where
-  pub read : is_read came ≡ true
-  pub follows : Follows (book.verdict s came) s came answer new
-
-pub was_done : (s new : Shelf) (came : Prepared) (answer : Posted) → s.log ≡ [] → Posts s came answer new → is_lost new.log ≡ false → Done s new came answer
-was_done s new came answer none posts told = ⊎_elim
-    (λ x. record {
-      read = lost_told came answer (sym (first_told (book.verdict s came) s new came answer none x) ∙ told);
-      follows = x;
-    })
-    (λ x. absurd (false≢true (sym told ∙ first_told (book.verdict s (Lost (arrival_of came))) s new (Lost (arrival_of came)) answer none x.1)))
-    posts
-
--- so it is ready to be served,
-pub posted_fit : (s new : Shelf) (came : Prepared) (answer : Posted) → Rest s → Sound new → Done s new came answer → Fit new
-posted_fit s new came answer r sound d = follows_fit (book.verdict s came) s new came answer r sound (verdict_allowed s came) d.follows
-
--- and is told by the list
-pub posted_came : (s new : Shelf) (w : LinkState) (came : Prepared) (answer : Posted) → ReadMessagesHaveFewEntries → IsOfFrame came → Rest s → Matches w s → Done s new came answer
-    → Came (post w came) new
-posted_came s new w came answer law of r m d =
-    subst (λ p. Came p new) (sym (post_is s w came law of r m d.read)) (follows_came (book.verdict s came) s new w came answer r m (verdict_allowed s came) d.follows)
+  -- and is told by the list
+  pub posted_came : (w : LinkState) → ReadMessagesHaveFewEntries → IsOfFrame came → Matches w s → is_read came ≡ true → Came (post w came) new
+  posted_came w law of m read =
+      subst (λ p. Came p new) (sym (post_is s w came law of r m read)) (follows_came (book.verdict s came) s new w came receipt.posted r m (verdict_allowed s came) followed)

@@ -16,6 +16,6 @@ pub from_err : {X E : Type 0} (r : Result X E) (Q : Type 0) → is_err r ≡ tru
 from_err (Ok x) Q is q = absurd (false≢true is)
 from_err (Err e) Q is q = q
 
-pub both_ok : {X E : Type 0} (r : Result X E) (P R : X → Type 0) (Q : Type 0) → IfOk r P → OnOk r Q → ((x : X) → P x → Q → R x) → IfOk r R
-both_ok (Ok x) P R Q p q f = f x p q
-both_ok (Err e) P R Q p q f = tt
+pub each_ok : {X E : Type 0} (r : Result X E) (P R : X → Type 0) → IfOk r P → ((x : X) → P x → R x) → IfOk r R
+each_ok (Ok x) P R p f = f x p
+each_ok (Err e) P R p f = tt

@@ -1,5 +1,5 @@
 -- The lines of some of the frames, and those of all.
-use Rattle.std.proofs.Common.{◌≡◌, ℕ, List, [], ◌∷◌, ◌++◌, Option, drop, take, refl, sym, ◌∙◌, ap, subst, append_assoc}
+use Rattle.std.proofs.Common.{◌≡◌, ℕ, List, [], ◌∷◌, ◌++◌, Option, drop, take, refl, sym, ◌∙◌, ap, append_assoc}
 use Rattle.std.specs.Io.KnownBytes.{Appends}
 use Rattle.std.proofs.KnownBytes.{Appends-trans}
 use Rattle.std.proofs.lemmas.List.{take-append-drop}
@@ -33,10 +33,3 @@ more_front old mid new i frames frame rest wrote next f = record {
       ∙ ap (λ l. text_of (take i frames) ++ l) (sym (ap text_of next))
       ∙ sym (text_append (take i frames) (drop i frames)) ∙ ap text_of (take-append-drop i frames);
 }
-
--- the lines of the same frames
-pub text_is : (old new : Option (List ℕ)) (a b : List (List ℕ)) → a ≡ b → Appends old new (text_of a) → Appends old new (text_of b)
-text_is old new a b is wrote = subst (λ l. Appends old new (text_of l)) is wrote
-
-pub front_is : (old new : Option (List ℕ)) (a b : List (List ℕ)) → a ≡ b → AppendsFront old new (text_of a) → AppendsFront old new (text_of b)
-front_is old new a b is wrote = subst (λ l. AppendsFront old new (text_of l)) is wrote

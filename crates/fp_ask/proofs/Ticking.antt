@@ -23,8 +23,8 @@ use Rattle.fp_row.specs.declared.row.Row.{Row}
 use Rattle.fp_row.specs.Row.{deadline_of, has_clock, is_due, is_ready}
 use Rattle.fp_service.specs.Dialogue.{next_due}
 use Rattle.fp_ask.specs.Solo.{Due, Job, Dialogue, LinkState, accepted, clocks, discarded, due_at, found, jobs_for, serve_all, tick}
-use Rattle.fp_ask.specs.Tied.{Fit, Matches, Midway, Rest, Rows, Singles, frames_in, is_out, jobs_in, jobs_of, live, dialogue_of, waiting_at}
-use Rattle.fp_ask.proofs.Arriving.{Came, extended_live}
+use Rattle.fp_ask.specs.Tied.{Came, Fit, Matches, Midway, Rest, Rows, Singles, frames_in, is_out, jobs_in, jobs_of, live, dialogue_of, waiting_at}
+use Rattle.fp_ask.proofs.Arriving.{extended_live}
 use Rattle.fp_ask.proofs.Counting.{sum_zero_at}
 use Rattle.fp_ask.proofs.DueOrder.{Above, Ascends, Each, InOrder, Lt, all_are, in_order, locals, same_list}
 use Rattle.fp_ask.proofs.Resting.{Quiet, full_test, quiet, stands_nowhere}

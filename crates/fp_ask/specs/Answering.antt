@@ -1,28 +1,85 @@
--- What one line makes of a link and its moment.
-use Rattle.std.specs.Prelude.{◌≡◌, ℕ, List, Option, Some, None}
+-- What one line makes of a link and its moment, and of what is written.
+use Rattle.std.specs.Prelude.{◌≡◌, ◌≢◌, ◌⊎◌, ℕ, List, Option, Some, None}
+use Rattle.std.specs.Io.KnownBytes.{Appends}
 use Rattle.fp_records.specs.Table.{Contents}
+use Rattle.fp_streams.specs.Write.{AppendsFront}
 use Rattle.fp_ask.specs.declared.answerer.Answerer.{Answerer}
+use Rattle.fp_ask.specs.declared.answering.Answering.{Answering}
+use Rattle.fp_ask.specs.declared.refusal.Refusal.{Refusal}
+use Rattle.fp_ask.specs.declared.refusal.Refusal.TheVariants.{BadLine, WriteFault, Memory}
 use Rattle.fp_ask.specs.Line.{line_in, text_of}
 use Rattle.fp_ask.specs.Lines.{IsBad, State, Takes, Written}
-use Rattle.fp_ask.specs.Tied.{Matches}
+use Rattle.fp_ask.specs.Tied.{Tells}
 
 -- the moment and the dialogues are these
 pub record IsAt (state : State) (a : Answerer) : Type 0 where
   pub moment : state.moment ≡ a.moment
-  pub tells : Matches state.link a.session
+  pub tells : Tells state.link a.link
 
--- the line is good: these frames are sent for it, and what is so then
-pub record Answers (contents : Contents) (contexts : List (List ℕ)) (state : State) (line : List ℕ) (frames : List (List ℕ)) (new : Answerer) : Type 0 where
+-- the line is good: of what is written for it this holds, and what is so then
+pub record Answers (contents : Contents) (contexts : List (List ℕ)) (state : State) (line : List ℕ) (new : Answerer) (holds : List ℕ → Type 0) : Type 0 where
   pub written : Written
   pub takes : Takes contents contexts state (line_in line) written
-  pub text : written.text ≡ text_of frames
+  pub text : holds written.text
   pub at : IsAt written.state new
 
--- what comes of a line, none for a bad one
+-- what comes of a line: these frames are sent for a good one; a bad line has no frames
 abbrev pub Taken : Contents → List (List ℕ) → State → List ℕ → Option (List (List ℕ)) → Answerer → Type 0
 Taken contents contexts state line None new = IsBad state (line_in line)
-Taken contents contexts state line (Some frames) new = Answers contents contexts state line frames new
+Taken contents contexts state line (Some frames) new = Answers contents contexts state line new (λ text. text ≡ text_of frames)
 
 -- whatever was so before
 abbrev pub Taking : Contents → List (List ℕ) → List ℕ → Answerer → Option (List (List ℕ)) → Answerer → Type 0
 Taking contents contexts line old frames new = (state : State) → IsAt state old → Taken contents contexts state line frames new
+
+-- what takes lines: what they are answered from, the link with its moment, and the writer: the name by which it is lent,
+-- what it holds, and how often it failed
+pub record Taker : Type 0 where
+  pub contents : Contents
+  pub contexts : List (List ℕ)
+  pub answerer : Answerer
+  pub writer : ℕ
+  pub held : Option (List ℕ)
+  pub failures : ℕ
+
+-- seen so, by what its writer says of itself
+abbrev pub seen : {W : Type 0} → (W → Option (List ℕ)) → (W → ℕ) → Answering W → Taker
+seen contents_of failures_of a = record {
+  contents = a.table.now;
+  contexts = a.contexts.now;
+  answerer = a.answerer.now;
+  writer = a.writer.ghost_name;
+  held = contents_of a.writer.now;
+  failures = failures_of a.writer.now;
+}
+
+-- the line is good, and of what is written for it this holds, whatever was so before
+abbrev pub Writes : Taker → List ℕ → Taker → (List ℕ → Type 0) → Type 0
+Writes old line new holds =
+    (state : State) → IsAt state old.answerer → Answers old.contents old.contexts state line new.answerer holds
+
+-- the line is good, and what is written for it was written
+pub record TakesOne (old : Taker) (line : List ℕ) (new : Taker) : Type 0 where
+  pub contents : new.contents ≡ old.contents
+  pub contexts : new.contexts ≡ old.contexts
+  pub writer : new.writer ≡ old.writer
+  pub answers : Writes old line new (Appends old.held new.held)
+  pub fine : new.failures ≡ old.failures
+
+-- the line is bad; or it is good, and a prefix of what is written for it was written; or memory ran out before
+abbrev pub Refuses : Taker → List ℕ → Refusal → Taker → Type 0
+Refuses old line BadLine new = ((state : State) → IsAt state old.answerer → IsBad state (line_in line)) × (new.held ≡ old.held)
+Refuses old line WriteFault new = Writes old line new (AppendsFront old.held new.held)
+Refuses old line Memory new = Writes old line new (AppendsFront old.held new.held) ⊎ (new.held ≡ old.held)
+
+-- the failures of the writer: it failed exactly if that is why
+abbrev pub WriterFailed : Refusal → ℕ → ℕ → Type 0
+WriterFailed BadLine old new = new ≡ old
+WriterFailed WriteFault old new = new ≢ old
+WriterFailed Memory old new = new ≡ old
+
+-- the line was refused
+pub record RefusesOne (old : Taker) (line : List ℕ) (refusal : Refusal) (new : Taker) : Type 0 where
+  pub writer : new.writer ≡ old.writer
+  pub why : Refuses old line refusal new
+  pub failures : WriterFailed refusal old.failures new.failures

@@ -1,20 +1,27 @@
 -- How far the lines of an input were answered, and why no further.
-use Rattle.std.specs.Prelude.{◌≡◌, ◌≢◌, ℕ, ◌+◌, ◌*◌, ◌≤◌, List, [], ◌∷◌, ◌++◌, Option, Some, Result, IfSome, MatchResult, length}
+use Rattle.std.specs.Prelude.{◌≡◌, ◌≢◌, ℕ, ◌+◌, ◌<◌, List, [], ◌∷◌, ◌++◌, Option, Some, Result, Ok, Err, IfSome, MatchResult, length}
+use Rattle.std.specs.List.{All}
 use Rattle.std.specs.Io.KnownBytes.{Appends, Consumes}
 use Rattle.fp_records.specs.Table.{Contents}
+use Rattle.fp_streams.specs.Following.{MayBeAtEnd}
+use Rattle.fp_streams.specs.Grows.{Grows}
 use Rattle.fp_streams.specs.Line.{lines_of}
+use Rattle.fp_streams.specs.Reads.{IsEnd, IsPiece, joined}
 use Rattle.fp_streams.specs.Write.{AppendsFront}
+use Rattle.fp_streams.specs.declared.fault.LinesFault.{LinesFault}
+use Rattle.fp_streams.specs.declared.fault.LinesFault.TheVariants as faults
 use Rattle.fp_ask.specs.declared.fault.AskFault.{AskFault}
 use Rattle.fp_ask.specs.declared.fault.AskFault.TheVariants.{BadLine, ReadFault, WriteFault, TurnLimit, Memory}
+use Rattle.fp_ask.specs.declared.refusal.Refusal.{Refusal}
+use Rattle.fp_ask.specs.declared.refusal.Refusal.TheVariants as refusals
 use Rattle.fp_ask.specs.Line.{line_in}
 use Rattle.fp_ask.specs.Lines.{IsBad, Solo, Written, at_start}
 
--- all lines of the input are good, and what is written for them was written; one read found the end
-pub record AnswersAll (contents : Contents) (contexts : List (List ℕ)) (moment turns : ℕ) (old new : Option (List ℕ)) (input : List ℕ) : Type 0 where
+-- all lines of the input are good, and what is written for them was written
+pub record AnswersAll (contents : Contents) (contexts : List (List ℕ)) (moment : ℕ) (old new : Option (List ℕ)) (input : List ℕ) : Type 0 where
   pub written : Written
   pub solo : Solo contents contexts (at_start moment) (lines_of input) written
   pub wrote : Appends old new written.text
-  pub few : length input + 4096 ≤ 4096 * turns
 
 -- the line of this number is bad, those before it are good, and what is written for those was written
 pub record StopsAt (contents : Contents) (contexts : List (List ℕ)) (moment number : ℕ) (old new : Option (List ℕ)) (input : List ℕ) : Type 0 where
@@ -54,46 +61,57 @@ pub record Breaks (contents : Contents) (contexts : List (List ℕ)) (moment : �
   pub solo : Solo contents contexts (at_start moment) first written
   pub front : AppendsFront old new written.text
 
--- as many octets were read as there were reads, or more
-abbrev pub HaltsSpent : ℕ → Contents → List (List ℕ) → ℕ → Option (List ℕ) → Option (List ℕ) → Option (List ℕ) → List ℕ → Type 0
-HaltsSpent turns contents contexts moment left old new input =
-    (halts : Halts contents contexts moment left old new input) × (turns ≤ length halts.read)
-
 -- why the lines weren't all answered, of a reader that had these octets and has those left
-abbrev pub Stops : Contents → List (List ℕ) → ℕ → ℕ → Option (List ℕ) → Option (List ℕ) → Option (List ℕ) → Option (List ℕ) → AskFault → Type 0
-Stops contents contexts moment turns had left old new (BadLine number) = IfSome had (StopsAt contents contexts moment number old new)
-Stops contents contexts moment turns had left old new ReadFault = IfSome had (Halts contents contexts moment left old new)
-Stops contents contexts moment turns had left old new WriteFault = IfSome had (Breaks contents contexts moment left old new)
-Stops contents contexts moment turns had left old new TurnLimit = IfSome had (HaltsSpent turns contents contexts moment left old new)
-Stops contents contexts moment turns had left old new Memory = IfSome had (Breaks contents contexts moment left old new)
+abbrev pub Stops : Contents → List (List ℕ) → ℕ → Option (List ℕ) → Option (List ℕ) → Option (List ℕ) → Option (List ℕ) → AskFault → Type 0
+Stops contents contexts moment had left old new (BadLine number) = IfSome had (StopsAt contents contexts moment number old new)
+Stops contents contexts moment had left old new ReadFault = IfSome had (Halts contents contexts moment left old new)
+Stops contents contexts moment had left old new WriteFault = IfSome had (Breaks contents contexts moment left old new)
+Stops contents contexts moment had left old new TurnLimit = IfSome had (Halts contents contexts moment left old new)
+Stops contents contexts moment had left old new Memory = IfSome had (Breaks contents contexts moment left old new)
 
--- a front of the input was read, no more than so many reads of 4,096 octets give
-pub record ReadsWithin (turns : ℕ) (left : Option (List ℕ)) (input : List ℕ) : Type 0 where
-  pub read : List ℕ
-  pub consumed : Consumes (Some input) left read
-  pub few : length read ≤ 4096 * turns
+-- how many reads were made, by the fault
+abbrev pub ReadsStop : ℕ → ℕ → Option (List ℕ) → List (List ℕ) → AskFault → Type 0
+ReadsStop reads count left last (BadLine number) = MayBeAtEnd reads count left last
+ReadsStop reads count left last ReadFault = (last ≡ []) × (count < reads)
+ReadsStop reads count left last WriteFault = MayBeAtEnd reads count left last
+ReadsStop reads count left last TurnLimit = (last ≡ []) × (count ≡ reads)
+ReadsStop reads count left last Memory = MayBeAtEnd reads count left last
 
-abbrev pub Reads : ℕ → Option (List ℕ) → Option (List ℕ) → Type 0
-Reads turns had left = IfSome had (ReadsWithin turns left)
+-- pieces were read, and perhaps the end of the input
+pub record Reads {A : Type 0} (reads : ℕ) (had left : Option (List ℕ)) (before after : Option (List (List ℕ))) (result : Result A AskFault) : Type 0 where
+  pub pieces : List (List ℕ)
+  pub sizes : All (IsPiece 4096) pieces
+  pub last : List (List ℕ)
+  pub read : Grows before after (pieces ++ last)
+  pub consumed : Consumes had left (joined pieces)
+  pub stop : MatchResult result (λ _. IsEnd reads (length pieces) left last) (ReadsStop reads (length pieces) left last)
 
--- the failures of the reader: it failed where the fault is ReadFault, and not elsewhere
+-- the failures of the reader: it failed exactly if that is the fault
 abbrev pub ReaderSays : AskFault → ℕ → ℕ → Type 0
-ReaderSays (BadLine number) old new = new ≡ old
 ReaderSays ReadFault old new = new ≢ old
-ReaderSays WriteFault old new = new ≡ old
-ReaderSays TurnLimit old new = new ≡ old
-ReaderSays Memory old new = new ≡ old
+ReaderSays _ old new = new ≡ old
 
 abbrev pub CountsReads : {A : Type 0} → Result A AskFault → ℕ → ℕ → Type 0
 CountsReads result old new = MatchResult result (λ _. new ≡ old) (λ fault. ReaderSays fault old new)
 
 -- and those of the writer
 abbrev pub WriterSays : AskFault → ℕ → ℕ → Type 0
-WriterSays (BadLine number) old new = new ≡ old
-WriterSays ReadFault old new = new ≡ old
 WriterSays WriteFault old new = new ≢ old
-WriterSays TurnLimit old new = new ≡ old
-WriterSays Memory old new = new ≡ old
+WriterSays _ old new = new ≡ old
 
 abbrev pub CountsWrites : {A : Type 0} → Result A AskFault → ℕ → ℕ → Type 0
 CountsWrites result old new = MatchResult result (λ _. new ≡ old) (λ fault. WriterSays fault old new)
+
+-- the result of `ask`, from that of `follow_lines`
+abbrev pub fault_of : LinesFault Refusal → AskFault
+fault_of (faults.TooLong number) = BadLine number
+fault_of (faults.Refused number refusals.BadLine) = BadLine number
+fault_of (faults.Refused number refusals.WriteFault) = WriteFault
+fault_of (faults.Refused number refusals.Memory) = Memory
+fault_of faults.ReadFault = ReadFault
+fault_of faults.TurnLimit = TurnLimit
+fault_of faults.Memory = Memory
+
+abbrev pub asked_of : {A : Type 0} → Result A (LinesFault Refusal) → Result A AskFault
+asked_of (Ok done) = Ok done
+asked_of (Err fault) = Err (fault_of fault)

@@ -4,7 +4,7 @@ use Rattle.std.specs.Prelude.{ℕ, Bool, true, false, not, ◌+◌, ◌^◌, ◌
 use Rattle.std.specs.List.{filter, find}
 use Rattle.std.specs.Option.{option_and_then}
 use Rattle.fp_ber.specs.Canon.{canon}
-use Rattle.fp_book.specs.Verdict.{number_of}
+use Rattle.fp_book.specs.Lines.{number_of}
 use Rattle.fp_entry.specs.declared.entry.Entry.{Entry}
 use Rattle.fp_entry.specs.declared.entry.EntryKind.TheVariants.{Clock}
 use Rattle.fp_entry.specs.declared.incoming.Incoming.{Incoming}

@@ -1,10 +1,8 @@
 -- How a book stands to the plain list of dialogues.
-use Rattle.std.specs.Prelude.{◌≡◌, ◌<◌, ◌≤◌, ◌+◌, ◌==◌, ℕ, Bool, true, false, List, [], ◌∷◌, ◌++◌, Option, Some, None, count_by, length, map, if◌then◌else◌, ◌⊎◌}
+use Rattle.std.specs.Prelude.{◌≡◌, ◌<◌, ◌≤◌, ◌+◌, ◌==◌, ℕ, Bool, false, List, [], ◌∷◌, ◌++◌, Option, Some, None, count_by, length, map, if◌then◌else◌, ◌⊎◌}
 use Rattle.std.specs.List.{flat_map}
 use Rattle.std.specs.Ordering.{nat_cmp}
 use Rattle.std.specs.FinMap.{FinMap, get}
-use Rattle.fp_book.specs.declared.line.LoggedStep.{LoggedStep}
-use Rattle.fp_book.specs.declared.line.LoggedStep.TheVariants as line
 use Rattle.fp_book.specs.declared.parcel.Waiting.{Waiting}
 use Rattle.fp_book.specs.Outbox.{Outbox, nothing}
 use Rattle.fp_book.specs.Shelf.{Shelf, Sound}
@@ -99,6 +97,14 @@ pub record Midway (s : Shelf) (served : Served) : Type 0 where
   pub dialogues_end : (serve_all (jobs_of s) dialogues).dialogues ≡ served.dialogues
   pub frames_end : frames_in s.outbox ++ (serve_all (jobs_of s) dialogues).frames ≡ served.frames
 
+-- a message or a moment came to a book: once what waits is served and sent, the plain list is this one, after these
+-- frames
+pub record Came (p : Outcome) (new : Shelf) : Type 0 where
+  pub midway : Midway new (record { dialogues = p.link.dialogues; frames = p.frames })
+  pub births : p.link.births ≡ new.births
+  pub entries : p.link.entries ≡ new.entries
+  pub once : (local : ℕ) → times local p.link.dialogues ≤ 1
+
 -- what was counted is as it was
 pub record SameCounts (old new : Shelf) : Type 0 where
   pub births : new.births ≡ old.births
@@ -117,6 +123,19 @@ pub record GoesOn (p : Outcome) (new : Shelf) (frames : List (List ℕ)) : Type 
 abbrev pub Follows : (LinkState → Outcome) → Shelf → Shelf → List (List ℕ) → Type 0
 Follows play old new frames = (w : LinkState) → Matches w old → GoesOn (play w) new frames
 
+-- the plain list tells of this book, if there is one
+abbrev pub Tells : LinkState → Option Shelf → Type 0
+Tells w None = ⊥
+Tells w (Some s) = Matches w s
+
+-- a link went on as the plain list does, and these frames were sent, whatever list tells of it before
+pub record LinkGoesOn (p : Outcome) (new : Option Shelf) (frames : List (List ℕ)) : Type 0 where
+  pub tells : Tells p.link new
+  pub frames_are : frames ≡ p.frames
+
+abbrev pub LinkFollows : (LinkState → Outcome) → Option Shelf → Option Shelf → List (List ℕ) → Type 0
+LinkFollows play old new frames = (w : LinkState) → Tells w old → LinkGoesOn (play w) new frames
+
 -- a message that was read from a frame, by some records and names
 pub record IsOfFrame (came : Prepared) : Type 0 where
   pub contents : Contents
@@ -129,22 +148,3 @@ pub record IsOfFrame (came : Prepared) : Type 0 where
 pub record KeepsDialogues (old new : Shelf) : Type 0 where
   pub lives : (local : ℕ) → live (get new.rows local) ≡ live (get old.rows local)
   pub counts : SameCounts old new
-
--- whether a step tells of a message for which memory was wanting
-abbrev pub tells_lost : LoggedStep → Bool
-tells_lost (line.Post moment message answer) = false
-tells_lost (line.Lost moment message answer) = true
-tells_lost (line.Tick moment added wanting) = false
-tells_lost (line.Take local position) = false
-tells_lost (line.Give local position given) = false
-tells_lost (line.PutBack local position) = false
-tells_lost (line.Pick local) = false
-tells_lost (line.Sent local) = false
-tells_lost (line.Unsent local) = false
-tells_lost line.Down = false
-tells_lost (line.Gap lost) = false
-
--- whether the oldest step does
-abbrev pub is_lost : List LoggedStep → Bool
-is_lost [] = false
-is_lost (step ∷ log) = tells_lost step

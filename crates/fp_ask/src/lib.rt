@@ -4,28 +4,31 @@
 //! The layer is handed the records, the names of application contexts, a moment, a reader and a writer, and asks the
 //! system for nothing but memory.
 //!
-//! * [`ask`] answers the lines of a reader.
+//! * [`ask`] answers the lines of a reader: it reads its lines with `fp_streams::follow_lines`.
 //! * [`Session`] is the link: [`Session::post`] takes a message that was prepared, and [`Session::tick`] a moment.
 //! * [`SentFrame`] is a frame that was sent, with its head.
 //!
-//! Turns and parcels of the book never leave one call. Want of memory to post a message is told by the book's log,
-//! which is drained for it.
+//! Turns and parcels of the book never leave one call. If memory runs out while a message is posted, the receipt of the
+//! book says so. The log of the book is emptied after each call, and nobody reads it.
 //!
 //! The layer above may rely on this: what is sent is what `post` and `tick` of `specs/Solo.antt` say, a definition over
-//! a plain list of dialogues that knows no queue, no turn and no position, and what [`ask`] writes is what
-//! `specs/Lines.antt` has for the lines of its input, one after another. A session's clauses hold for every list that
-//! tells of it before (`specs/Tied.antt`), and say that the list goes on to tell of it after; at the beginning the
-//! empty one does. After an error nothing is said of a session.
+//! a plain list of dialogues that knows no queue, no turn and no position; one line is answered by what
+//! `specs/Answering.antt` says; and what [`ask`] writes is what `specs/Lines.antt` has for the lines of its input, one
+//! after another. Which reads were made is known one by one (`specs/Asked.antt`). A session's clauses hold for every
+//! list that describes it before (`specs/Tied.antt`), and say that the list goes on to describe it after; at the
+//! beginning the empty one does. After an error nothing is said of a session.
 #![tactic(auto)]
 
 mod answerer;
+mod answering;
 mod engine;
 mod fault;
 mod input;
 mod laws;
 mod line;
-mod log;
+mod link;
 mod output;
+mod refusal;
 mod sent_frame;
 mod session;
 

@@ -1,13 +1,14 @@
 //! What is written.
 
-ghost use Rattle.std.specs.Prelude.{◌≡◌, ◌⊎◌, IfErr, IfOk, OnErr, OnOk, string_bytes};
+ghost use Rattle.std.specs.Prelude.{◌≡◌, ◌≢◌, IfErr, IfOk, MatchResult, OnErr, OnOk, string_bytes};
 ghost use Rattle.std.specs.Io.KnownBytes.{Appends};
 ghost use Rattle.fp_streams.specs.Write.{AppendsFront};
-ghost use Rattle.fp_ask.specs.declared.fault.AskFault.TheVariants.{Memory, WriteFault};
-ghost use Rattle.fp_ask.specs.Asked.{CountsWrites};
+ghost use Rattle.fp_ask.specs.Answering.{WriterFailed};
+ghost use Rattle.fp_ask.specs.declared.refusal.Refusal.TheVariants.{BadLine};
 ghost use Rattle.fp_ask.specs.Line.{line_for, text_of};
 
-use crate::{AskFault, SentFrame};
+use crate::SentFrame;
+use crate::refusal::Refusal;
 use fp_streams::{LinkWrite, write_all};
 use std::alloc::{AllocError, Global};
 
@@ -25,20 +26,21 @@ pub(crate) fn write_frames<W: LinkWrite>(
     alloc: Global,
     frames: &[SentFrame],
     writer: &mut W,
-) -> Result<(), AskFault>
+) -> Result<(), Refusal>
     ensures written { OnOk result (Appends (W.contents writer.old) (W.contents writer.new) (text_of frames.now)) }
     ensures front { OnErr result (AppendsFront (W.contents writer.old) (W.contents writer.new) (text_of frames.now)) }
-    ensures fault { IfErr result (λ fault. (fault ≡ WriteFault) ⊎ (fault ≡ Memory)) }
-    ensures failure { CountsWrites result (W.failures writer.old) (W.failures writer.new) }
+    ensures good { IfErr result (λ refusal. refusal ≢ BadLine) }
+    ensures failure { MatchResult result (λ _. W.failures writer.new ≡ W.failures writer.old)
+        (λ refusal. WriterFailed refusal (W.failures writer.old) (W.failures writer.new)) }
 {
     for frame in frames {
         let text = line_text(alloc, frame)?;
         if write_all(writer, text.as_bytes()).is_err() {
-            return Err(AskFault::WriteFault);
+            return Err(Refusal::WriteFault);
         }
     }
     if writer.flush().is_err() {
-        return Err(AskFault::WriteFault);
+        return Err(Refusal::WriteFault);
     }
     Ok(())
 }

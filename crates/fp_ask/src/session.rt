@@ -1,12 +1,12 @@
 //! Messages and moments, one after another.
 
-ghost use Rattle.std.specs.Prelude.{◌≡◌, true, IfOk, OnOk};
-ghost use Rattle.fp_ask.specs.Solo.{at_first, is_read, post, tick};
-ghost use Rattle.fp_ask.specs.Tied.{Follows, IsOfFrame, Matches, Rest};
+ghost use Rattle.std.specs.Prelude.{◌≡◌, ◌<◌, [], true, vec_capacity, IfOk, OnOk};
+ghost use Rattle.fp_book.specs.Shelf.{Sound};
+ghost use Rattle.fp_ask.specs.Solo.{Outcome, at_first, is_read, post, tick};
+ghost use Rattle.fp_ask.specs.Tied.{Came, Fit, Follows, GoesOn, IsOfFrame, Matches, Rest};
 
 use crate::SentFrame;
 use crate::engine::{send_waiting, serve_waiting};
-use crate::log::{clear_log, is_lost};
 use fp_book::{Book, Line, read_messages_have_few_entries};
 use fp_digits::Moment;
 use fp_entry::Prepared;
@@ -18,7 +18,7 @@ use std::marker::Model;
 #[derive(Debug, Drop)]
 pub struct Session {
     book: Book,
-    // Room for lines of the book's log.
+    // Room for lines of the book's log, which nobody reads.
     lines: Vec<Line>,
 }
 
@@ -37,6 +37,30 @@ impl Model for Session {
     ghost view = { λ session. session.book };
 
     ghost invariant = { λ session. 0 < vec_capacity session.lines };
+}
+
+/// Whether memory was there to read a message.
+fn was_read(came: &Prepared) -> bool
+    ensures { result ≡ is_read came.now }
+{
+    !matches!(came, Prepared::Lost { .. })
+}
+
+/// Drops the lines of the log, so that it keeps no message. A call can add more lines than `lines` has room for. Takes
+/// no memory.
+fn clear_log(book: &mut Book, lines: &mut Vec<Line>)
+    requires { 0 < vec_capacity lines.old }
+    ensures book { book.new ≡ record book.old { log = [] } }
+    ensures sound { Sound book.new }
+    ensures capacity { vec_capacity lines.new ≡ vec_capacity lines.old }
+{
+    loop {
+        lines.clear();
+        book.drain(lines);
+        if lines.is_empty() {
+            return;
+        }
+    }
 }
 
 impl Session {
@@ -64,13 +88,14 @@ impl Session {
             → Follows (λ w. post w came) self.old self.new frames.items) }
     {
         read_messages_have_few_entries();
-        clear_log(&mut self.book, &mut self.lines);
-        let _ = self.book.post(alloc, came);
-        if is_lost(&mut self.book, &mut self.lines) {
+        if !was_read(&came) {
             return Err(AllocError);
         }
-        serve_waiting(alloc, &mut self.book)?;
-        send_waiting(alloc, &mut self.book)
+        let receipt = self.book.post_with_receipt(alloc, came);
+        if receipt.lost {
+            return Err(AllocError);
+        }
+        self.serve_and_send(alloc)
     }
 
     /// Time goes by: answers the frames that are sent for it. Where memory is wanting, nothing is said of the session
@@ -84,7 +109,18 @@ impl Session {
         if ticked.wanting > 0 {
             return Err(AllocError);
         }
+        self.serve_and_send(alloc)
+    }
+
+    /// Serves and sends what waits, and drops the lines of the log.
+    fn serve_and_send(&mut self, alloc: Global) -> Result<Vec<SentFrame>, AllocError>
+        requires fit { Fit self.old }
+        ensures rest { OnOk result (Rest self.new) }
+        ensures goes_on { IfOk result (λ frames. (p : Outcome) → Came p self.old → GoesOn p self.new frames.items) }
+    {
         serve_waiting(alloc, &mut self.book)?;
-        send_waiting(alloc, &mut self.book)
+        let frames = send_waiting(alloc, &mut self.book)?;
+        clear_log(&mut self.book, &mut self.lines);
+        Ok(frames)
     }
 }

@@ -181,6 +181,7 @@ own_after old new d before after own same link given births dropped closed held 
   is_left = held;
   born = (let more : 0 < before.birth = own.born.0 in omega (arith, same.birth), let most : before.birth ≤ old.births = own.born.1 in omega (arith, same.birth));
   serial = (own.serial.0, own.serial.1, (let most : own.serial.0 ≤ old.given = own.serial.2 in omega arith), own.serial.3 ∙ ap (λ l. identifier l own.serial.0) (sym link));
+  birth_is = same.birth ∙ own.birth_is;
   dropped = dropped;
   closed = closed;
 }

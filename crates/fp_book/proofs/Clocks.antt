@@ -19,7 +19,7 @@ use Rattle.fp_book.specs.Clocking.{idle_among, is_among}
 use Rattle.fp_book.specs.Log.{logged}
 use Rattle.fp_book.specs.Shelf.{Shelf, Sound, one_if}
 use Rattle.fp_book.specs.Totals.{sum_of}
-use Rattle.fp_book.specs.Verdict.{is_full}
+use Rattle.fp_book.specs.Lines.{is_full}
 use Rattle.fp_entry.specs.declared.entry.Entry.{Entry}
 use Rattle.fp_entry.specs.declared.entry.EntryKind.TheVariants.{Clock}
 use Rattle.fp_entry.specs.Entries.{entry_at}

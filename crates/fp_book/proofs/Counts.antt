@@ -1,14 +1,16 @@
 -- What a link counts once a message was posted, and what is told of it.
-use Rattle.std.proofs.Common.{◌≡◌, ℕ, true, false, Option, Some, None, refl, sym, ◌∙◌, ap, subst, ⊎_elim, ◌≢◌, Bool, cond, List, [], ◌∷◌, inl, inr}
+use Rattle.std.proofs.Common.{◌≡◌, ℕ, true, false, Option, Some, None, refl, sym, ◌∙◌, ap, subst, ⊎_elim, ◌≢◌, Bool, List, [], ◌∷◌, inl, inr}
 use Rattle.std.proofs.lemmas.Bool.{cond_both, false≢true}
+use Rattle.fp_book.proofs.Lines.{first_line_decides}
 use Rattle.fp_book.specs.declared.answers.Posted.{Posted}
 use Rattle.fp_book.specs.declared.totals.Totals.{Totals}
 use Rattle.fp_book.specs.declared.verdict.Verdict.{Verdict}
 use Rattle.fp_book.specs.declared.verdict.Verdict.TheVariants.{Discard, Refuse, Open, Extend}
-use Rattle.fp_book.specs.Calls.{Answers, ClosesOne, Follows, Posts, accepts, closed_answer, posted_totals, are_some, asks_for_memory}
+use Rattle.fp_book.specs.Calls.{Answers, ClosesOne, Follows, Posts, closed_answer, posted_totals, are_some, asks_for_memory}
 use Rattle.fp_book.specs.Receipt.{accepted_components, IsReceipt, treated_as}
 use Rattle.fp_book.specs.Shelf.{Shelf}
-use Rattle.fp_book.specs.Verdict.{lost_of, named, verdict, arrived}
+use Rattle.fp_book.specs.Lines.{named, verdict}
+use Rattle.fp_book.specs.Verdict.{lost_of}
 use Rattle.fp_entry.specs.declared.arrival.Arrival.{Arrival}
 use Rattle.fp_entry.specs.declared.prepared.Prepared.{Prepared}
 use Rattle.fp_entry.specs.declared.prepared.Prepared.TheVariants as prepared
@@ -20,6 +22,12 @@ use Rattle.fp_q773.specs.Tid.{Tid}
 use Rattle.fp_book.specs.declared.answers.Receipt.{Receipt}
 use Rattle.fp_entry.specs.declared.entry.Entry.{Entry}
 use Rattle.fp_entry.specs.declared.prepared.Prepared.TheVariants.{Lost}
+
+-- whether a message is accepted
+abbrev pub accepts : Verdict → Bool
+accepts Discard = false
+accepts (Refuse cause closes) = false
+accepts v = true
 
 -- nothing is counted for such an answer, whatever came
 abbrev CountsNone : Posted → Type 0
@@ -67,7 +75,9 @@ lost_by Continue (Some local) = refl
 lost_by kind dialogue = refl
 
 pub lost_away : (s : Shelf) (arrival : Arrival) → accepts (verdict s (prepared.Lost arrival)) ≡ false
-lost_away s arrival = cond_both s.is_down Discard (lost_of arrival.ids.kind (named s arrival.ids)) (λ v. accepts v ≡ false) (λ _. refl) (λ _. lost_by arrival.ids.kind (named s arrival.ids))
+lost_away s arrival =
+    subst (λ v. accepts v ≡ false) (first_line_decides s (prepared.Lost arrival))
+    (cond_both s.is_down Discard (lost_of arrival.ids.kind (named s arrival.ids)) (λ v. accepts v ≡ false) (λ _. refl) (λ _. lost_by arrival.ids.kind (named s arrival.ids)))
 
 -- what is counted is told by the answer
 pub posted_counts : (old : Shelf) (came : Prepared) (answer : Posted) (new : Shelf) → Posts old came answer new → new.totals ≡ posted_totals old.totals came answer
@@ -108,14 +118,6 @@ posts_by true old new came posted asked follows = inr (asked refl, follows)
 -- so a message was posted
 pub receipt_posts : (old new : Shelf) (came : Prepared) (receipt : Receipt) → IsReceipt old came receipt new → Posts old came receipt.posted new
 receipt_posts old new came receipt g = posts_by receipt.lost old new came receipt.posted g.asked g.follows
-
--- a link that accepts a message is up
-up_by : (down : Bool) (v w : Verdict) → cond down Discard v ≡ w → accepts w ≡ true → down ≡ false
-up_by true v w is takes = absurd (false≢true (ap accepts is ∙ takes))
-up_by false v w is takes = refl
-
-pub up_if : (s : Shelf) (came : Prepared) (v : Verdict) → verdict s came ≡ v → accepts v ≡ true → s.is_down ≡ false
-up_if s came v is takes = up_by s.is_down (arrived s came) v is takes
 
 -- entries that aren't none are some
 pub some_of : (entries : List Entry) → entries ≢ [] → are_some entries ≡ true

@@ -135,6 +135,7 @@ Sound-opens law old new peer came answer s g up room few places serial =
         is_left = held;
         born = (omega arith, omega arith);
         serial = (old.given + 1, omega arith, omega arith, refl);
+        birth_is = birth_is ∙ ap (λ n. n + 1) s.births;
         dropped = λ e. absurd (false≢true (sym (ap is_some not_ended) ∙ e));
         closed = λ e. absurd (false≢true (sym up ∙ e));
       };

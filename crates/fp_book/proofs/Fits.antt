@@ -4,12 +4,13 @@ use Rattle.std.specs.Prelude.{⊤}
 use Rattle.std.proofs.lemmas.Bool.{cond_both, eqb-false, leb-false, ltb-false, or_parts}
 use Rattle.std.specs.Option.{option_and_then, option_map_or}
 use Rattle.std.specs.FinMap as map
+use Rattle.fp_book.proofs.Lines.{first_line_decides}
 use Rattle.fp_book.proofs.Tells.{names_by}
 use Rattle.fp_book.specs.declared.verdict.Verdict.{Verdict}
 use Rattle.fp_book.specs.declared.verdict.Verdict.TheVariants.{Discard, Refuse, Open, Extend}
-use Rattle.fp_book.specs.Calls.{entries_in}
 use Rattle.fp_book.specs.Shelf.{Shelf}
-use Rattle.fp_book.specs.Verdict.{abort_of, arrived, begin_of, is_full, lost_of, message_of, more_of, named, no_dialogue_left, no_place_left, number_of, refused_of, too_many, verdict}
+use Rattle.fp_book.specs.Lines.{entries_in, is_full, named, number_of, verdict}
+use Rattle.fp_book.specs.Verdict.{abort_of, arrived, begin_of, lost_of, message_of, more_of, no_dialogue_left, no_place_left, refused_of, too_many}
 use Rattle.fp_entry.specs.declared.arrival.Arrival.{Arrival}
 use Rattle.fp_entry.specs.declared.incoming.Incoming.{Incoming}
 use Rattle.fp_entry.specs.declared.prepared.Prepared.{Prepared}
@@ -135,7 +136,7 @@ arrived_fits s (Message arrival incoming) up = message_fits s arrival incoming u
 
 -- each verdict has made sure of what it may rely on
 pub verdict_allowed : (s : Shelf) (came : Prepared) → Allowed s came (verdict s came)
-verdict_allowed s came = cond_both s.is_down Discard (arrived s came) (Allowed s came) (λ _. tt) (λ up. arrived_fits s came up)
+verdict_allowed s came = subst (Allowed s came) (first_line_decides s came) (cond_both s.is_down Discard (arrived s came) (Allowed s came) (λ _. tt) (λ up. arrived_fits s came up))
 
 -- so a dialogue that accepts a message takes it, and it has few entries
 extend_by : (s : Shelf) (came : Prepared) (local : ℕ) (ends : Bool) → Allowed s came (Extend local ends) → (option_map_or is_admitted (map.get s.rows local) false ≡ true) × (length (entries_in came) ≤ 17)

@@ -29,7 +29,7 @@ use Rattle.fp_book.specs.declared.line.LoggedStep.{LoggedStep}
 use Rattle.fp_book.specs.declared.totals.Totals.{Totals}
 use Rattle.fp_book.specs.Laws.{PostingKeepsSound}
 use Rattle.fp_book.specs.Totals.{sum_of}
-use Rattle.fp_book.specs.Verdict.{verdict}
+use Rattle.fp_book.specs.Lines.{verdict}
 use Rattle.fp_book.specs.Views.{AreTimed, IsKept, shelf_of}
 use Rattle.fp_entry.specs.Prepared.{arrival_of}
 use Rattle.fp_q773.specs.declared.provider_abort.AbortCause.{AbortCause}

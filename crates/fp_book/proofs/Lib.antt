@@ -10,7 +10,7 @@ mod Fresh
 mod Grows
 mod Headline
 pub mod Kept
-mod Lines
+pub mod Lines
 pub mod Posts
 pub mod Queue
 mod Sends

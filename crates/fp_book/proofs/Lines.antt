@@ -1,4 +1,4 @@
--- What is done with a message is what the first line says that fits; what holds of each message that was read.
+-- What the private functions find is what the first line says that fits; what holds of each message that was read.
 use Rattle.std.proofs.Common.{◌≡◌, ℕ, ◌+◌, ◌≤◌, ◌<◌, ◌^◌, Bool, true, false, cond, ◌||◌, List, [], ◌∷◌, ◌++◌, nat_eq, nat_le, nat_lt, Option, Some, None, IsSome, is_none, length, refl, sym, ◌∙◌, ap, arith, ◌≢◌, suc, option_map, length-append}
 use Rattle.std.proofs.lemmas.Bool.{false≢true, lt-ltb, ltb-true}
 use Rattle.std.proofs.lemmas.List.Sums.{sum_by-append}
@@ -7,9 +7,9 @@ use Rattle.std.specs.Option.{option_map_or}
 use Rattle.std.specs.FinMap as map
 use Rattle.fp_book.specs.declared.verdict.Verdict.{Verdict}
 use Rattle.fp_book.specs.declared.verdict.Verdict.TheVariants.{Discard, Refuse, Open, Extend}
-use Rattle.fp_book.specs.Lines.{IsAsRead, MessagesGetTheirLine, ReadMessagesHaveFewEntries, SevenLinesDecide, first_lines, first_that_fits, last_lines, own_tests, unserved_in}
+use Rattle.fp_book.specs.Lines.{IsAsRead, ReadMessagesHaveFewEntries, SevenLinesDecide, first_lines, first_that_fits, last_lines, named, own_tests, unserved_in, verdict}
 use Rattle.fp_book.specs.Shelf.{Shelf, of_row}
-use Rattle.fp_book.specs.Verdict.{begin_of, lost_of, message_of, more_of, named, refused_of}
+use Rattle.fp_book.specs.Verdict.{begin_of, judged, lost_of, message_of, more_of, refused_of}
 use Rattle.fp_entry.specs.declared.arrival.Arrival.{Arrival}
 use Rattle.fp_entry.specs.declared.entry.Entry.{Entry}
 use Rattle.fp_entry.specs.declared.fault.Fault.{Fault}
@@ -26,6 +26,7 @@ use Rattle.fp_row.specs.Row.{places_taken, unserved}
 use Rattle.fp_entry.specs.declared.entry.EntryKind.TheVariants.{Opened, PeerEnd}
 use Rattle.fp_entry.specs.Delivered.{delivered}
 use Rattle.fp_entry.specs.Incoming.{element_count}
+use Rattle.fp_entry.specs.Prepared.{arrival_of}
 use Rattle.fp_q773.specs.Ids.{destination_identifier, message_kind, originating_identifier}
 use Rattle.fp_q773.specs.Laws.{IdentifiersAreThoseOfTheMessage, IdsAreOne, SameIds}
 use Rattle.fp_q773.specs.Value.{ComponentValue, MessageValue, is_faulty, unidirectional, begin, end, continuing, abort}
@@ -34,6 +35,10 @@ use Rattle.fp_records.specs.Table.{Contents}
 -- on a link that is up
 abbrev up : Shelf → Shelf
 up s = record s { is_down = false }
+
+-- the lines behind the first ones
+abbrev behind_first : Shelf → Prepared → List (Bool × Verdict)
+behind_first s came = own_tests came (arrival_of came).ids.kind (named s (arrival_of came).ids) ++ last_lines s came (arrival_of came).ids.kind (named s (arrival_of came).ids)
 
 -- what the first lines decide on a message that is lost, whatever others stand behind them
 lost_line : (s : Shelf) (arrival : Arrival) (others : List (Bool × Verdict)) (kind : Kind) (dialogue : Option ℕ)
@@ -118,19 +123,20 @@ message_line s arrival incoming Abort None = refl
 message_line s arrival incoming Abort (Some local) = refl
 message_line s arrival incoming kind dialogue = refl
 
--- what is done with what came is what the first line says that fits
-pub first_line_decides : MessagesGetTheirLine
+-- what is found for a message that is lost, or refused, is what the first lines decide, whatever others stand behind them
+lost_first : (s : Shelf) (arrival : Arrival) (others : List (Bool × Verdict))
+    → judged s (Lost arrival) ≡ first_that_fits (first_lines s (Lost arrival) arrival.ids.kind (named s arrival.ids) ++ others)
+lost_first s arrival others = ap (λ (v : Verdict). cond s.is_down Discard v) (lost_line s arrival others arrival.ids.kind (named s arrival.ids))
+
+refused_first : (s : Shelf) (arrival : Arrival) (fault : Fault) (others : List (Bool × Verdict))
+    → judged s (Refused arrival fault) ≡ first_that_fits (first_lines s (Refused arrival fault) arrival.ids.kind (named s arrival.ids) ++ others)
+refused_first s arrival fault others = ap (λ (v : Verdict). cond s.is_down Discard v) (refused_line s arrival fault others arrival.ids.kind (named s arrival.ids))
+
+-- what is found for what came is what the first line says that fits
+pub first_line_decides : (s : Shelf) (came : Prepared) → judged s came ≡ verdict s came
 first_line_decides s (Message arrival incoming) = ap (λ (v : Verdict). cond s.is_down Discard v) (message_line s arrival incoming arrival.ids.kind (named s arrival.ids))
-first_line_decides s (Refused arrival fault) =
-    let kind = arrival.ids.kind in
-    let dialogue = named s arrival.ids in
-    ap (λ (v : Verdict). cond s.is_down Discard v)
-    (refused_line s arrival fault (own_tests (Refused arrival fault) kind dialogue ++ last_lines s (Refused arrival fault) kind dialogue) kind dialogue)
-first_line_decides s (Lost arrival) =
-    let kind = arrival.ids.kind in
-    let dialogue = named s arrival.ids in
-    ap (λ (v : Verdict). cond s.is_down Discard v)
-    (lost_line s arrival (own_tests (Lost arrival) kind dialogue ++ last_lines s (Lost arrival) kind dialogue) kind dialogue)
+first_line_decides s (Refused arrival fault) = refused_first s arrival fault (behind_first s (Refused arrival fault))
+first_line_decides s (Lost arrival) = lost_first s arrival (behind_first s (Lost arrival))
 
 -- lines that decide alike do so behind others
 alike_behind : (front xs ys : List (Bool × Verdict)) → first_that_fits xs ≡ first_that_fits ys → first_that_fits (front ++ xs) ≡ first_that_fits (front ++ ys)
@@ -183,17 +189,12 @@ seven_decide law contents contexts octets moment s (Message arrival incoming) is
     let kind = arrival.ids.kind in
     let dialogue = named s arrival.ids in
     let came : Prepared = Message arrival incoming in
-    first_line_decides s came
-    ∙ alike_behind (first_lines s came kind dialogue) (own_tests came kind dialogue ++ last_lines s came kind dialogue) (last_lines s came kind dialogue)
+    alike_behind (first_lines s came kind dialogue) (own_tests came kind dialogue ++ last_lines s came kind dialogue) (last_lines s came kind dialogue)
     (unasked s arrival incoming (law contents contexts octets moment arrival incoming is) kind dialogue refl)
 seven_decide law contents contexts octets moment s (Refused arrival fault) is =
-    let kind = arrival.ids.kind in
-    let dialogue = named s arrival.ids in
-    ap (λ (v : Verdict). cond s.is_down Discard v) (refused_line s arrival fault (last_lines s (Refused arrival fault) kind dialogue) kind dialogue)
+    sym (first_line_decides s (Refused arrival fault)) ∙ refused_first s arrival fault (last_lines s (Refused arrival fault) arrival.ids.kind (named s arrival.ids))
 seven_decide law contents contexts octets moment s (Lost arrival) is =
-    let kind = arrival.ids.kind in
-    let dialogue = named s arrival.ids in
-    ap (λ (v : Verdict). cond s.is_down Discard v) (lost_line s arrival (last_lines s (Lost arrival) kind dialogue) kind dialogue)
+    sym (first_line_decides s (Lost arrival)) ∙ lost_first s arrival (last_lines s (Lost arrival) arrival.ids.kind (named s arrival.ids))
 
 -- as many entries are given as components are delivered
 given_length : (contents : Contents) (moment : ℕ) (components : List ComponentValue) (entries : List Entry) → AreGiven contents moment components entries

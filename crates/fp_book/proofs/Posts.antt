@@ -12,7 +12,7 @@ use Rattle.fp_book.specs.Calls.{Answers, ClosesOne, Discards, Follows, Posts, Qu
 use Rattle.fp_book.specs.Log.{logged}
 use Rattle.fp_book.specs.Outbox.{Outbox, frames_held}
 use Rattle.fp_book.specs.Shelf.{Shelf, Sound}
-use Rattle.fp_book.specs.Verdict.{verdict}
+use Rattle.fp_book.specs.Lines.{verdict}
 use Rattle.fp_entry.specs.declared.prepared.Prepared.{Prepared}
 use Rattle.fp_entry.specs.declared.prepared.Prepared.TheVariants as prepared
 use Rattle.fp_entry.specs.Prepared.{arrival_of}

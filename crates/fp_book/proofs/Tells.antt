@@ -4,10 +4,12 @@ use Rattle.std.specs.Prelude.{⊤}
 use Rattle.std.proofs.lemmas.Bool.{cond_both}
 use Rattle.std.specs.Option.{option_and_then, option_map_or}
 use Rattle.std.specs.FinMap as map
+use Rattle.fp_book.proofs.Lines.{first_line_decides}
 use Rattle.fp_book.specs.declared.verdict.Verdict.{Verdict}
 use Rattle.fp_book.specs.declared.verdict.Verdict.TheVariants.{Discard, Refuse, Open, Extend}
 use Rattle.fp_book.specs.Shelf.{Shelf}
-use Rattle.fp_book.specs.Verdict.{abort_of, admitted, arrived, begin_of, is_full, lost_of, message_of, more_of, named, no_dialogue_left, no_place_left, number_of, refused_of, too_many, verdict}
+use Rattle.fp_book.specs.Lines.{admitted, is_full, named, number_of, verdict}
+use Rattle.fp_book.specs.Verdict.{abort_of, arrived, begin_of, lost_of, message_of, more_of, no_dialogue_left, no_place_left, refused_of, too_many}
 use Rattle.fp_entry.specs.declared.incoming.Incoming.{Incoming}
 use Rattle.fp_entry.specs.declared.prepared.Prepared.{Prepared}
 use Rattle.fp_entry.specs.declared.prepared.Prepared.TheVariants.{Message, Refused, Lost}
@@ -84,7 +86,7 @@ arrived_tells s (Message arrival incoming) anew = message_tells s arrival.ids in
 
 -- what each verdict tells
 pub verdict_tells : (s : Shelf) (came : Prepared) → BeginsAnew (arrival_of came).ids → Tells s came (verdict s came)
-verdict_tells s came anew = cond_both s.is_down Discard (arrived s came) (Tells s came) (λ _. tt) (λ up. arrived_tells s came anew)
+verdict_tells s came anew = subst (Tells s came) (first_line_decides s came) (cond_both s.is_down Discard (arrived s came) (Tells s came) (λ _. tt) (λ up. arrived_tells s came anew))
 
 -- a message names a dialogue by its number, if that dialogue takes messages
 pub record Names (s : Shelf) (o : Option ℕ) (local : ℕ) : Type 0 where

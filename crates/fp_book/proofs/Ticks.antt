@@ -16,7 +16,7 @@ use Rattle.fp_book.specs.Clocking.{AreAgreed, Clocking, ClocksFirst, Deadlines, 
 use Rattle.fp_book.specs.Log.{logged}
 use Rattle.fp_book.specs.Shelf.{Shelf, one_if, turns_of}
 use Rattle.fp_book.specs.Totals.{sum_of}
-use Rattle.fp_book.specs.Verdict.{is_full}
+use Rattle.fp_book.specs.Lines.{is_full}
 use Rattle.fp_book.specs.Views.{AreTimed, deadline_at}
 use Rattle.fp_row.specs.declared.row.Row.{Row}
 use Rattle.fp_row.specs.Row.{deadline_of, is_due, has_clock, is_admitted, is_ready, unserved}

@@ -20,13 +20,14 @@ use Rattle.fp_book.specs.declared.taken.Taken.TheVariants.{Turn as ATurn, Nothin
 use Rattle.fp_book.specs.declared.totals.Totals.{Totals}
 use Rattle.fp_book.specs.declared.verdict.Verdict.{Verdict}
 use Rattle.fp_book.specs.declared.verdict.Verdict.TheVariants.{Discard, Refuse, Open, Extend}
+pub use Rattle.fp_book.specs.Lines.{entries_in}
+use Rattle.fp_book.specs.Lines.{is_full, verdict}
 use Rattle.fp_book.specs.Log.{Drains, logged}
 use Rattle.fp_book.specs.Outbox.{Outbox, IsNext, nothing, with_nothing_out, without_frames_of}
 use Rattle.fp_book.specs.Parcel.{local_of}
 use Rattle.fp_book.specs.Shelf.{Shelf, places_held, with_dialogue}
 use Rattle.fp_book.specs.Sending.{is_frame_of}
 use Rattle.fp_book.specs.Totals.{accepted_by, sent_by, served_by, sum_of}
-use Rattle.fp_book.specs.Verdict.{is_full, verdict}
 use Rattle.fp_entry.specs.declared.entry.Entry.{Entry}
 use Rattle.fp_entry.specs.declared.prepared.Prepared.{Prepared}
 use Rattle.fp_entry.specs.declared.prepared.Prepared.TheVariants as prepared
@@ -281,12 +282,6 @@ posted_line (prepared.Message arrival incoming) answer = line.Post arrival.momen
 posted_line (prepared.Refused arrival fault) answer = line.Post arrival.moment arrival.frame answer
 posted_line (prepared.Lost arrival) answer = line.Lost arrival.moment arrival.frame answer
 
--- the entries of a message
-abbrev pub entries_in : Prepared → List Entry
-entries_in (prepared.Message arrival incoming) = incoming.entries
-entries_in (prepared.Refused arrival fault) = []
-entries_in (prepared.Lost arrival) = []
-
 -- a dialogue is opened
 pub record OpensDialogue (old : Shelf) (peer : Tid) (came : Prepared) (answer : Posted) (new : Shelf) : Type 0 where
   pub opened : Row
@@ -399,13 +394,6 @@ posted_totals totals came (Aborted cause) = totals
 posted_totals totals came Ended = totals
 posted_totals totals came Discarded = totals
 
--- whether a message is accepted
-abbrev pub accepts : Verdict → Bool
-accepts Discard = false
-accepts (Refuse cause closes) = false
-accepts (Open peer) = true
-accepts (Extend local ends) = true
-
 abbrev pub are_some : List Entry → Bool
 are_some [] = false
 are_some (entry ∷ entries) = true
@@ -417,7 +405,7 @@ asks_for_memory (Refuse cause closes) came = false
 asks_for_memory (Open peer) came = true
 asks_for_memory (Extend local ends) came = are_some (entries_in came)
 
--- The first line that fits decides; or, where a message would be accepted, memory was asked for and wanting, and it is
+-- The first matching line applies; or, if a message would be accepted, an allocation failed, and the message is treated
 -- as one that was lost.
 abbrev pub Posts : Shelf → Prepared → Posted → Shelf → Type 0
 Posts old came answer new =

@@ -91,7 +91,8 @@ entry_in out = option_to_list (option_map (λ (turn : Turn). turn.entry) out)
 abbrev pub frames_under : ℕ → Tid → List Request → List (List ℕ)
 frames_under local peer asked = map (λ request. frame_of request local (octets_of peer)) asked
 
--- What the type of a book keeps of a dialogue that is held, the whole of it.
+-- What the type of a book keeps of the order of a dialogue that is held. The lengths of its lists are
+-- in `KeepsOrder` of `fp_row`.
 pub record IsKeptInOrder (s : Shelf) (local : ℕ) (row : Row) : Type 0 where
   -- it stands under its own identifier
   pub local_is : row.local ≡ local
@@ -114,3 +115,8 @@ pub record IsKeptInOrder (s : Shelf) (local : ℕ) (row : Row) : Type 0 where
 
 abbrev pub DialoguesAreKeptInOrder : Type 0
 DialoguesAreKeptInOrder = (s : Shelf) → Sound s → (local : ℕ) (row : Row) → get s.rows local ≡ Some row → IsKeptInOrder s local row
+
+-- no two dialogues that are held have the same birth
+abbrev pub BirthsAreDistinct : Type 0
+BirthsAreDistinct =
+    (s : Shelf) → Sound s → (local other : ℕ) (row held : Row) → get s.rows local ≡ Some row → get s.rows other ≡ Some held → row.birth ≡ held.birth → local ≡ other

@@ -1,14 +1,12 @@
--- The lines by which it is decided what is done with a message, one behind the other: the first that fits decides.
--- `Verdict` says the same by kinds of message. Where memory is wanting to take what line 7 takes, it is as one that was
--- lost (`Posts`).
-use Rattle.std.specs.Prelude.{◌≡◌, ◌≢◌, ℕ, ◌+◌, ◌≤◌, ◌^◌, ◌&&◌, ◌||◌, Bool, true, false, List, [], ◌∷◌, ◌++◌, Option, Some, None, IsSome, is_none, length, nat_eq, nat_le, nat_lt, if◌then◌else◌}
-use Rattle.std.specs.FinMap.{get, len}
+-- The rules of receipt: the first matching line applies to a message. If memory runs out for a message that line 7
+-- takes, it is treated as one that was lost (`Posts`).
+use Rattle.std.specs.Prelude.{◌≡◌, ◌≢◌, ℕ, ◌+◌, ◌*◌, ◌≤◌, ◌^◌, ◌&&◌, ◌||◌, Bool, true, false, List, [], ◌∷◌, ◌++◌, Option, Some, None, IsSome, is_none, length, nat_eq, nat_le, nat_lt, if◌then◌else◌}
+use Rattle.std.specs.FinMap.{FinMap, get, len}
 use Rattle.std.specs.Option.{option_and_then, option_map_or}
+use Rattle.std.specs.Ordering.{nat_cmp}
 use Rattle.fp_book.specs.declared.verdict.Verdict.{Verdict}
 use Rattle.fp_book.specs.declared.verdict.Verdict.TheVariants.{Discard, Refuse, Open, Extend}
-use Rattle.fp_book.specs.Calls.{entries_in}
 use Rattle.fp_book.specs.Shelf.{Shelf, of_row}
-use Rattle.fp_book.specs.Verdict.{named, verdict}
 use Rattle.fp_entry.specs.declared.arrival.Arrival.{Arrival}
 use Rattle.fp_entry.specs.declared.entry.Entry.{Entry}
 use Rattle.fp_entry.specs.declared.incoming.Incoming.{Incoming}
@@ -16,13 +14,39 @@ use Rattle.fp_entry.specs.declared.prepared.Prepared.{Prepared}
 use Rattle.fp_entry.specs.declared.prepared.Prepared.TheVariants.{Message, Refused, Lost}
 use Rattle.fp_entry.specs.Entries.{place_count}
 use Rattle.fp_entry.specs.Prepared.{IsPrepared, arrival_of}
+use Rattle.fp_q773.specs.declared.ids.Ids.{Ids}
 use Rattle.fp_q773.specs.declared.kind.Kind.{Kind}
 use Rattle.fp_q773.specs.declared.kind.Kind.TheVariants.{Unidirectional, Begin, End, Continue, Abort, Unknown}
 use Rattle.fp_q773.specs.declared.provider_abort.AbortCause.TheVariants as cause
+use Rattle.fp_q773.specs.Tid.{octets_of}
 use Rattle.fp_records.specs.Table.{Contents}
-use Rattle.fp_row.specs.Row.{unserved}
+use Rattle.fp_row.specs.declared.row.Row.{Row}
+use Rattle.fp_row.specs.Row.{is_admitted, unserved}
 
--- each line is a test, and what is done where it is met: the first that fits decides
+-- the number that four octets say; fewer name no dialogue
+abbrev pub number_of : List ℕ → Option ℕ
+number_of (a ∷ b ∷ c ∷ d ∷ []) = Some (a * 16777216 + b * 65536 + c * 256 + d)
+number_of octets = None
+
+-- the dialogue, if it is admitted
+abbrev pub admitted : FinMap nat_cmp Row → ℕ → Option ℕ
+admitted rows local = if option_map_or is_admitted (get rows local) false then Some local else None
+
+-- the admitted dialogue that a message names
+abbrev pub named : Shelf → Ids → Option ℕ
+named s ids = option_and_then (admitted s.rows) (option_and_then (λ tid. number_of (octets_of tid)) ids.dest)
+
+-- the entries of a message
+abbrev pub entries_in : Prepared → List Entry
+entries_in (Message arrival incoming) = incoming.entries
+entries_in (Refused arrival fault) = []
+entries_in (Lost arrival) = []
+
+-- the link has accepted 2^63 entries
+abbrev pub is_full : Shelf → Bool
+is_full s = nat_le (2 ^ 63) s.entries
+
+-- each line is a test and what is done if it is met: the first matching one applies
 abbrev pub first_that_fits : List (Bool × Verdict) → Verdict
 first_that_fits [] = Discard
 first_that_fits (line ∷ others) = if line.0 then line.1 else first_that_fits others
@@ -55,7 +79,7 @@ is_unknown kind = false
 abbrev pub grows_a_dialogue : Kind → Bool
 grows_a_dialogue kind = is_begin kind || (is_continue kind || is_end kind)
 
--- whether memory was wanting to read it
+-- whether memory ran out as it was read
 abbrev pub is_lost : Prepared → Bool
 is_lost (Lost arrival) = true
 is_lost came = false
@@ -85,7 +109,7 @@ first_lines s came kind dialogue =
     (s.is_down, Discard)
     -- 2. A Unidirectional: nothing.
     ∷ (is_unidirectional kind, Discard)
-    -- 3. Memory was wanting to read it. A Begin: cause 4.
+    -- 3. Memory ran out as it was read. A Begin: cause 4.
     ∷ (is_lost came && is_begin kind, Refuse (Some cause.ResourceLimitation) None)
     -- A Continue whose destination isn't admitted: cause 1.
     ∷ (is_lost came && (is_continue kind && is_none dialogue), Refuse (Some cause.UnrecognizedTransactionIdentifier) None)
@@ -129,7 +153,7 @@ last_lines s came kind dialogue =
       grows_a_dialogue kind
           && (nat_lt 16 (elements_in came)
           || (nat_lt 64 (place_count (unserved_in s (going_on kind dialogue) ++ entries_in came))
-          || (nat_le (2 ^ 63) s.entries
+          || (is_full s
           || (is_begin kind && (nat_le 4096 (len s.rows) || nat_eq (s.given + 1) (2 ^ 29)))))),
       Refuse (Some cause.ResourceLimitation) (going_on kind dialogue),
     )
@@ -153,9 +177,9 @@ seven_lines s came =
     first_lines s came (arrival_of came).ids.kind (named s (arrival_of came).ids)
     ++ last_lines s came (arrival_of came).ids.kind (named s (arrival_of came).ids)
 
--- what is done with what came is what the first line says that fits
-abbrev pub MessagesGetTheirLine : Type 0
-MessagesGetTheirLine = (s : Shelf) (came : Prepared) → verdict s came ≡ first_that_fits (lines s came)
+-- what is done with what came: what the first matching line says
+abbrev pub verdict : Shelf → Prepared → Verdict
+verdict s came = first_that_fits (lines s came)
 
 -- what holds of each message that was read
 pub record IsAsRead (arrival : Arrival) (incoming : Incoming) : Type 0 where

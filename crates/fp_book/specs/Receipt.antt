@@ -4,8 +4,8 @@ use Rattle.fp_book.specs.declared.answers.Posted.{Posted}
 use Rattle.fp_book.specs.declared.answers.Posted.TheVariants.{Opened, Accepted, Aborted, Ended, Discarded}
 use Rattle.fp_book.specs.declared.answers.Receipt.{Receipt}
 use Rattle.fp_book.specs.Calls.{Follows, asks_for_memory}
+use Rattle.fp_book.specs.Lines.{verdict}
 use Rattle.fp_book.specs.Shelf.{Shelf}
-use Rattle.fp_book.specs.Verdict.{verdict}
 use Rattle.fp_entry.specs.declared.prepared.Prepared.{Prepared}
 use Rattle.fp_entry.specs.declared.prepared.Prepared.TheVariants.{Lost}
 use Rattle.fp_entry.specs.Prepared.{arrival_of, components_of}
@@ -26,7 +26,7 @@ treated_as true came = Lost (arrival_of came)
 pub record IsReceipt (old : Shelf) (came : Prepared) (receipt : Receipt) (new : Shelf) : Type 0 where
   -- its components, if it was accepted
   pub components : receipt.components ≡ accepted_components receipt.posted came
-  -- memory ran out for it only where it was asked for, as it is for no message that is refused
+  -- memory ran out in this call only if it was asked for, as it is for no message that is refused
   pub asked : receipt.lost ≡ true → asks_for_memory (verdict old came) came ≡ true
   -- then it was treated, and logged, as one that was lost; and else as it came
   pub follows : Follows (verdict old (treated_as receipt.lost came)) old (treated_as receipt.lost came) receipt.posted new

@@ -115,6 +115,8 @@ pub record IsOwn (s : Shelf) (local : ℕ) (row : Row) : Type 0 where
   pub is_left : is_held row ≡ true
   pub born : (0 < row.birth) × (row.birth ≤ s.births)
   pub serial : (serial : ℕ) × (0 < serial) × (serial ≤ s.given) × (local ≡ identifier s.link serial)
+  -- its birth is its serial, as long as no serial is used twice: so no other that is held has this birth
+  pub birth_is : row.birth ≡ serial.0
   -- of a dialogue that was ended from outside no frame waits
   pub dropped : is_some row.ended ≡ true → frames_for local s.outbox.frames ≡ []
   -- where the link is down it is closed

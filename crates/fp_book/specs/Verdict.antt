@@ -1,10 +1,11 @@
--- What is to be done with a message, by the dialogues that there are: the first line that fits decides.
-use Rattle.std.specs.Prelude.{ℕ, Bool, true, false, ◌+◌, ◌*◌, ◌^◌, ◌||◌, List, [], ◌∷◌, Option, Some, None, length, nat_le, nat_lt, nat_eq, if◌then◌else◌}
-use Rattle.std.specs.Option.{option_and_then, option_map_or}
-use Rattle.std.specs.Ordering.{nat_cmp}
-use Rattle.std.specs.FinMap.{FinMap, get, len}
+-- What the private functions find one by one, for each kind of message. What they find together,
+-- `judged`, is what the first line that fits says (`verdict` in `Lines`).
+use Rattle.std.specs.Prelude.{ℕ, Bool, true, false, ◌+◌, ◌^◌, ◌||◌, Option, Some, None, length, nat_le, nat_lt, nat_eq, if◌then◌else◌}
+use Rattle.std.specs.Option.{option_map_or}
+use Rattle.std.specs.FinMap.{get, len}
 use Rattle.fp_book.specs.declared.verdict.Verdict.{Verdict}
 use Rattle.fp_book.specs.declared.verdict.Verdict.TheVariants.{Discard, Refuse, Open, Extend}
+pub use Rattle.fp_book.specs.Lines.{admitted, is_full, named, number_of, verdict}
 use Rattle.fp_book.specs.Shelf.{Shelf}
 use Rattle.fp_entry.specs.declared.incoming.Incoming.{Incoming}
 use Rattle.fp_entry.specs.declared.prepared.Prepared.{Prepared}
@@ -14,24 +15,11 @@ use Rattle.fp_q773.specs.declared.ids.Ids.{Ids}
 use Rattle.fp_q773.specs.declared.kind.Kind.{Kind}
 use Rattle.fp_q773.specs.declared.kind.Kind.TheVariants.{Unidirectional, Begin, End, Continue, Abort, Unknown}
 use Rattle.fp_q773.specs.declared.provider_abort.AbortCause.TheVariants as cause
-use Rattle.fp_q773.specs.Tid.{Tid, octets_of}
+use Rattle.fp_q773.specs.Tid.{Tid}
 use Rattle.fp_row.specs.declared.row.Row.{Row}
-use Rattle.fp_row.specs.Row.{is_admitted, places_taken}
+use Rattle.fp_row.specs.Row.{places_taken}
 
--- the number that four octets say; fewer name no dialogue
-abbrev pub number_of : List ℕ → Option ℕ
-number_of (a ∷ b ∷ c ∷ d ∷ []) = Some (a * 16777216 + b * 65536 + c * 256 + d)
-number_of octets = None
-
--- the dialogue, if it is admitted
-abbrev pub admitted : FinMap nat_cmp Row → ℕ → Option ℕ
-admitted rows local = if option_map_or is_admitted (get rows local) false then Some local else None
-
--- the admitted dialogue that a message names
-abbrev pub named : Shelf → Ids → Option ℕ
-named s ids = option_and_then (admitted s.rows) (option_and_then (λ tid. number_of (octets_of tid)) ids.dest)
-
--- a message for which memory is wanting
+-- a message that was lost: memory ran out as it was read
 abbrev pub lost_of : Kind → Option ℕ → Verdict
 lost_of Unidirectional dialogue = Discard
 lost_of Begin dialogue = Refuse (Some cause.ResourceLimitation) None
@@ -46,10 +34,6 @@ abbrev pub refused_of : Kind → Option ℕ → Verdict
 refused_of Unidirectional dialogue = Discard
 refused_of Unknown dialogue = Refuse (Some cause.UnrecognizedMessageType) dialogue
 refused_of kind dialogue = Refuse (Some cause.BadlyFormattedTransactionPortion) dialogue
-
--- the link has accepted 2^63 entries
-abbrev pub is_full : Shelf → Bool
-is_full s = nat_le (2 ^ 63) s.entries
 
 -- no further dialogue may be held, or no serial is left
 abbrev pub no_dialogue_left : Shelf → Bool
@@ -101,5 +85,5 @@ arrived s (Refused arrival fault) = refused_of arrival.ids.kind (named s arrival
 arrived s (Message arrival incoming) = message_of s arrival.ids incoming arrival.ids.kind (named s arrival.ids)
 
 -- what came; a link that is down takes nothing
-abbrev pub verdict : Shelf → Prepared → Verdict
-verdict s prepared = if s.is_down then Discard else arrived s prepared
+abbrev pub judged : Shelf → Prepared → Verdict
+judged s came = if s.is_down then Discard else arrived s came

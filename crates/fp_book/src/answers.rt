@@ -27,7 +27,8 @@ pub struct Receipt {
     pub posted: Posted,
     /// How many of its components were accepted, 0 where it wasn't accepted.
     pub components: u32,
-    /// Whether memory ran out for it, so that it was treated as lost, and the log has a `Lost`.
+    /// Whether memory ran out in this call, so that the message was treated as lost, and the log has
+    /// a `Lost`. It is `false` for a message that came as lost.
     pub lost: bool,
 }
 

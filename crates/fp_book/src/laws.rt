@@ -1,7 +1,8 @@
-//! What holds of all logs, what the calls of a book keep, by which line a message is taken, and how dialogues are kept.
+//! What holds of all logs, what the calls of a book keep, what holds of messages that were read, and
+//! how dialogues are kept.
 
-ghost use Rattle.fp_book.specs.Laws.{DialoguesAreKeptInOrder, EachStepIsAccountedFor, GivingKeepsSound, GoingDownKeepsSound, PickingKeepsSound, PostingKeepsSound, PuttingBackKeepsSound, SendingKeepsSound, TakingKeepsSound, TickingKeepsSound, ToldStepsStay, UnsendingKeepsSound};
-ghost use Rattle.fp_book.specs.Lines.{MessagesGetTheirLine, ReadMessagesHaveFewEntries, SevenLinesDecide};
+ghost use Rattle.fp_book.specs.Laws.{BirthsAreDistinct, DialoguesAreKeptInOrder, EachStepIsAccountedFor, GivingKeepsSound, GoingDownKeepsSound, PickingKeepsSound, PostingKeepsSound, PuttingBackKeepsSound, SendingKeepsSound, TakingKeepsSound, TickingKeepsSound, ToldStepsStay, UnsendingKeepsSound};
+ghost use Rattle.fp_book.specs.Lines.{ReadMessagesHaveFewEntries, SevenLinesDecide};
 
 use fp_q773::{identifiers_are_those_of_the_message, ids_are_one};
 use fp_row::rows_keep_their_order;
@@ -55,11 +56,6 @@ pub fn clocks_keep_a_book_sound()
     entries_ask_once_at_most();
 }
 
-/// What is done with a message is what the first line says that fits it.
-pub fn messages_get_their_line()
-    ensures { MessagesGetTheirLine }
-{}
-
 /// A message that was read has a known tag, a Begin an originating identifier and an Abort one entry, and any has at
 /// most one entry more than its component portion has elements. So the tests that a book makes besides the seven lines
 /// change nothing: on a frame that was prepared the seven alone decide.
@@ -70,6 +66,11 @@ pub fn read_messages_have_few_entries()
     identifiers_are_those_of_the_message();
     ids_are_one();
 }
+
+/// No two dialogues that are held have the same birth.
+pub fn births_are_distinct()
+    ensures { BirthsAreDistinct }
+{}
 
 /// Of each dialogue that is held: the entries served are the first of those that its service logic serves of the
 /// accepted ones, its core is that after them, and the turn that is out has this core and the next entry. Served, out

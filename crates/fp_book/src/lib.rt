@@ -37,17 +37,19 @@
 //! and `unsent` go through everything, and move what is left for each dialogue that goes. Nothing else grows with what
 //! other dialogues have.
 //!
-//! The layer above may rely on this: contracts see a [`Book`] as a `Shelf` (`specs/Shelf.antt`), and its type keeps
-//! what `Sound` says: identifiers are those of the link, each of a serial that was given; of each dialogue what was
-//! sent, then what is being sent, then what waits is what is kept of the frames that its served entries request (its
-//! [`Row`](fp_row::Row) keeps the rest of it); each dialogue that is ready stands once in the order of service; all
-//! limits; and no total is below the sum over the dialogues that are held. Each call says of the whole shelf what it is
-//! then (`specs/Calls.antt`), so that the totals are the sums over the dialogues held and those gone; which line decides
-//! on a message is said by `specs/Verdict.antt`, and that a strange turn or parcel comes back, and the right one never,
-//! by the clauses named `known`. Laws say what follows:
+//! The layer above may rely on this: contracts see a [`Book`] as a `Shelf` (`specs/Shelf.antt`),
+//! and its type keeps what `Sound` says: identifiers are those of the link, each of a serial that
+//! was given; of each dialogue what was sent, then what is being sent, then what waits is what is
+//! kept of the frames that its served entries request (its [`Row`](fp_row::Row) keeps the rest of
+//! it); each dialogue that is ready stands once in the order of service; all limits; and no total
+//! is below the sum over the dialogues that are held. Each call says of the whole shelf what it is
+//! then (`specs/Calls.antt`), so that the totals are the sums over the dialogues held and those
+//! gone. A message gets what the first line of `specs/Lines.antt` that fits it says. That a stale
+//! or foreign turn or parcel comes back, and the right one never, is said by the clauses named
+//! `known`. Laws say what follows:
 //!
-//! * [`messages_get_their_line`]: the first line of `specs/Lines.antt` that fits a message says what is done with it.
-//! * [`read_messages_have_few_entries`]: on a frame that was prepared the seven of them alone decide.
+//! * [`read_messages_have_few_entries`]: on a frame that was prepared seven of those lines alone decide.
+//! * [`births_are_distinct`]: no two dialogues that are held have the same birth.
 //! * [`dialogues_are_kept_in_order`]: of each dialogue that is held the entries served, the one that is out and those
 //!   that wait are those accepted; and the frames sent, the one that is being sent and those that wait are those that it
 //!   requests on the entries served. Where it was closed, is over or was ended from outside they are the first of these.
@@ -75,8 +77,8 @@ mod verdict;
 pub use answers::{Given, Posted, Receipt};
 pub use book::Book;
 pub use laws::{
-    clocks_keep_a_book_sound, dialogues_are_kept_in_order, going_down_keeps_a_book_sound,
-    messages_get_their_line, messages_keep_a_book_sound, read_messages_have_few_entries,
+    births_are_distinct, clocks_keep_a_book_sound, dialogues_are_kept_in_order,
+    going_down_keeps_a_book_sound, messages_keep_a_book_sound, read_messages_have_few_entries,
     sending_keeps_a_book_sound, steps_are_told_or_counted, turns_keep_a_book_sound,
 };
 pub use line::{Line, LoggedStep};

@@ -6,10 +6,11 @@ ghost use Rattle.fp_book.specs.declared.verdict.Verdict.TheVariants as verdicts;
 ghost use Rattle.fp_entry.specs.declared.prepared.Prepared.TheVariants as prepared;
 ghost use Rattle.fp_book.specs.Calls.{without, abort_for, Discards, Follows, Posts, Refuses, posted_line, posted_totals};
 ghost use Rattle.fp_book.specs.Dialogues.{AnsweredBy};
+ghost use Rattle.fp_book.specs.Lines.{is_full, named, number_of, verdict};
 ghost use Rattle.fp_book.specs.Outbox.{without_frames_of};
 ghost use Rattle.fp_book.specs.Receipt.{IsReceipt};
 ghost use Rattle.fp_book.specs.Shelf.{Sound};
-ghost use Rattle.fp_book.specs.Verdict.{abort_of, begin_of, is_full, lost_of, message_of, more_of, named, no_dialogue_left, no_place_left, number_of, refused_of, too_many, verdict};
+ghost use Rattle.fp_book.specs.Verdict.{abort_of, begin_of, lost_of, message_of, more_of, no_dialogue_left, no_place_left, refused_of, too_many};
 
 use crate::serving::{join, set_deadline};
 use crate::verdict::Verdict;
@@ -355,16 +356,14 @@ impl Book {
         Posted::Discarded
     }
 
-    /// Treats a message, for which memory ran out though the link is up, as one that was lost. Takes no memory.
+    /// Treats a message for which memory ran out as one that was lost. Takes no memory.
     fn lose(&mut self, arrival: Arrival) -> Posted
-        requires { self.old.is_down ≡ false }
         ensures { Follows (verdict self.old (prepared.Lost arrival)) self.old (prepared.Lost arrival) result self.new }
     {
-        match lost_of(arrival.ids.kind, self.named(&arrival.ids)) {
-            Verdict::Refuse { cause, closes } => {
-                self.refuse(cause, closes, Prepared::Lost { arrival })
-            }
-            Verdict::Discard => self.discard(Prepared::Lost { arrival }),
+        let came = Prepared::Lost { arrival };
+        match self.verdict(&came) {
+            Verdict::Refuse { cause, closes } => self.refuse(cause, closes, came),
+            Verdict::Discard => self.discard(came),
             Verdict::Open { .. } | Verdict::Extend { .. } => unreachable!(),
         }
     }
@@ -384,23 +383,22 @@ impl Book {
         }
     }
 
-    /// Takes a message, or refuses it; the first of these lines that fits decides.
+    /// Takes a message, or refuses it; the first matching one of these lines applies.
     ///
     /// 1. The link is down: `Discarded`.
     /// 2. It is a Unidirectional: `Discarded`.
-    /// 3. Memory was wanting to read it: cause 4 for a Begin and for a Continue of an admitted dialogue, cause 1 for
+    /// 3. Memory ran out as it was read: cause 4 for a Begin and for a Continue of an admitted dialogue, cause 1 for
     ///    another Continue, none for an End or an Abort; the admitted dialogue is closed. An unknown tag: as line 4.
     /// 4. Octets that are no message that is taken: cause 0 for an unknown tag, else 2; the admitted dialogue is closed.
     /// 5. A Continue, an End or an Abort that names no admitted dialogue: cause 1 for a Continue, else `Discarded`.
     /// 6. A Begin, a Continue or an End with more than 16 elements in its component portion, for which no further
-    /// dialogue may be held, with which more than 64 entries of the dialogue would wait, or behind the last entry that
-    /// the link takes: cause 4, and the dialogue is closed. Where memory is wanting to accept a message, it gets what
+    /// dialogue may be held, with which more than 64 entries of the dialogue would wait, or after the last entry that
+    /// the link takes: cause 4, and the dialogue is closed. If memory runs out as a message is accepted, it gets what
     /// line 3 says.
     /// 7. Else `Opened` or `Accepted`.
     ///
-    /// Where a cause is named, the sender told its identifier, and fewer than 64 Aborts of the provider wait, one more
-    /// waits, and the answer is `Aborted`; else it is `Ended` where a dialogue was closed, and `Discarded` where none
-    /// was. (ITU-T Q.774, 3.3.4 and 3.3.5.)
+    /// If a cause is named, the sender gave its identifier, and fewer than 64 Aborts of the provider wait, one more
+    /// waits, and the answer is `Aborted`; else it is `Ended` if a dialogue was closed, and `Discarded` if none was. (ITU-T Q.774, 3.3.4 and 3.3.5.)
     pub fn post(&mut self, alloc: Global, came: Prepared) -> Posted
         ensures posts { Posts self.old came result self.new }
         ensures totals { self.new.totals ≡ posted_totals self.old.totals came result }
@@ -410,7 +408,7 @@ impl Book {
     }
 
     /// Takes a message, or refuses it, as [`Book::post`], and says besides how many of its components were accepted, and
-    /// whether memory ran out for it.
+    /// whether memory ran out in this call.
     pub fn post_with_receipt(&mut self, alloc: Global, came: Prepared) -> Receipt
         ensures receipt { IsReceipt self.old came result self.new }
         ensures posts { Posts self.old came result.posted self.new }

@@ -8,7 +8,8 @@ use Rattle.std.proofs.lemmas.List.Elements.{All-append, All-cons, All-nil}
 use Rattle.fp_frames.specs.declared.fault.FrameFault.{FrameFault}
 use Rattle.fp_frames.specs.Stream.{Frames}
 use Rattle.fp_streams.specs.Grows.{Grows}
-use Rattle.fp_linkio.specs.Receiving.{HandsOn, IsPiece, joined, ReceiveEnds, Receives}
+use Rattle.fp_streams.specs.Reads.{IsPiece, joined}
+use Rattle.fp_linkio.specs.Receiving.{HandsOn, ReceiveEnds, Receives}
 use Rattle.fp_linkio.specs.declared.ended.Ended.{Ended}
 use Rattle.fp_linkio.proofs.HandedOn.{frames_longer, frames_none, frames_then, front_of}
 use Rattle.fp_linkio.proofs.Told.{told_more, told_none}
@@ -17,7 +18,7 @@ use Rattle.fp_linkio.proofs.Told.{told_more, told_none}
 pub record Goes (made : ℕ) (had left : Option (List ℕ)) (before after old new : Option (List (List ℕ))) (rest : List ℕ) : Type 0 where
   pub pieces : List (List ℕ)
   pub count : length pieces ≡ made
-  pub sizes : All IsPiece pieces
+  pub sizes : All (IsPiece 65536) pieces
   pub read : Grows before after pieces
   pub consumed : Consumes had left (joined pieces)
   pub messages : List (List ℕ)
@@ -34,7 +35,7 @@ pub goes_none : (had : Option (List ℕ)) (before old : Option (List (List ℕ))
 goes_none had before old = record {
   pieces = [];
   count = refl;
-  sizes = All-nil IsPiece;
+  sizes = All-nil (IsPiece 65536);
   read = told_none before;
   consumed = Consumes-nil had;
   messages = [];
@@ -44,7 +45,7 @@ goes_none had before old = record {
 
 -- one more piece was read
 pub goes_read : (made : ℕ) (had left next : Option (List ℕ)) (before after later old new : Option (List (List ℕ))) (rest piece : List ℕ)
-    → Goes made had left before after old new rest → Consumes left next piece → Grows after later (piece ∷ []) → IsPiece piece
+    → Goes made had left before after old new rest → Consumes left next piece → Grows after later (piece ∷ []) → IsPiece 65536 piece
     → Goes (made + 1) had next before later old new (rest ++ piece)
 goes_read made had left next before after later old new rest piece goes consumed read size =
     let more = joined_more goes.pieces piece in
@@ -53,7 +54,7 @@ goes_read made had left next before after later old new rest piece goes consumed
     record {
       pieces = goes.pieces ++ piece ∷ [];
       count = omega (arith, count, long);
-      sizes = All-append IsPiece goes.pieces (piece ∷ []) goes.sizes (All-cons IsPiece piece [] size (All-nil IsPiece));
+      sizes = All-append (IsPiece 65536) goes.pieces (piece ∷ []) goes.sizes (All-cons (IsPiece 65536) piece [] size (All-nil (IsPiece 65536)));
       read = told_more before after later goes.pieces (piece ∷ []) goes.read read;
       consumed = subst (Consumes had next) (sym more) (Consumes-trans had left next (joined goes.pieces) piece goes.consumed consumed);
       messages = goes.messages;

@@ -1,27 +1,14 @@
 -- What the loop that reads a link makes of what it reads, and why it went no further.
 use Rattle.std.specs.Prelude.{◌≡◌, ◌≢◌, ℕ, ◌<◌, ◌≤◌, ◌⊎◌, List, [], ◌∷◌, ◌++◌, Option, Result, Ok, Err, length}
-use Rattle.std.specs.List.{All, flat_map}
-use Rattle.std.specs.Io.KnownBytes.{Consumes, IsAtEnd}
+use Rattle.std.specs.List.{All}
+use Rattle.std.specs.Io.KnownBytes.{Consumes}
 use Rattle.fp_frames.specs.declared.fault.FrameFault.{FrameFault}
 use Rattle.fp_frames.specs.declared.fault.FrameFault.TheVariants as faults
 use Rattle.fp_frames.specs.Stream.{Frames, IsBad, IsIncomplete}
 use Rattle.fp_streams.specs.Grows.{Grows}
+use Rattle.fp_streams.specs.Reads.{IsEnd, IsPiece, joined}
 use Rattle.fp_linkio.specs.declared.ended.Ended.{Ended}
 use Rattle.fp_linkio.specs.declared.ended.Ended.TheVariants.{EndOfInput, BadFrame, ReadFault, WriteFault, TurnLimit, Memory}
-
--- what reads gave, one after another
-abbrev pub joined : List (List ℕ) → List ℕ
-joined pieces = flat_map (λ (piece : List ℕ). piece) pieces
-
--- a read gave an octet, and 65,536 at most
-abbrev pub IsPiece : List ℕ → Type 0
-IsPiece piece = (0 < length piece) × (length piece ≤ 65536)
-
--- the last read gave none, and the input is at its end
-pub record IsEnd (turns count : ℕ) (left : Option (List ℕ)) (last : List (List ℕ)) : Type 0 where
-  pub end : IsAtEnd left
-  pub nothing : last ≡ [] ∷ []
-  pub within : count < turns
 
 -- why it went no further: after so many reads of which each gave octets, the last one besides, and with this rest behind
 -- the frames that were handed on
@@ -43,7 +30,7 @@ ReceiveEnds Memory turns count left last rest = (last ≡ []) × (count ≤ turn
 -- front of what was read, in their order.
 pub record Receives (turns : ℕ) (had left : Option (List ℕ)) (before after old new : Option (List (List ℕ))) (ended : Ended) : Type 0 where
   pub pieces : List (List ℕ)
-  pub sizes : All IsPiece pieces
+  pub sizes : All (IsPiece 65536) pieces
   pub last : List (List ℕ)
   pub read : Grows before after (pieces ++ last)
   pub consumed : Consumes had left (joined pieces)

@@ -6,6 +6,5 @@ mod LineTexts
 mod OfRuns
 mod OneLog
 pub mod Lines
-mod Reading
-mod Reporting
 mod Retelling
+mod Taken

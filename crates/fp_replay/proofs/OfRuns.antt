@@ -1,5 +1,5 @@
 -- The log of a run is replayed.
-use Rattle.std.proofs.Common.{◌≡◌, ℕ, ◌+◌, ◌<◌, Bool, true, false, cond, eqb, List, [], ◌∷◌, ◌++◌, length, zero, suc, refl, sym, ◌∙◌, ap, subst, arith, add-one, append_assoc, append-nil, eq-eqb, ne_eqb}
+use Rattle.std.proofs.Common.{◌≡◌, ℕ, ◌+◌, ◌<◌, Bool, true, false, cond, eqb, List, [], ◌∷◌, ◌++◌, length, refl, sym, ◌∙◌, ap, subst, arith, add-one, append_assoc, append-nil, eq-eqb, ne_eqb}
 use Rattle.std.specs.Prelude.{map, reverse}
 use Rattle.std.specs.List.{AllByRecursion}
 use Rattle.std.proofs.lemmas.Bool.{eqb-true}
@@ -15,7 +15,8 @@ use Rattle.fp_steps.specs.Told.{lines_told, log_of}
 use Rattle.fp_steps.specs.Totals.{totals_of}
 use Rattle.fp_replay.specs.Format.{IsLine, text_of}
 use Rattle.fp_replay.specs.OfRuns.{LogsOfRunsAreReplayed, file_of}
-use Rattle.fp_replay.specs.Replayed.{AllFit, IsInPlace, links_in, log_text, report_line, report_of, steps_of, totals_in}
+use Rattle.fp_replay.specs.Replayed.{AllFit, IsInPlace, links_in, log_text, report_line, report_of, steps_of, totals_along, totals_in}
+use Rattle.fp_replay.proofs.OneLog.{same_report}
 
 -- the lines of a run, the newest first: its steps, and behind them the head
 newest_first : ℕ → List LoggedStep → List Line
@@ -93,12 +94,6 @@ all_back link (step ∷ steps) are =
 
 -- THE REPORT
 
-same_below : (many : ℕ) (g h : ℕ → List Event) → ((link : ℕ) → link < many → g link ≡ h link) → report_of many g ≡ report_of many h
-same_below zero g h same = refl
-same_below (suc link) g h same =
-    ap (λ l. l ++ report_line link (totals_in (g link))) (same_below link g h (λ k below. same k (omega (arith, below))))
-    ∙ ap (λ x. report_of link h ++ report_line link (totals_in x)) (same link (omega arith))
-
 -- this history on this link, and none on others
 only : ℕ → List Event → ℕ → List Event
 only link h other = cond (eqb link other) h []
@@ -148,8 +143,9 @@ logs_replayed contents contexts link steps outputs log run is_log =
         retells = λ other below. retells_only contents contexts link other (lines_told h) told.history (eqb link other) refl told.retells;
       };
       report_is =
-          ap (λ l. l ++ report_line link (totals_of outputs)) (same_below link (λ before. []) (only link told.history) (λ other below. sym (only_other link told.history other (apart_below link other below))))
-          ∙ ap (λ t. report_of link (only link told.history) ++ report_line link t)
+          ap (λ l. l ++ report_line link (totals_of outputs))
+          (same_report link (λ before. totals_of []) (totals_along (only link told.history)) (λ other below. ap totals_in (sym (only_other link told.history other (apart_below link other below)))))
+          ∙ ap (λ t. report_of link (totals_along (only link told.history)) ++ report_line link t)
           (ap totals_of (sym run.tells.outputs_are) ∙ sym told.totals ∙ ap totals_in (sym (only_own link told.history)))
-          ∙ sym (ap (λ n. report_of n (only link told.history)) (links ∙ add-one link));
+          ∙ sym (ap (λ n. report_of n (totals_along (only link told.history))) (links ∙ add-one link));
     }

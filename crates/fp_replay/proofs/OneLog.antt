@@ -1,5 +1,5 @@
 -- The lines of an input are one list, and so is what becomes of them.
-use Rattle.std.proofs.Common.{◌≡◌, ◌≢◌, inl, inr, ℕ, ◌<◌, Bool, true, false, cond, eqb, List, [], ◌∷◌, ◌++◌, length, Option, Some, zero, suc, refl, sym, ◌∙◌, ap, subst, arith, append_assoc, append-nil, length-append, eq-eqb}
+use Rattle.std.proofs.Common.{◌≡◌, ◌≢◌, inl, inr, ℕ, ◌+◌, ◌<◌, Bool, true, false, cond, eqb, List, [], ◌∷◌, ◌++◌, length, Option, Some, zero, suc, refl, sym, ◌∙◌, ap, subst, arith, append_assoc, append-nil, length-append, eq-eqb}
 use Rattle.std.specs.Prelude.{nat_lt}
 use Rattle.std.proofs.lemmas.Bool.{cases_lt}
 use Rattle.std.proofs.lemmas.List.Elements.{All-head, All-tail}
@@ -7,11 +7,12 @@ use Rattle.fp_book.specs.declared.line.Line.{Line}
 use Rattle.fp_book.specs.declared.line.Line.TheVariants.{Head, Step}
 use Rattle.fp_book.specs.declared.line.LoggedStep.{LoggedStep}
 use Rattle.fp_book.specs.declared.line.LoggedStep.TheVariants as logged
+use Rattle.fp_book.specs.declared.totals.Totals.{Totals}
 use Rattle.fp_entry.specs.declared.prepared.Prepared.{Prepared}
 use Rattle.fp_records.specs.Table.{Contents}
 use Rattle.fp_steps.specs.Answers.{IsAnswer}
 use Rattle.fp_steps.specs.History.{Event, IsCame}
-use Rattle.fp_steps.specs.Laws.{AnswersAreOne, LinesAreRetoldOnce}
+use Rattle.fp_steps.specs.Laws.{AnswersAreOne, LinesAreRetoldOnce, RetoldLinesAreCounted}
 use Rattle.fp_steps.specs.Retold.{Retells, RetellsOne}
 use Rattle.fp_steps.specs.Told.{told}
 use Rattle.fp_steps.specs.declared.output.Output.{Output}
@@ -20,15 +21,17 @@ use Rattle.fp_steps.specs.declared.step.Step.TheVariants as steps
 use Rattle.fp_streams.specs.Line.{IsOneLine}
 use Rattle.fp_replay.specs.Format.{text_of}
 use Rattle.fp_replay.specs.Laws.{TextIsOfOneLine}
-use Rattle.fp_replay.specs.Once.{ReplayedHasNoFault, ReportIsOne}
-use Rattle.fp_replay.specs.Replayed.{AllFit, Fits, IsReplayed, links_in, log_text, report_line, report_of, steps_of, totals_in}
-use Rattle.fp_replay.specs.Stopped.{BadAt, Differs, DisagreesAt, GapAt, StepAt, is_gap}
+use Rattle.fp_replay.specs.Once.{FaultIsOne, IsFaultIn, ReplayedHasNoFault, ReportCountsLines, ReportIsOne, counted_along}
+use Rattle.fp_replay.specs.Replayed.{AllFit, Fits, IsReplayed, IsRetold, links_in, log_text, report_line, report_of, steps_of, totals_along, totals_in}
+use Rattle.fp_replay.specs.Stopped.{BadAt, Differs, StepAt, is_gap}
+use Rattle.fp_replay.specs.declared.replay_fault.ReplayFault.{ReplayFault}
+use Rattle.fp_replay.specs.declared.replay_fault.ReplayFault.TheVariants.{BadLine, Gap, Disagrees}
 use Rattle.fp_replay.proofs.LineTexts.{text_one_line}
 
 -- ONE LIST OF LINES
 
 -- octets are cut in one way at their first line feed
-one_feed : (a b x y : List ℕ) → IsOneLine a → IsOneLine x → a ++ 10 ∷ b ≡ x ++ 10 ∷ y → (a ≡ x) × (b ≡ y)
+pub one_feed : (a b x y : List ℕ) → IsOneLine a → IsOneLine x → a ++ 10 ∷ b ≡ x ++ 10 ∷ y → (a ≡ x) × (b ≡ y)
 one_feed [] b [] y p q e = (refl, cc)
 one_feed [] b (o ∷ x) y p q e = absurd (All-head (λ octet. octet ≢ 10) o x q (cc))
 one_feed (o ∷ a) b [] y p q e = absurd (All-head (λ octet. octet ≢ 10) o a p (cc))
@@ -123,78 +126,31 @@ next_line contents contexts (last ∷ lines) n fit below =
 nothing_there : (a b : List ℕ) → [] ≡ a ++ 10 ∷ b → ⊥
 nothing_there a b e = let n = ap length e in let size = length-append a (10 ∷ b) in omega (arith, n, size)
 
--- behind all lines of an input no line follows
-no_more : TextIsOfOneLine → (contents : Contents) (contexts : List (List ℕ)) (xs ys : List Line) (r : List ℕ) → AllFit xs → AllFit ys → log_text xs ≡ log_text ys ++ r → length xs < length ys → ⊥
-no_more one contents contexts xs ys r p q e less =
-    let next = next_line contents contexts ys (length xs) q less in
-    let whole : log_text xs ++ [] ≡ log_text next.before ++ (text_of next.line ++ 10 ∷ (next.behind ++ r)) =
-    append-nil (log_text xs) ∙ e ∙ ap (λ l. l ++ r) next.text
-    ∙ append_assoc (log_text next.before) (text_of next.line ++ 10 ∷ next.behind) r
-    ∙ ap (λ l. log_text next.before ++ l) (append_assoc (text_of next.line) (10 ∷ next.behind) r) in
-    nothing_there (text_of next.line) (next.behind ++ r) (same_lines one xs next.before [] (text_of next.line ++ 10 ∷ (next.behind ++ r)) p next.fit (sym next.many) whole).1
+-- an input begins with these good lines
+record Begun (contents : Contents) (contexts : List (List ℕ)) (input : List ℕ) : Type 0 where
+  lines : List Line
+  tail : List ℕ
+  good : IsRetold contents contexts lines
+  text : input ≡ log_text lines ++ tail
 
--- NO FAULT
+-- where it begins with fewer lines and this, the next one is there
+at_next : TextIsOfOneLine → (contents : Contents) (contexts : List (List ℕ)) (input : List ℕ) (b : Begun contents contexts input) (before : List Line) (rest : List ℕ) → AllFit before
+    → input ≡ log_text before ++ rest → (next : NextLine contents contexts b.lines (length before)) → (next.before ≡ before) × (text_of next.line ++ 10 ∷ (next.behind ++ b.tail) ≡ rest)
+at_next one contents contexts input b before rest q e next =
+    let whole : input ≡ log_text next.before ++ (text_of next.line ++ 10 ∷ (next.behind ++ b.tail)) =
+    b.text ∙ ap (λ l. l ++ b.tail) next.text
+    ∙ append_assoc (log_text next.before) (text_of next.line ++ 10 ∷ next.behind) b.tail
+    ∙ ap (λ l. log_text next.before ++ l) (append_assoc (text_of next.line) (10 ∷ next.behind) b.tail) in
+    same_lines one next.before before (text_of next.line ++ 10 ∷ (next.behind ++ b.tail)) rest next.fit q next.many (sym whole ∙ e)
 
--- where fewer lines were good than there are, the next one follows them
-follows_next : TextIsOfOneLine → (contents : Contents) (contexts : List (List ℕ)) (xs before : List Line) (rest : List ℕ) → AllFit before
-    → log_text xs ≡ log_text before ++ rest → (next : NextLine contents contexts xs (length before)) → (next.before ≡ before) × (text_of next.line ++ 10 ∷ next.behind ≡ rest)
-follows_next one contents contexts xs before rest q e next =
-    same_lines one next.before before (text_of next.line ++ 10 ∷ next.behind) rest next.fit q next.many (sym next.text ∙ e)
+-- no line follows all lines of an input
+no_more : TextIsOfOneLine → (contents : Contents) (contexts : List (List ℕ)) (input : List ℕ) (b : Begun contents contexts input) (lines : List Line) → AllFit lines
+    → input ≡ log_text lines → length lines < length b.lines → ⊥
+no_more one contents contexts input b lines q e less =
+    let next = next_line contents contexts b.lines (length lines) b.good.fit less in
+    nothing_there (text_of next.line) (next.behind ++ b.tail) (sym (at_next one contents contexts input b lines [] q (e ∙ sym (append-nil (log_text lines))) next).1)
 
-not_bad : TextIsOfOneLine → (contents : Contents) (contexts : List (List ℕ)) (input report : List ℕ) (number : ℕ) → IsReplayed contents contexts input report → BadAt contents contexts number input → ⊥
-not_bad one contents contexts input report number r b =
-    let e : log_text r.lines ≡ log_text b.before ++ b.rest = sym r.text ∙ b.reaches.text in
-    let p = r.good.fit in
-    let q = b.reaches.good.fit in
-    elim (cases_lt (length b.before) (length r.lines)) [
-      | inl less ↦
-          let next = next_line contents contexts r.lines (length b.before) p less in
-          let same = follows_next one contents contexts r.lines b.before b.rest q e next in
-          b.bad.none next.line next.behind (subst (λ l. Fits l next.line) same.0 next.fits) (sym same.1)
-      | inr more ↦
-          elim (cases_lt (length r.lines) (length b.before)) [
-            | inl less ↦ no_more one contents contexts r.lines b.before b.rest p q e less
-            | inr least ↦
-                let same = same_lines one r.lines b.before [] b.rest p q (omega (arith, more, least)) (append-nil (log_text r.lines) ∙ e) in
-                let some = r.begun in
-                let n = ap length same.0 in
-                let m = ap length same.1 in
-                let rest = b.bad.is (omega (arith, some, n)) in
-                omega (arith, m, rest)
-          ]
-    ]
-
--- a step of the input that is in its place is retold
-step_there : TextIsOfOneLine → (contents : Contents) (contexts : List (List ℕ)) (input report : List ℕ) (number : ℕ) → IsReplayed contents contexts input report → (at : StepAt contents contexts number input)
-    → (g : List Event) × Retells contents contexts at.link (steps_of at.link (Step at.link at.step ∷ at.before)) g
-step_there one contents contexts input report number r at =
-    let text = text_of (Step at.link at.step) in
-    let e : log_text r.lines ≡ log_text at.before ++ (text ++ 10 ∷ at.behind) = sym r.text ∙ at.reaches.text in
-    let p = r.good.fit in
-    let q = at.reaches.good.fit in
-    elim (cases_lt (length at.before) (length r.lines)) [
-      | inl less ↦
-          let next = next_line contents contexts r.lines (length at.before) p less in
-          let same = follows_next one contents contexts r.lines at.before (text ++ 10 ∷ at.behind) q e next in
-          let parts = one_feed (text_of next.line) next.behind text at.behind (text_one_line next.line next.fits.0) (text_one_line (Step at.link at.step) at.fits.0) same.1 in
-          let line : next.line ≡ Step at.link at.step = one next.line (Step at.link at.step) next.fits.0 at.fits.0 parts.0 in
-          let before : next.before ≡ at.before = same.0 in
-          let below : at.link < links_in next.before = subst (λ l. at.link < links_in l) (sym before) (in_place at.before at.link at.step at.fits) in
-          let g = next.retold at.link (r.good.history at.link) (r.good.retells at.link (next.links at.link below)) in
-          (g.0, subst (λ l. Retells contents contexts at.link (steps_of at.link l) g.0) (let all : next.line ∷ next.before ≡ Step at.link at.step ∷ at.before = cc in all) g.1)
-      | inr more ↦
-          absurd
-          (elim (cases_lt (length r.lines) (length at.before)) [
-            | inl less ↦ no_more one contents contexts r.lines at.before (text ++ 10 ∷ at.behind) p q e less
-            | inr least ↦
-                nothing_there text at.behind
-                (same_lines one r.lines at.before [] (text ++ 10 ∷ at.behind) p q (omega (arith, more, least)) (append-nil (log_text r.lines) ∙ e)).1
-          ])
-    ]
-  where
-    in_place : (lines : List Line) (link : ℕ) (step : LoggedStep) → Fits lines (Step link step) → link < links_in lines
-    in_place [] link step fits = absurd fits.1
-    in_place (last ∷ lines) link step fits = fits.1
+-- A STEP
 
 -- a tick of a history left no dialogue without its Clock
 none_wanting : (link : ℕ) (h : List Event) (st : MadeStep) (came : Option Prepared) (output : Output) (moment added wanting : ℕ)
@@ -233,17 +189,26 @@ retelling_of : (contents : Contents) (contexts : List (List ℕ)) (link : ℕ) (
 retelling_of contents contexts link step lines [] retells = absurd retells
 retelling_of contents contexts link step lines (e ∷ h) retells = record { event = e; before = h; one = retells.0; others = retells.1 }
 
-retold_step : TextIsOfOneLine → (contents : Contents) (contexts : List (List ℕ)) (input report : List ℕ) (number : ℕ) → IsReplayed contents contexts input report → (at : StepAt contents contexts number input)
-    → Retelling contents contexts at.link at.step (steps_of at.link at.before)
-retold_step one contents contexts input report number r at =
-    let g = step_there one contents contexts input report number r at in
-    retelling_of contents contexts at.link at.step (steps_of at.link at.before) g.0
-    (subst (λ b. Retells contents contexts at.link (cond b (at.step ∷ steps_of at.link at.before) (steps_of at.link at.before)) g.0) (eq-eqb at.link at.link refl) g.1)
+-- the place of a step
+place : (lines : List Line) (link : ℕ) (step : LoggedStep) → Fits lines (Step link step) → link < links_in lines
+place [] link step fits = absurd fits.1
+place (last ∷ lines) link step fits = fits.1
 
-not_gap : TextIsOfOneLine → (contents : Contents) (contexts : List (List ℕ)) (input report : List ℕ) (number : ℕ) → IsReplayed contents contexts input report → GapAt contents contexts number input → ⊥
-not_gap one contents contexts input report number r (at, gap) =
-    let retold = retold_step one contents contexts input report number r at in
-    gap_untold contents contexts at.link at.step retold.before retold.event gap retold.one
+-- a step after fewer lines than are good is retold
+retold_step : TextIsOfOneLine → (contents : Contents) (contexts : List (List ℕ)) (input : List ℕ) (number : ℕ) (b : Begun contents contexts input) (at : StepAt contents contexts number input)
+    → length at.before < length b.lines → Retelling contents contexts at.link at.step (steps_of at.link at.before)
+retold_step one contents contexts input number b at less =
+    let text = text_of (Step at.link at.step) in
+    let next = next_line contents contexts b.lines (length at.before) b.good.fit less in
+    let same = at_next one contents contexts input b at.before (text ++ 10 ∷ at.behind) at.reaches.good.fit at.reaches.text next in
+    let parts = one_feed (text_of next.line) (next.behind ++ b.tail) text at.behind (text_one_line next.line next.fits.0) (text_one_line (Step at.link at.step) at.fits.0) same.1 in
+    let line : next.line ≡ Step at.link at.step = one next.line (Step at.link at.step) next.fits.0 at.fits.0 parts.0 in
+    let before : next.before ≡ at.before = same.0 in
+    let below : at.link < links_in next.before = subst (λ l. at.link < links_in l) (sym before) (place at.before at.link at.step at.fits) in
+    let g = next.retold at.link (b.good.history at.link) (b.good.retells at.link (next.links at.link below)) in
+    let there = subst (λ l. Retells contents contexts at.link (steps_of at.link l) g.0) (let all : next.line ∷ next.before ≡ Step at.link at.step ∷ at.before = cc in all) g.1 in
+    retelling_of contents contexts at.link at.step (steps_of at.link at.before) g.0
+    (subst (λ x. Retells contents contexts at.link (cond x (at.step ∷ steps_of at.link at.before) (steps_of at.link at.before)) g.0) (eq-eqb at.link at.link refl) there)
 
 -- a step that is retold isn't told otherwise
 differs_not : AnswersAreOne → (contents : Contents) (contexts : List (List ℕ)) (link : ℕ) (step : LoggedStep) (h : List Event) (e : Event) → RetellsOne contents contexts link step h e → Differs contents contexts link h step → ⊥
@@ -254,47 +219,129 @@ differs_not answers contents contexts link step h e one d =
     let output_is : e.output ≡ d.output = answers contents contexts link h d.step e.came d.came e.output d.output came d.came_is answer d.answer in
     d.differs (sym (ap (λ s. told h s d.output) step_is) ∙ sym (ap (λ o. told h e.step o) output_is) ∙ one.tells)
 
-not_other : TextIsOfOneLine → AnswersAreOne → LinesAreRetoldOnce → (contents : Contents) (contexts : List (List ℕ)) (input report : List ℕ) (number : ℕ) → IsReplayed contents contexts input report
-    → DisagreesAt contents contexts number input → ⊥
-not_other one answers once contents contexts input report number r (at, none, d) =
-    let retold = retold_step one contents contexts input report number r at in
+-- A FAULT
+
+-- the lines before it, which are good
+abbrev lines_before : (contents : Contents) (contexts : List (List ℕ)) (input : List ℕ) (fault : ReplayFault) → IsFaultIn contents contexts input fault → Begun contents contexts input
+lines_before contents contexts input (BadLine number) f = record { lines = f.before; tail = f.rest; good = f.reaches.good; text = f.reaches.text }
+lines_before contents contexts input (Gap number) (at, gap) = record { lines = at.before; tail = text_of (Step at.link at.step) ++ 10 ∷ at.behind; good = at.reaches.good; text = at.reaches.text }
+lines_before contents contexts input (Disagrees number) (at, none, d) = record { lines = at.before; tail = text_of (Step at.link at.step) ++ 10 ∷ at.behind; good = at.reaches.good; text = at.reaches.text }
+lines_before contents contexts input _ f = absurd f
+
+-- it isn't among good lines
+not_among : TextIsOfOneLine → AnswersAreOne → LinesAreRetoldOnce → (contents : Contents) (contexts : List (List ℕ)) (input : List ℕ) (b : Begun contents contexts input) (fault : ReplayFault) (f : IsFaultIn contents contexts input fault)
+    → length (lines_before contents contexts input fault f).lines < length b.lines → ⊥
+not_among one answers once contents contexts input b (BadLine number) f less =
+    let next = next_line contents contexts b.lines (length f.before) b.good.fit less in
+    let same = at_next one contents contexts input b f.before f.rest f.reaches.good.fit f.reaches.text next in
+    f.bad.none next.line (next.behind ++ b.tail) (subst (λ l. Fits l next.line) same.0 next.fits) (sym same.1)
+not_among one answers once contents contexts input b (Gap number) (at, gap) less =
+    let retold = retold_step one contents contexts input number b at less in
+    gap_untold contents contexts at.link at.step retold.before retold.event gap retold.one
+not_among one answers once contents contexts input b (Disagrees number) (at, none, d) less =
+    let retold = retold_step one contents contexts input number b at less in
     let good = at.reaches.good in
     let same : retold.before ≡ good.history at.link =
     once contents contexts at.link (steps_of at.link at.before) retold.before (good.history at.link) retold.others (good.retells at.link (place at.before at.link at.step at.fits)) in
     differs_not answers contents contexts at.link at.step (good.history at.link) retold.event
     (subst (λ h. RetellsOne contents contexts at.link at.step h retold.event) same retold.one) d
-  where
-    place : (lines : List Line) (link : ℕ) (step : LoggedStep) → Fits lines (Step link step) → link < links_in lines
-    place [] link step fits = absurd fits.1
-    place (last ∷ lines) link step fits = fits.1
+not_among one answers once contents contexts input b _ f less = absurd f
+
+-- something is there, or no line is
+something : (contents : Contents) (contexts : List (List ℕ)) (input : List ℕ) (fault : ReplayFault) (f : IsFaultIn contents contexts input fault)
+    → 0 < length (lines_before contents contexts input fault f).lines → (lines_before contents contexts input fault f).tail ≡ [] → ⊥
+something contents contexts input (BadLine number) f some none = let n = f.bad.is some in let m = ap length none in omega (arith, n, m)
+something contents contexts input (Gap number) (at, gap) some none = nothing_there (text_of (Step at.link at.step)) at.behind (sym none)
+something contents contexts input (Disagrees number) (at, gap, d) some none = nothing_there (text_of (Step at.link at.step)) at.behind (sym none)
+something contents contexts input _ f some none = absurd f
+
+-- the lines of a log that is replayed
+abbrev begun_of : (contents : Contents) (contexts : List (List ℕ)) (input report : List ℕ) → IsReplayed contents contexts input report → Begun contents contexts input
+begun_of contents contexts input report r = record { lines = r.lines; tail = []; good = r.good; text = r.text ∙ sym (append-nil (log_text r.lines)) }
 
 pub no_fault : TextIsOfOneLine → AnswersAreOne → LinesAreRetoldOnce → ReplayedHasNoFault
-no_fault one answers once contents contexts input report number r = (
-  not_bad one contents contexts input report number r,
-  not_gap one contents contexts input report number r,
-  not_other one answers once contents contexts input report number r,
-)
+no_fault one answers once contents contexts input report fault r f =
+    let b = lines_before contents contexts input fault f in
+    elim (cases_lt (length b.lines) (length r.lines)) [
+      | inl less ↦ not_among one answers once contents contexts input (begun_of contents contexts input report r) fault f less
+      | inr more ↦
+          elim (cases_lt (length r.lines) (length b.lines)) [
+            | inl less ↦ no_more one contents contexts input b r.lines r.good.fit r.text less
+            | inr least ↦
+                let same = same_lines one r.lines b.lines [] b.tail r.good.fit b.good.fit (omega (arith, more, least)) (append-nil (log_text r.lines) ∙ sym r.text ∙ b.text) in
+                let some = r.begun in
+                let n = ap length same.0 in
+                something contents contexts input fault f (omega (arith, some, n)) (sym same.1)
+          ]
+    ]
+
+-- ONE FAULT
+
+-- a line is bad, or a step in its place
+not_both : (contents : Contents) (contexts : List (List ℕ)) (input : List ℕ) (n m : ℕ) (f : BadAt contents contexts n input) (at : StepAt contents contexts m input)
+    → f.before ≡ at.before → f.rest ≡ text_of (Step at.link at.step) ++ 10 ∷ at.behind → ⊥
+not_both contents contexts input n m f at lines rest =
+    f.bad.none (Step at.link at.step) at.behind (subst (λ l. Fits l (Step at.link at.step)) (sym lines) at.fits) rest
+
+-- a gap or not
+not_same : TextIsOfOneLine → (contents : Contents) (contexts : List (List ℕ)) (input : List ℕ) (n m : ℕ) (a : StepAt contents contexts n input) (b : StepAt contents contexts m input)
+    → text_of (Step a.link a.step) ++ 10 ∷ a.behind ≡ text_of (Step b.link b.step) ++ 10 ∷ b.behind → is_gap a.step ≡ true → is_gap b.step ≡ false → ⊥
+not_same one contents contexts input n m a b text gap none =
+    let parts = one_feed (text_of (Step a.link a.step)) a.behind (text_of (Step b.link b.step)) b.behind (text_one_line (Step a.link a.step) a.fits.0) (text_one_line (Step b.link b.step) b.fits.0) text in
+    let line = one (Step a.link a.step) (Step b.link b.step) a.fits.0 b.fits.0 parts.0 in
+    let step : a.step ≡ b.step = cc in
+    let both : true ≡ false = sym gap ∙ ap is_gap step ∙ none in
+    (cc)
+
+-- two faults after the same lines
+same_fault : TextIsOfOneLine → (contents : Contents) (contexts : List (List ℕ)) (input : List ℕ) (x y : ReplayFault) (f : IsFaultIn contents contexts input x) (g : IsFaultIn contents contexts input y)
+    → (lines_before contents contexts input x f).lines ≡ (lines_before contents contexts input y g).lines → (lines_before contents contexts input x f).tail ≡ (lines_before contents contexts input y g).tail → x ≡ y
+same_fault one contents contexts input (BadLine n) (BadLine m) f g lines rest = ap BadLine (f.reaches.number_is ∙ ap (λ l. length l + 1) lines ∙ sym g.reaches.number_is)
+same_fault one contents contexts input (BadLine n) (Gap m) f (at, gap) lines rest = absurd (not_both contents contexts input n m f at lines rest)
+same_fault one contents contexts input (BadLine n) (Disagrees m) f (at, none, d) lines rest = absurd (not_both contents contexts input n m f at lines rest)
+same_fault one contents contexts input (Gap n) (BadLine m) (at, gap) g lines rest = absurd (not_both contents contexts input m n g at (sym lines) (sym rest))
+same_fault one contents contexts input (Gap n) (Gap m) (at, gap) (to, gap') lines rest = ap Gap (at.reaches.number_is ∙ ap (λ l. length l + 1) lines ∙ sym to.reaches.number_is)
+same_fault one contents contexts input (Gap n) (Disagrees m) (at, gap) (to, none, d) lines rest = absurd (not_same one contents contexts input n m at to rest gap none)
+same_fault one contents contexts input (Disagrees n) (BadLine m) (at, none, d) g lines rest = absurd (not_both contents contexts input m n g at (sym lines) (sym rest))
+same_fault one contents contexts input (Disagrees n) (Gap m) (at, none, d) (to, gap) lines rest = absurd (not_same one contents contexts input m n to at (sym rest) gap none)
+same_fault one contents contexts input (Disagrees n) (Disagrees m) (at, none, d) (to, none', d') lines rest = ap Disagrees (at.reaches.number_is ∙ ap (λ l. length l + 1) lines ∙ sym to.reaches.number_is)
+same_fault one contents contexts input (BadLine n) _ f g lines rest = absurd g
+same_fault one contents contexts input (Gap n) _ f g lines rest = absurd g
+same_fault one contents contexts input (Disagrees n) _ f g lines rest = absurd g
+same_fault one contents contexts input _ y f g lines rest = absurd f
+
+pub fault_is_one : TextIsOfOneLine → AnswersAreOne → LinesAreRetoldOnce → FaultIsOne
+fault_is_one one answers once contents contexts input x y f g =
+    let a = lines_before contents contexts input x f in
+    let b = lines_before contents contexts input y g in
+    elim (cases_lt (length a.lines) (length b.lines)) [
+      | inl less ↦ absurd (not_among one answers once contents contexts input b x f less)
+      | inr more ↦
+          elim (cases_lt (length b.lines) (length a.lines)) [
+            | inl less ↦ absurd (not_among one answers once contents contexts input a y g less)
+            | inr least ↦
+                let same = same_lines one a.lines b.lines a.tail b.tail a.good.fit b.good.fit (omega (arith, more, least)) (sym a.text ∙ b.text) in
+                same_fault one contents contexts input x y f g same.0 same.1
+          ]
+    ]
 
 -- ONE REPORT
 
-same_report : (many : ℕ) (g h : ℕ → List Event) → ((link : ℕ) → link < many → g link ≡ h link) → report_of many g ≡ report_of many h
-same_report zero g h same = refl
-same_report (suc link) g h same =
-    ap (λ l. l ++ report_line link (totals_in (g link))) (same_report link g h (λ k below. same k (omega (arith, below))))
-    ∙ ap (λ x. report_of link h ++ report_line link (totals_in x)) (same link (omega arith))
+pub same_report : (many : ℕ) (f g : ℕ → Totals) → ((link : ℕ) → link < many → f link ≡ g link) → report_of many f ≡ report_of many g
+same_report zero f g same = refl
+same_report (suc link) f g same =
+    ap (λ l. l ++ report_line link (f link)) (same_report link f g (λ k below. same k (omega (arith, below))))
+    ∙ ap (λ t. report_of link g ++ report_line link t) (same link (omega arith))
 
 -- the lines of two reports of one input are the same
 one_list : TextIsOfOneLine → (contents : Contents) (contexts : List (List ℕ)) (input x y : List ℕ) → (a : IsReplayed contents contexts input x) → (b : IsReplayed contents contexts input y) → a.lines ≡ b.lines
 one_list one contents contexts input x y a b =
-    let e : log_text a.lines ≡ log_text b.lines = sym a.text ∙ b.text in
-    let p = a.good.fit in
-    let q = b.good.fit in
     elim (cases_lt (length a.lines) (length b.lines)) [
-      | inl less ↦ absurd (no_more one contents contexts a.lines b.lines [] p q (e ∙ sym (append-nil (log_text b.lines))) less)
+      | inl less ↦ absurd (no_more one contents contexts input (begun_of contents contexts input y b) a.lines a.good.fit a.text less)
       | inr more ↦
           elim (cases_lt (length b.lines) (length a.lines)) [
-            | inl less ↦ absurd (no_more one contents contexts b.lines a.lines [] q p (sym e ∙ sym (append-nil (log_text a.lines))) less)
-            | inr least ↦ (same_lines one a.lines b.lines [] [] p q (omega (arith, more, least)) (ap (λ l. l ++ []) e)).0
+            | inl less ↦ absurd (no_more one contents contexts input (begun_of contents contexts input x a) b.lines b.good.fit b.text less)
+            | inr least ↦ (same_lines one a.lines b.lines [] [] a.good.fit b.good.fit (omega (arith, more, least)) (ap (λ l. l ++ []) (sym a.text ∙ b.text))).0
           ]
     ]
 
@@ -303,9 +350,16 @@ report_is_one one once contents contexts input x y a b =
     let lines = one_list one contents contexts input x y a b in
     let links : links_in a.lines ≡ links_in b.lines = ap links_in lines in
     a.report_is
-    ∙ same_report (links_in a.lines) a.good.history b.good.history (λ link below.
-    once contents contexts link (steps_of link b.lines) (a.good.history link) (b.good.history link)
+    ∙ same_report (links_in a.lines) (totals_along a.good.history) (totals_along b.good.history) (λ link below. ap totals_in
+    (once contents contexts link (steps_of link b.lines) (a.good.history link) (b.good.history link)
     (subst (λ l. Retells contents contexts link (steps_of link l) (a.good.history link)) lines (a.good.retells link below))
-    (b.good.retells link (omega (arith, links, below))))
-    ∙ ap (λ n. report_of n b.good.history) links
+    (b.good.retells link (omega (arith, links, below)))))
+    ∙ ap (λ n. report_of n (totals_along b.good.history)) links
     ∙ sym b.report_is
+
+-- the report counts the lines
+pub report_counts : RetoldLinesAreCounted → ReportCountsLines
+report_counts counted contents contexts input report r =
+    r.report_is
+    ∙ same_report (links_in r.lines) (totals_along r.good.history) (counted_along r.lines r.good.history)
+    (λ link below. counted contents contexts link (steps_of link r.lines) (r.good.history link) (r.good.retells link below))

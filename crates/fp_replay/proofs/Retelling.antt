@@ -17,7 +17,7 @@ use Rattle.fp_replay.specs.Laws.{TextIsOfOneLine}
 use Rattle.fp_replay.specs.Making.{AreAfter, AreNew, IsKept, IsRunOf, Taking, TakingText}
 use Rattle.fp_replay.specs.declared.replay_fault.Refusal.{Refusal}
 use Rattle.fp_replay.specs.declared.replay_fault.Refusal.TheVariants.{BadLine, Disagrees, Gap, Memory}
-use Rattle.fp_replay.specs.Replayed.{AllFit, IsInPlace, links_in, report_line, report_of, steps_of, totals_in}
+use Rattle.fp_replay.specs.Replayed.{AllFit, IsInPlace, links_in, report_line, report_of, steps_of}
 use Rattle.fp_steps.specs.After.{Follows, IsAfter}
 use Rattle.fp_replay.specs.Stopped.{Differs, is_gap}
 use Rattle.fp_steps.specs.Retold.{Retells, RetellsOne, step_of}
@@ -251,12 +251,12 @@ taken_text contents contexts old line text (Err Memory) new one is text_is takin
 -- THE REPORT
 
 -- the line of one link more
-pub report_more : (link : ℕ) (history : ℕ → List Event) (before line more : List ℕ) (totals : Totals)
-    → more ≡ before ++ line → before ≡ report_of link history → line ≡ report_line link totals → totals ≡ totals_in (history link) → more ≡ report_of (link + 1) history
-report_more link history before line more totals is so_far line_is totals_is =
+pub report_more : (link : ℕ) (totals : ℕ → Totals) (before line more : List ℕ) (own : Totals)
+    → more ≡ before ++ line → before ≡ report_of link totals → line ≡ report_line link own → own ≡ totals link → more ≡ report_of (link + 1) totals
+report_more link totals before line more own is so_far line_is own_is =
     is ∙ ap (λ l. l ++ line) so_far
-    ∙ ap (λ l. report_of link history ++ l) (line_is ∙ ap (report_line link) totals_is)
-    ∙ sym (ap (λ n. report_of n history) (add-one link))
+    ∙ ap (λ l. report_of link totals ++ l) (line_is ∙ ap (report_line link) own_is)
+    ∙ sym (ap (λ n. report_of n totals) (add-one link))
 
 -- a run that was read is one of its link
 pub run_at : (contents : Contents) (contexts : List (List ℕ)) (history : ℕ → List Event) (same runs : List LinkRun) (link : ℕ) (run : LinkRun)

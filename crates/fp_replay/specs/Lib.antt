@@ -1,5 +1,4 @@
 pub mod Fields
-pub mod Following
 pub mod Format
 pub mod Laws
 pub mod OfRuns
@@ -8,4 +7,5 @@ pub mod Making
 pub mod Reading
 pub mod Replayed
 pub mod Stopped
+pub mod Taking
 pub mod Writing

@@ -1,25 +1,35 @@
 -- What taking a line makes of the runs of the links.
-use Rattle.std.specs.Prelude.{◌≡◌, true, false, ℕ, List, [], ◌∷◌, Some, Result, Ok, Err, length, slice_get, ⊤}
+use Rattle.std.specs.Prelude.{◌≡◌, Bool, true, false, ℕ, List, [], ◌∷◌, Some, Result, Ok, Err, length, slice_get, ⊤}
 use Rattle.fp_book.specs.declared.line.Line.{Line}
 use Rattle.fp_book.specs.declared.line.Line.TheVariants.{Head, Step}
 use Rattle.fp_records.specs.Table.{Contents}
 use Rattle.fp_steps.specs.History.{Event}
 use Rattle.fp_steps.specs.declared.link_run.LinkRun.{LinkRun}
+use Rattle.fp_streams.specs.declared.fault.LinesFault.{LinesFault}
+use Rattle.fp_streams.specs.declared.fault.LinesFault.TheVariants as reading
 use Rattle.fp_replay.specs.declared.replay_fault.Refusal.{Refusal}
 use Rattle.fp_replay.specs.declared.replay_fault.Refusal.TheVariants.{BadLine, Gap, Disagrees, Memory}
 use Rattle.fp_replay.specs.declared.replay_fault.ReplayFault.{ReplayFault}
 use Rattle.fp_replay.specs.declared.replay_fault.ReplayFault.TheVariants as faults
 use Rattle.fp_replay.specs.Format.{IsLine, text_of}
 use Rattle.fp_steps.specs.After.{IsAfter}
-use Rattle.fp_replay.specs.Replayed.{Fits, IsInPlace, IsRetold, links_in}
+use Rattle.fp_replay.specs.Replayed.{Fits, IsInPlace, IsRetold, links_in, report_of, totals_along}
 use Rattle.fp_replay.specs.Stopped.{Differs, is_gap}
 
--- the fault of a log whose line of this number isn't taken
+-- the fault of a log whose line of this number is refused
 abbrev pub fault_at : Refusal → ℕ → ReplayFault
 fault_at BadLine number = faults.BadLine number
 fault_at Gap number = faults.Gap number
 fault_at Disagrees number = faults.Disagrees number
 fault_at Memory number = faults.Memory
+
+-- the fault of a log whose lines weren't all taken
+abbrev pub fault_of : LinesFault Refusal → ReplayFault
+fault_of (reading.TooLong number) = faults.BadLine number
+fault_of (reading.Refused number refusal) = fault_at refusal number
+fault_of reading.ReadFault = faults.ReadFault
+fault_of reading.TurnLimit = faults.TurnLimit
+fault_of reading.Memory = faults.Memory
 
 -- a run is one of this link, after this history
 pub record IsRunOf (contents : Contents) (contexts : List (List ℕ)) (link : ℕ) (h : List Event) (run : LinkRun) : Type 0 where
@@ -36,17 +46,17 @@ pub record IsKept (contents : Contents) (contexts : List (List ℕ)) (lines : Li
   pub many : length runs ≡ links_in lines
   pub each : AreAfter contents contexts good.history runs
 
--- a step is told otherwise behind the history of its link
+-- a step disagrees after the history of its link
 abbrev pub DiffersIn : (contents : Contents) (contexts : List (List ℕ)) (lines : List Line) → IsRetold contents contexts lines → Line → Type 0
 DiffersIn contents contexts lines good (Head links) = ⊥
 DiffersIn contents contexts lines good (Step link step) = (is_gap step ≡ false) × Differs contents contexts link (good.history link) step
 
--- a line tells of a gap
+-- a line is a gap
 abbrev pub IsGapLine : Line → Type 0
 IsGapLine (Head links) = ⊥
 IsGapLine (Step link step) = is_gap step ≡ true
 
--- what comes of a line of the format behind these
+-- what comes of a line of the format after these
 abbrev pub Taken : (contents : Contents) (contexts : List (List ℕ)) (lines : List Line) → IsRetold contents contexts lines → Line → Result (Unit {0}) Refusal → List LinkRun → Type 0
 Taken contents contexts lines good line (Ok done) new = IsInPlace lines line × IsKept contents contexts (line ∷ lines) new
 Taken contents contexts lines good line (Err BadLine) new = IsInPlace lines line → ⊥
@@ -58,7 +68,7 @@ abbrev pub Taking : Contents → List (List ℕ) → List LinkRun → Line → R
 Taking contents contexts old line result new =
     (lines : List Line) (kept : IsKept contents contexts lines old) → IsLine line → Taken contents contexts lines kept.good line result new
 
--- what comes of the text of a line behind these
+-- what comes of the text of a line after these
 abbrev pub TakesText : (contents : Contents) (contexts : List (List ℕ)) (lines : List Line) → IsRetold contents contexts lines → List ℕ → Result (Unit {0}) Refusal → List LinkRun → Type 0
 TakesText contents contexts lines good text (Ok done) new =
     (line : Line) × Fits lines line × (text ≡ text_of line) × IsKept contents contexts (line ∷ lines) new
@@ -72,7 +82,24 @@ abbrev pub TakingText : Contents → List (List ℕ) → List LinkRun → List �
 TakingText contents contexts old text result new =
     (lines : List Line) (kept : IsKept contents contexts lines old) → TakesText contents contexts lines kept.good text result new
 
--- these are runs of the links 0, 1 and so on, each on which nothing came yet
+-- what comes of a text and what ended it: a line of a log ends with its line feed
+abbrev pub TakingEnded : Contents → List (List ℕ) → List LinkRun → Bool → List ℕ → Result (Unit {0}) Refusal → List LinkRun → Type 0
+TakingEnded contents contexts old true text result new = TakingText contents contexts old text result new
+TakingEnded contents contexts old false text result new = result ≡ Err BadLine
+
+-- this is the report of the runs of all links
+abbrev pub IsReport : List LinkRun → List ℕ → Type 0
+IsReport runs report =
+    (contents : Contents) (contexts : List (List ℕ)) (history : ℕ → List Event) → AreAfter contents contexts history runs
+    → report ≡ report_of (length runs) (totals_along history)
+
+-- there is none: there was no head, or memory ran out
+abbrev pub IsUnreported : List LinkRun → ReplayFault → Type 0
+IsUnreported runs (faults.BadLine number) = (number ≡ 1) × (runs ≡ [])
+IsUnreported runs faults.Memory = ⊤
+IsUnreported runs _ = ⊥
+
+-- these are runs of the links 0, 1 and so on, on each of which nothing came yet
 pub record AreNew (many : ℕ) (runs : List LinkRun) : Type 0 where
   pub length_is : length runs ≡ many
   pub each : (contents : Contents) (contexts : List (List ℕ)) (link : ℕ) (run : LinkRun) → slice_get runs link ≡ Some run → IsRunOf contents contexts link [] run

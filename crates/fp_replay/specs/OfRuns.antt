@@ -17,7 +17,7 @@ file_of lines = flat_map (λ line. text_of line ++ 10 ∷ []) lines
 
 -- the report of a run on a link: nothing was done on those before it
 abbrev pub report_of_run : ℕ → List Output → List ℕ
-report_of_run link outputs = report_of link (λ before. []) ++ report_line link (totals_of outputs)
+report_of_run link outputs = report_of link (λ before. totals_of []) ++ report_line link (totals_of outputs)
 
 -- the log of a run is replayed to the totals of the run
 abbrev pub LogsOfRunsAreReplayed : Type 0

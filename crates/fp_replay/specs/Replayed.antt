@@ -1,4 +1,4 @@
--- Which log is replayed, and to which report. The lines of a log are told the newest first, as histories are.
+-- Which log is replayed, and to which report. The lines of a log are given the newest first, as histories are.
 use Rattle.std.specs.Prelude.{◌≡◌, ℕ, ◌<◌, ◌==◌, List, [], ◌∷◌, ◌++◌, codes, decimal, length, zero, suc, ⊤, if◌then◌else◌}
 use Rattle.fp_book.specs.declared.line.Line.{Line}
 use Rattle.fp_book.specs.declared.line.Line.TheVariants.{Head, Step}
@@ -15,20 +15,20 @@ abbrev pub log_text : List Line → List ℕ
 log_text [] = []
 log_text (line ∷ before) = log_text before ++ (text_of line ++ 10 ∷ [])
 
--- how many links the head tells; none where there is no head
+-- how many links the head has; none if there is no head
 abbrev pub links_in : List Line → ℕ
 links_in [] = 0
 links_in (Head links ∷ before) = links
 links_in (Step link step ∷ before) = links_in before
 
--- the head stands before all others, and each other line is a step of a link that the head tells
+-- the head comes before all others, and each other line is a step of a link that the head has
 abbrev pub IsInPlace : List Line → Line → Type 0
 IsInPlace [] (Head links) = ⊤
 IsInPlace [] (Step link step) = ⊥
 IsInPlace (last ∷ before) (Head links) = ⊥
 IsInPlace (last ∷ before) (Step link step) = link < links_in (last ∷ before)
 
--- a line of the format, in its place behind these
+-- a line of the format, in its place after these
 abbrev pub Fits : List Line → Line → Type 0
 Fits before line = IsLine line × IsInPlace before line
 
@@ -42,8 +42,8 @@ steps_of link [] = []
 steps_of link (Head links ∷ before) = steps_of link before
 steps_of link (Step other step ∷ before) = if other == link then step ∷ steps_of link before else steps_of link before
 
--- All lines are of the format and in their places, and each link has a history in which its steps, made again one after
--- the other, are answered as its lines tell.
+-- All lines are of the format and in their places, and each link has a history in which its steps, replayed one after
+-- another, are answered as its lines have it.
 pub record IsRetold (contents : Contents) (contexts : List (List ℕ)) (lines : List Line) : Type 0 where
   pub fit : AllFit lines
   pub history : ℕ → List Event
@@ -59,10 +59,14 @@ report_line link totals =
     codes "link " ++ (decimal link ++ (codes " accepted " ++ (decimal totals.accepted
     ++ (codes " served " ++ (decimal totals.served ++ (codes " sent " ++ (decimal totals.sent ++ 10 ∷ [])))))))
 
--- the lines of the links below this number, in their order
-abbrev pub report_of : ℕ → (ℕ → List Event) → List ℕ
-report_of zero history = []
-report_of (suc link) history = report_of link history ++ report_line link (totals_in (history link))
+-- the lines of the links below this number, in their order, by the totals of each
+abbrev pub report_of : ℕ → (ℕ → Totals) → List ℕ
+report_of zero totals = []
+report_of (suc link) totals = report_of link totals ++ report_line link (totals link)
+
+-- the totals of the links' histories
+abbrev pub totals_along : (ℕ → List Event) → ℕ → Totals
+totals_along history link = totals_in (history link)
 
 -- the input is a log, from its head on, whose lines are retold, and this is the report of its links
 pub record IsReplayed (contents : Contents) (contexts : List (List ℕ)) (input report : List ℕ) : Type 0 where
@@ -70,4 +74,4 @@ pub record IsReplayed (contents : Contents) (contexts : List (List ℕ)) (input 
   pub begun : 0 < length lines
   pub text : input ≡ log_text lines
   pub good : IsRetold contents contexts lines
-  pub report_is : report ≡ report_of (links_in lines) good.history
+  pub report_is : report ≡ report_of (links_in lines) (totals_along good.history)

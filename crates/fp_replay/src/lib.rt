@@ -1,39 +1,40 @@
-//! The log as text: its lines are written, and read again; and its replay, which makes each step of a log again.
+//! The log as text: its lines are written, and read again; and its replay.
 //!
 //! A log begins with a head, `fplog 1 LINKS`. Each other line is a step of a link: the link, a letter and its fields,
-//! with single blanks between them. The layer is handed lines as `fp_book` has them and gives their text, or is handed
-//! the text of a line and gives the line. For a replay it is handed the records, the names of application contexts, a
+//! with single blanks between them. The layer is handed lines as `fp_book` has them and returns their text, or is handed
+//! the text of a line and returns the line. For a replay it is handed the records, the names of application contexts, a
 //! reader and a writer. It knows no file, and asks the system for nothing but memory.
 //!
-//! * [`write_line`] puts a line and a line feed behind a text.
-//! * [`read_line`] gives the line that was written so.
-//! * [`replay`] makes the steps of a log again, link by link, compares what is told of each with its line, and writes
-//!   the totals of each link.
-//! * [`report_line`] gives the line of a link in that report.
+//! * [`write_line`] appends a line and a line feed to a text.
+//! * [`read_line`] returns the line that was written so.
+//! * [`replay`] replays the steps of a log, link by link, compares each line with the one that a log has of its step, and
+//!   writes the totals of each link.
+//! * [`report_line`] returns the line of a link in that report.
 //!
 //! | File | What it writes and reads |
 //! |---|---|
 //! | `line.rt` | a line: the head, or a link and its step |
 //! | `step.rt` | the letter of a step |
-//! | `posting.rt`, `tick.rt`, `turn.rt`, `parcel.rt` | the fields behind the letters |
+//! | `posting.rt`, `tick.rt`, `turn.rt`, `parcel.rt` | the fields after the letters |
 //! | `number.rt`, `octets.rt`, `answer.rt` | the fields themselves |
 //! | `fields.rt` | where a field ends |
 //!
 //! | File | What it does in a replay |
 //! |---|---|
-//! | `replaying.rt` | takes one line after another, and counts them |
+//! | `replaying.rt` | takes the lines that [`follow_lines`](fp_streams::follow_lines) hands it, and writes the report |
 //! | `links.rt` | the run of each link: a line is a step of one of them |
-//! | `logged.rt`, `same_line.rt` | the step that a line tells, and whether two lines tell the same |
+//! | `logged.rt`, `same_line.rt` | the step that a line is of, and whether two lines are the same |
 //! | `report.rt`, `replay_fault.rt` | the report, and why there is none |
 //!
 //! The layer above may rely on this: `text_of` is the one definition of the format, and `IsLine` says which lines there
-//! are (`specs/Format.antt`). What is read has the text that was read, and each line is read from its text, want of
-//! memory aside; [`texts_are_of_one_line`] says that there is no other. So a number with a leading zero, a digit in
+//! are (`specs/Format.antt`). What is read has the text that was read, and each line is read from its text, unless
+//! memory runs out; [`texts_are_of_one_line`] says that there is no other. So a number with a leading zero, a digit in
 //! lower case, a second blank or a carriage return makes a bad line.
 //!
-//! A log is replayed where its lines are of the format and in their places, and each link has a history whose events
-//! retell its lines: each output is the answer that the history before tells, and the log tells just that line of it
-//! (`specs/Replayed.antt`). Else the first line is told at which that fails, and why (`specs/Stopped.antt`).
+//! A log is replayed if its lines are of the format and in their places, and each link has a history whose events
+//! retell its lines: each output is the answer that the history before determines, and a log has just that line of it
+//! (`specs/Replayed.antt`). Else the first line at which that fails is reported, and why (`specs/Stopped.antt`). By
+//! [`logs_have_one_report`] a log has one report or one fault at most, and a report counts the lines of its log.
 #![tactic(auto)]
 
 mod answer;

@@ -1,25 +1,23 @@
-//! The links of a log, each with its run, whose steps are made again.
+//! The links of a log, each with its run, on which its steps are replayed.
 
-ghost use Rattle.std.specs.Prelude.{◌≡◌, ◌≤◌, ℕ, [], IfOk, List, OnOk, length, nat_eq, string_bytes};
+ghost use Rattle.std.specs.Prelude.{◌≡◌, ◌<◌, ◌≤◌, ℕ, [], IfErr, IfOk, List, OnOk, length, string_bytes};
 ghost use Rattle.fp_book.specs.declared.line.Line.TheVariants as lines;
 ghost use Rattle.fp_records.specs.Table.{Contents};
-ghost use Rattle.fp_replay.specs.Making.{AreAfter, AreNew, Taking, TakingText};
-ghost use Rattle.fp_replay.specs.Replayed.{report_of};
-ghost use Rattle.fp_steps.specs.History.{Event};
+ghost use Rattle.fp_replay.specs.Making.{AreNew, IsReport, IsUnreported, Taking, TakingText};
 
 use crate::line::line_in;
 use crate::logged::{is_gap, step_of};
 use crate::replay_fault::Refusal;
 use crate::report::report_line;
 use crate::same_line::is_told;
-use crate::{LineFault, texts_are_of_one_line};
+use crate::{LineFault, ReplayFault, texts_are_of_one_line};
 use fp_apdu::Name;
 use fp_book::{Line, LoggedStep};
 use fp_records::Table;
 use fp_steps::LinkRun;
 use std::alloc::{AllocError, Global};
 
-/// The run of each link that the head of a log tells, in their order. It must be spent.
+/// The run of each link that the head of a log has, in their order. It must be spent.
 pub(crate) struct Links {
     runs: Vec<LinkRun>,
 }
@@ -34,14 +32,7 @@ impl Links {
         }
     }
 
-    /// Whether the head wasn't read yet.
-    pub(crate) fn is_empty(&self) -> bool
-        ensures { result ≡ nat_eq (length self.now.runs.items) 0 }
-    {
-        self.runs.is_empty()
-    }
-
-    /// Takes the text of a line, without its line feed: the head, or a step of a link that is made again.
+    /// Takes the text of a line, without its line feed: the head, or a step of a link that is replayed.
     pub(crate) fn take_line(
         &mut self,
         alloc: Global,
@@ -105,18 +96,28 @@ impl Links {
         Ok(())
     }
 
-    /// The line of each link in the report, in their order.
-    pub(crate) fn report(&self, alloc: Global) -> Result<String, AllocError>
-        ensures { IfOk result (λ report. (contents : Contents) (contexts : List (List ℕ)) (history : ℕ → List Event)
-            → AreAfter contents contexts history self.now.runs.items
-            → string_bytes report ≡ report_of (length self.now.runs.items) history) }
+    /// The report of a log that has no further line: a line for each link, in their order. A log has a head.
+    pub(crate) fn report(&self, alloc: Global) -> Result<String, ReplayFault>
+        ensures some { OnOk result (0 < length self.now.runs.items) }
+        ensures report { IfOk result (λ report. IsReport self.now.runs.items (string_bytes report)) }
+        ensures fault { IfErr result (IsUnreported self.now.runs.items) }
     {
-        let mut report = String::new(alloc);
+        if self.runs.is_empty() {
+            return Err(ReplayFault::BadLine(1));
+        }
+        Ok(self.lines(alloc)?)
+    }
+
+    /// The line of each link in the report, in their order.
+    fn lines(&self, alloc: Global) -> Result<String, AllocError>
+        ensures { IfOk result (λ lines. IsReport self.now.runs.items (string_bytes lines)) }
+    {
+        let mut lines = String::new(alloc);
         for (link, run) in self.runs.iter().enumerate() {
             let line = report_line(alloc, link, run.totals())?;
-            report.push_str(line.as_str())?;
+            lines.push_str(line.as_str())?;
         }
-        Ok(report)
+        Ok(lines)
     }
 
     /// Spends the runs, and the tokens that are out in them.

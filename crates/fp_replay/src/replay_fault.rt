@@ -3,8 +3,9 @@
 ghost use Rattle.std.specs.Prelude.{◌≡◌};
 ghost use Rattle.fp_replay.specs.declared.replay_fault.Refusal.TheVariants as refusals;
 ghost use Rattle.fp_replay.specs.declared.replay_fault.ReplayFault.TheVariants.{Memory};
-ghost use Rattle.fp_replay.specs.Making.{fault_at};
+ghost use Rattle.fp_replay.specs.Making.{fault_at, fault_of};
 
+use fp_streams::LinesFault;
 use std::alloc::AllocError;
 use thiserror::Error;
 
@@ -15,10 +16,10 @@ pub enum ReplayFault {
     /// a line feed.
     #[error("line {0}: bad line")]
     BadLine(u128),
-    /// The line of this number tells that lines were lost, or that memory was wanting for a Clock.
+    /// The line of this number says that lines were lost, or that memory ran out for a Clock.
     #[error("line {0}: gap")]
     Gap(u128),
-    /// The step of the line of this number, made again, is told otherwise.
+    /// The step of the line of this number, when replayed, gives another line.
     #[error("line {0}: disagrees")]
     Disagrees(u128),
     /// The device that is read from failed.
@@ -27,10 +28,10 @@ pub enum ReplayFault {
     /// The device that is written to failed.
     #[error("output: cannot be written")]
     WriteFault,
-    /// All reads that may be made were made, and none of them found the end of the input.
+    /// The limit on reads was reached before the end of the input.
     #[error("turn limit")]
     TurnLimit,
-    /// Memory was wanting.
+    /// An allocation failed.
     #[error("out of memory")]
     Memory,
 }
@@ -48,11 +49,11 @@ impl From<AllocError> for ReplayFault {
 pub(crate) enum Refusal {
     /// It isn't a line of the format in its place.
     BadLine,
-    /// It tells that lines were lost, or that memory was wanting for a Clock.
+    /// It says that lines were lost, or that memory ran out for a Clock.
     Gap,
-    /// Its step, made again, is told otherwise.
+    /// Its step, when replayed, gives another line.
     Disagrees,
-    /// Memory was wanting.
+    /// An allocation failed.
     Memory,
 }
 
@@ -66,7 +67,7 @@ impl From<AllocError> for Refusal {
 
 impl Refusal {
     /// The fault of a log whose line of this number isn't taken.
-    pub(crate) fn at(self, number: u128) -> ReplayFault
+    fn at(self, number: u128) -> ReplayFault
         ensures { result ≡ fault_at self number }
     {
         match self {
@@ -75,5 +76,18 @@ impl Refusal {
             Refusal::Disagrees => ReplayFault::Disagrees(number),
             Refusal::Memory => ReplayFault::Memory,
         }
+    }
+}
+
+/// The fault of a log whose lines weren't all taken.
+pub(crate) fn fault_of(fault: LinesFault<Refusal>) -> ReplayFault
+    ensures { result ≡ fault_of fault }
+{
+    match fault {
+        LinesFault::TooLong(number) => ReplayFault::BadLine(number),
+        LinesFault::Refused(number, refusal) => refusal.at(number),
+        LinesFault::ReadFault => ReplayFault::ReadFault,
+        LinesFault::TurnLimit => ReplayFault::TurnLimit,
+        LinesFault::Memory => ReplayFault::Memory,
     }
 }

@@ -6,23 +6,19 @@ use Rattle.std.proofs.lemmas.List.{length-map}
 use Rattle.std.proofs.lemmas.List.Sums.{sum_by-append}
 use Rattle.fp_book.proofs.Sums.{sum-le}
 use Rattle.fp_book.proofs.Tells.{BeginsAnew, Tells, verdict_tells}
-use Rattle.fp_book.specs.Calls.{Answers, ClosesOne, Follows, Sends, abort_for, entries_in}
+use Rattle.fp_book.specs.Calls.{Follows, Sends, abort_for, entries_in, more_accepted, posted_totals}
 use Rattle.fp_book.specs.Shelf.{Shelf, Sound, no_totals}
 use Rattle.fp_book.specs.Totals.{sent_by, served_by, sum_of}
-use Rattle.fp_book.specs.Verdict.{verdict}
+use Rattle.fp_book.specs.Lines.{verdict}
 use Rattle.fp_book.specs.declared.answers.Posted.{Posted}
-use Rattle.fp_book.specs.declared.answers.Posted.TheVariants.{Aborted, Accepted, Discarded, Ended, Opened}
 use Rattle.fp_book.specs.declared.parcel.Content.{Content}
-use Rattle.fp_book.specs.declared.parcel.Content.TheVariants as contents
 use Rattle.fp_book.specs.declared.totals.Totals.{Totals}
 use Rattle.fp_book.specs.declared.verdict.Verdict.{Verdict}
-use Rattle.fp_book.specs.declared.verdict.Verdict.TheVariants.{Discard, Extend, Open, Refuse}
 use Rattle.fp_entry.specs.Entries.{component_count, entry_at, is_from_component}
 use Rattle.fp_entry.specs.Prepared.{arrival_of, components_of as components_came}
 use Rattle.fp_entry.specs.declared.entry.Entry.{Entry}
 use Rattle.fp_entry.specs.declared.entry.EntryKind.TheVariants.{Clock}
 use Rattle.fp_entry.specs.declared.prepared.Prepared.{Prepared}
-use Rattle.fp_entry.specs.declared.prepared.Prepared.TheVariants as prepared
 use Rattle.fp_q773.specs.Tid.{octets_of, Tid}
 use Rattle.fp_q773.specs.declared.provider_abort.AbortCause.{AbortCause}
 use Rattle.fp_reply.specs.Reply.{frame_of}
@@ -36,21 +32,18 @@ use Rattle.fp_steps.specs.Births.{births, births_after, destination, for_one, na
 use Rattle.fp_steps.specs.Headline.{Headline}
 use Rattle.fp_steps.specs.History.{Event, outputs_of}
 use Rattle.fp_steps.specs.Lines.{answer_by, components_in}
-use Rattle.fp_steps.specs.Makes.{Drained, MakesOf}
+use Rattle.fp_steps.specs.Makes.{MakesOf}
 use Rattle.fp_steps.specs.Sending.{frame_for, out, sent, sent_in}
 use Rattle.fp_steps.specs.Tied.{Story, Tied, handed, story, untold}
 use Rattle.fp_steps.specs.Totals.{AddUp, AreFew, is_sent, plus, sum_to, totals_of, totals_over}
 use Rattle.fp_steps.specs.declared.output.Output.{Output}
-use Rattle.fp_steps.specs.declared.output.Output.TheVariants as outputs
 use Rattle.fp_steps.specs.declared.step.Step.{Step}
-use Rattle.fp_steps.specs.declared.step.Step.TheVariants as steps
 use Rattle.fp_steps.proofs.Cases.{Cases, by_made}
 use Rattle.fp_steps.proofs.HeldDialogues.{event, for_other, for_own, held_of, none_named, not_abort}
-use Rattle.fp_steps.proofs.MessageAnswers.{answer_is, answer_of, components_counted}
+use Rattle.fp_steps.proofs.MessageAnswers.{answer_is, answer_of}
 use Rattle.fp_steps.proofs.OutputTotals.{added, local_in, make, none_more, one_if, plus_none, same, totals_next}
 use Rattle.fp_steps.proofs.SumsOverBirths.{sum_to_same}
 use Rattle.fp_steps.proofs.TieAtMessages.{dest_of, posts}
-use Rattle.fp_steps.proofs.TieNext.{Tied-drained}
 
 -- SUMS
 
@@ -160,9 +153,9 @@ clock_none : (b : Bool) (moment : ℕ) → component_count (cond b (entry_at mom
 clock_none true moment = refl
 clock_none false moment = refl
 
-ticked : (h : List Event) (came : Option Prepared) (moment many wanting : ℕ) (old new : Shelf) → new.totals ≡ old.totals → Counts h (event (steps.Tick moment) came (outputs.Ticked many wanting)) old new
+ticked : (h : List Event) (came : Option Prepared) (moment many wanting : ℕ) (old new : Shelf) → new.totals ≡ old.totals → Counts h (event (Step.Tick moment) came (Output.Ticked many wanting)) old new
 ticked h came moment many wanting old new stay =
-    let e = event (steps.Tick moment) came (outputs.Ticked many wanting) in
+    let e = event (Step.Tick moment) came (Output.Ticked many wanting) in
     quiet h e old new stay refl
     (same (shares (births h) h e) no_totals (sum_none (births h) (λ d. component_count (accepted_in e h d (course h d) e.output)) (λ d le. clock_none _ moment)) (zeros (births h)) (zeros (births h)))
 
@@ -171,21 +164,21 @@ out_is : (h : List Event) (s : Shelf) (content : Content) → Tied h s → s.out
 out_is h s content t was = t.is_out ∙ ap (option_map (handed h)) was
 
 -- a frame of a dialogue, whose identifier isn't 0, is sent, or an Abort of the provider
-frame_sent : (h : List Event) (came : Option Prepared) (old new : Shelf) (content : Content) → Tied h old → Sound old → Sends old content new → Counts h (event steps.Sent came outputs.Sent) old new
-frame_sent h came old new (contents.Abort frame) t k g =
-    let is = out_is h old (contents.Abort frame) t g.was_out in
-    let octets = (handed h (contents.Abort frame)).octets in
-    let e = event steps.Sent came outputs.Sent in
-    quiet h e old new (ap (λ (s : Shelf). s.totals) g.new_is) (ap (λ o. make 0 0 (one_if (is_sent outputs.Sent (local_in o)))) is)
+frame_sent : (h : List Event) (came : Option Prepared) (old new : Shelf) (content : Content) → Tied h old → Sound old → Sends old content new → Counts h (event Step.Sent came Output.Sent) old new
+frame_sent h came old new (Content.Abort frame) t k g =
+    let is = out_is h old (Content.Abort frame) t g.was_out in
+    let octets = (handed h (Content.Abort frame)).octets in
+    let e = event Step.Sent came Output.Sent in
+    quiet h e old new (ap (λ (s : Shelf). s.totals) g.new_is) (ap (λ o. make 0 0 (one_if (is_sent Output.Sent (local_in o)))) is)
     (same (shares (births h) h e) no_totals (zeros (births h)) (zeros (births h))
     (ap (λ o. sum_to (births h) (λ d. length (frame_for o d))) is
     ∙ ap (λ o. sum_to (births h) (λ d. length (for_one o d (octets ∷ [])))) (none_named old.link h (named h 0) t.opened refl) ∙ zeros (births h)))
-frame_sent h came old new (contents.Frame w) t k g =
-    let is = out_is h old (contents.Frame w) t g.was_out in
+frame_sent h came old new (Content.Frame w) t k g =
+    let is = out_is h old (Content.Frame w) t g.was_out in
     let born = held_of h old w.local g.before t k g.was in
-    let e = event steps.Sent came outputs.Sent in
-    let one : one_if (is_sent outputs.Sent (local_in (out h))) ≡ 1 =
-    ap (λ o. one_if (is_sent outputs.Sent (local_in o))) is ∙ ap (λ b. one_if (not b)) (not_abort h old w.local g.before t k g.was)
+    let e = event Step.Sent came Output.Sent in
+    let one : one_if (is_sent Output.Sent (local_in (out h))) ≡ 1 =
+    ap (λ o. one_if (is_sent Output.Sent (local_in o))) is ∙ ap (λ b. one_if (not b)) (not_abort h old w.local g.before t k g.was)
     in
     let share : sum_to (births h) (λ d. length (frame_for (out h) d)) ≡ 1 =
     ap (λ o. sum_to (births h) (λ d. length (frame_for o d))) is ∙ sum_for length (births h) (named h w.local) g.before.birth (w.frame ∷ []) refl born.name born.first born.last
@@ -199,71 +192,57 @@ frame_sent h came old new (contents.Frame w) t k g =
 -- MESSAGES
 
 components_are : (came : Prepared) → components_came came ≡ component_count (entries_in came)
-components_are (prepared.Message arrival incoming) = refl
+components_are (Prepared.Message arrival incoming) = refl
 components_are came = refl
 
 -- the dialogue that accepts one is there
 abbrev Receives : List Event → Prepared → Posted → Type 0
-Receives h came (Accepted count) = (b : ℕ) × (destination h (Some came) ≡ Some b) × (0 < b) × (b ≤ births h)
+Receives h came (Posted.Accepted count) = (b : ℕ) × (destination h (Some came) ≡ Some b) × (0 < b) × (b ≤ births h)
 Receives h came _ = ⊤
 
 received : (h : List Event) (came : Prepared) (answer : Posted) → Receives h came answer
     → sum_to (births_after (opened_by answer) (births h)) (λ d. component_count (for_one (receiver answer (Some came) h) d (entries_in came))) ≡ components_in answer came
-received h came (Opened local) r =
+received h came (Posted.Opened local) r =
     sum_for component_count (births h + 1) (Some (births h + 1)) (births h + 1) (entries_in came) refl refl (omega arith) (omega arith) ∙ sym (components_are came)
-received h came (Accepted count) r = sum_for component_count (births h) (destination h (Some came)) r.0 (entries_in came) refl r.1 r.2 r.3 ∙ sym (components_are came)
-received h came (Aborted cause) r = zeros (births h)
-received h came Ended r = zeros (births h)
-received h came Discarded r = zeros (births h)
+received h came (Posted.Accepted count) r = sum_for component_count (births h) (destination h (Some came)) r.0 (entries_in came) refl r.1 r.2 r.3 ∙ sym (components_are came)
+received h came (Posted.Aborted cause) r = zeros (births h)
+received h came Posted.Ended r = zeros (births h)
+received h came Posted.Discarded r = zeros (births h)
 
 -- what a book counts of it, by its answer
-abbrev Grows : Shelf → Prepared → Posted → Shelf → Type 0
-Grows old came answer new = new.totals ≡ plus old.totals (make (components_in answer came) 0 0)
+accepts : (t : Totals) (came : Prepared) → more_accepted t (entries_in came) ≡ plus t (make (components_came came) 0 0)
+accepts t came = same _ _ (ap (λ n. t.accepted + n) (sym (components_are came))) (none_more t.served) (none_more t.sent)
 
-message : (h : List Event) (step : Step) (came : Prepared) (answer : Posted) (components : ℕ) (old new : Shelf) → Receives h came answer → components ≡ components_in answer came → Grows old came answer new
+counted_by : (t : Totals) (came : Prepared) (answer : Posted) → posted_totals t came answer ≡ plus t (make (components_in answer came) 0 0)
+counted_by t came (Posted.Opened local) = accepts t came
+counted_by t came (Posted.Accepted count) = accepts t came
+counted_by t came answer = plus_none t
+
+message : (h : List Event) (step : Step) (came : Prepared) (answer : Posted) (components : ℕ) (old new : Shelf) → Receives h came answer → components ≡ components_in answer came → new.totals ≡ posted_totals old.totals came answer
     → Counts h (posts step came answer components) old new
 message h step came answer components old new r count grows =
     let e = posts step came answer components in
     let n = births_after (opened_by answer) (births h) in
     record {
       shared = same (shares n h e) (added h e) (received h came answer r ∙ sym count) (zeros n) (zeros n);
-      counted = grows ∙ ap (λ n. plus old.totals (make n 0 0)) (sym count);
+      counted = grows ∙ counted_by old.totals came answer ∙ ap (λ n. plus old.totals (make n 0 0)) (sym count);
     }
 
-closed_totals : (old : Shelf) (closes : Option ℕ) (closed : Shelf) → ClosesOne old closes closed → closed.totals ≡ old.totals
-closed_totals old None closed g = ap (λ (s : Shelf). s.totals) g
-closed_totals old (Some local) closed g = ap (λ (s : Shelf). s.totals) g.new_is
-
-answered_totals : (old : Shelf) (closes : Option ℕ) (abort : Option (Tid × AbortCause)) (answer : Posted) (answered : Shelf) → Answers old closes abort answer answered → answered.totals ≡ old.totals
-answered_totals old closes None answer answered g = ap (λ (s : Shelf). s.totals) g.1
-answered_totals old closes (Some (peer, cause)) answer answered g = ap (λ (s : Shelf). s.totals) g.1.new_is
-
--- a refused message has no components, and no dialogue receives it
-refused : (h : List Event) (old new : Shelf) (came : Prepared) (abort : Option (Tid × AbortCause)) (b : Bool) → new.totals ≡ old.totals → Receives h came (answer_by abort b) × Grows old came (answer_by abort b) new
-refused h old new came None true stay = (tt, stay ∙ plus_none old.totals)
-refused h old new came None false stay = (tt, stay ∙ plus_none old.totals)
-refused h old new came (Some (peer, cause)) b stay = (tt, stay ∙ plus_none old.totals)
-
--- an accepted one has them
-accepts : (old new : Shelf) (came : Prepared) → new.totals ≡ make (old.totals.accepted + component_count (entries_in came)) old.totals.served old.totals.sent → new.totals ≡ plus old.totals (make (components_came came) 0 0)
-accepts old new came is =
-    is ∙ same (make (old.totals.accepted + component_count (entries_in came)) old.totals.served old.totals.sent) (plus old.totals (make (components_came came) 0 0))
-    (ap (λ n. old.totals.accepted + n) (sym (components_are came))) (none_more old.totals.served) (none_more old.totals.sent)
+-- no dialogue receives a refused message
+refused : (h : List Event) (came : Prepared) (abort : Option (Tid × AbortCause)) (b : Bool) → Receives h came (answer_by abort b)
+refused h came None true = tt
+refused h came None false = tt
+refused h came (Some (peer, cause)) b = tt
 
 -- by the verdict
-posted : (h : List Event) (came : Prepared) (answer : Posted) (old new : Shelf) (waiting next : ℕ) (v : Verdict) → Tied h old → Sound old → Tells old came v → Follows v old came answer new
-    → Receives h came (answer_of waiting next came v) × Grows old came (answer_of waiting next came v) new
-posted h came answer old new waiting next Discard t k told g = (tt, ap (λ (s : Shelf). s.totals) g.new_is ∙ plus_none old.totals)
-posted h came answer old new waiting next (Refuse cause closes) t k told g =
-    refused h old new came (abort_for waiting cause (arrival_of came).ids.orig) (is_none closes)
-    (ap (λ (s : Shelf). s.totals) g.new_is ∙ answered_totals g.closed closes (abort_for (length old.outbox.aborts) cause (arrival_of came).ids.orig) answer g.answered g.answering ∙ closed_totals old closes g.closed g.closing)
-posted h came answer old new waiting next (Open peer) t k told g = (tt, accepts old new came (ap (λ (s : Shelf). s.totals) g.new_is))
-posted h came answer old new waiting next (Extend local false) t k told g =
-    let born = held_of h old local g.before t k g.was in
-    ((g.before.birth, dest_of h old came local g.before t k told.0 g.was, born.first, born.last), accepts old new came (ap (λ (s : Shelf). s.totals) g.new_is))
-posted h came answer old new waiting next (Extend local true) t k told g =
-    let born = held_of h old local g.before t k g.was in
-    ((g.before.birth, dest_of h old came local g.before t k told.0 g.was, born.first, born.last), accepts old new came (ap (λ (s : Shelf). s.totals) g.new_is))
+receives : (h : List Event) (came : Prepared) (answer : Posted) (old new : Shelf) (waiting next : ℕ) (v : Verdict) → Tied h old → Sound old → Tells old came v → Follows v old came answer new → Receives h came (answer_of waiting next came v)
+receives h came answer old new waiting next Verdict.Discard t k told g = tt
+receives h came answer old new waiting next (Verdict.Refuse cause closes) t k told g = refused h came (abort_for waiting cause (arrival_of came).ids.orig) (is_none closes)
+receives h came answer old new waiting next (Verdict.Open peer) t k told g = tt
+receives h came answer old new waiting next (Verdict.Extend local false) t k told g =
+    let born = held_of h old local g.before t k g.was in (g.before.birth, dest_of h old came local g.before t k told.0 g.was, born.first, born.last)
+receives h came answer old new waiting next (Verdict.Extend local true) t k told g =
+    let born = held_of h old local g.before t k g.was in (g.before.birth, dest_of h old came local g.before t k told.0 g.was, born.first, born.last)
 
 -- EACH STEP
 
@@ -278,38 +257,37 @@ counts h came old new anew t k =
     let stays : new ≡ old → new.totals ≡ old.totals = ap (λ (s : Shelf). s.totals) in
     let empty = none_shared (births h) in
     record {
-      posted = λ step posting p answer components is count g.
+      posted = λ step posting p answer components is count g totals.
           let v = verdict old p in
           let waiting = length old.outbox.aborts in
           let next = identifier old.link (old.given + 1) in
           let says = answer_is old new p answer v g in
-          let r = posted h p answer old new waiting next v t k (verdict_tells old p (anew p is)) g in
-          subst (λ c. Counts h (event step c (outputs.Posted answer components)) old new) (sym is)
-          (message h step p answer components old new (subst (Receives h p) (sym says) r.0) (count ∙ components_counted old p waiting next answer says) (subst (λ a. Grows old p a new) (sym says) r.1));
+          subst (λ c. Counts h (event step c (Output.Posted answer components)) old new) (sym is)
+          (message h step p answer components old new (subst (Receives h p) (sym says) (receives h p answer old new waiting next v t k (verdict_tells old p (anew p is)) g)) count totals);
       ticked = λ moment many wanting zero g. ticked h came moment many wanting old new (ap (λ (s : Shelf). s.totals) g.new_is);
-      took = λ turn g. none steps.Take (outputs.Took turn.local turn.position) (ap (λ (s : Shelf). s.totals) g.new_is) refl empty;
-      no_room = λ some full same. none steps.Take outputs.NoRoom (stays same) refl empty;
-      none_taken = λ none_ready same. none steps.Take outputs.Nothing (stays same) refl empty;
+      took = λ turn g. none Step.Take (Output.Took turn.local turn.position) (ap (λ (s : Shelf). s.totals) g.new_is) refl empty;
+      no_room = λ some full same. none Step.Take Output.NoRoom (stays same) refl empty;
+      none_taken = λ none_ready same. none Step.Take Output.Nothing (stays same) refl empty;
       gave = λ done given g.
           let local = done.turn.local in
           let born = held_of h old local g.before t k g.was in
-          let e = event (steps.Give local) came (outputs.Gave local done.turn.position given) in
+          let e = event (Step.Give local) came (Output.Gave local done.turn.position given) in
           record {
             shared = same (shares (births h) h e) (added h e) (zeros (births h)) (sum_for length (births h) (named h local) g.before.birth (done.turn.position ∷ []) refl born.name born.first born.last) (zeros (births h));
             counted = ap (λ (s : Shelf). s.totals) g.new_is
                 ∙ same (make old.totals.accepted (old.totals.served + 1) old.totals.sent) (plus old.totals (added h e)) (none_more old.totals.accepted) refl (none_more old.totals.sent);
           };
-      none_given = λ local out same. none (steps.Give local) outputs.Nothing (stays same) refl empty;
-      went_back = λ turn g. none (steps.PutBack turn.local) outputs.WentBack (ap (λ (s : Shelf). s.totals) g.new_is) refl empty;
-      none_back = λ local out same. none (steps.PutBack local) outputs.Nothing (stays same) refl empty;
-      picked = λ content frame octets g. none steps.Pick (outputs.Picked _ frame) (ap (λ (s : Shelf). s.totals) g.new_is) refl empty;
-      busy = λ some same. none steps.Pick outputs.Busy (stays same) refl empty;
-      none_picked = λ none_waits same. none steps.Pick outputs.Nothing (stays same) refl empty;
+      none_given = λ local out same. none (Step.Give local) Output.Nothing (stays same) refl empty;
+      went_back = λ turn g. none (Step.PutBack turn.local) Output.WentBack (ap (λ (s : Shelf). s.totals) g.new_is) refl empty;
+      none_back = λ local out same. none (Step.PutBack local) Output.Nothing (stays same) refl empty;
+      picked = λ content frame octets g. none Step.Pick (Output.Picked _ frame) (ap (λ (s : Shelf). s.totals) g.new_is) refl empty;
+      busy = λ some same. none Step.Pick Output.Busy (stays same) refl empty;
+      none_picked = λ none_waits same. none Step.Pick Output.Nothing (stays same) refl empty;
       sent = λ content g. frame_sent h came old new content t k g;
-      none_sent = λ none_out same. none steps.Sent outputs.Nothing (stays same) refl empty;
-      unsent = λ parcel g. none steps.Unsent outputs.Unsent (ap (λ (s : Shelf). s.totals) g.down.new_is) refl empty;
-      none_unsent = λ none_out same. none steps.Unsent outputs.Nothing (stays same) refl empty;
-      down = λ g. none steps.Down outputs.Down (ap (λ (s : Shelf). s.totals) g.new_is) refl empty;
+      none_sent = λ none_out same. none Step.Sent Output.Nothing (stays same) refl empty;
+      unsent = λ parcel g. none Step.Unsent Output.Unsent (ap (λ (s : Shelf). s.totals) g.down.new_is) refl empty;
+      none_unsent = λ none_out same. none Step.Unsent Output.Nothing (stays same) refl empty;
+      down = λ g. none Step.Down Output.Down (ap (λ (s : Shelf). s.totals) g.new_is) refl empty;
     }
 
 -- THE BOUND
@@ -334,13 +312,12 @@ few_counted law s k =
     }
 
 -- a step more, after a history whose totals the book has
-pub add_up_next : RowsKeepTheirOrder → (h : List Event) (e : Event) (old new : Shelf) → ((p : Prepared) → e.came ≡ Some p → BeginsAnew (arrival_of p).ids) → Tied h old → Drained (MakesOf e.step e.came e.output) old new → Sound new
+pub add_up_next : RowsKeepTheirOrder → (h : List Event) (e : Event) (old new : Shelf) → ((p : Prepared) → e.came ≡ Some p → BeginsAnew (arrival_of p).ids) → Tied h old → Sound old → MakesOf e.step e.came e.output old new → Sound new
     → Headline h → Headline (e ∷ h) → AddUp (outputs_of h) h → old.totals ≡ totals_of (outputs_of h) → AddUp (outputs_of (e ∷ h)) (e ∷ h) × (new.totals ≡ totals_of (outputs_of (e ∷ h)))
-add_up_next law h e old new anew t g sound held holds k was =
-    let before : Shelf = record old { log = g.before } in
-    let c : Counts h e before g.after = by_made (CountsBy h e.came before g.after) e.step e.came e.output before g.after (counts h e.came before g.after anew (Tied-drained h old g.before t) g.sound) g.makes in
+add_up_next law h e old new anew t sound_old g sound held holds k was =
+    let c : Counts h e old new = by_made (CountsBy h e.came old new) e.step e.came e.output old new (counts h e.came old new anew t sound_old) g in
     let more : totals_of (outputs_of (e ∷ h)) ≡ plus (totals_of (outputs_of h)) (added h e) = totals_next h e in
-    let counted : new.totals ≡ totals_of (outputs_of (e ∷ h)) = ap (λ (s : Shelf). s.totals) g.new_is ∙ c.counted ∙ ap (λ t. plus t (added h e)) was ∙ sym more in
+    let counted : new.totals ≡ totals_of (outputs_of (e ∷ h)) = c.counted ∙ ap (λ t. plus t (added h e)) was ∙ sym more in
     let all : sums (births (e ∷ h)) (e ∷ h) ≡ plus (sums (births h) h) (added h e) = sums_next h e (t.later (births h + 1) (omega arith)) ∙ ap (plus (sums (births h) h)) c.shared in (
       record {
         totals = more ∙ ap (λ t. plus t (added h e)) (k.totals ∙ by_places h held) ∙ sym all ∙ sym (by_places (e ∷ h) holds);

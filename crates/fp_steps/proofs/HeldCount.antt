@@ -10,7 +10,6 @@ use Rattle.fp_book.proofs.Sums.{amount, len-sum}
 use Rattle.fp_book.proofs.Turns.{frames_at}
 use Rattle.fp_book.specs.Shelf.{IsOwn, Shelf, Sound, frame_out, frames_for, unsent_for}
 use Rattle.fp_book.specs.declared.parcel.Content.{Content}
-use Rattle.fp_book.specs.declared.parcel.Content.TheVariants as contents
 use Rattle.fp_book.specs.declared.parcel.Waiting.{Waiting}
 use Rattle.fp_row.specs.Laws.{KeepsOrder, RowsKeepTheirOrder}
 use Rattle.fp_row.specs.Row.{is_admitted, kept_of, sent_of, waits as row_waits}
@@ -21,7 +20,6 @@ use Rattle.fp_steps.specs.History.{Event}
 use Rattle.fp_steps.specs.Lined.{Lined, as_waiting}
 use Rattle.fp_steps.specs.Sending.{Handed}
 use Rattle.fp_steps.specs.Tied.{Tied, TiedAt, handed, story}
-use Rattle.fp_steps.specs.Turns.{turn_out, waits}
 use Rattle.fp_steps.specs.Waiting.{QueuedFrame, frame_is_out, has_frame, held, is_held, waiting}
 use Rattle.fp_steps.proofs.HeldDialogues.{Held, held_of, is_other, is_own, none_named, same_local, waits_tied}
 use Rattle.fp_steps.proofs.SumsOverBirths.{many_is}
@@ -65,7 +63,7 @@ record OutIs (h : List Event) (n d : ℕ) (o : Option Content) : Type 0 where
   none : frame_out n o ≡ [] → out_of d (option_map (handed h) o) ≡ false
   no : out_of d (option_map (handed h) o) ≡ false → frame_out n o ≡ []
 
-out_by : (h : List Event) (n d b : ℕ) (w : Waiting) (x : Bool) → eqb b d ≡ x → eqb w.local n ≡ eqb b d → named h w.local ≡ Some b → OutIs h n d (Some (contents.Frame w))
+out_by : (h : List Event) (n d b : ℕ) (w : Waiting) (x : Bool) → eqb b d ≡ x → eqb w.local n ≡ eqb b d → named h w.local ≡ Some b → OutIs h n d (Some (Content.Frame w))
 out_by h n d b w true e same name =
     let here : frames_for n (w ∷ []) ≡ w.frame ∷ [] = ap (λ x. cond x (w.frame ∷ []) [] ++ []) (same ∙ e) in
     let is : is_one (named h w.local) d ≡ true = is_own (named h w.local) d (name ∙ ap Some (eqb-true b d e)) in
@@ -78,8 +76,8 @@ out_by h n d b w false e same name =
 
 out_is : (h : List Event) (s : Shelf) (d : ℕ) (o : Option Content) → Tied h s → Sound s → 0 < d → d ≤ births h → s.outbox.out ≡ o → OutIs h (local_of h d) d o
 out_is h s d None t k first last is = record { none = λ n. refl; no = λ n. refl }
-out_is h s d (Some (contents.Abort frame)) t k first last is = record { none = λ n. ap (λ o. is_one o d) (none_named s.link h (named h 0) t.opened refl); no = λ n. refl }
-out_is h s d (Some (contents.Frame w)) t k first last is =
+out_is h s d (Some (Content.Abort frame)) t k first last is = record { none = λ n. ap (λ o. is_one o d) (none_named s.link h (named h 0) t.opened refl); no = λ n. refl }
+out_is h s d (Some (Content.Frame w)) t k first last is =
     let row = none_at s w (map.get s.rows w.local) k is refl in
     let b : Held h w.local row.0.birth row.0 = held_of h s w.local row.0 t k row.1 in
     out_by h (local_of h d) d row.0.birth w (eqb row.0.birth d) refl (ap (λ l. eqb l (local_of h d)) b.place ∙ same_local s.link h row.0.birth d t.opened first last) b.name
@@ -124,20 +122,13 @@ held_by : RowsKeepTheirOrder → (h : List Event) (s : Shelf) (d : ℕ) (o : Opt
     → amount (λ row. 1) o ≡ cond {A = ℕ} (is_held h d) 1 0
 held_by law h s d None t k l first last was g =
     let gone = gone_at h s d t k l first last was in
-    ap (λ b. cond {A = ℕ} b 1 0)
-    (sym (ap (λ b. b || (turn_out h d || (waits h d || (has_frame h d || frame_is_out h d)))) g.admitted
-    ∙ ap (λ b. b || (waits h d || (has_frame h d || frame_is_out h d))) g.outs
-    ∙ ap (λ b. b || (has_frame h d || frame_is_out h d)) g.waits
-    ∙ ap (λ b. b || frame_is_out h d) gone.0 ∙ gone.1))
+    λ i. cond {A = ℕ} (sym g.admitted i || (sym g.outs i || (sym g.waits i || (sym gone.0 i || sym gone.1 i)))) 1 0
 held_by law h s d (Some row) t k l first last was g =
     let own : IsOwn s (local_of h d) row = k.own (local_of h d) row was in
     let y = has_frame h d || frame_is_out h d in
     let admits_so : admits h d ≡ is_admitted row = admits_is h s d t k ∙ ap (λ o. option_map_or is_admitted o false) was in
-    ap (λ b. cond {A = ℕ} b 1 0)
-    (sym (ap (λ b. b || (turn_out h d || (waits h d || y))) admits_so
-    ∙ ap (λ b. is_admitted row || (b || (waits h d || y))) g.outs
-    ∙ ap (λ b. is_admitted row || (row.is_out || (b || y))) (waits_tied d (story h d) row g)
-    ∙ some_left (is_admitted row) row.is_out (row_waits row) (nat_lt row.sent row.kept) y own.is_left (λ less. left_at law h s d row t k l first last was less)))
+    let left = some_left (is_admitted row) row.is_out (row_waits row) (nat_lt row.sent row.kept) y own.is_left (λ less. left_at law h s d row t k l first last was less) in
+    ap (λ b. cond {A = ℕ} b 1 0) (sym left) ∙ (λ i. cond {A = ℕ} (sym admits_so i || (sym g.outs i || (sym (waits_tied d (story h d) row g) i || y))) 1 0)
 
 pub held_is : RowsKeepTheirOrder → (h : List Event) (s : Shelf) → Tied h s → Sound s → Lined h s → held h ≡ map.len s.rows
 held_is law h s t k l = many_is (λ row. 1) (is_held h) h s t k (λ d first last. held_by law h s d (map.get s.rows (local_of h d)) t k l first last refl (t.rows d)) ∙ sym (len-sum s.rows)

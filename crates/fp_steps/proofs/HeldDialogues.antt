@@ -39,16 +39,7 @@ event step came output = record { step = step; came = came; output = output }
 -- two stories of equal parts are one
 pub same_story : (s t : Story) → s.began ≡ t.began → s.accepts ≡ t.accepts → s.places ≡ t.places → s.queues ≡ t.queues → s.sends ≡ t.sends → s.ended ≡ t.ended → s.out ≡ t.out → s ≡ t
 same_story s t b a p q n e o =
-    let make : Option Beginning → List Entry → List ℕ → List (List ℕ) → List (List ℕ) → Option Ending → Bool → Story =
-    λ b a p q n e o. record { began = b; accepts = a; places = p; queues = q; sends = n; ended = e; out = o }
-    in
-    ap (λ x. make x s.accepts s.places s.queues s.sends s.ended s.out) b
-    ∙ ap (λ x. make t.began x s.places s.queues s.sends s.ended s.out) a
-    ∙ ap (λ x. make t.began t.accepts x s.queues s.sends s.ended s.out) p
-    ∙ ap (λ x. make t.began t.accepts t.places x s.sends s.ended s.out) q
-    ∙ ap (λ x. make t.began t.accepts t.places t.queues x s.ended s.out) n
-    ∙ ap (λ x. make t.began t.accepts t.places t.queues t.sends x s.out) e
-    ∙ ap (λ x. make t.began t.accepts t.places t.queues t.sends t.ended x) o
+    λ i. record { began = b i; accepts = a i; places = p i; queues = q i; sends = n i; ended = e i; out = o i }
 
 -- nothing is added behind a list
 pub none_more : {X : Type 0} → (xs ys : List X) → ys ≡ [] → xs ++ ys ≡ xs
@@ -109,26 +100,21 @@ first_places xs (suc n) h =
 -- the same dialogue begins with the same core
 pub start_tied : (d : ℕ) (t : Story) (row : Row) → IsTied d t row → start_in d t ≡ start_of row
 start_tied d t row k =
-    ap (λ o. fresh d (option_map_or (λ (b : Beginning). b.moment) o 0)) k.begins
-    ∙ ap (λ n. fresh n row.opened) (sym k.birth)
+    λ i. fresh (sym k.birth i) (option_map_or (λ (b : Beginning). b.moment) (k.begins i) 0)
 
 -- and served the same
 pub served_tied : (d : ℕ) (t : Story) (row : Row) → IsTied d t row → served_in t ≡ served_of row
 served_tied d t row k =
-    ap (λ xs. in_places xs t.places) k.accepts ∙ ap (λ ps. in_places row.accepted ps) k.serves
-    ∙ first_places row.accepted row.served row.served_within
+    (λ i. in_places (k.accepts i) (k.serves i)) ∙ first_places row.accepted row.served row.served_within
 
 pub core_tied : (d : ℕ) (t : Story) (row : Row) → IsTied d t row → core_in d t ≡ row.core
 core_tied d t row k =
-    ap (λ c. core_after c (served_in t)) (start_tied d t row k) ∙ ap (core_after (start_of row)) (served_tied d t row k)
-    ∙ sym row.core_is
+    (λ i. core_after (start_tied d t row k i) (served_tied d t row k i)) ∙ sym row.core_is
 
 -- so it requests the same frames
 pub asked_tied : (d : ℕ) (t : Story) (row : Row) → IsTied d t row → asked_in d t ≡ frames_of row
 asked_tied d t row k =
-    ap (λ o. map (frame_from o) (requests (start_in d t) (served_in t))) k.begins
-    ∙ ap (λ c. map (frame_from (Some (beginning_of row))) (requests c (served_in t))) (start_tied d t row k)
-    ∙ ap (λ es. map (frame_from (Some (beginning_of row))) (requests (start_of row) es)) (served_tied d t row k)
+    λ i. map (frame_from (k.begins i)) (requests (start_tied d t row k i) (served_tied d t row k i))
 
 pub prefix_trans : {X : Type 0} → (xs ys zs : List X) → IsPrefix xs ys → IsPrefix ys zs → IsPrefix xs zs
 prefix_trans xs ys zs p q =
@@ -159,15 +145,12 @@ straight_tied law d t row k =
 -- it takes messages where the row does
 pub live_tied : (d : ℕ) (t : Story) (row : Row) → IsTied d t row → (not (is_some t.ended) && not (is_over (core_in d t))) ≡ is_admitted row
 live_tied d t row k =
-    ap (λ c. not (is_some t.ended) && not (is_over c)) (core_tied d t row k) ∙ ap (λ e. not (is_some e) && not (is_over row.core)) k.ends
+    λ i. not (is_some (k.ends i)) && not (is_over (core_tied d t row k i))
 
 -- and an entry of it waits where one of the row does
 pub waits_tied : (d : ℕ) (t : Story) (row : Row) → IsTied d t row → waits_in d t ≡ waits row
 waits_tied d t row k =
-    ap (λ e. not (is_closed e) && (not (is_over (core_in d t)) && nat_lt (length t.places) (length t.accepts))) k.ends
-    ∙ ap (λ c. not (is_closed row.ended) && (not (is_over c) && nat_lt (length t.places) (length t.accepts))) (core_tied d t row k)
-    ∙ ap (λ n. not (is_closed row.ended) && (not (is_over row.core) && nat_lt n (length t.accepts))) (count_tied d t row k)
-    ∙ ap (λ xs. not (is_closed row.ended) && (not (is_over row.core) && nat_lt row.served (length xs))) k.accepts
+    λ i. not (is_closed (k.ends i)) && (not (is_over (core_tied d t row k i)) && nat_lt (count_tied d t row k i) (length (k.accepts i)))
 
 -- what goes is gone
 pub gone_tied : RowsKeepTheirOrder → (births d : ℕ) (t : Story) (row : Row) → IsTied d t row → NotHeld row → IsGone births d t
@@ -184,24 +167,12 @@ gone_tied law births d t row k none = record {
 -- it began as it did
 pub same_beginning : (before after : Row) → IsSame before after → beginning_of after ≡ beginning_of before
 same_beginning before after same =
-    let make : ℕ → List ℕ → ℕ → Beginning = λ l p m. record { local = l; peer = p; moment = m } in
-    ap (λ l. make l (octets_of after.peer) after.opened) same.local
-    ∙ ap (λ p. make before.local (octets_of p) after.opened) same.peer
-    ∙ ap (λ m. make before.local (octets_of before.peer) m) same.opened
+    λ i. record { local = same.local i; peer = octets_of (same.peer i); moment = same.opened i }
 
 -- the same dialogue, of which nothing else changed that its story tells
 pub tied_same : (d : ℕ) (t : Story) (x : Bool) (before after : Row) → IsTied d t before → IsSame before after → after.accepted ≡ before.accepted → after.served ≡ before.served → queued_of after ≡ queued_of before
     → sent_of after ≡ sent_of before → after.core ≡ before.core → after.ended ≡ before.ended → after.is_out ≡ x → IsTied d (record t { out = x }) after
-tied_same d t x before after k same accepted served queued sent core ended out = record {
-  birth = same.birth ∙ k.birth;
-  begins = k.begins ∙ ap Some (sym (same_beginning before after same));
-  accepts = k.accepts ∙ sym accepted;
-  serves = k.serves ∙ ap numbers (sym served);
-  queues = k.queues ∙ sym queued;
-  sends = k.sends ∙ sym sent;
-  ends = k.ends ∙ sym ended;
-  outs = sym out;
-}
+tied_same d t x before after k same accepted served queued sent core ended out = let begins = k.begins ∙ ap Some (sym (same_beginning before after same)) in grind arith
 
 -- A book and its dialogues
 

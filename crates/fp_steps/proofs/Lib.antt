@@ -15,8 +15,6 @@ mod TieAtParcels
 mod TieAtMessages
 -- dialogues that are due are given a Clock
 mod TieAtTicks
--- of a message that is accepted: it has few components, and ends its dialogue as its peer
-mod AcceptedMessages
 -- all of it, and the headline from it
 mod TieKept
 -- WHAT WAITS: frames and dialogues stand in the order that the history tells
@@ -44,8 +42,10 @@ mod StepAnswers
 -- TOKENS: those that a run keeps are those that its book handed out
 mod TokensKept
 -- THE LOG
--- the line that a book logs of a step
+-- the line that is told of a step
 mod LoggedLines
+-- which a book logs
+mod BookLog
 -- the lines of a run so far, and what is kept to tell them
 mod LogSoFar
 -- what can be counted in retold lines

@@ -6,9 +6,7 @@ use Rattle.std.specs.List.{AllByRecursion}
 use Rattle.std.proofs.lemmas.Grind.{reverse_onto}
 use Rattle.std.proofs.lemmas.List.{length-map, length-reverse, map-append, reverse-append, same_from_push, take_all, take_more}
 use Rattle.fp_book.specs.declared.line.Line.{Line}
-use Rattle.fp_book.specs.declared.line.Line.TheVariants as lines
 use Rattle.fp_book.specs.declared.line.LoggedStep.{LoggedStep}
-use Rattle.fp_book.specs.declared.line.LoggedStep.TheVariants as line
 use Rattle.fp_entry.specs.declared.prepared.Prepared.{Prepared}
 use Rattle.fp_records.specs.Table.{Contents}
 use Rattle.fp_steps.specs.Accepted.{positions}
@@ -24,9 +22,7 @@ use Rattle.fp_steps.specs.Totals.{local_after}
 use Rattle.fp_steps.specs.Turns.{turn_out}
 use Rattle.fp_steps.specs.declared.log.TurnOut.{TurnOut}
 use Rattle.fp_steps.specs.declared.output.Output.{Output}
-use Rattle.fp_steps.specs.declared.output.Output.TheVariants as outputs
 use Rattle.fp_steps.specs.declared.step.Step.{Step}
-use Rattle.fp_steps.specs.declared.step.Step.TheVariants as steps
 use Rattle.fp_steps.proofs.HeldDialogues.{same_local}
 use Rattle.fp_steps.proofs.OpenedDialogues.{all_opened, out_born, taken_if, the_one, took_is, turned_if}
 use Rattle.fp_steps.proofs.OutputTotals.{local_in, local_more, outputs_more}
@@ -138,12 +134,12 @@ took_stays link h turns l position local d all taken k name is =
 -- after a step
 moved : (link : ℕ) (h : List Event) (turns : List TurnOut) (step : Step) (came : Option Prepared) (output : Output) → IsAnswer link h step came output → AllAnswered link h → AreOut h turns
     → AreOut (record { step = step; came = came; output = output } ∷ h) (turns_after step output turns)
-moved link h turns step came (outputs.Posted answer components) is all k local d name out_now = posted_stays link h turns local d (opened_by answer) all k name out_now
-moved link h turns step came (outputs.Took l position) is all k local d name out_now = took_stays link h turns l position local d all (took_is link h step came l position is) k name out_now
-moved link h turns step came (outputs.Gave l position given) is all k local d name out_now =
+moved link h turns step came (Output.Posted answer components) is all k local d name out_now = posted_stays link h turns local d (opened_by answer) all k name out_now
+moved link h turns step came (Output.Took l position) is all k local d name out_now = took_stays link h turns l position local d all (took_is link h step came l position is) k name out_now
+moved link h turns step came (Output.Gave l position given) is all k local d name out_now =
     back_stays h turns l local d (turn_out h d) k name refl out_now
     ∙ ap (λ xs. Some (length (positions h d ++ xs))) (sym (no_place (named h l) d (position ∷ []) (not_one (is_one (named h l) d) (turn_out h d) out_now)))
-moved link h turns (steps.PutBack lo) came outputs.WentBack is all k local d name out_now = back_stays h turns lo local d (turn_out h d) k name refl out_now
+moved link h turns (Step.PutBack lo) came Output.WentBack is all k local d name out_now = back_stays h turns lo local d (turn_out h d) k name refl out_now
 moved link h turns step came output is all k local d name out_now = stays h turns local d k name out_now
 
 pub AreOut-more : (link : ℕ) (h : List Event) (turns : List TurnOut) (e : Event) → IsAnswer link h e.step e.came e.output → AllAnswered link h → AreOut h turns → AreOut (e ∷ h) (turns_after e.step e.output turns)
@@ -152,17 +148,17 @@ AreOut-more link h turns e is all k = moved link h turns e.step e.came e.output 
 -- WHAT IS TOLD
 
 -- a turn goes back only where it is out
-out_there : (h : List Event) (turns : List TurnOut) (local : ℕ) (o : Option ℕ) → AreOut h turns → named h local ≡ o → outputs.WentBack ≡ put_back h o
-    → option_map (λ n. line.PutBack local n) (place_in turns local) ≡ option_map (λ d. line.PutBack local (length (positions h d))) o
+out_there : (h : List Event) (turns : List TurnOut) (local : ℕ) (o : Option ℕ) → AreOut h turns → named h local ≡ o → Output.WentBack ≡ put_back h o
+    → option_map (λ n. LoggedStep.PutBack local n) (place_in turns local) ≡ option_map (λ d. LoggedStep.PutBack local (length (positions h d))) o
 out_there h turns local None k name is = absurd (cc)
 out_there h turns local (Some d) k name is =
     ⊎_elim
-    (λ e. ap (option_map (λ n. line.PutBack local n)) (k local d name e))
-    (λ ne. absurd (let clash : outputs.WentBack ≡ outputs.Nothing = is ∙ ap (λ b. cond b outputs.WentBack outputs.Nothing) ne in cc))
+    (λ e. ap (option_map (λ n. LoggedStep.PutBack local n)) (k local d name e))
+    (λ ne. absurd (let clash : Output.WentBack ≡ Output.Nothing = is ∙ ap (λ b. cond b Output.WentBack Output.Nothing) ne in cc))
     (cases_Bool (turn_out h d))
 
-back_told : (link : ℕ) (h : List Event) (turns : List TurnOut) (step : Step) (came : Option Prepared) → AreOut h turns → IsAnswer link h step came outputs.WentBack → back_by turns step ≡ told_back h step
-back_told link h turns (steps.PutBack lo) came k is = out_there h turns lo (named h lo) k refl is
+back_told : (link : ℕ) (h : List Event) (turns : List TurnOut) (step : Step) (came : Option Prepared) → AreOut h turns → IsAnswer link h step came Output.WentBack → back_by turns step ≡ told_back h step
+back_told link h turns (Step.PutBack lo) came k is = out_there h turns lo (named h lo) k refl is
 back_told link h turns step came k is = refl
 
 out_told : (o : Option Handed) (of : ℕ → LoggedStep) → option_map of (local_in o) ≡ option_map (λ (handed : Handed). of handed.local) o
@@ -170,9 +166,9 @@ out_told None of = refl
 out_told (Some handed) of = refl
 
 pub told_is : (link : ℕ) (h : List Event) (turns : List TurnOut) (step : Step) (came : Option Prepared) (output : Output) → AreOut h turns → IsAnswer link h step came output → told_where turns (local_in (out h)) step output ≡ told h step output
-told_is link h turns step came outputs.WentBack k is = back_told link h turns step came k is
-told_is link h turns step came outputs.Sent k is = out_told (out h) (λ l. line.Sent l)
-told_is link h turns step came outputs.Unsent k is = out_told (out h) (λ l. line.Unsent l)
+told_is link h turns step came Output.WentBack k is = back_told link h turns step came k is
+told_is link h turns step came Output.Sent k is = out_told (out h) (λ l. LoggedStep.Sent l)
+told_is link h turns step came Output.Unsent k is = out_told (out h) (λ l. LoggedStep.Unsent l)
 told_is link h turns step came output k is = refl
 
 -- THE LINES
@@ -187,20 +183,19 @@ back_to_front : (o : Option LoggedStep) → reverse (option_to_list o) ≡ optio
 back_to_front None = refl
 back_to_front (Some step) = refl
 
-log_more : (link : ℕ) (h : List Event) (e : Event) → log_of link (e ∷ h) ≡ log_of link h ++ map_list (lines.Step link) (option_to_list (logged h e.step e.output))
+log_more : (link : ℕ) (h : List Event) (e : Event) → log_of link (e ∷ h) ≡ log_of link h ++ map_list (Line.Step link) (option_to_list (logged h e.step e.output))
 log_more link h e =
     let one = option_to_list (logged h e.step e.output) in
-    ap (λ xs. lines.Head (link + 1) ∷ map_list (lines.Step link) xs) (reverse-append one (lines_told h) ∙ ap (λ xs. reverse (lines_told h) ++ xs) (back_to_front (logged h e.step e.output)))
-    ∙ ap (λ xs. lines.Head (link + 1) ∷ xs) (map-append (lines.Step link) (reverse (lines_told h)) one)
+    ap (λ xs. Line.Head (link + 1) ∷ map_list (Line.Step link) xs) (reverse-append one (lines_told h) ∙ ap (λ xs. reverse (lines_told h) ++ xs) (back_to_front (logged h e.step e.output)))
+    ∙ ap (λ xs. Line.Head (link + 1) ∷ xs) (map-append (Line.Step link) (reverse (lines_told h)) one)
 
 -- one step more
 telling_more : (link : ℕ) (h : List Event) (e : Event) (log more : List Line) (turns then : List TurnOut) (before after : Option ℕ) → IsAnswer link h e.step e.came e.output → AllAnswered link h → Telling link h log turns before
-    → more ≡ log ++ map_list (lines.Step link) (option_to_list (written (told_where turns before e.step e.output))) → then ≡ turns_after e.step e.output turns → after ≡ local_after e.output before → Telling link (e ∷ h) more then after
+    → more ≡ log ++ map_list (Line.Step link) (option_to_list (written (told_where turns before e.step e.output))) → then ≡ turns_after e.step e.output turns → after ≡ local_after e.output before → Telling link (e ∷ h) more then after
 telling_more link h e log more turns then before after is all k more_is then_is after_is = record {
   lines_are =
       let says : told_where turns before e.step e.output ≡ told h e.step e.output = ap (λ o. told_where turns o e.step e.output) k.sending_is ∙ told_is link h turns e.step e.came e.output k.turns_are is in
-      more_is ∙ ap (λ xs. xs ++ map_list (lines.Step link) (option_to_list (written (told_where turns before e.step e.output)))) k.lines_are
-      ∙ ap (λ o. log_of link h ++ map_list (lines.Step link) (option_to_list (written o))) says ∙ sym (log_more link h e);
+      more_is ∙ (λ i. k.lines_are i ++ map_list (Line.Step link) (option_to_list (written (says i)))) ∙ sym (log_more link h e);
   turns_are = subst (AreOut (e ∷ h)) (sym then_is) (AreOut-more link h turns e is all k.turns_are);
   sending_is = after_is ∙ local_more e.output h (out h) before k.sending_is;
 }
@@ -215,7 +210,7 @@ no_more_steps [] step e = cc
 no_more_steps (s ∷ steps) step e = cc
 
 told_more : (link : ℕ) (steps : List Step) (outputs : List Output) (step : Step) (output : Output) (log more : List Line) (turns then : List TurnOut) (before after : Option ℕ) → SoTold link steps outputs log turns before
-    → more ≡ log ++ map_list (lines.Step link) (option_to_list (written (told_where turns before step output))) → then ≡ turns_after step output turns → after ≡ local_after output before
+    → more ≡ log ++ map_list (Line.Step link) (option_to_list (written (told_where turns before step output))) → then ≡ turns_after step output turns → after ≡ local_after output before
     → SoTold link (steps ++ step ∷ []) (outputs ++ output ∷ []) more then after
 told_more link steps outputs step output log more turns then before after k more_is then_is after_is contents contexts [] tells all = absurd (no_more_steps steps step tells.steps_are)
 told_more link steps outputs step output log more turns then before after k more_is then_is after_is contents contexts (e ∷ h) tells (is, all) =
@@ -223,9 +218,8 @@ told_more link steps outputs step output log more turns then before after k more
     let o = same_from_push (outputs_of h) outputs e.output output (sym (outputs_more h e) ∙ tells.outputs_are) in
     let before_it : Tells contents contexts steps outputs h = record { steps_are = s.0; outputs_are = o.0; messages = tells.messages.1 } in
     telling_more link h e log more turns then before after is all (k contents contexts h before_it all)
-    (more_is ∙ ap (λ x. log ++ map_list (lines.Step link) (option_to_list (written (told_where turns before x output)))) (sym s.1)
-    ∙ ap (λ x. log ++ map_list (lines.Step link) (option_to_list (written (told_where turns before e.step x)))) (sym o.1))
-    (then_is ∙ ap (λ x. turns_after x output turns) (sym s.1) ∙ ap (λ x. turns_after e.step x turns) (sym o.1))
+    (more_is ∙ (λ i. log ++ map_list (Line.Step link) (option_to_list (written (told_where turns before (sym s.1 i) (sym o.1 i))))))
+    (then_is ∙ (λ i. turns_after (sym s.1 i) (sym o.1 i) turns))
     (after_is ∙ ap (λ x. local_after x before) (sym o.1))
 
 -- THE LOOP
@@ -235,7 +229,7 @@ pub record Logging (link : ℕ) (steps : List Step) (outputs : List Output) (log
   pub told : SoTold link steps outputs log turns out_now
   pub in_range : AllByRecursion IsLine log
 
-told_none : (link : ℕ) (steps : List Step) (outputs : List Output) (log : List Line) (turns : List TurnOut) → log ≡ lines.Head (link + 1) ∷ [] → turns ≡ [] → SoTold link (take 0 steps) (take 0 outputs) log turns None
+told_none : (link : ℕ) (steps : List Step) (outputs : List Output) (log : List Line) (turns : List TurnOut) → log ≡ Line.Head (link + 1) ∷ [] → turns ≡ [] → SoTold link (take 0 steps) (take 0 outputs) log turns None
 told_none link steps outputs log turns log_is none contents contexts [] tells all = record {
   lines_are = log_is;
   turns_are = λ local d name is. absurd (cc);
@@ -244,7 +238,7 @@ told_none link steps outputs log turns log_is none contents contexts [] tells al
 told_none link steps outputs log turns log_is none contents contexts (e ∷ h) tells all =
     absurd (no_more_steps (reverse (map_list (λ (e : Event). e.step) h)) e.step (sym (sym (reverse_onto (map_list (λ (e : Event). e.step) h) e.step []) ∙ tells.steps_are)))
 
-pub logging_none : (link : ℕ) (steps : List Step) (outputs : List Output) (log : List Line) (turns : List TurnOut) → link < 8 → log ≡ lines.Head (link + 1) ∷ [] → turns ≡ [] → Logging link (take 0 steps) (take 0 outputs) log turns None
+pub logging_none : (link : ℕ) (steps : List Step) (outputs : List Output) (log : List Line) (turns : List TurnOut) → link < 8 → log ≡ Line.Head (link + 1) ∷ [] → turns ≡ [] → Logging link (take 0 steps) (take 0 outputs) log turns None
 logging_none link steps outputs log turns low log_is none = record {
   told = told_none link steps outputs log turns log_is none;
   in_range = subst (AllByRecursion IsLine) (sym log_is) ((omega (arith, low), omega (arith, low)), tt);
@@ -252,7 +246,7 @@ logging_none link steps outputs log turns low log_is none = record {
 
 pub logging_next : (link : ℕ) (steps : List Step) (outputs : List Output) (i : ℕ) (step : Step) (output : Output) (log more : List Line) (turns then : List TurnOut) (before after : Option ℕ) → Logging link (take i steps) (take i outputs) log turns before
     → i < length steps → i < length outputs → step ≡ get_or steps i step → output ≡ get_or outputs i output
-    → more ≡ log ++ map_list (lines.Step link) (option_to_list (written (told_where turns before step output))) → (AllByRecursion IsLine log → AllByRecursion IsLine more) → then ≡ turns_after step output turns → after ≡ local_after output before
+    → more ≡ log ++ map_list (Line.Step link) (option_to_list (written (told_where turns before step output))) → (AllByRecursion IsLine log → AllByRecursion IsLine more) → then ≡ turns_after step output turns → after ≡ local_after output before
     → Logging link (take (i + 1) steps) (take (i + 1) outputs) more then after
 logging_next link steps outputs i step output log more turns then before after k in_steps in_outputs step_is output_is more_is ranges then_is after_is =
     subst (λ ss. Logging link ss (take (i + 1) outputs) more then after) (sym (take_more steps i step in_steps ∙ ap (λ s. take i steps ++ s ∷ []) (sym step_is)))

@@ -3,13 +3,10 @@ use Rattle.std.proofs.Common.{◌≡◌, ℕ, ◌+◌, Option, Some, None, List,
 use Rattle.std.specs.Prelude.{IfSome, count_by, option_map}
 use Rattle.std.proofs.lemmas.List.Sums.{sum_by-cons}
 use Rattle.fp_book.specs.declared.answers.Posted.{Posted}
-use Rattle.fp_book.specs.declared.answers.Posted.TheVariants.{Opened}
 use Rattle.fp_book.specs.declared.line.LoggedStep.{LoggedStep}
-use Rattle.fp_book.specs.declared.line.LoggedStep.TheVariants as line
 use Rattle.fp_book.specs.declared.totals.Totals.{Totals}
 use Rattle.fp_entry.specs.Prepared.{IsLost}
 use Rattle.fp_entry.specs.declared.prepared.Prepared.{Prepared}
-use Rattle.fp_entry.specs.declared.prepared.Prepared.TheVariants as prepared
 use Rattle.fp_records.specs.Table.{Contents}
 use Rattle.fp_steps.specs.Accepted.{positions}
 use Rattle.fp_steps.specs.Answers.{IsAnswer}
@@ -22,9 +19,7 @@ use Rattle.fp_steps.specs.Sending.{Handed, out}
 use Rattle.fp_steps.specs.Told.{told, told_back, told_message, told_tick}
 use Rattle.fp_steps.specs.Totals.{added_by, plus}
 use Rattle.fp_steps.specs.declared.output.Output.{Output}
-use Rattle.fp_steps.specs.declared.output.Output.TheVariants as outputs
 use Rattle.fp_steps.specs.declared.step.Step.{Step}
-use Rattle.fp_steps.specs.declared.step.Step.TheVariants as steps
 use Rattle.fp_steps.proofs.OutputTotals.{added, local_in, make, one_if, same, totals_next}
 
 -- what is counted of a line, whose message was prepared to this
@@ -38,56 +33,56 @@ Counts o came output line = added_by output (local_in o) ≡ counted line came
 -- MESSAGES
 
 by_answer : (answer : Posted) (came : Prepared) → components_in answer came ≡ accepted_by answer (Some came)
-by_answer (Opened local) came = refl
+by_answer (Posted.Opened local) came = refl
 by_answer answer came = refl
 
 lost_none : (octets : List ℕ) (moment : ℕ) (answer : Posted) (came : Prepared) → IsLost octets moment came → components_in answer came ≡ 0
-lost_none octets moment (Opened local) (prepared.Lost a) is = refl
-lost_none octets moment answer (prepared.Lost a) is = refl
+lost_none octets moment (Posted.Opened local) (Prepared.Lost a) is = refl
+lost_none octets moment answer (Prepared.Lost a) is = refl
 lost_none octets moment answer came is = absurd is
 
-answered : (link : ℕ) (h : List Event) (came : Prepared) (answer : Posted) (components : ℕ) → outputs.Posted answer components ≡ outputs.Posted (answer_to link h came) (components_in (answer_to link h came) came) → components ≡ components_in answer came
+answered : (link : ℕ) (h : List Event) (came : Prepared) (answer : Posted) (components : ℕ) → Output.Posted answer components ≡ Output.Posted (answer_to link h came) (components_in (answer_to link h came) came) → components ≡ components_in answer came
 answered link h came answer components is =
     let so : answer ≡ answer_to link h came = cc in
     let many : components ≡ components_in (answer_to link h came) came = cc in
     many ∙ ap (λ a. components_in a came) (sym so)
 
 message_counts : (contents : Contents) (contexts : List (List ℕ)) (link : ℕ) (h : List Event) (step : Step) (came : Option Prepared) (answer : Posted) (components : ℕ) → IsCame contents contexts step came
-    → IsAnswer link h step came (outputs.Posted answer components) → IfSome (told_message step answer) (Counts (out h) came (outputs.Posted answer components))
-message_counts contents contexts link h (steps.Post frame moment) None answer components c is = absurd is
-message_counts contents contexts link h (steps.Post frame moment) (Some came) answer components c is = ap (λ n. make n 0 0) (answered link h came answer components is ∙ by_answer answer came)
-message_counts contents contexts link h (steps.Lost frame moment) None answer components c is = absurd is
-message_counts contents contexts link h (steps.Lost frame moment) (Some came) answer components c is = ap (λ n. make n 0 0) (answered link h came answer components is ∙ lost_none frame moment answer came c)
+    → IsAnswer link h step came (Output.Posted answer components) → IfSome (told_message step answer) (Counts (out h) came (Output.Posted answer components))
+message_counts contents contexts link h (Step.Post frame moment) None answer components c is = absurd is
+message_counts contents contexts link h (Step.Post frame moment) (Some came) answer components c is = ap (λ n. make n 0 0) (answered link h came answer components is ∙ by_answer answer came)
+message_counts contents contexts link h (Step.Lost frame moment) None answer components c is = absurd is
+message_counts contents contexts link h (Step.Lost frame moment) (Some came) answer components c is = ap (λ n. make n 0 0) (answered link h came answer components is ∙ lost_none frame moment answer came c)
 message_counts contents contexts link h step came answer components c is = tt
 
 -- OTHER STEPS
 
-tick_counts : (o : Option Handed) (came : Option Prepared) (step : Step) (many wanting : ℕ) → IfSome (told_tick step many wanting) (Counts o came (outputs.Ticked many wanting))
-tick_counts o came (steps.Tick moment) many wanting = refl
+tick_counts : (o : Option Handed) (came : Option Prepared) (step : Step) (many wanting : ℕ) → IfSome (told_tick step many wanting) (Counts o came (Output.Ticked many wanting))
+tick_counts o came (Step.Tick moment) many wanting = refl
 tick_counts o came step many wanting = tt
 
 over_counts : {X : Type 0} → (P : LoggedStep → Type 0) (a : Option X) (of : X → LoggedStep) → ((x : X) → P (of x)) → IfSome (option_map of a) P
 over_counts P None of is = tt
 over_counts P (Some x) of is = is x
 
-back_counts : (o : Option Handed) (came : Option Prepared) (h : List Event) (step : Step) → IfSome (told_back h step) (Counts o came outputs.WentBack)
-back_counts o came h (steps.PutBack lo) = over_counts (Counts o came outputs.WentBack) (named h lo) (λ d. line.PutBack lo (length (positions h d))) (λ d. refl)
+back_counts : (o : Option Handed) (came : Option Prepared) (h : List Event) (step : Step) → IfSome (told_back h step) (Counts o came Output.WentBack)
+back_counts o came h (Step.PutBack lo) = over_counts (Counts o came Output.WentBack) (named h lo) (λ d. LoggedStep.PutBack lo (length (positions h d))) (λ d. refl)
 back_counts o came h step = tt
 
-sent_counts : (o : Option Handed) (came : Option Prepared) → IfSome (option_map (λ (handed : Handed). line.Sent handed.local) o) (Counts o came outputs.Sent)
+sent_counts : (o : Option Handed) (came : Option Prepared) → IfSome (option_map (λ (handed : Handed). LoggedStep.Sent handed.local) o) (Counts o came Output.Sent)
 sent_counts None came = tt
 sent_counts (Some handed) came = refl
 
 told_counts : (contents : Contents) (contexts : List (List ℕ)) (link : ℕ) (h : List Event) (step : Step) (came : Option Prepared) (output : Output) → IsCame contents contexts step came → IsAnswer link h step came output
     → IfSome (told h step output) (Counts (out h) came output)
-told_counts contents contexts link h step came (outputs.Posted answer components) c is = message_counts contents contexts link h step came answer components c is
-told_counts contents contexts link h step came (outputs.Ticked many wanting) c is = tick_counts (out h) came step many wanting
-told_counts contents contexts link h step came outputs.WentBack c is = back_counts (out h) came h step
-told_counts contents contexts link h step came outputs.Sent c is = sent_counts (out h) came
-told_counts contents contexts link h step came outputs.Unsent c is = over_counts (Counts (out h) came outputs.Unsent) (out h) (λ (handed : Handed). line.Unsent handed.local) (λ x. refl)
-told_counts contents contexts link h step came outputs.NoRoom c is = tt
-told_counts contents contexts link h step came outputs.Busy c is = tt
-told_counts contents contexts link h step came outputs.Nothing c is = tt
+told_counts contents contexts link h step came (Output.Posted answer components) c is = message_counts contents contexts link h step came answer components c is
+told_counts contents contexts link h step came (Output.Ticked many wanting) c is = tick_counts (out h) came step many wanting
+told_counts contents contexts link h step came Output.WentBack c is = back_counts (out h) came h step
+told_counts contents contexts link h step came Output.Sent c is = sent_counts (out h) came
+told_counts contents contexts link h step came Output.Unsent c is = over_counts (Counts (out h) came Output.Unsent) (out h) (λ (handed : Handed). LoggedStep.Unsent handed.local) (λ x. refl)
+told_counts contents contexts link h step came Output.NoRoom c is = tt
+told_counts contents contexts link h step came Output.Busy c is = tt
+told_counts contents contexts link h step came Output.Nothing c is = tt
 told_counts contents contexts link h step came output c is = refl
 
 -- ALL LINES

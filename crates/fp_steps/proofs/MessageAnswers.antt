@@ -1,6 +1,6 @@
 -- Each message is answered as its history tells: by the first line that fits.
-use Rattle.std.proofs.Common.{Bool, List, None, Option, Some, [], ap, arith, cond, drop, false, inl, inr, is_none, length, refl, subst, sym, true, ℕ, ⊎_elim, ◌++◌, ◌+◌, ◌∙◌, ◌∷◌, ◌≡◌, ◌≤◌, ◌⊎◌}
-use Rattle.std.specs.Prelude.{map as map_list, min}
+use Rattle.std.proofs.Common.{Bool, List, None, Option, Some, [], ap, cond, drop, false, inl, inr, is_none, length, refl, subst, sym, true, ℕ, ⊎_elim, ◌++◌, ◌+◌, ◌∙◌, ◌∷◌, ◌≡◌, ◌⊎◌}
+use Rattle.std.specs.Prelude.{map as map_list}
 use Rattle.std.specs.Option.{option_and_then, option_map_or}
 use Rattle.std.proofs.lemmas.Bool.{cases_Bool}
 use Rattle.std.proofs.lemmas.List.{length-map}
@@ -9,14 +9,11 @@ use Rattle.std.proofs.lemmas.Option.{none-some, same_Some}
 use Rattle.fp_book.specs.Calls.{Answers, Follows, abort_for, entries_in}
 use Rattle.fp_book.specs.Lines.{SevenLinesDecide, first_lines, first_that_fits, going_on, is_begin, last_lines, seven_lines, unserved_in}
 use Rattle.fp_book.specs.Shelf.{Shelf, Sound, of_row}
-use Rattle.fp_book.specs.Verdict.{admitted, named as named_in, verdict}
+use Rattle.fp_book.specs.Lines.{admitted, named as named_in, verdict}
 use Rattle.fp_book.specs.declared.answers.Posted.{Posted}
-use Rattle.fp_book.specs.declared.answers.Posted.TheVariants as answers
 use Rattle.fp_book.specs.declared.verdict.Verdict.{Verdict}
-use Rattle.fp_book.specs.declared.verdict.Verdict.TheVariants.{Discard, Extend, Open, Refuse}
-use Rattle.fp_entry.specs.Prepared.{IsLost, IsPrepared, arrival_of, components_of}
+use Rattle.fp_entry.specs.Prepared.{IsLost, IsPrepared, arrival_of}
 use Rattle.fp_entry.specs.declared.prepared.Prepared.{Prepared}
-use Rattle.fp_entry.specs.declared.prepared.Prepared.TheVariants as prepared
 use Rattle.fp_q773.specs.declared.kind.Kind.{Kind}
 use Rattle.fp_q773.specs.declared.provider_abort.AbortCause.{AbortCause}
 use Rattle.fp_q773.specs.Tid.{Tid}
@@ -26,18 +23,15 @@ use Rattle.fp_row.specs.Laws.{RowsKeepTheirOrder}
 use Rattle.fp_row.specs.Row.{is_admitted, unserved as row_unserved}
 use Rattle.fp_row.specs.declared.row.Row.{Row}
 use Rattle.fp_tids.specs.Identifiers.{identifier}
-use Rattle.fp_steps.specs.Accepted.{accepted, admits, entry_count}
+use Rattle.fp_steps.specs.Accepted.{accepted, admits}
 use Rattle.fp_steps.specs.Births.{births, local_of, named}
 use Rattle.fp_steps.specs.History.{Event, IsCame}
 use Rattle.fp_steps.specs.Lined.{Lined}
 use Rattle.fp_steps.specs.Lines.{addressee, answer_by, answer_to, answers_by, begun, components_in, first_answer, refused, taking, unserved}
-use Rattle.fp_steps.specs.Makes.{components_by}
 use Rattle.fp_steps.specs.Tied.{IsTied, Tied, TiedAt, story}
-use Rattle.fp_steps.specs.Waiting.{aborts_waiting, held, is_down}
+use Rattle.fp_steps.specs.Waiting.{aborts_waiting, held}
 use Rattle.fp_steps.specs.declared.output.Output.TheVariants as outputs
 use Rattle.fp_steps.specs.declared.step.Step.{Step}
-use Rattle.fp_steps.specs.declared.step.Step.TheVariants as steps
-use Rattle.fp_steps.proofs.AcceptedMessages.{Owes, verdict_owes}
 use Rattle.fp_steps.proofs.HeldCount.{held_is}
 use Rattle.fp_steps.proofs.HeldDialogues.{count_tied, held_of}
 use Rattle.fp_steps.proofs.TieAtMessages.{admits_is, number_in}
@@ -45,10 +39,10 @@ use Rattle.fp_steps.proofs.WaitingAtSteps.{aborts_wait}
 
 -- what a verdict is answered
 abbrev pub answer_of : ℕ → ℕ → Prepared → Verdict → Posted
-answer_of waiting next came Discard = answers.Discarded
-answer_of waiting next came (Refuse named closes) = refused waiting came named (is_none closes)
-answer_of waiting next came (Open peer) = answers.Opened next
-answer_of waiting next came (Extend local ends) = answers.Accepted (length (entries_in came))
+answer_of waiting next came Verdict.Discard = Posted.Discarded
+answer_of waiting next came (Verdict.Refuse named closes) = refused waiting came named (is_none closes)
+answer_of waiting next came (Verdict.Open peer) = Posted.Opened next
+answer_of waiting next came (Verdict.Extend local ends) = Posted.Accepted (length (entries_in came))
 
 refused_is : (s : Shelf) (closes : Option ℕ) (abort : Option (Tid × AbortCause)) (answer : Posted) (answered : Shelf) → Answers s closes abort answer answered → answer ≡ answer_by abort (is_none closes)
 refused_is s None None answer answered g = g.0
@@ -56,11 +50,11 @@ refused_is s (Some local) None answer answered g = g.0
 refused_is s closes (Some (peer, named)) answer answered g = g.0
 
 pub answer_is : (old new : Shelf) (came : Prepared) (answer : Posted) (v : Verdict) → Follows v old came answer new → answer ≡ answer_of (length old.outbox.aborts) (identifier old.link (old.given + 1)) came v
-answer_is old new came answer Discard g = g.answer_is
-answer_is old new came answer (Refuse named closes) g = refused_is g.closed closes (abort_for (length old.outbox.aborts) named (arrival_of came).ids.orig) answer g.answered g.answering
-answer_is old new came answer (Open peer) g = g.answer_is
-answer_is old new came answer (Extend local false) g = g.answer_is
-answer_is old new came answer (Extend local true) g = g.answer_is
+answer_is old new came answer Verdict.Discard g = g.answer_is
+answer_is old new came answer (Verdict.Refuse named closes) g = refused_is g.closed closes (abort_for (length old.outbox.aborts) named (arrival_of came).ids.orig) answer g.answered g.answering
+answer_is old new came answer (Verdict.Open peer) g = g.answer_is
+answer_is old new came answer (Verdict.Extend local false) g = g.answer_is
+answer_is old new came answer (Verdict.Extend local true) g = g.answer_is
 
 -- so the first line that fits says it
 abbrev answered_line : ℕ → ℕ → Prepared → Bool × Verdict → Bool × Posted
@@ -75,13 +69,13 @@ first_is waiting next came [] = refl
 first_is waiting next came (line ∷ lines) =
     first_by waiting next came line.0 line.1 (first_that_fits lines) ∙ ap (λ a. cond line.0 (answer_of waiting next came line.1) a) (first_is waiting next came lines)
 
-opened_by : (waiting next : ℕ) (came : Prepared) (o : Option Tid) → answer_of waiting next came (option_map_or (λ peer. Open peer) o Discard) ≡ option_map_or (λ (peer : Tid). answers.Opened next) o answers.Discarded
+opened_by : (waiting next : ℕ) (came : Prepared) (o : Option Tid) → answer_of waiting next came (option_map_or (λ peer. Verdict.Open peer) o Verdict.Discard) ≡ option_map_or (λ (peer : Tid). Posted.Opened next) o Posted.Discarded
 opened_by waiting next came None = refl
 opened_by waiting next came (Some peer) = refl
 
 -- the lines of the book are the same, by what they ask for
 same_lines : (s : Shelf) (came : Prepared) (kind : Kind) (o : Option ℕ) (waiting next : ℕ) → map_list (answered_line waiting next came) (first_lines s came kind o ++ last_lines s came kind o)
-    ≡ answers_by s.is_down waiting (is_none o) (is_none (going_on kind o)) (unserved_in s (going_on kind o)) s.entries (map.len s.rows) s.given (answer_of waiting next came (option_map_or (λ peer. Open peer) (arrival_of came).ids.orig Discard)) came kind
+    ≡ answers_by s.is_down waiting (is_none o) (is_none (going_on kind o)) (unserved_in s (going_on kind o)) s.entries (map.len s.rows) s.given (answer_of waiting next came (option_map_or (λ peer. Verdict.Open peer) (arrival_of came).ids.orig Verdict.Discard)) came kind
 same_lines s came kind None waiting next = refl
 same_lines s came kind (Some local) waiting next = refl
 
@@ -173,39 +167,11 @@ answered_so h s came t k l many seven =
     let a : Asks h s kind o p = asks h s came t k in
     let aborts : waiting ≡ length (aborts_waiting h) = sym (length-map s.outbox.aborts frame_octets) ∙ ap length (sym (aborts_wait h s t k l)) in
     let given : s.given ≡ births h = sym (t.births_are ∙ k.births) in
-    let opens : answer_of waiting next came (option_map_or (λ peer. Open peer) (arrival_of came).ids.orig Discard) ≡ begun s.link h came =
-    opened_by waiting next came (arrival_of came).ids.orig ∙ ap (λ n. option_map_or (λ (peer : Tid). answers.Opened (identifier s.link (n + 1))) (arrival_of came).ids.orig answers.Discarded) given
+    let opens : answer_of waiting next came (option_map_or (λ peer. Verdict.Open peer) (arrival_of came).ids.orig Verdict.Discard) ≡ begun s.link h came =
+    opened_by waiting next came (arrival_of came).ids.orig ∙ ap (λ n. option_map_or (λ (peer : Tid). Posted.Opened (identifier s.link (n + 1))) (arrival_of came).ids.orig Posted.Discarded) given
     in
     ap (answer_of waiting next came) seven ∙ first_is waiting next came (seven_lines s came) ∙ ap first_answer (same_lines s came kind o waiting next)
-    ∙ ap (λ x. first_answer (answers_by s.is_down waiting (is_none o) (is_none (going_on kind o)) (unserved_in s (going_on kind o)) s.entries (map.len s.rows) s.given x came kind)) opens
-    ∙ ap (λ x. first_answer (answers_by x waiting (is_none o) (is_none (going_on kind o)) (unserved_in s (going_on kind o)) s.entries (map.len s.rows) s.given (begun s.link h came) came kind)) (sym l.down)
-    ∙ ap (λ x. first_answer (answers_by (is_down h) x (is_none o) (is_none (going_on kind o)) (unserved_in s (going_on kind o)) s.entries (map.len s.rows) s.given (begun s.link h came) came kind)) aborts
-    ∙ ap (λ x. first_answer (answers_by (is_down h) (length (aborts_waiting h)) x (is_none (going_on kind o)) (unserved_in s (going_on kind o)) s.entries (map.len s.rows) s.given (begun s.link h came) came kind)) a.names
-    ∙ ap (λ x. first_answer (answers_by (is_down h) (length (aborts_waiting h)) (is_none p) x (unserved_in s (going_on kind o)) s.entries (map.len s.rows) s.given (begun s.link h came) came kind)) a.anew
-    ∙ ap (λ x. first_answer (answers_by (is_down h) (length (aborts_waiting h)) (is_none p) (is_none (going_on kind p)) x s.entries (map.len s.rows) s.given (begun s.link h came) came kind)) a.entries
-    ∙ ap (λ x. first_answer (answers_by (is_down h) (length (aborts_waiting h)) (is_none p) (is_none (going_on kind p)) (unserved h (going_on kind p)) x (map.len s.rows) s.given (begun s.link h came) came kind)) (sym t.entries_are)
-    ∙ ap (λ x. first_answer (answers_by (is_down h) (length (aborts_waiting h)) (is_none p) (is_none (going_on kind p)) (unserved h (going_on kind p)) (entry_count h) x s.given (begun s.link h came) came kind)) (sym many)
-    ∙ ap (λ x. first_answer (answers_by (is_down h) (length (aborts_waiting h)) (is_none p) (is_none (going_on kind p)) (unserved h (going_on kind p)) (entry_count h) (held h) x (begun s.link h came) came kind)) given
-
--- COMPONENTS
-
-least : (n : ℕ) → n ≤ 17 → min n 4294967295 ≡ n
-least n le = omega (arith, le)
-
-refused_count : (abort : Option (Tid × AbortCause)) (b : Bool) (came : Prepared) → components_by (answer_by abort b) came ≡ components_in (answer_by abort b) came
-refused_count None true came = refl
-refused_count None false came = refl
-refused_count (Some (peer, named)) b came = refl
-
-counted_by : (waiting next : ℕ) (came : Prepared) (v : Verdict) → Owes (components_of came) v → components_by (answer_of waiting next came v) came ≡ components_in (answer_of waiting next came v) came
-counted_by waiting next came Discard few = refl
-counted_by waiting next came (Refuse named closes) few = refused_count (abort_for waiting named (arrival_of came).ids.orig) _ came
-counted_by waiting next came (Open peer) few = least (components_of came) few
-counted_by waiting next came (Extend local ends) few = least (components_of came) few
-
-pub components_counted : (s : Shelf) (came : Prepared) (waiting next : ℕ) (answer : Posted) → answer ≡ answer_of waiting next came (verdict s came) → components_by answer came ≡ components_in answer came
-components_counted s came waiting next answer is =
-    ap (λ a. components_by a came) is ∙ counted_by waiting next came (verdict s came) (verdict_owes s came) ∙ ap (λ a. components_in a came) (sym is)
+    ∙ (λ i. first_answer (answers_by (sym l.down i) (aborts i) (a.names i) (a.anew i) (a.entries i) (sym t.entries_are i) (sym many i) (given i) (opens i) came kind))
 
 -- EACH MESSAGE
 
@@ -217,7 +183,7 @@ decided_as : (p : Prepared) → ((s : Shelf) → verdict s p ≡ first_that_fits
 decided_as p all s q same = subst (λ q. verdict s q ≡ first_that_fits (seven_lines s q)) (same_Some p q same) (all s)
 
 pub lost_prepared : (contents : Contents) (contexts : List (List ℕ)) (octets : List ℕ) (moment : ℕ) (p : Prepared) → IsLost octets moment p → IsPrepared contents contexts octets moment p
-lost_prepared contents contexts octets moment (prepared.Lost arrival) is = record { is_arrival = is; is_reading = tt }
+lost_prepared contents contexts octets moment (Prepared.Lost arrival) is = record { is_arrival = is; is_reading = tt }
 lost_prepared contents contexts octets moment p is = absurd is
 
 none_decided : Decided None
@@ -225,17 +191,17 @@ none_decided s p same = absurd (cc)
 
 pub decided : SevenLinesDecide → (contents : Contents) (contexts : List (List ℕ)) (step : Step) (came : Option Prepared) → IsCame contents contexts step came → Decided came
 decided seven contents contexts step None is = none_decided
-decided seven contents contexts (steps.Post frame moment) (Some p) is = decided_as p (λ s. seven contents contexts frame moment s p is.0)
-decided seven contents contexts (steps.Lost frame moment) (Some p) is = decided_as p (λ s. seven contents contexts frame moment s p (lost_prepared contents contexts frame moment p is))
+decided seven contents contexts (Step.Post frame moment) (Some p) is = decided_as p (λ s. seven contents contexts frame moment s p is.0)
+decided seven contents contexts (Step.Lost frame moment) (Some p) is = decided_as p (λ s. seven contents contexts frame moment s p (lost_prepared contents contexts frame moment p is))
 decided seven contents contexts step (Some p) is = absurd is
 
 pub posted_is : RowsKeepTheirOrder → (h : List Event) (old new : Shelf) (p : Prepared) (answer : Posted) (components : ℕ) → Tied h old → Sound old → Lined h old
     → verdict old p ≡ first_that_fits (seven_lines old p)
-    → components ≡ components_by answer p → Follows (verdict old p) old p answer new → outputs.Posted answer components ≡ outputs.Posted (answer_to old.link h p) (components_in (answer_to old.link h p) p)
+    → components ≡ components_in answer p → Follows (verdict old p) old p answer new → outputs.Posted answer components ≡ outputs.Posted (answer_to old.link h p) (components_in (answer_to old.link h p) p)
 posted_is law h old new p answer components t k l seven count g =
     let waiting = length old.outbox.aborts in
     let next = identifier old.link (old.given + 1) in
     let is : answer ≡ answer_of waiting next p (verdict old p) = answer_is old new p answer (verdict old p) g in
     let so : answer ≡ answer_to old.link h p = is ∙ answered_so h old p t k l (held_is law h old t k l) seven in
-    let many : components ≡ components_in (answer_to old.link h p) p = count ∙ components_counted old p waiting next answer is ∙ ap (λ a. components_in a p) so in
-    ap (λ a. outputs.Posted a components) so ∙ ap (λ n. outputs.Posted (answer_to old.link h p) n) many
+    let many : components ≡ components_in (answer_to old.link h p) p = count ∙ ap (λ a. components_in a p) so in
+    λ i. outputs.Posted (so i) (many i)

@@ -1,20 +1,17 @@
 -- What is answered and retold is one.
-use Rattle.std.proofs.Common.{◌≡◌, ℕ, zero, suc, ◌<◌, ◌≤◌, true, false, eqb, Option, Some, None, List, [], ◌∷◌, length, is_some, refl, sym, ◌∙◌, ap, subst, arith, ⊎_elim, inl, inr}
-use Rattle.std.specs.Prelude.{IfSome, map, option_map, reverse}
+use Rattle.std.proofs.Common.{◌≡◌, ℕ, ◌<◌, ◌≤◌, true, false, eqb, Option, Some, None, List, [], ◌∷◌, length, is_some, refl, sym, ◌∙◌, ap, subst, arith, ⊎_elim, inl, inr}
+use Rattle.std.specs.Prelude.{map, option_map, reverse}
 use Rattle.std.specs.List.{AllByRecursion}
 use Rattle.std.proofs.lemmas.List.{reverse-reverse}
 use Rattle.std.proofs.lemmas.Bool.{cases_Bool, eq-eqb, eqb-true, false≢true}
 use Rattle.fp_book.specs.Lines.{is_lost}
 use Rattle.fp_entry.specs.Arrival.{SameArrival}
 use Rattle.fp_entry.specs.Laws.{PreparedIsOne}
-use Rattle.fp_entry.specs.Prepared.{Answers, IsLost, SameIncoming, arrival_of}
+use Rattle.fp_entry.specs.Prepared.{Answers, IsLost, SameIncoming}
 use Rattle.fp_entry.specs.declared.arrival.Arrival.{Arrival}
-use Rattle.fp_entry.specs.declared.entry.Entry.{Entry}
 use Rattle.fp_entry.specs.declared.incoming.Incoming.{Incoming}
 use Rattle.fp_entry.specs.declared.prepared.Prepared.{Prepared}
-use Rattle.fp_entry.specs.declared.prepared.Prepared.TheVariants as prepared
 use Rattle.fp_q773.specs.Tid.{octets_of, Tid}
-use Rattle.fp_q773.specs.declared.kind.Kind.{Kind}
 use Rattle.fp_records.specs.Table.{Contents}
 use Rattle.fp_steps.specs.Accepted.{positions}
 use Rattle.fp_steps.specs.Answers.{AllAnswered, IsAnswer, IsLongestReady, IsNext, IsPicked, IsPosted, IsTaken}
@@ -26,9 +23,7 @@ use Rattle.fp_steps.specs.Sending.{out}
 use Rattle.fp_steps.specs.Turns.{IsReadyBefore, ready_for}
 use Rattle.fp_steps.specs.Waiting.{QueuedFrame, aborts_waiting, places, waiting}
 use Rattle.fp_steps.specs.declared.output.Output.{Output}
-use Rattle.fp_steps.specs.declared.output.Output.TheVariants as outputs
 use Rattle.fp_steps.specs.declared.step.Step.{Step}
-use Rattle.fp_steps.specs.declared.step.Step.TheVariants as steps
 use Rattle.fp_steps.proofs.MessageAnswers.{lost_prepared}
 
 -- WHAT CAME
@@ -43,28 +38,24 @@ one_arrival : (a b : Arrival) → SameArrival a b → a ≡ b
 one_arrival a b same =
     let orig : a.ids.orig ≡ b.ids.orig = same_option a.ids.orig b.ids.orig same.identifiers.originating in
     let dest : a.ids.dest ≡ b.ids.dest = same_option a.ids.dest b.ids.dest same.identifiers.destination in
-    let make : List ℕ → ℕ → Kind → Option Tid → Option Tid → Arrival = λ f m k o d. record { frame = f; moment = m; ids = record { kind = k; orig = o; dest = d } } in
-    ap (λ f. make f a.moment a.ids.kind a.ids.orig a.ids.dest) same.frames ∙ ap (λ m. make b.frame m a.ids.kind a.ids.orig a.ids.dest) same.moments
-    ∙ ap (λ k. make b.frame b.moment k a.ids.orig a.ids.dest) same.identifiers.kinds ∙ ap (λ o. make b.frame b.moment b.ids.kind o a.ids.dest) orig
-    ∙ ap (λ d. make b.frame b.moment b.ids.kind b.ids.orig d) dest
+    λ i. record { frame = same.frames i; moment = same.moments i; ids = record { kind = same.identifiers.kinds i; orig = orig i; dest = dest i } }
 
 one_incoming : (a b : Incoming) → SameIncoming a b → a ≡ b
 one_incoming a b same =
-    let make : List Entry → ℕ → Incoming = λ es n. record { entries = es; elements = n } in
-    ap (λ es. make es a.elements) same.entries ∙ ap (λ n. make b.entries n) same.elements
+    λ i. record { entries = same.entries i; elements = same.elements i }
 
 -- a message that was read
 one_read : (x y : Prepared) → is_lost x ≡ false → is_lost y ≡ false → Answers x y → x ≡ y
-one_read (prepared.Message a i) (prepared.Message b j) r t same = ap (λ x. prepared.Message x i) (one_arrival a b same.same_arrival) ∙ ap (λ x. prepared.Message b x) (one_incoming i j same.same_reading)
-one_read (prepared.Refused a f) (prepared.Refused b g) r t same = ap (λ x. prepared.Refused x f) (one_arrival a b same.same_arrival) ∙ ap (λ x. prepared.Refused b x) same.same_reading
-one_read (prepared.Lost a) y r t same = absurd (false≢true (sym r))
-one_read x (prepared.Lost b) r t same = absurd (false≢true (sym t))
+one_read (Prepared.Message a i) (Prepared.Message b j) r t same = ap (λ x. Prepared.Message x i) (one_arrival a b same.same_arrival) ∙ ap (λ x. Prepared.Message b x) (one_incoming i j same.same_reading)
+one_read (Prepared.Refused a f) (Prepared.Refused b g) r t same = ap (λ x. Prepared.Refused x f) (one_arrival a b same.same_arrival) ∙ ap (λ x. Prepared.Refused b x) same.same_reading
+one_read (Prepared.Lost a) y r t same = absurd (false≢true (sym r))
+one_read x (Prepared.Lost b) r t same = absurd (false≢true (sym t))
 one_read x y r t same = absurd same.same_reading
 
 -- one that wasn't
 one_lost : (octets : List ℕ) (moment : ℕ) (x y : Prepared) → IsLost octets moment x → IsLost octets moment y → Answers x y → x ≡ y
-one_lost octets moment (prepared.Lost a) (prepared.Lost b) l m same = ap (λ x. prepared.Lost x) (one_arrival a b same.same_arrival)
-one_lost octets moment (prepared.Lost a) y l m same = absurd m
+one_lost octets moment (Prepared.Lost a) (Prepared.Lost b) l m same = ap (λ x. Prepared.Lost x) (one_arrival a b same.same_arrival)
+one_lost octets moment (Prepared.Lost a) y l m same = absurd m
 one_lost octets moment x y l m same = absurd l
 
 no_message : (x y : Option Prepared) → IsNone x → IsNone y → x ≡ y
@@ -73,12 +64,12 @@ no_message None (Some b) p q = absurd q
 no_message (Some a) y p q = absurd p
 
 came_is_one : PreparedIsOne → (contents : Contents) (contexts : List (List ℕ)) (step : Step) (x y : Option Prepared) → IsCame contents contexts step x → IsCame contents contexts step y → x ≡ y
-came_is_one one contents contexts (steps.Post frame moment) None y p q = absurd p
-came_is_one one contents contexts (steps.Post frame moment) (Some a) None p q = absurd q
-came_is_one one contents contexts (steps.Post frame moment) (Some a) (Some b) p q = ap Some (one_read a b p.1 q.1 (one contents contexts frame moment a b p.0 q.0))
-came_is_one one contents contexts (steps.Lost frame moment) None y p q = absurd p
-came_is_one one contents contexts (steps.Lost frame moment) (Some a) None p q = absurd q
-came_is_one one contents contexts (steps.Lost frame moment) (Some a) (Some b) p q =
+came_is_one one contents contexts (Step.Post frame moment) None y p q = absurd p
+came_is_one one contents contexts (Step.Post frame moment) (Some a) None p q = absurd q
+came_is_one one contents contexts (Step.Post frame moment) (Some a) (Some b) p q = ap Some (one_read a b p.1 q.1 (one contents contexts frame moment a b p.0 q.0))
+came_is_one one contents contexts (Step.Lost frame moment) None y p q = absurd p
+came_is_one one contents contexts (Step.Lost frame moment) (Some a) None p q = absurd q
+came_is_one one contents contexts (Step.Lost frame moment) (Some a) (Some b) p q =
     ap Some (one_lost frame moment a b p q (one contents contexts frame moment a b (lost_prepared contents contexts frame moment a p) (lost_prepared contents contexts frame moment b q)))
 came_is_one one contents contexts step x y p q = no_message x y p q
 
@@ -94,33 +85,33 @@ never_both h c d (inr (e, inl a)) (inr (f, inr b)) = let g = b.0 in omega (arith
 never_both h c d (inr (e, inr a)) (inr (f, inl b)) = let g = a.0 in omega (arith, b, g)
 never_both h c d (inr (e, inr a)) (inr (f, inr b)) = let g = a.1 in let i = b.1 in omega (arith, g, i)
 
-one_longest : (h : List Event) (l p m q : ℕ) → IsLongestReady h l p → IsLongestReady h m q → outputs.Took l p ≡ outputs.Took m q
+one_longest : (h : List Event) (l p m q : ℕ) → IsLongestReady h l p → IsLongestReady h m q → Output.Took l p ≡ Output.Took m q
 one_longest h l p m q a b =
     let same : a.dialogue ≡ b.dialogue =
     ⊎_elim (λ e. eqb-true a.dialogue b.dialogue e)
     (λ ne. absurd (never_both h b.dialogue a.dialogue (b.longest a.dialogue a.stands ne) (a.longest b.dialogue b.stands (⊎_elim (λ e. absurd (false≢true (sym ne ∙ eq-eqb a.dialogue b.dialogue (sym (eqb-true b.dialogue a.dialogue e))))) (λ n. n) (cases_Bool (eqb b.dialogue a.dialogue))))))
     (cases_Bool (eqb a.dialogue b.dialogue))
     in
-    ap (λ x. outputs.Took x p) (a.local_is ∙ ap (local_of h) same ∙ sym b.local_is) ∙ ap (λ x. outputs.Took m x) (a.next ∙ ap (λ d. length (positions h d)) same ∙ sym b.next)
+    ap (λ x. Output.Took x p) (a.local_is ∙ ap (local_of h) same ∙ sym b.local_is) ∙ ap (λ x. Output.Took m x) (a.next ∙ ap (λ d. length (positions h d)) same ∙ sym b.next)
 
 one_taken : (h : List Event) (x y : Output) → IsTaken h x → IsTaken h y → x ≡ y
-one_taken h (outputs.Took l p) (outputs.Took m q) a b = one_longest h l p m q a.0 b.0
-one_taken h (outputs.Took l p) outputs.NoRoom a b = absurd (let lt : places h < 8192 = a.1 in let le : 8192 ≤ places h = b.1 in omega (arith, lt, le))
-one_taken h (outputs.Took l p) outputs.Nothing a b = absurd (false≢true (sym (b a.0.dialogue) ∙ a.0.stands))
-one_taken h outputs.NoRoom (outputs.Took m q) a b = absurd (let lt : places h < 8192 = b.1 in let le : 8192 ≤ places h = a.1 in omega (arith, lt, le))
-one_taken h outputs.NoRoom outputs.NoRoom a b = refl
-one_taken h outputs.NoRoom outputs.Nothing a b = absurd (false≢true (sym (b a.0.0) ∙ a.0.1))
-one_taken h outputs.Nothing (outputs.Took m q) a b = absurd (false≢true (sym (a b.0.dialogue) ∙ b.0.stands))
-one_taken h outputs.Nothing outputs.NoRoom a b = absurd (false≢true (sym (a b.0.0) ∙ b.0.1))
-one_taken h outputs.Nothing outputs.Nothing a b = refl
-one_taken h (outputs.Took l p) y a b = absurd b
-one_taken h outputs.NoRoom y a b = absurd b
-one_taken h outputs.Nothing y a b = absurd b
+one_taken h (Output.Took l p) (Output.Took m q) a b = one_longest h l p m q a.0 b.0
+one_taken h (Output.Took l p) Output.NoRoom a b = absurd (let lt : places h < 8192 = a.1 in let le : 8192 ≤ places h = b.1 in omega (arith, lt, le))
+one_taken h (Output.Took l p) Output.Nothing a b = absurd (false≢true (sym (b a.0.dialogue) ∙ a.0.stands))
+one_taken h Output.NoRoom (Output.Took m q) a b = absurd (let lt : places h < 8192 = b.1 in let le : 8192 ≤ places h = a.1 in omega (arith, lt, le))
+one_taken h Output.NoRoom Output.NoRoom a b = refl
+one_taken h Output.NoRoom Output.Nothing a b = absurd (false≢true (sym (b a.0.0) ∙ a.0.1))
+one_taken h Output.Nothing (Output.Took m q) a b = absurd (false≢true (sym (a b.0.dialogue) ∙ b.0.stands))
+one_taken h Output.Nothing Output.NoRoom a b = absurd (false≢true (sym (a b.0.0) ∙ b.0.1))
+one_taken h Output.Nothing Output.Nothing a b = refl
+one_taken h (Output.Took l p) y a b = absurd b
+one_taken h Output.NoRoom y a b = absurd b
+one_taken h Output.Nothing y a b = absurd b
 one_taken h x y a b = absurd a
 
-one_next : (h : List Event) (aborts : List (List ℕ)) (frames : List QueuedFrame) (l m : ℕ) (x y : List ℕ) → IsNext h aborts frames l x → IsNext h aborts frames m y → outputs.Picked l x ≡ outputs.Picked m y
-one_next h (abort ∷ aborts) frames l m x y a b = ap (λ n. outputs.Picked n x) (a.0 ∙ sym b.0) ∙ ap (λ o. outputs.Picked m o) (a.1 ∙ sym b.1)
-one_next h [] (first ∷ frames) l m x y a b = ap (λ n. outputs.Picked n x) (a.0 ∙ sym b.0) ∙ ap (λ o. outputs.Picked m o) (a.1 ∙ sym b.1)
+one_next : (h : List Event) (aborts : List (List ℕ)) (frames : List QueuedFrame) (l m : ℕ) (x y : List ℕ) → IsNext h aborts frames l x → IsNext h aborts frames m y → Output.Picked l x ≡ Output.Picked m y
+one_next h (abort ∷ aborts) frames l m x y a b = ap (λ n. Output.Picked n x) (a.0 ∙ sym b.0) ∙ ap (λ o. Output.Picked m o) (a.1 ∙ sym b.1)
+one_next h [] (first ∷ frames) l m x y a b = ap (λ n. Output.Picked n x) (a.0 ∙ sym b.0) ∙ ap (λ o. Output.Picked m o) (a.1 ∙ sym b.1)
 one_next h [] [] l m x y a b = absurd a
 
 none_next : (h : List Event) (aborts : List (List ℕ)) (frames : List QueuedFrame) (l : ℕ) (x : List ℕ) → IsNext h aborts frames l x → aborts ≡ [] → frames ≡ [] → ⊥
@@ -132,18 +123,18 @@ busy_not : (h : List Event) → is_some (out h) ≡ true → out h ≡ None → 
 busy_not h some none = false≢true (sym (ap (λ o. is_some o) none) ∙ some)
 
 one_picked : (h : List Event) (x y : Output) → IsPicked h x → IsPicked h y → x ≡ y
-one_picked h (outputs.Picked l octets) (outputs.Picked m others) a b = one_next h (aborts_waiting h) (waiting h) l m octets others a.1 b.1
-one_picked h (outputs.Picked l octets) outputs.Busy a b = absurd (busy_not h b a.0)
-one_picked h (outputs.Picked l octets) outputs.Nothing a b = absurd (none_next h (aborts_waiting h) (waiting h) l octets a.1 b.1 b.2)
-one_picked h outputs.Busy (outputs.Picked m others) a b = absurd (busy_not h a b.0)
-one_picked h outputs.Busy outputs.Busy a b = refl
-one_picked h outputs.Busy outputs.Nothing a b = absurd (busy_not h a b.0)
-one_picked h outputs.Nothing (outputs.Picked m others) a b = absurd (none_next h (aborts_waiting h) (waiting h) m others b.1 a.1 a.2)
-one_picked h outputs.Nothing outputs.Busy a b = absurd (busy_not h b a.0)
-one_picked h outputs.Nothing outputs.Nothing a b = refl
-one_picked h (outputs.Picked l octets) y a b = absurd b
-one_picked h outputs.Busy y a b = absurd b
-one_picked h outputs.Nothing y a b = absurd b
+one_picked h (Output.Picked l octets) (Output.Picked m others) a b = one_next h (aborts_waiting h) (waiting h) l m octets others a.1 b.1
+one_picked h (Output.Picked l octets) Output.Busy a b = absurd (busy_not h b a.0)
+one_picked h (Output.Picked l octets) Output.Nothing a b = absurd (none_next h (aborts_waiting h) (waiting h) l octets a.1 b.1 b.2)
+one_picked h Output.Busy (Output.Picked m others) a b = absurd (busy_not h a b.0)
+one_picked h Output.Busy Output.Busy a b = refl
+one_picked h Output.Busy Output.Nothing a b = absurd (busy_not h a b.0)
+one_picked h Output.Nothing (Output.Picked m others) a b = absurd (none_next h (aborts_waiting h) (waiting h) m others b.1 a.1 a.2)
+one_picked h Output.Nothing Output.Busy a b = absurd (busy_not h b a.0)
+one_picked h Output.Nothing Output.Nothing a b = refl
+one_picked h (Output.Picked l octets) y a b = absurd b
+one_picked h Output.Busy y a b = absurd b
+one_picked h Output.Nothing y a b = absurd b
 one_picked h x y a b = absurd a
 
 one_posted : (link : ℕ) (h : List Event) (came : Option Prepared) (x y : Output) → IsPosted link h came x → IsPosted link h came y → x ≡ y
@@ -151,10 +142,10 @@ one_posted link h None x y a b = absurd a
 one_posted link h (Some came) x y a b = a ∙ sym b
 
 one_answer : (link : ℕ) (h : List Event) (step : Step) (came : Option Prepared) (x y : Output) → IsAnswer link h step came x → IsAnswer link h step came y → x ≡ y
-one_answer link h (steps.Post frame moment) came x y a b = one_posted link h came x y a b
-one_answer link h (steps.Lost frame moment) came x y a b = one_posted link h came x y a b
-one_answer link h steps.Take came x y a b = one_taken h x y a b
-one_answer link h steps.Pick came x y a b = one_picked h x y a b
+one_answer link h (Step.Post frame moment) came x y a b = one_posted link h came x y a b
+one_answer link h (Step.Lost frame moment) came x y a b = one_posted link h came x y a b
+one_answer link h Step.Take came x y a b = one_taken h x y a b
+one_answer link h Step.Pick came x y a b = one_picked h x y a b
 one_answer link h step came x y a b = a ∙ sym b
 
 pub answers_one : PreparedIsOne → AnswersAreOne
@@ -168,11 +159,13 @@ answers_one one contents contexts link h step came other x y p q a b =
 one_event : PreparedIsOne → (contents : Contents) (contexts : List (List ℕ)) (link : ℕ) (h : List Event) (e f : Event) → e.step ≡ f.step → IsCame contents contexts e.step e.came → IsCame contents contexts f.step f.came
     → IsAnswer link h e.step e.came e.output → IsAnswer link h f.step f.came f.output → e ≡ f
 one_event one contents contexts link h e f same p q a b =
-    let make : Step → Option Prepared → Output → Event = λ s c o. record { step = s; came = c; output = o } in
     let came_then : IsCame contents contexts e.step f.came = subst (λ s. IsCame contents contexts s f.came) (sym same) q in
     let answer_then : IsAnswer link h e.step f.came f.output = subst (λ s. IsAnswer link h s f.came f.output) (sym same) b in
-    ap (λ s. make s e.came e.output) same ∙ ap (λ c. make f.step c e.output) (came_is_one one contents contexts e.step e.came f.came p came_then)
-    ∙ ap (λ o. make f.step f.came o) (answers_one one contents contexts link h e.step e.came f.came e.output f.output p came_then a answer_then)
+    λ i. record {
+      step = same i;
+      came = came_is_one one contents contexts e.step e.came f.came p came_then i;
+      output = answers_one one contents contexts link h e.step e.came f.came e.output f.output p came_then a answer_then i;
+    }
 
 -- a history is one by its steps
 one_history : PreparedIsOne → (contents : Contents) (contexts : List (List ℕ)) (link : ℕ) (g h : List Event) → map (λ (e : Event). e.step) g ≡ map (λ (e : Event). e.step) h

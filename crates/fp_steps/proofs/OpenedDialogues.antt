@@ -8,11 +8,9 @@ use Rattle.std.proofs.lemmas.Option.{same_Some}
 use Rattle.fp_book.specs.Calls.{abort_for, entries_in}
 use Rattle.fp_book.specs.Lines.{going_on}
 use Rattle.fp_book.specs.declared.answers.Posted.{Posted}
-use Rattle.fp_book.specs.declared.answers.Posted.TheVariants as answers
 use Rattle.fp_entry.specs.Prepared.{arrival_of}
 use Rattle.fp_entry.specs.declared.prepared.Prepared.{Prepared}
 use Rattle.fp_q773.specs.declared.provider_abort.AbortCause.{AbortCause}
-use Rattle.fp_q773.specs.declared.provider_abort.AbortCause.TheVariants as cause
 use Rattle.fp_q773.specs.Tid.{Tid}
 use Rattle.fp_tids.specs.Identifiers.{identifier}
 use Rattle.fp_steps.specs.Accepted.{entry_count}
@@ -25,24 +23,22 @@ use Rattle.fp_steps.specs.Tied.{Opened, OpenedTo, began_with}
 use Rattle.fp_steps.specs.Turns.{turn_after, turn_out}
 use Rattle.fp_steps.specs.Waiting.{aborts_waiting, held, is_down}
 use Rattle.fp_steps.specs.declared.output.Output.{Output}
-use Rattle.fp_steps.specs.declared.output.Output.TheVariants as outputs
 use Rattle.fp_steps.specs.declared.step.Step.{Step}
-use Rattle.fp_steps.specs.declared.step.Step.TheVariants as steps
 
 -- WHICH IDENTIFIER IS GIVEN
 
 -- an answer opens no dialogue, or one with this identifier
 abbrev OpensOnly : ℕ → Posted → Type 0
-OpensOnly next answer = (local : ℕ) → answer ≡ answers.Opened local → local ≡ next
+OpensOnly next answer = (local : ℕ) → answer ≡ Posted.Opened local → local ≡ next
 
 opens_if : (next : ℕ) (b : Bool) (x y : Posted) → OpensOnly next x → OpensOnly next y → OpensOnly next (cond b x y)
 opens_if next true x y p q = p
 opens_if next false x y p q = q
 
-discards : (next : ℕ) → OpensOnly next answers.Discarded
+discards : (next : ℕ) → OpensOnly next Posted.Discarded
 discards next local e = absurd (cc)
 
-accepts : (next count : ℕ) → OpensOnly next (answers.Accepted count)
+accepts : (next count : ℕ) → OpensOnly next (Posted.Accepted count)
 accepts next count local e = absurd (cc)
 
 refuses : (next : ℕ) (abort : Option (Tid × AbortCause)) (b : Bool) → OpensOnly next (answer_by abort b)
@@ -50,7 +46,7 @@ refuses next None true local e = absurd (cc)
 refuses next None false local e = absurd (cc)
 refuses next (Some (peer, cause)) b local e = absurd (cc)
 
-begins : (next : ℕ) (o : Option Tid) → OpensOnly next (option_map_or (λ (peer : Tid). answers.Opened next) o answers.Discarded)
+begins : (next : ℕ) (o : Option Tid) → OpensOnly next (option_map_or (λ (peer : Tid). Posted.Opened next) o Posted.Discarded)
 begins next None local e = absurd (cc)
 begins next (Some peer) local e = let same : next ≡ local = cc in sym same
 
@@ -71,41 +67,41 @@ opens link h came =
     let names_none = is_none (addressee h came) in
     let none = discards next in
     let refused : (named : Option AbortCause) (b : Bool) → OpensOnly next (answer_by (abort_for waiting named orig) b) = λ named b. refuses next (abort_for waiting named orig) b in
-    let goes_on : (b : Bool) (count : ℕ) → OpensOnly next (cond b answers.Discarded (answers.Accepted count)) = λ b count. opens_if next b answers.Discarded (answers.Accepted count) none (accepts next count) in
+    let goes_on : (b : Bool) (count : ℕ) → OpensOnly next (cond b Posted.Discarded (Posted.Accepted count)) = λ b count. opens_if next b Posted.Discarded (Posted.Accepted count) none (accepts next count) in
     let anew = is_none (going_on kind (addressee h came)) in
     let count = length (entries_in came) in
     first_opens next (answers_by (is_down h) waiting names_none anew (unserved h (going_on kind (addressee h came))) (entry_count h) (held h) (births h) (begun link h came) came kind)
     (also none (also none
-    (also (refused (Some cause.ResourceLimitation) true) (also (refused (Some cause.UnrecognizedTransactionIdentifier) true)
-    (also (refused (Some cause.ResourceLimitation) names_none) (also (refused None names_none)
-    (also (refused (Some cause.UnrecognizedMessageType) names_none) (also (refused (Some cause.BadlyFormattedTransactionPortion) names_none)
-    (also (refused (Some cause.UnrecognizedTransactionIdentifier) true) (also none
-    (also (refused (Some cause.ResourceLimitation) anew)
+    (also (refused (Some AbortCause.ResourceLimitation) true) (also (refused (Some AbortCause.UnrecognizedTransactionIdentifier) true)
+    (also (refused (Some AbortCause.ResourceLimitation) names_none) (also (refused None names_none)
+    (also (refused (Some AbortCause.UnrecognizedMessageType) names_none) (also (refused (Some AbortCause.BadlyFormattedTransactionPortion) names_none)
+    (also (refused (Some AbortCause.UnrecognizedTransactionIdentifier) true) (also none
+    (also (refused (Some AbortCause.ResourceLimitation) anew)
     (also (begins next orig) (also (goes_on names_none count) (also (goes_on names_none count) tt))))))))))))))
 
 -- WHICH ANSWERS A STEP HAS
 
 abbrev is_post : Output → Bool
-is_post (outputs.Posted answer components) = true
+is_post (Output.Posted answer components) = true
 is_post _ = false
 
 abbrev is_take : Output → Bool
-is_take (outputs.Took local position) = true
+is_take (Output.Took local position) = true
 is_take _ = false
 
 test_if : (test : Output → Bool) (b : Bool) (x y : Output) → test x ≡ false → test y ≡ false → test (cond b x y) ≡ false
 test_if test true x y p q = p
 test_if test false x y p q = q
 
-gave_is : (test : Output → Bool) (h : List Event) (local : ℕ) (o : Option ℕ) → ((d : ℕ) → test (gave h local (Some d)) ≡ false) → test outputs.Nothing ≡ false → test (gave h local o) ≡ false
+gave_is : (test : Output → Bool) (h : List Event) (local : ℕ) (o : Option ℕ) → ((d : ℕ) → test (gave h local (Some d)) ≡ false) → test Output.Nothing ≡ false → test (gave h local o) ≡ false
 gave_is test h local None some none = none
 gave_is test h local (Some d) some none = some d
 
-back_is : (test : Output → Bool) (h : List Event) (o : Option ℕ) → test outputs.WentBack ≡ false → test outputs.Nothing ≡ false → test (put_back h o) ≡ false
+back_is : (test : Output → Bool) (h : List Event) (o : Option ℕ) → test Output.WentBack ≡ false → test Output.Nothing ≡ false → test (put_back h o) ≡ false
 back_is test h None some none = none
-back_is test h (Some d) some none = test_if test (turn_out h d) outputs.WentBack outputs.Nothing some none
+back_is test h (Some d) some none = test_if test (turn_out h d) Output.WentBack Output.Nothing some none
 
-out_is : (test : Output → Bool) (o : Option Handed) (output : Output) → test output ≡ false → test outputs.Nothing ≡ false → test (if_out o output) ≡ false
+out_is : (test : Output → Bool) (o : Option Handed) (output : Output) → test output ≡ false → test Output.Nothing ≡ false → test (if_out o output) ≡ false
 out_is test None output some none = none
 out_is test (Some handed) output some none = some
 
@@ -120,28 +116,28 @@ OpensNext link n (Some local) (Some came) = local ≡ identifier link (n + 1)
 
 -- a message is answered by the lines
 opened_next : (link : ℕ) (h : List Event) (step : Step) (came : Option Prepared) (local components : ℕ)
-    → IsAnswer link h step came (outputs.Posted (answers.Opened local) components) → OpensNext link (births h) (Some local) came
-opened_next link h (steps.Post frame moment) (Some came) local components is = let so : answers.Opened local ≡ answer_to link h came = cc in opens link h came local (sym so)
-opened_next link h (steps.Lost frame moment) (Some came) local components is = let so : answers.Opened local ≡ answer_to link h came = cc in opens link h came local (sym so)
-opened_next link h (steps.Tick moment) came local components is = absurd (cc)
-opened_next link h (steps.Give lo) came local components is = absurd (differs is_post _ _ is refl (gave_is is_post h lo (named h lo) (λ d. test_if is_post (turn_out h d) _ _ refl refl) refl))
-opened_next link h (steps.PutBack lo) came local components is = absurd (differs is_post _ _ is refl (back_is is_post h (named h lo) refl refl))
-opened_next link h steps.Sent came local components is = absurd (differs is_post _ _ is refl (out_is is_post (out h) outputs.Sent refl refl))
-opened_next link h steps.Unsent came local components is = absurd (differs is_post _ _ is refl (out_is is_post (out h) outputs.Unsent refl refl))
-opened_next link h steps.Down came local components is = absurd (cc)
+    → IsAnswer link h step came (Output.Posted (Posted.Opened local) components) → OpensNext link (births h) (Some local) came
+opened_next link h (Step.Post frame moment) (Some came) local components is = let so : Posted.Opened local ≡ answer_to link h came = cc in opens link h came local (sym so)
+opened_next link h (Step.Lost frame moment) (Some came) local components is = let so : Posted.Opened local ≡ answer_to link h came = cc in opens link h came local (sym so)
+opened_next link h (Step.Tick moment) came local components is = absurd (cc)
+opened_next link h (Step.Give lo) came local components is = absurd (differs is_post _ _ is refl (gave_is is_post h lo (named h lo) (λ d. test_if is_post (turn_out h d) _ _ refl refl) refl))
+opened_next link h (Step.PutBack lo) came local components is = absurd (differs is_post _ _ is refl (back_is is_post h (named h lo) refl refl))
+opened_next link h Step.Sent came local components is = absurd (differs is_post _ _ is refl (out_is is_post (out h) Output.Sent refl refl))
+opened_next link h Step.Unsent came local components is = absurd (differs is_post _ _ is refl (out_is is_post (out h) Output.Unsent refl refl))
+opened_next link h Step.Down came local components is = absurd (cc)
 opened_next link h step came local components is = absurd is
 
 -- a turn is taken for the dialogue that has been ready longest
-pub took_is : (link : ℕ) (h : List Event) (step : Step) (came : Option Prepared) (local position : ℕ) → IsAnswer link h step came (outputs.Took local position) → IsLongestReady h local position
-took_is link h (steps.Post frame moment) (Some came) local position is = absurd (cc)
-took_is link h (steps.Lost frame moment) (Some came) local position is = absurd (cc)
-took_is link h (steps.Tick moment) came local position is = absurd (cc)
-took_is link h steps.Take came local position is = is.0
-took_is link h (steps.Give lo) came local position is = absurd (differs is_take _ _ is refl (gave_is is_take h lo (named h lo) (λ d. test_if is_take (turn_out h d) _ _ refl refl) refl))
-took_is link h (steps.PutBack lo) came local position is = absurd (differs is_take _ _ is refl (back_is is_take h (named h lo) refl refl))
-took_is link h steps.Sent came local position is = absurd (differs is_take _ _ is refl (out_is is_take (out h) outputs.Sent refl refl))
-took_is link h steps.Unsent came local position is = absurd (differs is_take _ _ is refl (out_is is_take (out h) outputs.Unsent refl refl))
-took_is link h steps.Down came local position is = absurd (cc)
+pub took_is : (link : ℕ) (h : List Event) (step : Step) (came : Option Prepared) (local position : ℕ) → IsAnswer link h step came (Output.Took local position) → IsLongestReady h local position
+took_is link h (Step.Post frame moment) (Some came) local position is = absurd (cc)
+took_is link h (Step.Lost frame moment) (Some came) local position is = absurd (cc)
+took_is link h (Step.Tick moment) came local position is = absurd (cc)
+took_is link h Step.Take came local position is = is.0
+took_is link h (Step.Give lo) came local position is = absurd (differs is_take _ _ is refl (gave_is is_take h lo (named h lo) (λ d. test_if is_take (turn_out h d) _ _ refl refl) refl))
+took_is link h (Step.PutBack lo) came local position is = absurd (differs is_take _ _ is refl (back_is is_take h (named h lo) refl refl))
+took_is link h Step.Sent came local position is = absurd (differs is_take _ _ is refl (out_is is_take (out h) Output.Sent refl refl))
+took_is link h Step.Unsent came local position is = absurd (differs is_take _ _ is refl (out_is is_take (out h) Output.Unsent refl refl))
+took_is link h Step.Down came local position is = absurd (cc)
 took_is link h step came local position is = absurd is
 
 -- THE DIALOGUES THAT WERE OPENED
@@ -197,7 +193,7 @@ opened_after link n naming began (Some l) (Some came) g is =
     }
 
 opens_next : (link : ℕ) (h : List Event) (step : Step) (came : Option Prepared) (output : Output) → IsAnswer link h step came output → OpensNext link (births h) (opened_in output) came
-opens_next link h step came (outputs.Posted (answers.Opened n) components) is = opened_next link h step came n components is
+opens_next link h step came (Output.Posted (Posted.Opened n) components) is = opened_next link h step came n components is
 opens_next link h step came output is = tt
 
 pub all_opened : (link : ℕ) (h : List Event) → AllAnswered link h → Opened link h
@@ -227,9 +223,9 @@ taken_if true before e = inl refl
 taken_if false before e = inr e
 
 out_by : (link : ℕ) (h : List Event) (output : Output) (step : Step) (d : ℕ) (before : Bool) → Opened link h → (before ≡ true → d ≤ births h) → turn_after output step h d before ≡ true → d ≤ births h
-out_by link h (outputs.Took l position) step d before g was e = ⊎_elim (λ is. (g.names l d (the_one (named h l) d is)).2) was (taken_if (is_one (named h l) d) before e)
-out_by link h (outputs.Gave l position given) step d before g was e = was (turned_if (is_one (named h l) d) before e)
-out_by link h outputs.WentBack (steps.PutBack lo) d before g was e = was (turned_if (is_one (named h lo) d) before e)
+out_by link h (Output.Took l position) step d before g was e = ⊎_elim (λ is. (g.names l d (the_one (named h l) d is)).2) was (taken_if (is_one (named h l) d) before e)
+out_by link h (Output.Gave l position given) step d before g was e = was (turned_if (is_one (named h l) d) before e)
+out_by link h Output.WentBack (Step.PutBack lo) d before g was e = was (turned_if (is_one (named h lo) d) before e)
 out_by link h output step d before g was e = was e
 
 pub out_born : (link : ℕ) (h : List Event) (d : ℕ) → AllAnswered link h → turn_out h d ≡ true → d ≤ births h

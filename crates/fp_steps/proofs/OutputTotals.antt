@@ -10,7 +10,6 @@ use Rattle.fp_steps.specs.History.{Event, outputs_of}
 use Rattle.fp_steps.specs.Sending.{Handed, out, out_after}
 use Rattle.fp_steps.specs.Totals.{AreFew, added_by, capped, capped_totals, components_of, frames_sent, is_gave, local_after, local_out, plus, totals_of}
 use Rattle.fp_steps.specs.declared.output.Output.{Output}
-use Rattle.fp_steps.specs.declared.output.Output.TheVariants as outputs
 
 abbrev pub one_if : Bool → ℕ
 one_if b = cond {A = ℕ} b 1 0
@@ -21,7 +20,7 @@ make accepted served sent = record { accepted = accepted; served = served; sent 
 -- totals of the same numbers are the same
 pub same : (a b : Totals) → a.accepted ≡ b.accepted → a.served ≡ b.served → a.sent ≡ b.sent → a ≡ b
 same a b accepted served sent =
-    ap (λ n. make n a.served a.sent) accepted ∙ ap (λ n. make b.accepted n a.sent) served ∙ ap (λ n. make b.accepted b.served n) sent
+    λ i. make (accepted i) (served i) (sent i)
 
 pub none_more : (n : ℕ) → n ≡ n + 0
 none_more n = omega arith
@@ -49,9 +48,9 @@ local_in o = option_map (λ (handed : Handed). handed.local) o
 
 -- what is out, as the outputs tell it
 pub local_more : (output : Output) (h : List Event) (o : Option Handed) (before : Option ℕ) → before ≡ local_in o → local_after output before ≡ local_in (out_after output h o)
-local_more (outputs.Picked local frame) h o before is = refl
-local_more outputs.Sent h o before is = refl
-local_more outputs.Unsent h o before is = refl
+local_more (Output.Picked local frame) h o before is = refl
+local_more Output.Sent h o before is = refl
+local_more Output.Unsent h o before is = refl
 local_more output h o before is = is
 
 locals : (h : List Event) → local_out (map_list (λ (e : Event). e.output) h) ≡ local_in (out h)

@@ -17,8 +17,6 @@ use Rattle.fp_book.specs.declared.parcel.Content.{Content}
 use Rattle.fp_row.specs.Row.{is_held, is_ready as row_is_ready, waits as row_waits}
 use Rattle.fp_row.specs.declared.row.Row.{Row}
 use Rattle.fp_service.specs.Dialogue.{next_due}
-use Rattle.fp_service.specs.declared.dialogue.Core.{Core}
-use Rattle.fp_steps.specs.Accepted.{core_of}
 use Rattle.fp_steps.specs.Births.{births, local_of, named}
 use Rattle.fp_steps.specs.History.{Event}
 use Rattle.fp_steps.specs.Lined.{ByAge, Sorted}
@@ -78,7 +76,7 @@ ready_at (Some row) = row_is_ready row
 
 ready_by : (n d : ℕ) (h : List Event) (o : Option Row) → TiedAt n d (story h d) o → is_ready h d ≡ ready_at o
 ready_by n d h None k = ap (λ b. not (turn_out h d) && b) k.waits ∙ and_right (not (turn_out h d)) false refl
-ready_by n d h (Some row) k = ap (λ b. not b && waits h d) k.outs ∙ ap (λ b. not row.is_out && b) (waits_tied d (story h d) row k)
+ready_by n d h (Some row) k = λ i. not (k.outs i) && waits_tied d (story h d) row k i
 
 pub ready_is : (h : List Event) (s : Shelf) (d : ℕ) → Tied h s → is_ready h d ≡ ready_at (map.get s.rows (local_of h d))
 ready_is h s d t = ready_by (births h) d h (map.get s.rows (local_of h d)) (t.rows d)
@@ -173,14 +171,13 @@ same_dialogue h e old new y before t k u m link cores was free c =
     let named_so : named (e ∷ h) (local_of (e ∷ h) b) ≡ Some b = u.opened.are_named b a.first (births_grow h e b a.last) in
     let same : q.row.birth ≡ b = same_Some q.row.birth b (sym q.held.name ∙ ap (named (e ∷ h)) (sym place) ∙ named_so) in
     let now : Held (e ∷ h) y b q.row = subst (λ d. Held (e ∷ h) y d q.row) same q.held in
+    let core = core_tied b (story (e ∷ h) b) q.row now.tied ∙ cores y before q.row was q.was free ∙ sym (core_tied b (story h b) before a.tied) in
     record {
       birth = b;
       was = a.name;
       is = now.name;
       goes = ap (λ r. cond r (suc (ready_for h b)) 0) (subst (λ d. is_ready (e ∷ h) d ≡ true) same q.stands);
-      due = ap (λ (x : Core). due_by (next_due x) (local_of (e ∷ h) b))
-          (core_tied b (story (e ∷ h) b) q.row now.tied ∙ cores y before q.row was q.was free ∙ sym (core_tied b (story h b) before a.tied))
-          ∙ ap (due_by (next_due (core_of h b))) (sym now.place ∙ a.place);
+      due = λ i. due_by (next_due (core i)) ((sym now.place ∙ a.place) i);
     }
 
 -- one that stands there for the first time

@@ -1,11 +1,10 @@
 -- A step behind a history that leads to the book, and a run so far.
-use Rattle.std.proofs.Common.{List, None, Option, Some, [], ap, false, length, refl, slice_index_or, subst, sym, take, ℕ, ◌++◌, ◌+◌, ◌<◌, ◌∙◌, ◌∷◌, ◌≡◌}
+use Rattle.std.proofs.Common.{rules, List, None, Option, Some, [], ap, length, refl, slice_index_or, subst, sym, take, ℕ, ◌++◌, ◌+◌, ◌<◌, ◌∙◌, ◌∷◌, ◌≡◌}
 use Rattle.std.specs.Prelude.{map, option_to_list}
 use Rattle.std.proofs.lemmas.Grind.{reverse_onto}
 use Rattle.std.proofs.lemmas.List.{take_more}
 use Rattle.fp_book.specs.Lines.{SevenLinesDecide}
 use Rattle.fp_book.specs.Shelf.{Shelf, Sound, empty_shelf}
-use Rattle.fp_book.specs.declared.line.Line.{Line}
 use Rattle.fp_book.specs.declared.line.LoggedStep.{LoggedStep}
 use Rattle.fp_entry.specs.declared.prepared.Prepared.{Prepared}
 use Rattle.fp_records.specs.Table.{Contents}
@@ -14,9 +13,10 @@ use Rattle.fp_steps.specs.After.{Follows, IsAfter, LeadsTo}
 use Rattle.fp_steps.specs.Answers.{AllAnswered, IsAnswer}
 use Rattle.fp_steps.specs.Headline.{Headline, Runs}
 use Rattle.fp_steps.specs.History.{AtEachMoment, Event, IsCame, Tells, outputs_of}
+use Rattle.fp_steps.specs.Idle.{IdleIsDone}
 use Rattle.fp_steps.specs.Laws.{HeadlineHolds}
 use Rattle.fp_steps.specs.Lined.{Lined}
-use Rattle.fp_steps.specs.Makes.{Drained, MakesOf, TakesLine, TriesTo, is_wanting, told_by}
+use Rattle.fp_steps.specs.Makes.{MakesOf, MakesStep}
 use Rattle.fp_steps.specs.Retold.{Retells}
 use Rattle.fp_steps.specs.Tied.{Tied}
 use Rattle.fp_steps.specs.Told.{is_written, lines_told, logged, told, written}
@@ -26,13 +26,12 @@ use Rattle.fp_steps.specs.declared.step.Step.{Step}
 use Rattle.fp_steps.specs.declared.stepped.Stepped.{Stepped}
 use Rattle.fp_steps.proofs.DialogueTotals.{add_up_next, none_few}
 use Rattle.fp_steps.proofs.IdleDone.{idle_is_done, idle_none}
-use Rattle.fp_steps.proofs.LoggedLines.{left_is, line_is, line_step, made, unwritten_is}
+use Rattle.fp_steps.proofs.LoggedLines.{line_is, line_step, told_on, unwritten_is}
 use Rattle.fp_steps.proofs.MessageAnswers.{decided}
 use Rattle.fp_steps.proofs.OutputTotals.{outputs_more}
-use Rattle.fp_steps.proofs.StepAnswers.{answer_drained, link_drained}
+use Rattle.fp_steps.proofs.StepAnswers.{answer_made, link_made}
 use Rattle.fp_steps.proofs.TieKept.{Tied-makes, Tied-none, came_anew, headline}
-use Rattle.fp_steps.proofs.TieNext.{Tied-drained}
-use Rattle.fp_steps.proofs.WaitingKept.{Lined-drained, Lined-makes, Lined-none}
+use Rattle.fp_steps.proofs.WaitingKept.{Lined-makes, Lined-none}
 use Rattle.std.proofs.lemmas.Option.{cond_some}
 
 -- what holds at each moment holds at the last
@@ -40,80 +39,38 @@ pub at_the_end : (h : List Event) → AtEachMoment Headline h → Headline h
 at_the_end [] k = k
 at_the_end (e ∷ h) k = k.0
 
--- what was made of the book, behind a line that was taken
-drained : (contents : Contents) (contexts : List (List ℕ)) (step : Step) (came : Option Prepared) (output : Output) (old mid new : Shelf) (taken : Option Line) → Sound (record old { log = [] }) → MakesOf step came output (record old { log = [] }) mid
-    → TakesLine mid taken new → Drained (MakesOf step came output) old new
-drained contents contexts step came output old mid new taken sound makes takes = record {
-  before = [];
-  sound = sound;
-  after = mid;
-  makes = makes;
-  left = new.log;
-  new_is = left_is mid taken new takes;
-}
-
 -- a step behind a history that leads to the book
-record Next (contents : Contents) (contexts : List (List ℕ)) (h : List Event) (step : Step) (came : Option Prepared) (output : Output) (line : Option LoggedStep) (new : Shelf) : Type 0 where
+record Next (contents : Contents) (contexts : List (List ℕ)) (h : List Event) (step : Step) (came : Option Prepared) (output : Output) (old new : Shelf) : Type 0 where
   answer : IsAnswer new.link h step came output
-  line_is : line ≡ told h step output
+  line_is : told_on old step output ≡ told h step output
   leads : LeadsTo contents contexts (record { step = step; came = came; output = output } ∷ h) new
 
 -- all that is known of a step
-record Made (contents : Contents) (contexts : List (List ℕ)) (step : Step) (came : Option Prepared) (output : Output) (old mid new : Shelf) (taken : Option Line) : Type 0 where
-  sound : Sound (record old { log = [] })
-  is_came : IsCame contents contexts step came
-  makes : MakesOf step came output (record old { log = [] }) mid
-  takes : TakesLine mid taken new
+record Made (contents : Contents) (contexts : List (List ℕ)) (step : Step) (came : Option Prepared) (output : Output) (old new : Shelf) : Type 0 where
+  sound : Sound old
   then : Sound new
+  is_came : IsCame contents contexts step came
+  makes : MakesOf step came output old new
 
-drained_by : (contents : Contents) (contexts : List (List ℕ)) (step : Step) (came : Option Prepared) (output : Output) (old mid new : Shelf) (taken : Option Line) → Made contents contexts step came output old mid new taken → Drained (MakesOf step came output) old new
-drained_by contents contexts step came output old mid new taken m = drained contents contexts step came output old mid new taken m.sound m.makes m.takes
-
-next : RowsKeepTheirOrder → SevenLinesDecide → (contents : Contents) (contexts : List (List ℕ)) (step : Step) (came : Option Prepared) (output : Output) (old mid new : Shelf) (taken : Option Line) → Made contents contexts step came output old mid new taken
-    → (h : List Event) → LeadsTo contents contexts h old → Next contents contexts h step came output (told_by step output taken) new
-next law seven contents contexts step came output old mid new taken m h f =
+next : RowsKeepTheirOrder → SevenLinesDecide → (contents : Contents) (contexts : List (List ℕ)) (step : Step) (came : Option Prepared) (output : Output) (old new : Shelf) → Made contents contexts step came output old new
+    → (h : List Event) → LeadsTo contents contexts h old → Next contents contexts h step came output old new
+next law seven contents contexts step came output old new m h f =
     let e : Event = record { step = step; came = came; output = output } in
-    let is = m.is_came in
-    let makes_all : Drained (MakesOf step came output) old new = drained_by contents contexts step came output old mid new taken m in
-    let tied : Tied (e ∷ h) new = Tied-makes law contents contexts h e old new f.tied is makes_all in
-    let link : new.link ≡ old.link = link_drained step came output old new makes_all in
+    let anew = came_anew contents contexts step came m.is_came in
+    let tied : Tied (e ∷ h) new = Tied-makes law h e old new anew f.tied m.sound m.makes in
+    let link : new.link ≡ old.link = link_made step came output old new m.sound m.makes in
     let answer : IsAnswer new.link h step came output =
-    subst (λ n. IsAnswer n h step came output) (sym link) (answer_drained law h step came output old new f.tied f.lined (decided seven contents contexts step came is) makes_all)
+    subst (λ n. IsAnswer n h step came output) (sym link) (answer_made law h step came output old new f.tied m.sound f.lined (decided seven contents contexts step came m.is_came) m.makes)
     in
     let first : Headline (e ∷ h) = headline law (e ∷ h) new tied in
-    let anew = came_anew contents contexts step came is in
-    let lined : Lined (e ∷ h) new = Lined-makes h e old new anew f.tied f.lined makes_all tied m.then in
+    let lined : Lined (e ∷ h) new = Lined-makes h e old new anew f.tied m.sound f.lined m.makes tied m.then in
     let sums : AddUp (outputs_of (e ∷ h)) (e ∷ h) × (new.totals ≡ totals_of (outputs_of (e ∷ h))) =
-    add_up_next law h e old new anew f.tied makes_all m.then (at_the_end h f.moments) first f.adds_up f.counted
+    add_up_next law h e old new anew f.tied m.sound m.makes m.then (at_the_end h f.moments) first f.adds_up f.counted
     in
-    record {
-      answer = answer;
-      line_is = line_is contents contexts h step came output (record old { log = [] }) mid new taken (Tied-drained h old [] f.tied) m.sound refl is m.makes m.takes;
-      leads = record {
-        messages = (is, f.messages);
-        answers = (answer, subst (λ n. AllAnswered n h) (sym link) f.answers);
-        moments = (first, f.moments);
-        idle = (idle_is_done law (e ∷ h) new tied lined m.then first, f.idle);
-        adds_up = sums.0;
-        counted = sums.1;
-        tied = tied;
-        lined = lined;
-      };
-    }
-
--- a history that leads to a book leads to it whatever is in its log
-leads_drained : (contents : Contents) (contexts : List (List ℕ)) (h : List Event) (old new : Shelf) → new ≡ record old { log = new.log } → LeadsTo contents contexts h old → LeadsTo contents contexts h new
-leads_drained contents contexts h old new same f =
-    subst (LeadsTo contents contexts h) (sym same) (record {
-      messages = f.messages;
-      answers = f.answers;
-      moments = f.moments;
-      idle = f.idle;
-      adds_up = f.adds_up;
-      counted = f.counted;
-      tied = Tied-drained h old new.log f.tied;
-      lined = Lined-drained h old new.log f.lined;
-    })
+    let is : told_on old step output ≡ told h step output = line_is h step came output old new f.tied m.sound m.makes in
+    let answers : AllAnswered new.link h = subst (λ n. AllAnswered n h) (sym link) f.answers in
+    let idle : IdleIsDone (e ∷ h) = idle_is_done law (e ∷ h) new tied lined m.then first in
+    search rules
 
 -- WHAT IS RETOLD
 
@@ -128,58 +85,55 @@ the_written None line e = absurd (cc)
 the_written (Some step) line e = ap Some (cond_some (is_written step) step line e).1
 
 -- with the line of one step more, if it is written
-retold_by : RowsKeepTheirOrder → SevenLinesDecide → (contents : Contents) (contexts : List (List ℕ)) (step : Step) (came : Option Prepared) (output : Output) (old mid new : Shelf) (taken : Option Line) → Made contents contexts step came output old mid new taken
-    → (lines : List LoggedStep) (o : Option LoggedStep) → Retelling contents contexts lines old → written (told_by step output taken) ≡ o → Retelling contents contexts (option_to_list o ++ lines) new
-retold_by law seven contents contexts step came output old mid new taken m lines None k is =
-    let same : new ≡ record old { log = new.log } = unwritten_is step came output (record old { log = [] }) mid new taken refl m.makes m.takes is in
-    let link : new.link ≡ old.link = ap (λ (s : Shelf). s.link) same in
-    record { retold = k.retold; leads = leads_drained contents contexts k.retold old new same k.leads; retells = subst (λ n. Retells contents contexts n lines k.retold) (sym link) k.retells }
-retold_by law seven contents contexts step came output old mid new taken m lines (Some line) k is =
-    let n : Next contents contexts k.retold step came output (told_by step output taken) new = next law seven contents contexts step came output old mid new taken m k.retold k.leads in
-    let link : new.link ≡ old.link = link_drained step came output old new (drained_by contents contexts step came output old mid new taken m) in
-    let tells : told k.retold step output ≡ Some line = sym n.line_is ∙ the_written (told_by step output taken) line is in
+retold_by : RowsKeepTheirOrder → SevenLinesDecide → (contents : Contents) (contexts : List (List ℕ)) (step : Step) (came : Option Prepared) (output : Output) (old new : Shelf) → Made contents contexts step came output old new
+    → (lines : List LoggedStep) (o : Option LoggedStep) → Retelling contents contexts lines old → written (told_on old step output) ≡ o → Retelling contents contexts (option_to_list o ++ lines) new
+retold_by law seven contents contexts step came output old new m lines None k is = subst (Retelling contents contexts lines) (sym (unwritten_is step came output old new m.makes is)) k
+retold_by law seven contents contexts step came output old new m lines (Some line) k is =
+    let n : Next contents contexts k.retold step came output old new = next law seven contents contexts step came output old new m k.retold k.leads in
+    let tells : told k.retold step output ≡ Some line = sym n.line_is ∙ the_written (told_on old step output) line is in
     record {
       retold = record { step = step; came = came; output = output } ∷ k.retold;
       leads = n.leads;
       retells = (
-        record { step = line_step k.retold step came output (record old { log = [] }) mid m.makes line tells; came = m.is_came; answer = n.answer; tells = tells },
-        subst (λ n. Retells contents contexts n lines k.retold) (sym link) k.retells,
+        record { step = line_step k.retold step came output old new m.makes line tells; came = m.is_came; answer = n.answer; tells = tells },
+        subst (λ n. Retells contents contexts n lines k.retold) (sym (link_made step came output old new m.sound m.makes)) k.retells,
       );
     }
 
 -- EACH STEP
 
--- a step follows the history
-pub followed : RowsKeepTheirOrder → SevenLinesDecide → (contents : Contents) (contexts : List (List ℕ)) (step : Step) (output : Output) (old mid new : Shelf) (taken : Option Line) → Sound (record old { log = [] })
-    → TriesTo contents contexts (record old { log = [] }) step output mid → TakesLine mid taken new → is_wanting step taken ≡ false → Sound new
-    → (h : List Event) → IsAfter contents contexts h old → Follows contents contexts h step (record { output = output; line = told_by step output taken }) new
-followed law seven contents contexts step output old mid new taken sound (came, is, tries) takes none then h f =
-    let makes : MakesOf step came output (record old { log = [] }) mid = made contents contexts step came output old mid new taken is tries takes none in
-    let m : Made contents contexts step came output old mid new taken = record { sound = sound; is_came = is; makes = makes; takes = takes; then = then } in
-    let n : Next contents contexts h step came output (told_by step output taken) new = next law seven contents contexts step came output old mid new taken m h f.leads in
-    let k : Retelling contents contexts (lines_told h) old = record { retold = f.retold; leads = f.retold_leads; retells = f.retells } in
-    let r : Retelling contents contexts (option_to_list (logged h step output) ++ lines_told h) new =
-    retold_by law seven contents contexts step came output old mid new taken m (lines_told h) (logged h step output) k (ap written n.line_is)
+-- a history that leads to a book leads to it whatever is in its log
+emptied : (contents : Contents) (contexts : List (List ℕ)) (h : List Event) (s : Shelf) (log : List LoggedStep) → IsAfter contents contexts h s → IsAfter contents contexts h (record s { log = log })
+emptied contents contexts h s log f =
+    let of : (g : List Event) → LeadsTo contents contexts g s → LeadsTo contents contexts g (record s { log = log }) = λ g k. search rules in
+    record { leads = of h f.leads; retold = f.retold; retold_leads = of f.retold f.retold_leads; retells = f.retells }
+
+-- a step follows the history, and then its line is dropped
+pub followed : RowsKeepTheirOrder → SevenLinesDecide → (contents : Contents) (contexts : List (List ℕ)) (step : Step) (made : Stepped) (old mid new : Shelf) → Sound old → Sound mid → MakesStep contents contexts old step made.output mid
+    → made.line ≡ told_on old step made.output → new ≡ record mid { log = new.log } → (h : List Event) → IsAfter contents contexts h old → Follows contents contexts h step made new
+followed law seven contents contexts step made old mid new sound then (came, is, makes) line dropped h f =
+    let m : Made contents contexts step came made.output old mid = record { sound = sound; then = then; is_came = is; makes = makes } in
+    let n : Next contents contexts h step came made.output old mid = next law seven contents contexts step came made.output old mid m h f.leads in
+    let r : Retelling contents contexts (option_to_list (logged h step made.output) ++ lines_told h) mid =
+    retold_by law seven contents contexts step came made.output old mid m (lines_told h) (logged h step made.output) (record { retold = f.retold; leads = f.retold_leads; retells = f.retells }) (ap written n.line_is)
     in
-    record {
+    subst (Follows contents contexts h step made) (sym dropped) (record {
       came = came;
       is_came = is;
       answer = n.answer;
-      line = n.line_is;
-      after = record { leads = n.leads; retold = r.retold; retold_leads = r.leads; retells = r.retells };
-    }
+      line = line ∙ n.line_is;
+      after = emptied contents contexts (record { step = step; came = came; output = made.output } ∷ h) mid new.log (record { leads = n.leads; retold = r.retold; retold_leads = r.leads; retells = r.retells });
+    })
 
 -- on the same link
-pub followed_link : (contents : Contents) (contexts : List (List ℕ)) (step : Step) (output : Output) (old mid new : Shelf) (taken : Option Line) → Sound (record old { log = [] }) → TriesTo contents contexts (record old { log = [] }) step output mid
-    → TakesLine mid taken new → is_wanting step taken ≡ false → new.link ≡ old.link
-followed_link contents contexts step output old mid new taken sound (came, is, tries) takes none =
-    link_drained step came output old new (drained contents contexts step came output old mid new taken sound (made contents contexts step came output old mid new taken is tries takes none) takes)
+pub followed_link : (contents : Contents) (contexts : List (List ℕ)) (step : Step) (output : Output) (old mid new : Shelf) → Sound old → MakesStep contents contexts old step output mid → new ≡ record mid { log = new.log } → new.link ≡ old.link
+followed_link contents contexts step output old mid new sound (came, is, makes) dropped = ap (λ (s : Shelf). s.link) dropped ∙ link_made step came output old mid sound makes
 
 -- what isn't written changes nothing
-pub followed_unwritten : (contents : Contents) (contexts : List (List ℕ)) (step : Step) (output : Output) (old mid new : Shelf) (taken : Option Line) → TriesTo contents contexts (record old { log = [] }) step output mid → TakesLine mid taken new
-    → is_wanting step taken ≡ false → written (told_by step output taken) ≡ None → new ≡ record old { log = new.log }
-followed_unwritten contents contexts step output old mid new taken (came, is, tries) takes none un =
-    unwritten_is step came output (record old { log = [] }) mid new taken refl (made contents contexts step came output old mid new taken is tries takes none) takes un
+pub followed_unwritten : (contents : Contents) (contexts : List (List ℕ)) (step : Step) (made : Stepped) (old mid new : Shelf) → MakesStep contents contexts old step made.output mid → made.line ≡ told_on old step made.output → new ≡ record mid { log = new.log }
+    → written made.line ≡ None → new ≡ record old { log = new.log }
+followed_unwritten contents contexts step made old mid new (came, is, makes) line dropped un =
+    dropped ∙ ap (λ (s : Shelf). record s { log = new.log }) (unwritten_is step came made.output old mid makes (sym (ap written line) ∙ un))
 
 -- the history of a link on which nothing came yet
 pub after_none : RowsKeepTheirOrder → (contents : Contents) (contexts : List (List ℕ)) (link : ℕ) → IsAfter contents contexts [] (empty_shelf link)

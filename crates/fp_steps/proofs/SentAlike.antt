@@ -46,9 +46,7 @@ pub sent_alike : SentAlike
 sent_alike g h d a b began accepts =
     let core : start g d ≡ start h d = ap (λ o. fresh d (option_map_or (λ (b : Beginning). b.moment) o 0)) began in
     let same : map (frame_from (beginning g d)) (requests (start g d) (cut (start g d) (accepted g d))) ≡ map (frame_from (beginning h d)) (requests (start h d) (cut (start h d) (accepted h d))) =
-    ap (λ o. map (frame_from o) (requests (start g d) (cut (start g d) (accepted g d)))) began
-    ∙ ap (λ c. map (frame_from (beginning h d)) (requests c (cut c (accepted g d)))) core
-    ∙ ap (λ es. map (frame_from (beginning h d)) (requests (start h d) (cut (start h d) es))) accepts
+    λ i. map (frame_from (began i)) (requests (core i) (cut (core i) (accepts i)))
     in
     fronts (sent g d) (sent h d) (map (frame_from (beginning h d)) (requests (start h d) (cut (start h d) (accepted h d))))
     (subst (IsPrefix (sent g d)) same (sent_front g d a)) (sent_front h d b)

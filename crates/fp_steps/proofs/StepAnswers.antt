@@ -12,10 +12,8 @@ use Rattle.fp_book.specs.Outbox.{Outbox, places_out}
 use Rattle.fp_book.specs.Parcel.{local_of as parcel_local, octets_of as parcel_octets}
 use Rattle.fp_book.specs.Shelf.{Shelf, Sound, one_if, places_held, turns_of}
 use Rattle.fp_book.specs.Totals.{sum_of}
-use Rattle.fp_book.specs.Verdict.{verdict}
 use Rattle.fp_book.specs.declared.answers.Given.{Given}
 use Rattle.fp_book.specs.declared.parcel.Content.{Content}
-use Rattle.fp_book.specs.declared.parcel.Content.TheVariants as contents
 use Rattle.fp_book.specs.declared.parcel.Waiting.{Waiting}
 use Rattle.fp_entry.specs.declared.prepared.Prepared.{Prepared}
 use Rattle.fp_q773.specs.Tid.{octets_of}
@@ -26,25 +24,22 @@ use Rattle.fp_row.specs.Laws.{KeepsOrder, RowsKeepTheirOrder}
 use Rattle.fp_row.specs.Row.{turn_out as row_turn}
 use Rattle.fp_row.specs.declared.done.Done.{Done}
 use Rattle.fp_row.specs.declared.ending.Ending.{Ending}
-use Rattle.fp_row.specs.declared.ending.Ending.TheVariants.{Closed}
 use Rattle.fp_row.specs.declared.row.Row.{Row}
 use Rattle.fp_row.specs.declared.turn.Turn.{Turn}
 use Rattle.fp_service.specs.Serve.{request_of}
 use Rattle.fp_service.specs.declared.request.Request.{Request}
-use Rattle.fp_steps.specs.Accepted.{accepted, core_of, ending, is_due, is_ended, positions}
+use Rattle.fp_steps.specs.Accepted.{accepted, core_of, ending, is_due, positions}
 use Rattle.fp_steps.specs.Answers.{IsAnswer, IsLongestReady, IsNext, IsPosted, gave, given_for, if_out, next_request, put_back, ticked}
 use Rattle.fp_steps.specs.Births.{births, local_of, named}
 use Rattle.fp_steps.specs.History.{Event}
 use Rattle.fp_steps.specs.Lined.{ByAge, Lined, Sorted, as_waiting}
-use Rattle.fp_steps.specs.Makes.{Drained, MakesOf}
+use Rattle.fp_steps.specs.Makes.{MakesOf}
 use Rattle.fp_steps.specs.Sending.{Handed, out}
 use Rattle.fp_steps.specs.Tied.{IsTied, Tied, TiedAt, handed, story}
 use Rattle.fp_steps.specs.Turns.{is_ready, turn_out}
 use Rattle.fp_steps.specs.Waiting.{QueuedFrame, aborts_waiting, how_many, is_sending, places, waiting}
 use Rattle.fp_steps.specs.declared.output.Output.{Output}
-use Rattle.fp_steps.specs.declared.output.Output.TheVariants as outputs
 use Rattle.fp_steps.specs.declared.step.Step.{Step}
-use Rattle.fp_steps.specs.declared.step.Step.TheVariants as steps
 use Rattle.fp_steps.proofs.Cases.{Cases, IsPost, by_made}
 use Rattle.fp_steps.proofs.HeldDialogues.{Held, apart, core_tied, count_tied, held_at, held_of, not_abort}
 use Rattle.fp_steps.proofs.MessageAnswers.{Decided, posted_is}
@@ -53,10 +48,8 @@ use Rattle.fp_steps.proofs.SumsOverBirths.{many_is}
 use Rattle.fp_steps.proofs.TieAtParcels.{none_at}
 use Rattle.fp_steps.proofs.TieAtTicks.{due_at_is}
 use Rattle.fp_steps.proofs.TieAtTurns.{IsTurn, out_by, turn_is}
-use Rattle.fp_steps.proofs.TieNext.{Tied-drained}
 use Rattle.fp_steps.proofs.TokensKept.{follows_untouched}
 use Rattle.fp_steps.proofs.WaitingAtSteps.{First, aborts_wait, first_of}
-use Rattle.fp_steps.proofs.WaitingKept.{Lined-drained}
 
 -- no turn of a dialogue is out where the book has none
 no_turn : RowsKeepTheirOrder → (row : Row) (b : Bool) → row.is_out ≡ b → row_turn row ≡ None → b ≡ false
@@ -73,10 +66,10 @@ none_out law h s local d t name none =
 
 -- GIVE
 
-pub gave_none : RowsKeepTheirOrder → (h : List Event) (s : Shelf) (local : ℕ) (o : Option ℕ) → Tied h s → named h local ≡ o → turn_of (map.get s.rows local) ≡ None → outputs.Nothing ≡ gave h local o
+pub gave_none : RowsKeepTheirOrder → (h : List Event) (s : Shelf) (local : ℕ) (o : Option ℕ) → Tied h s → named h local ≡ o → turn_of (map.get s.rows local) ≡ None → Output.Nothing ≡ gave h local o
 gave_none law h s local None t name none = refl
 gave_none law h s local (Some d) t name none =
-    sym (ap (λ b. cond b (outputs.Gave local (length (positions h d)) (given_for (is_sending h d) (next_request h d))) outputs.Nothing) (none_out law h s local d t name none))
+    sym (ap (λ b. cond b (Output.Gave local (length (positions h d)) (given_for (is_sending h d) (next_request h d))) Output.Nothing) (none_out law h s local d t name none))
 
 given_by : (ended : Option Ending) (request : Option Request) (frame : Request → List ℕ) → given_of (requested_of ended (option_map frame request)) ≡ given_for (not (is_some ended)) request
 given_by None None frame = refl
@@ -89,17 +82,17 @@ requested_at : (h : List Event) (row : Row) (turn : Turn) (d : ℕ) → IsTied d
 requested_at h row turn d k is =
     let place : length (positions h d) ≡ row.served = count_tied d (story h d) row k in
     let at : slice_get (accepted h d) (length (positions h d)) ≡ Some turn.entry =
-    ap (λ n. slice_get (accepted h d) n) place ∙ ap (λ xs. slice_get xs row.served) k.accepts ∙ is.entry_is
+    (λ i. slice_get (k.accepts i) (place i)) ∙ is.entry_is
     in
     ap (option_and_then (request_of (core_of h d))) at ∙ ap (λ c. request_of c turn.entry) (core_tied d (story h d) row k ∙ is.core_is)
 
 -- the end of the link closes all dialogues
-sends_by : (down : Bool) (ended : Option Ending) → (down ≡ true → ended ≡ Some Closed) → not (down || is_some ended) ≡ not (is_some ended)
+sends_by : (down : Bool) (ended : Option Ending) → (down ≡ true → ended ≡ Some Ending.Closed) → not (down || is_some ended) ≡ not (is_some ended)
 sends_by true ended closed = sym (ap (λ o. not (is_some o)) (closed refl))
 sends_by false ended closed = refl
 
 pub gave_done : (h : List Event) (old new : Shelf) (done : Done) (given : Given) → Tied h old → Sound old → Lined h old → GivesDone old done given new
-    → outputs.Gave done.turn.local done.turn.position given ≡ gave h done.turn.local (named h done.turn.local)
+    → Output.Gave done.turn.local done.turn.position given ≡ gave h done.turn.local (named h done.turn.local)
 gave_done h old new done given t k line g =
     let l = done.turn.local in
     let b = g.before.birth in
@@ -108,51 +101,48 @@ gave_done h old new done given t k line g =
     let place : length (positions h b) ≡ done.turn.position = count_tied b (story h b) g.before held.tied ∙ is.position_is in
     let frame : Request → List ℕ = λ request. frame_of request l (octets_of done.turn.peer) in
     let given_is : given_for (is_sending h b) (next_request h b) ≡ given =
-    ap (λ o. given_for (is_sending h b) o) (requested_at h g.before done.turn b held.tied is)
-    ∙ ap (λ x. given_for x (request_of done.turn.before done.turn.entry))
-    (ap (λ x. not (x || is_ended h b)) line.down ∙ ap (λ o. not (old.is_down || is_some o)) held.tied.ends ∙ sends_by old.is_down g.before.ended (k.own l g.before g.was).closed)
+    (λ i. given_for (not (line.down i || is_some (held.tied.ends i))) (requested_at h g.before done.turn b held.tied is i))
+    ∙ ap (λ x. given_for x (request_of done.turn.before done.turn.entry)) (sends_by old.is_down g.before.ended (k.own l g.before g.was).closed)
     ∙ sym (given_by g.before.ended (request_of done.turn.before done.turn.entry) frame)
     ∙ ap (λ f. given_of (requested_of g.before.ended f)) (sym done.frame_is)
     ∙ sym (g.given_is ∙ ap given_of g.gives.requested_is)
     in
     let there : turn_out h b ≡ true = held.tied.outs ∙ out_by g.before.is_out _ done.turn g.gives.was_out in
     sym (ap (gave h l) held.name
-    ∙ ap (λ x. cond x (outputs.Gave l (length (positions h b)) (given_for (is_sending h b) (next_request h b))) outputs.Nothing) there
-    ∙ ap (λ n. outputs.Gave l n (given_for (is_sending h b) (next_request h b))) place
-    ∙ ap (λ x. outputs.Gave l done.turn.position x) given_is)
+    ∙ (λ i. cond (there i) (Output.Gave l (place i) (given_is i)) Output.Nothing))
 
 -- PUT BACK
 
-pub back_none : RowsKeepTheirOrder → (h : List Event) (s : Shelf) (local : ℕ) (o : Option ℕ) → Tied h s → named h local ≡ o → turn_of (map.get s.rows local) ≡ None → outputs.Nothing ≡ put_back h o
+pub back_none : RowsKeepTheirOrder → (h : List Event) (s : Shelf) (local : ℕ) (o : Option ℕ) → Tied h s → named h local ≡ o → turn_of (map.get s.rows local) ≡ None → Output.Nothing ≡ put_back h o
 back_none law h s local None t name none = refl
-back_none law h s local (Some d) t name none = sym (ap (λ b. cond b outputs.WentBack outputs.Nothing) (none_out law h s local d t name none))
+back_none law h s local (Some d) t name none = sym (ap (λ b. cond b Output.WentBack Output.Nothing) (none_out law h s local d t name none))
 
-pub back_done : (h : List Event) (old new : Shelf) (turn : Turn) → Tied h old → Sound old → PutsTurnBack old turn new → outputs.WentBack ≡ put_back h (named h turn.local)
+pub back_done : (h : List Event) (old new : Shelf) (turn : Turn) → Tied h old → Sound old → PutsTurnBack old turn new → Output.WentBack ≡ put_back h (named h turn.local)
 back_done h old new turn t k g =
     let held : Held h turn.local g.before.birth g.before = held_of h old turn.local g.before t k g.was in
-    sym (ap (put_back h) held.name ∙ ap (λ x. cond x outputs.WentBack outputs.Nothing) (held.tied.outs ∙ out_by g.before.is_out _ turn g.puts.was_out))
+    sym (ap (put_back h) held.name ∙ ap (λ x. cond x Output.WentBack Output.Nothing) (held.tied.outs ∙ out_by g.before.is_out _ turn g.puts.was_out))
 
 -- SENT, UNSENT
 
 pub sent_out : (old : Shelf) (content : Content) (new : Shelf) → Sends old content new → old.outbox.out ≡ Some content
-sent_out old (contents.Abort frame) new g = g.was_out
-sent_out old (contents.Frame w) new g = g.was_out
+sent_out old (Content.Abort frame) new g = g.was_out
+sent_out old (Content.Frame w) new g = g.was_out
 
 pub if_there : (h : List Event) (s : Shelf) (content : Content) (output : Output) → Tied h s → s.outbox.out ≡ Some content → output ≡ if_out (out h) output
 if_there h s content output t was = sym (ap (λ o. if_out o output) (t.is_out ∙ ap (option_map (handed h)) was))
 
-pub if_none : (h : List Event) (s : Shelf) (output : Output) → Tied h s → s.outbox.out ≡ None → outputs.Nothing ≡ if_out (out h) output
+pub if_none : (h : List Event) (s : Shelf) (output : Output) → Tied h s → s.outbox.out ≡ None → Output.Nothing ≡ if_out (out h) output
 if_none h s output t was = sym (ap (λ o. if_out o output) (t.is_out ∙ ap (option_map (handed h)) was))
 
 -- TICK
 
-pub ticked_is : (h : List Event) (old new : Shelf) (moment added wanting : ℕ) → Tied h old → Sound old → wanting ≡ 0 → Ticks old moment added wanting new → outputs.Ticked added wanting ≡ ticked h moment
+pub ticked_is : (h : List Event) (old new : Shelf) (moment added wanting : ℕ) → Tied h old → Sound old → wanting ≡ 0 → Ticks old moment added wanting new → Output.Ticked added wanting ≡ ticked h moment
 ticked_is h old new moment added wanting t k none g =
     let due : how_many (births h) (is_due h moment) ≡ sum_of (λ row. cond {A = ℕ} (due_at old moment row) 1 0) old.rows =
     many_is (λ row. cond {A = ℕ} (due_at old moment row) 1 0) (is_due h moment) h old t k (λ d first last. due_at_is h old moment d (map.get old.rows (local_of h d)) t k refl (t.rows d))
     in
     let is : added ≡ how_many (births h) (is_due h moment) = omega (arith, g.wanting_is, none, due) in
-    ap (λ n. outputs.Ticked n wanting) is ∙ ap (λ n. outputs.Ticked (how_many (births h) (is_due h moment)) n) none
+    λ i. Output.Ticked (is i) (none i)
 
 -- PLACES
 
@@ -161,8 +151,8 @@ place_of o = option_map_or (λ (handed : Handed). cond {A = ℕ} (eqb handed.loc
 
 out_place : (h : List Event) (s : Shelf) (o : Option Content) → Tied h s → Sound s → s.outbox.out ≡ o → place_of (option_map (handed h) o) ≡ places_out o
 out_place h s None t k is = refl
-out_place h s (Some (contents.Abort frame)) t k is = refl
-out_place h s (Some (contents.Frame w)) t k is =
+out_place h s (Some (Content.Abort frame)) t k is = refl
+out_place h s (Some (Content.Frame w)) t k is =
     let row = none_at s w (map.get s.rows w.local) k is refl in
     ap (λ b. cond {A = ℕ} b 0 1) (not_abort h s w.local row.0 t k row.1)
 
@@ -215,9 +205,9 @@ none_waits h (x ∷ xs) e = absurd (let clash : as_waiting h x ∷ map_list (as_
 
 pub next_is : (h : List Event) (old new : Shelf) (content : Content) → Tied h old → Sound old → Lined h old → PicksParcel old content new
     → IsNext h (aborts_waiting h) (waiting h) (parcel_local content) (parcel_octets content)
-next_is h old new (contents.Abort frame) t k l g =
+next_is h old new (Content.Abort frame) t k l g =
     subst (λ xs. IsNext h xs (waiting h) 0 (frame_octets frame)) (sym (aborts_wait h old t k l ∙ ap (map_list frame_octets) g.next.0)) (refl, refl)
-next_is h old new (contents.Frame w) t k l g =
+next_is h old new (Content.Frame w) t k l g =
     let f : First h (waiting h) w g.rest.frames = first_of h (waiting h) w g.rest.frames (l.frames ∙ g.next.2) in
     subst (λ xs. IsNext h xs (waiting h) w.local w.frame) (sym (aborts_wait h old t k l ∙ ap (map_list frame_octets) g.next.0))
     (subst (λ xs. IsNext h [] xs w.local w.frame) (sym f.is) (ap (λ (w : Waiting). w.local) (sym f.first_is), ap (λ (w : Waiting). w.frame) (sym f.first_is)))
@@ -229,16 +219,16 @@ some_handed h (Some content) e = refl
 -- EACH STEP
 
 posted_answer : (link : ℕ) (h : List Event) (step : Step) (came : Option Prepared) (output : Output) → IsPost step → IsPosted link h came output → IsAnswer link h step came output
-posted_answer link h (steps.Post frame moment) came output posting is = is
-posted_answer link h (steps.Lost frame moment) came output posting is = is
+posted_answer link h (Step.Post frame moment) came output posting is = is
+posted_answer link h (Step.Lost frame moment) came output posting is = is
 posted_answer link h step came output posting is = absurd posting
 
 answers : RowsKeepTheirOrder → (h : List Event) (came : Option Prepared) (old new : Shelf) → Tied h old → Sound old → Lined h old → Decided came
     → Cases (λ step output. IsAnswer old.link h step came output) came old new
 answers law h came old new t k l d = record {
-  posted = λ step posting p answer components is count g.
-      posted_answer old.link h step came (outputs.Posted answer components) posting
-      (subst (λ c. IsPosted old.link h c (outputs.Posted answer components)) (sym is) (posted_is law h old new p answer components t k l (d old p is) count g));
+  posted = λ step posting p answer components is count g totals.
+      posted_answer old.link h step came (Output.Posted answer components) posting
+      (subst (λ c. IsPosted old.link h c (Output.Posted answer components)) (sym is) (posted_is law h old new p answer components t k l (d old p is) count g));
   ticked = λ moment added wanting none g. ticked_is h old new moment added wanting t k none g;
   took = λ turn g. (longest_is h old new turn t k l g, (let room : places_held old < 8192 = g.room in omega (arith, room, places_are h old t k l)));
   no_room = λ some full same. (some_ready h old old.ready t k refl some, omega (arith, full, places_are h old t k l));
@@ -251,49 +241,24 @@ answers law h came old new t k l d = record {
   busy = λ some same. ap is_some t.is_out ∙ some_handed h old.outbox.out some;
   none_picked = λ none same.
       (t.is_out ∙ ap (λ (o : Outbox). option_map (handed h) o.out) none, aborts_wait h old t k l ∙ ap (λ (o : Outbox). map_list frame_octets o.aborts) none, none_waits h (waiting h) (l.frames ∙ ap (λ (o : Outbox). o.frames) none));
-  sent = λ content g. if_there h old content outputs.Sent t (sent_out old content new g);
-  none_sent = λ none same. if_none h old outputs.Sent t none;
-  unsent = λ parcel g. if_there h old parcel.content outputs.Unsent t g.was_out;
-  none_unsent = λ none same. if_none h old outputs.Unsent t none;
+  sent = λ content g. if_there h old content Output.Sent t (sent_out old content new g);
+  none_sent = λ none same. if_none h old Output.Sent t none;
+  unsent = λ parcel g. if_there h old parcel.content Output.Unsent t g.was_out;
+  none_unsent = λ none same. if_none h old Output.Unsent t none;
   down = λ g. refl;
 }
 
-pub answer_drained : RowsKeepTheirOrder → (h : List Event) (step : Step) (came : Option Prepared) (output : Output) (old new : Shelf) → Tied h old → Lined h old → Decided came → Drained (MakesOf step came output) old new → IsAnswer old.link h step came output
-answer_drained law h step came output old new t l d g =
-    let before : Shelf = record old { log = g.before } in
-    by_made (λ step output. IsAnswer old.link h step came output) step came output before g.after
-    (answers law h came before g.after (Tied-drained h old g.before t) g.sound (Lined-drained h old g.before l) d) g.makes
+pub answer_made : RowsKeepTheirOrder → (h : List Event) (step : Step) (came : Option Prepared) (output : Output) (old new : Shelf) → Tied h old → Sound old → Lined h old → Decided came → MakesOf step came output old new → IsAnswer old.link h step came output
+answer_made law h step came output old new t k l d g = by_made (λ step output. IsAnswer old.link h step came output) step came output old new (answers law h came old new t k l d) g
 
 -- the link is the same
 
 sent_link : (old : Shelf) (content : Content) (new : Shelf) → Sends old content new → new.link ≡ old.link
-sent_link old (contents.Abort frame) new g = ap (λ (s : Shelf). s.link) g.new_is
-sent_link old (contents.Frame w) new g = ap (λ (s : Shelf). s.link) g.new_is
+sent_link old (Content.Abort frame) new g = ap (λ (s : Shelf). s.link) g.new_is
+sent_link old (Content.Frame w) new g = ap (λ (s : Shelf). s.link) g.new_is
 
 link_cases : (came : Option Prepared) (old new : Shelf) → Sound old → Cases (λ step output. new.link ≡ old.link) came old new
-link_cases came old new k = record {
-  posted = λ step posting p answer components is count g. (follows_untouched (verdict old p) old new p answer k g).link_is;
-  ticked = λ moment added wanting none g. ap (λ (s : Shelf). s.link) g.new_is;
-  took = λ turn g. ap (λ (s : Shelf). s.link) g.new_is;
-  no_room = λ some full same. ap (λ (s : Shelf). s.link) same;
-  none_taken = λ none same. ap (λ (s : Shelf). s.link) same;
-  gave = λ done given g. ap (λ (s : Shelf). s.link) g.new_is;
-  none_given = λ local none same. ap (λ (s : Shelf). s.link) same;
-  went_back = λ turn g. ap (λ (s : Shelf). s.link) g.new_is;
-  none_back = λ local none same. ap (λ (s : Shelf). s.link) same;
-  picked = λ content frame is g. ap (λ (s : Shelf). s.link) g.new_is;
-  busy = λ some same. ap (λ (s : Shelf). s.link) same;
-  none_picked = λ none same. ap (λ (s : Shelf). s.link) same;
-  sent = λ content g. sent_link old content new g;
-  none_sent = λ none same. ap (λ (s : Shelf). s.link) same;
-  unsent = λ parcel g. ap (λ (s : Shelf). s.link) g.down.new_is;
-  none_unsent = λ none same. ap (λ (s : Shelf). s.link) same;
-  down = λ g. ap (λ (s : Shelf). s.link) g.new_is;
-}
+link_cases came old new k = grind (arith, follows_untouched, sent_link)
 
-pub link_drained : (step : Step) (came : Option Prepared) (output : Output) (old new : Shelf) → Drained (MakesOf step came output) old new → new.link ≡ old.link
-link_drained step came output old new g =
-    let same : g.after.link ≡ old.link =
-    by_made (λ step output. g.after.link ≡ old.link) step came output (record old { log = g.before }) g.after (link_cases came (record old { log = g.before }) g.after g.sound) g.makes
-    in
-    ap (λ (s : Shelf). s.link) g.new_is ∙ same
+pub link_made : (step : Step) (came : Option Prepared) (output : Output) (old new : Shelf) → Sound old → MakesOf step came output old new → new.link ≡ old.link
+link_made step came output old new k g = by_made (λ step output. new.link ≡ old.link) step came output old new (link_cases came old new k) g

@@ -1,5 +1,5 @@
 -- A message keeps the tie between a book and its history.
-use Rattle.std.proofs.Common.{Bool, List, None, Option, Some, [], add-zero, ap, append-nil, append_assoc, arith, cond, eqb, false, is_some, length, not, refl, subst, sym, take, true, ℕ, ⊎_elim, ◌&&◌, ◌++◌, ◌+◌, ◌∙◌, ◌∷◌, ◌≡◌}
+use Rattle.std.proofs.Common.{rules, Bool, List, None, Option, Some, [], add-zero, ap, append-nil, append_assoc, arith, cond, eqb, false, is_some, length, not, refl, subst, sym, take, true, ℕ, ⊎_elim, ◌&&◌, ◌++◌, ◌+◌, ◌∙◌, ◌∷◌, ◌≡◌}
 use Rattle.std.specs.Prelude.{map as map_list, nat_le, nat_lt}
 use Rattle.std.specs.Option.{option_and_then, option_map_or}
 use Rattle.std.proofs.lemmas.List.{map-append}
@@ -14,12 +14,10 @@ use Rattle.fp_book.specs.Log.{logged}
 use Rattle.fp_book.specs.Parcel.{local_of as parcel_local}
 use Rattle.fp_book.specs.Sending.{is_frame_of}
 use Rattle.fp_book.specs.Shelf.{Shelf, Sound}
-use Rattle.fp_book.specs.Verdict.{admitted as admitted_in, named as named_in, number_of}
+use Rattle.fp_book.specs.Lines.{admitted as admitted_in, named as named_in, number_of}
 use Rattle.fp_book.specs.declared.answers.Posted.{Posted}
-use Rattle.fp_book.specs.declared.answers.Posted.TheVariants.{Aborted, Accepted, Discarded, Ended, Opened}
 use Rattle.fp_book.specs.declared.line.LoggedStep.{LoggedStep}
 use Rattle.fp_book.specs.declared.parcel.Content.{Content}
-use Rattle.fp_book.specs.declared.parcel.Content.TheVariants as contents
 use Rattle.fp_entry.specs.Prepared.{arrival_of}
 use Rattle.fp_entry.specs.declared.entry.Entry.{Entry}
 use Rattle.fp_entry.specs.declared.prepared.Prepared.{Prepared}
@@ -32,7 +30,6 @@ use Rattle.fp_row.specs.Calls.{Extends, ended_by}
 use Rattle.fp_row.specs.Laws.{RowsKeepTheirOrder}
 use Rattle.fp_row.specs.Row.{frames_of, is_admitted}
 use Rattle.fp_row.specs.declared.ending.Ending.{Ending}
-use Rattle.fp_row.specs.declared.ending.Ending.TheVariants.{ByPeer, Closed}
 use Rattle.fp_row.specs.declared.row.Row.{Row}
 use Rattle.fp_service.specs.Dialogue.{is_over}
 use Rattle.fp_tids.specs.Identifiers.{identifier}
@@ -118,15 +115,15 @@ abbrev pub posts : Step → Prepared → Posted → ℕ → Event
 posts step came answer components = record { step = step; came = Some came; output = outputs.Posted answer components }
 
 -- nothing is done with it
-tied_discarded : (h : List Event) (step : Step) (came : Prepared) (components : ℕ) (old : Shelf) (log : List LoggedStep) → Tied h old → Tied (posts step came Discarded components ∷ h) (record old { log = log })
+tied_discarded : (h : List Event) (step : Step) (came : Prepared) (components : ℕ) (old : Shelf) (log : List LoggedStep) → Tied h old → Tied (posts step came Posted.Discarded components ∷ h) (record old { log = log })
 tied_discarded h step came components old log t =
-    let e = posts step came Discarded components in
+    let e = posts step came Posted.Discarded components in
     Tied-quiet h e old _ t (quiet h e old _ t refl (add-zero (entry_count h) ∙ t.entries_are) refl refl refl refl refl refl refl refl) (λ d. stays e h d refl refl refl refl refl refl refl) refl
 
 pub Tied-discards : (h : List Event) (step : Step) (came : Prepared) (answer : Posted) (components : ℕ) (old new : Shelf) → Tied h old → Discards old came answer new → Tied (posts step came answer components ∷ h) new
 Tied-discards h step came answer components old new t g =
     subst (λ a. Tied (posts step came a components ∷ h) new) (sym g.answer_is)
-    (subst (Tied (posts step came Discarded components ∷ h)) (sym g.new_is) (tied_discarded h step came components old (logged old.log (posted_line came answer)) t))
+    (subst (Tied (posts step came Posted.Discarded components ∷ h)) (sym g.new_is) (tied_discarded h step came components old (logged old.log (posted_line came answer)) t))
 
 -- it closes the dialogue that it names, if that takes messages
 closes_tied : RowsKeepTheirOrder → (h : List Event) (e : Event) (old closed : Shelf) (came : Prepared) (closes : Option ℕ) (waiting : List AbortFrame) (log : List LoggedStep)
@@ -143,9 +140,9 @@ closes_tied law h e old closed came (Some local) waiting log t k names told none
     let b = c.before.birth in
     let only : (d : ℕ) → names_taker h came d ≡ eqb d b = λ d. names_only h old came local c.before d t k names c.was in
     let x = closed_if (names_taker h came b) (ending h b) in
-    let is : x ≡ ended_by Closed c.before.ended = ap (λ y. closed_if y (ending h b)) (only b ∙ eq-eqb b b refl) ∙ sym (closed_by c.before.ended) in
+    let is : x ≡ ended_by Ending.Closed c.before.ended = ap (λ y. closed_if y (ending h b)) (only b ∙ eq-eqb b b refl) ∙ sym (closed_by c.before.ended) in
     let tied : IsTied b (record (story h b) { ended = x }) c.after =
-    tied_ends b (story h b) Closed (is_frame_of local old.outbox.out) c.before c.after x (held_of h old local c.before t k c.was).tied c.ends is
+    tied_ends b (story h b) Ending.Closed (is_frame_of local old.outbox.out) c.before c.after x (held_of h old local c.before t k c.was).tied c.ends is
     in
     subst (λ (s : Shelf). Tied (e ∷ h) (record s { outbox = record s.outbox { aborts = waiting }; log = log })) (sym c.new_is)
     (Tied-one h e old _ local c.before (left_of c.after) t k
@@ -169,15 +166,15 @@ tied_refused : RowsKeepTheirOrder → (h : List Event) (step : Step) (came : Pre
     → Answers mid closes abort answer answered → Tied (posts step came answer components ∷ h) (record answered { log = log })
 tied_refused law h step came answer components old mid answered None log None t k names c from (answer_is, same) =
     subst (λ a. Tied (posts step came a components ∷ h) (record answered { log = log })) (sym answer_is)
-    (subst (λ (s : Shelf). Tied (posts step came Discarded components ∷ h) (record s { log = log })) (sym (same ∙ c)) (tied_discarded h step came components old log t))
+    (subst (λ (s : Shelf). Tied (posts step came Posted.Discarded components ∷ h) (record s { log = log })) (sym (same ∙ c)) (tied_discarded h step came components old log t))
 tied_refused law h step came answer components old mid answered (Some local) log None t k names c from (answer_is, same) =
-    let e = posts step came Ended components in
+    let e = posts step came Posted.Ended components in
     subst (λ a. Tied (posts step came a components ∷ h) (record answered { log = log })) (sym answer_is)
     (subst (λ (s : Shelf). Tied (e ∷ h) (record s { log = log })) (sym same)
     (closes_tied law h e old mid came (Some local) mid.outbox.aborts log t k names (λ d. becomes e h d _ (turn_out h d) refl refl refl refl refl refl refl) refl refl refl
     (λ s down waits. aborts_stay h e old s t.aborts_are refl refl refl down (waits ∙ closed_aborts old (Some local) mid c)) c))
 tied_refused law h step came answer components old mid answered closes log (Some (peer, cause)) t k names c from (answer_is, queues) =
-    let e = posts step came (Aborted cause) components in
+    let e = posts step came (Posted.Aborted cause) components in
     let a : AbortsTied h old = t.aborts_are in
     let frame = queues.frame in
     let x = frame_octets frame in
@@ -210,16 +207,7 @@ Tied-refuses law h step came answer components old new cause closes t k names g 
 
 -- more entries of a dialogue
 pub tied_extends : (d : ℕ) (t : Story) (before after : Row) (entries : List Entry) → IsTied d t before → Extends before entries after → IsTied d (record t { accepts = t.accepts ++ entries }) after
-tied_extends d t before after entries k e = record {
-  birth = e.same.birth ∙ k.birth;
-  begins = k.begins ∙ ap Some (sym (same_beginning before after e.same));
-  accepts = ap (λ xs. xs ++ entries) k.accepts ∙ sym e.accepted;
-  serves = k.serves ∙ ap numbers (sym e.stay.served);
-  queues = k.queues ∙ sym e.stay.queued_frames;
-  sends = k.sends ∙ sym e.stay.sent_frames;
-  ends = k.ends ∙ sym e.ended;
-  outs = k.outs ∙ sym e.is_out;
-}
+tied_extends d t before after entries k e = let begins = k.begins ∙ ap Some (sym (same_beginning before after e.same)) in grind arith
 
 -- a message doesn't end a dialogue that it doesn't name, or that takes none
 pub unended : (by : Option Ending) (takes : Bool) (before : Option Ending) → takes ≡ false → ending_at by takes before ≡ before
@@ -228,19 +216,19 @@ unended (Some ending) takes before none = ap (λ b. cond b (Some ending) before)
 
 -- what an accepted message tells of its dialogue, and of the others
 own_told : (h : List Event) (step : Step) (came : Prepared) (count components b : ℕ) (x : Option Ending) → destination h (Some came) ≡ Some b
-    → ending_at (ending_by (Accepted count) (Some came)) (names_taker h came b) (ending h b) ≡ x
-    → story (posts step came (Accepted count) components ∷ h) b ≡ record (story h b) { accepts = accepted h b ++ entries_in came; ended = x }
+    → ending_at (ending_by (Posted.Accepted count) (Some came)) (names_taker h came b) (ending h b) ≡ x
+    → story (posts step came (Posted.Accepted count) components ∷ h) b ≡ record (story h b) { accepts = accepted h b ++ entries_in came; ended = x }
 own_told h step came count components b x dest ends_so =
-    same_story (story (posts step came (Accepted count) components ∷ h) b) (record (story h b) { accepts = accepted h b ++ entries_in came; ended = x }) refl
+    same_story (story (posts step came (Posted.Accepted count) components ∷ h) b) (record (story h b) { accepts = accepted h b ++ entries_in came; ended = x }) refl
     (ap (λ xs. accepted h b ++ xs) (for_own (destination h (Some came)) b (entries_in came) dest))
     (append-nil (positions h b)) (append-nil (queued h b)) (append-nil (sent h b))
     ends_so refl
 
 others_told : (h : List Event) (step : Step) (came : Prepared) (count components b : ℕ) → destination h (Some came) ≡ Some b
-    → (d : ℕ) → eqb d b ≡ false → story (posts step came (Accepted count) components ∷ h) d ≡ story h d
+    → (d : ℕ) → eqb d b ≡ false → story (posts step came (Posted.Accepted count) components ∷ h) d ≡ story h d
 others_told h step came count components b dest d ne =
-    stays (posts step came (Accepted count) components) h d refl (for_other (destination h (Some came)) d b (entries_in came) dest ne) refl refl refl
-    (unended (ending_by (Accepted count) (Some came)) (names_taker h came d) (ending h d) (ap (λ b. b && admits h d) (is_other (destination h (Some came)) d b dest ne)))
+    stays (posts step came (Posted.Accepted count) components) h d refl (for_other (destination h (Some came)) d b (entries_in came) dest ne) refl refl refl
+    (unended (ending_by (Posted.Accepted count) (Some came)) (names_taker h came d) (ending h d) (ap (λ b. b && admits h d) (is_other (destination h (Some came)) d b dest ne)))
     refl
 
 -- a dialogue accepts a message
@@ -248,11 +236,11 @@ pub Tied-extends : (h : List Event) (step : Step) (came : Prepared) (answer : Po
     → named_in old (arrival_of came).ids ≡ Some local → is_ending (arrival_of came).ids.kind ≡ false → ExtendsDialogue old local came answer new → Tied (posts step came answer components ∷ h) new
 Tied-extends h step came answer components old new local t k names no_end g =
     let count = length (entries_in came) in
-    let e = posts step came (Accepted count) components in
+    let e = posts step came (Posted.Accepted count) components in
     let b = g.before.birth in
     let dest : destination h (Some came) ≡ Some b = dest_of h old came local g.before t k names g.was in
     let told : story (e ∷ h) b ≡ record (story h b) { accepts = accepted h b ++ entries_in came } =
-    own_told h step came count components b (ending h b) dest (ap (λ x. ending_at (cond x (Some ByPeer) None) (names_taker h came b) (ending h b)) no_end)
+    own_told h step came count components b (ending h b) dest (ap (λ x. ending_at (cond x (Some Ending.ByPeer) None) (names_taker h came b) (ending h b)) no_end)
     in
     subst (λ a. Tied (posts step came a components ∷ h) new) (sym g.answer_is)
     (subst (Tied (e ∷ h)) (sym g.new_is)
@@ -270,25 +258,25 @@ pub Tied-ends : RowsKeepTheirOrder → (h : List Event) (step : Step) (came : Pr
     → named_in old (arrival_of came).ids ≡ Some local → is_ending (arrival_of came).ids.kind ≡ true → EndsDialogue old local came answer new → Tied (posts step came answer components ∷ h) new
 Tied-ends law h step came answer components old new local t k names is_end g =
     let count = length (entries_in came) in
-    let e = posts step came (Accepted count) components in
+    let e = posts step came (Posted.Accepted count) components in
     let b = g.before.birth in
     let dest : destination h (Some came) ≡ Some b = dest_of h old came local g.before t k names g.was in
     let takes : names_taker h came b ≡ true = names_only h old came local g.before b t k names g.was ∙ eq-eqb b b refl in
-    let told : story (e ∷ h) b ≡ record (story h b) { accepts = accepted h b ++ entries_in came; ended = Some ByPeer } =
-    own_told h step came count components b (Some ByPeer) dest
-    (ap (λ x. ending_at (cond x (Some ByPeer) None) (names_taker h came b) (ending h b)) is_end ∙ ap (λ x. cond x (Some ByPeer) (ending h b)) takes)
+    let told : story (e ∷ h) b ≡ record (story h b) { accepts = accepted h b ++ entries_in came; ended = Some Ending.ByPeer } =
+    own_told h step came count components b (Some Ending.ByPeer) dest
+    (ap (λ x. ending_at (cond x (Some Ending.ByPeer) None) (names_taker h came b) (ending h b)) is_end ∙ ap (λ x. cond x (Some Ending.ByPeer) (ending h b)) takes)
     in
     let more : Story = record (story h b) { accepts = accepted h b ++ entries_in came } in
     let extended : IsTied b more g.extended = tied_extends b (story h b) g.before g.extended (entries_in came) (held_of h old local g.before t k g.was).tied g.extends in
     let was_none : g.extended.ended ≡ None = g.extends.ended ∙ takes_by g.before (names_takes old (number_in came) local g.before names g.was) in
-    let tied : IsTied b (record more { ended = Some ByPeer }) g.after =
-    tied_ends b more ByPeer (is_frame_of local old.outbox.out) g.extended g.after (Some ByPeer) extended g.ends (ap (ended_by ByPeer) (sym was_none))
+    let tied : IsTied b (record more { ended = Some Ending.ByPeer }) g.after =
+    tied_ends b more Ending.ByPeer (is_frame_of local old.outbox.out) g.extended g.after (Some Ending.ByPeer) extended g.ends (ap (ended_by Ending.ByPeer) (sym was_none))
     in
     subst (λ a. Tied (posts step came a components ∷ h) new) (sym g.answer_is)
     (subst (Tied (e ∷ h)) (sym g.new_is)
     (Tied-one h e old _ local g.before (left_of g.after) t k (quiet h e old _ t refl (ap (λ n. n + count) t.entries_are) refl refl refl refl refl refl refl refl)
     (kept old.rows local (Some g.before) g.after g.was)
-    (subst (λ s. TiedAt (births h) b s (left_of g.after)) (sym told) (left_tied law (births h) b (record more { ended = Some ByPeer }) g.after tied))
+    (subst (λ s. TiedAt (births h) b s (left_of g.after)) (sym told) (left_tied law (births h) b (record more { ended = Some Ending.ByPeer }) g.after tied))
     (others_told h step came count components b dest)))
 
 -- what is gone, or isn't opened yet, isn't the one that is opened
@@ -298,18 +286,12 @@ le_more d n ne =
 
 at_more : (d n : ℕ) (t : Story) (o : Option Row) → eqb d (n + 1) ≡ false → TiedAt n d t o → TiedAt (n + 1) d t o
 at_more d n t (Some row) ne k = k
-at_more d n t None ne k = record {
-  straight = k.straight;
-  admitted = ap (λ b. (nat_lt 0 d && b) && (not (is_some t.ended) && not (is_over (core_in d t)))) (le_more d n ne) ∙ k.admitted;
-  waits = k.waits;
-  outs = k.outs;
-  all_sent = k.all_sent;
-}
+at_more d n t None ne k = let admitted = ap (λ b. (nat_lt 0 d && b) && (not (is_some t.ended) && not (is_over (core_in d t)))) (le_more d n ne) ∙ k.admitted in search rules
 
 -- what is out isn't of the dialogue that is opened
 none_of_new : (h : List Event) (s : Shelf) (l : ℕ) (content : Content) → Tied h s → Sound s → l ≡ identifier s.link (births h + 1) → s.outbox.out ≡ Some content → eqb (parcel_local content) l ≡ false
-none_of_new h s l (contents.Abort frame) t k place is = ne_eqb 0 l (λ same. omega (arith, same, place))
-none_of_new h s l (contents.Frame w) t k place is =
+none_of_new h s l (Content.Abort frame) t k place is = ne_eqb 0 l (λ same. omega (arith, same, place))
+none_of_new h s l (Content.Frame w) t k place is =
     let row = none_at s w (map.get s.rows w.local) k is refl in
     let b : Held h w.local row.0.birth row.0 = held_of h s w.local row.0 t k row.1 in
     ne_eqb w.local l (λ same. omega (arith, same, place, b.place, b.last, t.opened.locals row.0.birth b.first b.last))
@@ -321,7 +303,7 @@ Tied-opens h step came answer components old new peer t k orig g =
     let n = births h in
     let b = n + 1 in
     let l = identifier old.link (old.given + 1) in
-    let e = posts step came (Opened l) components in
+    let e = posts step came (Posted.Opened l) components in
     let rows = map.insert old.rows l g.after in
     let all : n ≡ old.births = t.births_are in
     let place : l ≡ identifier old.link b = ap (λ m. identifier old.link (m + 1)) (sym (all ∙ k.births)) in
@@ -341,13 +323,12 @@ Tied-opens h step came answer components old new peer t k orig g =
     let others : (d : ℕ) → eqb d b ≡ false → story (e ∷ h) d ≡ story h d = λ d ne.
     stays e h d (ap (λ y. cond y (Some start) (beginning h d)) ne) (for_other (Some b) d b (entries_in came) refl ne) refl refl refl refl refl
     in
-    let make : ℕ → List ℕ → ℕ → Option Beginning = λ l p m. Some (record { local = l; peer = p; moment = m }) in
     let tied : IsTied b fresh_one g.after =
     record {
       birth = g.extends.same.birth ∙ g.opens.birth_is ∙ ap (λ m. m + 1) (sym all);
-      begins = ap (λ x. make x (sender_of came) (arrival_of came).moment) (sym (g.extends.same.local ∙ g.opens.local_is))
-          ∙ ap (λ x. make g.after.local x (arrival_of came).moment) (ap (λ o. option_map_or octets_of o []) orig ∙ ap octets_of (sym (g.extends.same.peer ∙ g.opens.peer_is)))
-          ∙ ap (λ x. make g.after.local (octets_of g.after.peer) x) (sym (g.extends.same.opened ∙ g.opens.opened));
+      begins =
+          let sender : sender_of came ≡ octets_of g.after.peer = ap (λ o. option_map_or octets_of o []) orig ∙ ap octets_of (sym (g.extends.same.peer ∙ g.opens.peer_is)) in
+          λ i. Some (record { local = sym (g.extends.same.local ∙ g.opens.local_is) i; peer = sender i; moment = sym (g.extends.same.opened ∙ g.opens.opened) i });
       accepts = sym (g.extends.accepted ∙ ap (λ xs. xs ++ entries_in came) g.opens.accepted);
       serves = ap numbers (sym (g.extends.stay.served ∙ g.opens.served));
       queues = sym (g.extends.stay.queued_frames ∙ ap (λ n. take n (frames_of g.opened)) g.opens.queued);

@@ -1,5 +1,5 @@
 -- Steps of parcels, and the end of a link, keep the tie between a book and its history.
-use Rattle.std.proofs.Common.{Bool, List, None, Option, Some, [], add-zero, ap, append-nil, append_assoc, cond, false, refl, subst, sym, true, ℕ, ⊎_elim, ◌&&◌, ◌++◌, ◌∙◌, ◌∷◌, ◌≡◌}
+use Rattle.std.proofs.Common.{arith, Bool, List, None, Option, Some, [], add-zero, ap, append-nil, append_assoc, cond, false, refl, subst, sym, true, ℕ, ⊎_elim, ◌&&◌, ◌++◌, ◌∙◌, ◌∷◌, ◌≡◌}
 use Rattle.std.specs.Prelude.{map as map_list, nat_le, nat_lt, option_map}
 use Rattle.std.proofs.lemmas.Bool.{and_right, cases_Bool, le-leb, lt-leb, true≢false}
 use Rattle.std.specs.FinMap as map
@@ -12,9 +12,7 @@ use Rattle.fp_book.specs.Parcel.{local_of as parcel_local, octets_of}
 use Rattle.fp_book.specs.Sending.{is_frame_of}
 use Rattle.fp_book.specs.Shelf.{Shelf, Sound, frame_out, frames_for}
 use Rattle.fp_book.specs.declared.line.LoggedStep.{LoggedStep}
-use Rattle.fp_book.specs.declared.line.LoggedStep.TheVariants as line
 use Rattle.fp_book.specs.declared.parcel.Content.{Content}
-use Rattle.fp_book.specs.declared.parcel.Content.TheVariants as contents
 use Rattle.fp_book.specs.declared.parcel.Parcel.{Parcel}
 use Rattle.fp_book.specs.declared.parcel.Waiting.{Waiting}
 use Rattle.fp_entry.specs.declared.prepared.Prepared.{Prepared}
@@ -23,7 +21,6 @@ use Rattle.fp_row.specs.Calls.{Ends, ended_by}
 use Rattle.fp_row.specs.Laws.{RowsKeepTheirOrder}
 use Rattle.fp_row.specs.Row.{kept_of, sent_of}
 use Rattle.fp_row.specs.declared.ending.Ending.{Ending}
-use Rattle.fp_row.specs.declared.ending.Ending.TheVariants.{ByPeer, Closed}
 use Rattle.fp_row.specs.declared.row.Row.{Row}
 use Rattle.fp_steps.specs.Accepted.{accepted, ending, entry_count, positions}
 use Rattle.fp_steps.specs.Births.{births, for_one, local_of, named}
@@ -53,7 +50,7 @@ pub held : (s : Shelf) (w : Waiting) (rest : List Waiting) → Sound s → s.out
 held s w rest k first = held_by s w rest k first (map.get s.rows w.local) refl
 
 -- and so is one that is out
-pub none_at : (s : Shelf) (w : Waiting) (o : Option Row) → Sound s → s.outbox.out ≡ Some (contents.Frame w) → map.get s.rows w.local ≡ o → (row : Row) × (map.get s.rows w.local ≡ Some row)
+pub none_at : (s : Shelf) (w : Waiting) (o : Option Row) → Sound s → s.outbox.out ≡ Some (Content.Frame w) → map.get s.rows w.local ≡ o → (row : Row) × (map.get s.rows w.local ≡ Some row)
 none_at s w (Some row) k is was = (row, was)
 none_at s w None k is was =
     let here : frame_out w.local s.outbox.out ≡ w.frame ∷ [] = ap (frame_out w.local) is ∙ first_own w.local w [] refl in
@@ -68,29 +65,24 @@ up_by s frame rest k first =
 aborts_picked : (h : List Event) (e : Event) (old : Shelf) (content : Content) (rest : Outbox) → Tied h old → Sound old → old.outbox.out ≡ None → IsNext old.outbox content rest
     → aborts (e ∷ h) ≡ aborts h ++ [] → aborts_sent (e ∷ h) ≡ aborts_sent h ++ [] → out (e ∷ h) ≡ Some (handed h content)
     → (new : Shelf) → new.is_down ≡ old.is_down → new.outbox.aborts ≡ rest.aborts → AbortsTied (e ∷ h) new
-aborts_picked h e old (contents.Abort frame) rest t k none next all sent_all is new down waits =
+aborts_picked h e old (Content.Abort frame) rest t k none next all sent_all is new down waits =
     let a : AbortsTied h old = t.aborts_are in
     let left : a.rest ≡ frame_octets frame ∷ map_list frame_octets rest.aborts = a.waiting (up_by old frame rest.aborts k next.0) ∙ ap (map_list frame_octets) next.0 in
     let was : out h ≡ None = t.is_out ∙ ap (option_map (handed h)) none in
     record {
       rest = map_list frame_octets rest.aborts;
-      all = ap (λ xs. xs ++ (abort_out (out (e ∷ h)) ++ map_list frame_octets rest.aborts)) (sent_all ∙ append-nil (aborts_sent h))
-          ∙ ap (λ o. aborts_sent h ++ (abort_out o ++ map_list frame_octets rest.aborts)) is
-          ∙ ap (λ xs. aborts_sent h ++ xs) (sym left)
-          ∙ ap (λ o. aborts_sent h ++ (abort_out o ++ a.rest)) (sym was)
-          ∙ a.all ∙ sym (append-nil (aborts h)) ∙ sym all;
+      all = (λ i. (sent_all ∙ append-nil (aborts_sent h)) i ++ (abort_out (is i) ++ map_list frame_octets rest.aborts))
+          ∙ (λ i. aborts_sent h ++ (abort_out (sym was i) ++ sym left i)) ∙ a.all ∙ sym (append-nil (aborts h)) ∙ sym all;
       waiting = λ up. ap (map_list frame_octets) (sym waits);
     }
-aborts_picked h e old (contents.Frame w) rest t k none next all sent_all is new down waits =
+aborts_picked h e old (Content.Frame w) rest t k none next all sent_all is new down waits =
     let a : AbortsTied h old = t.aborts_are in
     let here = held old w rest.frames k next.2 in
     let was : out h ≡ None = t.is_out ∙ ap (option_map (handed h)) none in
     record {
       rest = a.rest;
-      all = ap (λ xs. xs ++ (abort_out (out (e ∷ h)) ++ a.rest)) (sent_all ∙ append-nil (aborts_sent h))
-          ∙ ap (λ o. aborts_sent h ++ (abort_out o ++ a.rest)) is
-          ∙ ap (λ xs. aborts_sent h ++ (xs ++ a.rest)) (ap (λ b. cond b (w.frame ∷ []) []) (not_abort h old w.local here.0 t k here.1))
-          ∙ ap (λ o. aborts_sent h ++ (abort_out o ++ a.rest)) (sym was)
+      all = (λ i. (sent_all ∙ append-nil (aborts_sent h)) i ++ (abort_out (is i) ++ a.rest))
+          ∙ (λ i. aborts_sent h ++ (cond (not_abort h old w.local here.0 t k here.1 i) (w.frame ∷ []) [] ++ a.rest)) ∙ ap (λ o. aborts_sent h ++ (abort_out o ++ a.rest)) (sym was)
           ∙ a.all ∙ sym (append-nil (aborts h)) ∙ sym all;
       waiting = λ up. a.waiting (sym down ∙ up) ∙ ap (map_list frame_octets) (next.0 ∙ sym next.1 ∙ sym waits);
     }
@@ -127,23 +119,22 @@ sent_rest h came old new t link born entries none down waits =
 
 pub Tied-sends : RowsKeepTheirOrder → (h : List Event) (came : Option Prepared) (old new : Shelf) (content : Content) → Tied h old → Sound old → Sends old content new
     → Tied (event steps.Sent came outputs.Sent ∷ h) new
-Tied-sends law h came old new (contents.Abort frame) t k g =
+Tied-sends law h came old new (Content.Abort frame) t k g =
     let e = event steps.Sent came outputs.Sent in
-    let was : out h ≡ Some (handed h (contents.Abort frame)) = t.is_out ∙ ap (option_map (handed h)) g.was_out in
+    let was : out h ≡ Some (handed h (Content.Abort frame)) = t.is_out ∙ ap (option_map (handed h)) g.was_out in
     subst (Tied (e ∷ h)) (sym g.new_is)
     (Tied-quiet h e old _ t (sent_rest h came old _ t refl refl refl refl refl refl)
     (λ d. stays e h d refl refl refl refl (ap (λ o. frame_for o d) was ∙ ap (λ o. for_one o d (frame_octets frame ∷ [])) (none_named old.link h (named h 0) t.opened refl)) refl refl) refl)
-Tied-sends law h came old new (contents.Frame w) t k g =
+Tied-sends law h came old new (Content.Frame w) t k g =
     let e = event steps.Sent came outputs.Sent in
     let l = w.local in
     let b = g.before.birth in
-    let was : out h ≡ Some (handed h (contents.Frame w)) = t.is_out ∙ ap (option_map (handed h)) g.was_out in
+    let was : out h ≡ Some (handed h (Content.Frame w)) = t.is_out ∙ ap (option_map (handed h)) g.was_out in
     let held : Held h l b g.before = held_of h old l g.before t k g.was in
     let before : IsTied b (story h b) g.before = held.tied in
     let waits_for = frames_for l old.outbox.frames in
     let all : sent_of g.before ++ w.frame ∷ waits_for ≡ kept_of g.before =
-    ap (λ r. sent_of g.before ++ (r ++ waits_for)) (sym (first_own l w [] refl))
-    ∙ ap (λ o. sent_of g.before ++ (frame_out l o ++ waits_for)) (sym g.was_out) ∙ frames_at old l (Some g.before) k g.was in
+    ap (λ r. sent_of g.before ++ (r ++ waits_for)) (sym (first_own l w [] refl) ∙ ap (frame_out l) (sym g.was_out)) ∙ frames_at old l (Some g.before) k g.was in
     let tied : IsTied b (story (e ∷ h) b) g.after =
     record {
       birth = g.sends.same.birth;
@@ -166,7 +157,7 @@ Tied-sends law h came old new (contents.Frame w) t k g =
 
 -- closed, or as it was
 abbrev pub closed_if : Bool → Option Ending → Option Ending
-closed_if b before = cond b (Some Closed) before
+closed_if b before = cond b (Some Ending.Closed) before
 
 -- nothing ends a dialogue that isn't ended
 pub no_end : (t : Story) (b : Bool) → b ≡ false → record t { ended = closed_if b t.ended } ≡ t
@@ -184,24 +175,15 @@ gone_ended n d t true g = record {
 gone_ended n d t false g = g
 
 -- who is closed stays so
-pub closed_by : (was : Option Ending) → ended_by Closed was ≡ Some Closed
+pub closed_by : (was : Option Ending) → ended_by Ending.Closed was ≡ Some Ending.Closed
 closed_by None = refl
-closed_by (Some ByPeer) = refl
-closed_by (Some Closed) = refl
+closed_by (Some Ending.ByPeer) = refl
+closed_by (Some Ending.Closed) = refl
 
 -- a dialogue that was ended from outside
 pub tied_ends : (d : ℕ) (t : Story) (ending : Ending) (sending : Bool) (before after : Row) (x : Option Ending) → IsTied d t before → Ends ending sending before after
     → x ≡ ended_by ending before.ended → IsTied d (record t { ended = x }) after
-tied_ends d t ending sending before after x k e is = record {
-  birth = e.same.birth ∙ k.birth;
-  begins = k.begins ∙ ap Some (sym (same_beginning before after e.same));
-  accepts = k.accepts ∙ sym e.accepted;
-  serves = k.serves ∙ ap numbers (sym e.served);
-  queues = k.queues ∙ sym e.queued_frames;
-  sends = k.sends ∙ sym e.sent_frames;
-  ends = is ∙ sym e.ended;
-  outs = k.outs ∙ sym e.is_out;
-}
+tied_ends d t ending sending before after x k e is = let begins = k.begins ∙ ap Some (sym (same_beginning before after e.same)) in grind arith
 
 -- all dialogues are closed
 closed_at : RowsKeepTheirOrder → (n d : ℕ) (t : Story) (sending : Bool) (o left : Option Row) (b : Bool) → TiedAt n d t o → ClosesAt sending o left → ((row : Row) → o ≡ Some row → b ≡ true)
@@ -209,8 +191,8 @@ closed_at : RowsKeepTheirOrder → (n d : ℕ) (t : Story) (sending : Bool) (o l
 closed_at law n d t sending None left b k c is = subst (TiedAt n d (record t { ended = closed_if b t.ended })) (sym c) (gone_ended n d t b k)
 closed_at law n d t sending (Some row) left b k c is =
     let x = closed_if b t.ended in
-    let closed : x ≡ ended_by Closed row.ended = ap (λ b. closed_if b t.ended) (is row refl) ∙ sym (closed_by row.ended) in
-    subst (TiedAt n d (record t { ended = x })) (sym c.left_is) (left_tied law n d (record t { ended = x }) c.after (tied_ends d t Closed sending row c.after x k c.ends closed))
+    let closed : x ≡ ended_by Ending.Closed row.ended = ap (λ b. closed_if b t.ended) (is row refl) ∙ sym (closed_by row.ended) in
+    subst (TiedAt n d (record t { ended = x })) (sym c.left_is) (left_tied law n d (record t { ended = x }) c.after (tied_ends d t Ending.Closed sending row c.after x k c.ends closed))
 
 -- the link goes down: all dialogues that were opened are closed
 closes_all : RowsKeepTheirOrder → (h : List Event) (e : Event) (old new : Shelf) (out_then : Option Content) (step : LoggedStep) → Tied h old → Sound old
@@ -225,12 +207,12 @@ closes_all law h e old new out_then step t k g next told =
     (λ row was. le-leb d (births h) (held_at h old d row t k was).last)))
     (λ d past. told d ∙ no_end (story h d) (nat_le d (births h)) (lt-leb d (births h) past))
 
-pub Tied-down : RowsKeepTheirOrder → (h : List Event) (came : Option Prepared) (old new : Shelf) → Tied h old → Sound old → GoesDown old.outbox.out old line.Down new
+pub Tied-down : RowsKeepTheirOrder → (h : List Event) (came : Option Prepared) (old new : Shelf) → Tied h old → Sound old → GoesDown old.outbox.out old LoggedStep.Down new
     → Tied (event steps.Down came outputs.Down ∷ h) new
 Tied-down law h came old new t k g =
     let e = event steps.Down came outputs.Down in
     let a : AbortsTied h old = t.aborts_are in
-    closes_all law h e old new old.outbox.out line.Down t k g
+    closes_all law h e old new old.outbox.out LoggedStep.Down t k g
     (record {
       link_is = ap (λ (s : Shelf). s.link) g.new_is;
       opens_none = refl;
@@ -252,7 +234,7 @@ Tied-unsends law h came old new parcel t k u =
     let e = event steps.Unsent came outputs.Unsent in
     let g = u.down in
     let a : AbortsTied h old = t.aborts_are in
-    closes_all law h e old new None (line.Unsent (parcel_local parcel.content)) t k g
+    closes_all law h e old new None (LoggedStep.Unsent (parcel_local parcel.content)) t k g
     (record {
       link_is = ap (λ (s : Shelf). s.link) g.new_is;
       opens_none = refl;

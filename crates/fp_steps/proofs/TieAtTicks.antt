@@ -12,7 +12,7 @@ use Rattle.fp_book.proofs.Sums.{OneChanges, Rows, amount, removed}
 use Rattle.fp_book.specs.Calls.{ClocksAt, Due, IsDue, Ticks, due_at}
 use Rattle.fp_book.specs.Shelf.{Shelf, Sound}
 use Rattle.fp_book.specs.Totals.{sum_of}
-use Rattle.fp_book.specs.Verdict.{is_full as book_is_full}
+use Rattle.fp_book.specs.Lines.{is_full as book_is_full}
 use Rattle.fp_entry.specs.Entries.{entry_at, is_clock}
 use Rattle.fp_entry.specs.declared.entry.Entry.{Entry}
 use Rattle.fp_entry.specs.declared.entry.EntryKind.TheVariants.{Clock}
@@ -20,7 +20,6 @@ use Rattle.fp_entry.specs.declared.prepared.Prepared.{Prepared}
 use Rattle.fp_row.specs.Row.{has_clock, is_admitted, is_due as row_is_due}
 use Rattle.fp_row.specs.declared.row.Row.{Row}
 use Rattle.fp_service.specs.Dialogue.{is_over, next_due}
-use Rattle.fp_service.specs.declared.dialogue.Core.{Core}
 use Rattle.fp_steps.specs.Accepted.{accepted, admits_on, core_on, course, ending, has_clock_on, is_full, positions}
 use Rattle.fp_steps.specs.Births.{births, local_of}
 use Rattle.fp_steps.specs.History.{Event}
@@ -28,7 +27,7 @@ use Rattle.fp_steps.specs.Sending.{queued, sent}
 use Rattle.fp_steps.specs.Tied.{IsTied, Tied, TiedAt, core_in, story}
 use Rattle.fp_steps.specs.declared.output.Output.TheVariants as outputs
 use Rattle.fp_steps.specs.declared.step.Step.TheVariants as steps
-use Rattle.fp_steps.proofs.HeldDialogues.{Held, born_at, core_tied, event, held_at, length-numbers, live_tied, not_born, same_story, stays}
+use Rattle.fp_steps.proofs.HeldDialogues.{count_tied, Held, born_at, core_tied, event, held_at, live_tied, not_born, same_story, stays}
 use Rattle.fp_steps.proofs.TieAtMessages.{tied_extends}
 use Rattle.fp_steps.proofs.TieNext.{Tied-next, quiet}
 
@@ -122,15 +121,10 @@ is_next h moment d = (admits_on h d (course h d) && not (has_clock_on h d (accep
 due_tied : (h : List Event) (moment d : ℕ) (row : Row) → 0 < d → d ≤ births h → IsTied d (story h d) row → is_next h moment d ≡ row_is_due row moment
 due_tied h moment d row first last k =
     let admits : admits_on h d (course h d) ≡ is_admitted row = ap (λ b. b && (not (is_some (ending h d)) && not (is_over (core_in d (story h d))))) (born_at d (births h) first last) ∙ live_tied d (story h d) row k in
-    let count : length (positions h d) ≡ row.served = ap length k.serves ∙ length-numbers row.served in
     let clock : has_clock_on h d (accepted h d) ≡ has_clock row =
-    ap (λ n. nat_lt 0 (count_by (λ (entry : Entry). is_clock entry.kind) (drop n (accepted h d)))) count
-    ∙ ap (λ xs. nat_lt 0 (count_by (λ (entry : Entry). is_clock entry.kind) (drop row.served xs))) k.accepts
+    λ i. nat_lt 0 (count_by (λ (entry : Entry). is_clock entry.kind) (drop (count_tied d (story h d) row k i) (k.accepts i)))
     in
-    ap (λ b. (b && not (has_clock_on h d (accepted h d))) && nat_le (next_due (core_on h d (accepted h d))) moment) admits
-    ∙ ap (λ b. (is_admitted row && not b) && nat_le (next_due (core_on h d (accepted h d))) moment) clock
-    ∙ ap (λ (c : Core). (is_admitted row && not (has_clock row)) && nat_le (next_due c) moment) (core_tied d (story h d) row k)
-    ∙ sym (due_of (is_admitted row) (not (has_clock row)) (next_due row.core) moment)
+    (λ i. (admits i && not (clock i)) && nat_le (next_due (core_tied d (story h d) row k i)) moment) ∙ sym (due_of (is_admitted row) (not (has_clock row)) (next_due row.core) moment)
 
 -- the story of a dialogue at a tick
 abbrev pub clock_in : List Event → ℕ → ℕ → Bool

@@ -1,12 +1,11 @@
 -- Steps of turns keep the tie between a book and its history.
-use Rattle.std.proofs.Common.{◌≡◌, ℕ, Bool, true, false, cond, Option, Some, None, List, [], ◌∷◌, ◌++◌, refl, sym, ◌∙◌, ap, subst, append-nil, add-one, add-zero}
+use Rattle.std.proofs.Common.{rules, ◌≡◌, ℕ, Bool, true, false, cond, Option, Some, None, List, [], ◌∷◌, ◌++◌, refl, sym, ◌∙◌, ap, subst, append-nil, add-one, add-zero}
 use Rattle.std.specs.Prelude.{option_map, option_to_list, slice_get}
 use Rattle.std.specs.Option.{option_and_then}
 use Rattle.fp_book.proofs.Sums.{inserted, kept, left_of}
 use Rattle.fp_book.specs.Calls.{GivesDone, PutsTurnBack, TakesTurn, given_of}
 use Rattle.fp_book.specs.Shelf.{Shelf, Sound}
 use Rattle.fp_book.specs.declared.answers.Given.{Given}
-use Rattle.fp_book.specs.declared.answers.Given.TheVariants.{Silent}
 use Rattle.fp_entry.specs.declared.entry.Entry.{Entry}
 use Rattle.fp_entry.specs.declared.prepared.Prepared.{Prepared}
 use Rattle.fp_q773.specs.Tid.{octets_of}
@@ -37,7 +36,7 @@ out_by true o turn e = refl
 out_by false o turn e = absurd (cc)
 
 pub none_queued : (given : Given) → if_queued given [] ≡ []
-none_queued Silent = refl
+none_queued Given.Silent = refl
 none_queued given = refl
 
 -- a turn is handed out
@@ -89,14 +88,7 @@ turn_from : (row : Row) (turn : Turn) (out : Bool) (o : Option Entry) → slice_
 turn_from row turn false o at e = absurd (cc)
 turn_from row turn true None at e = absurd (cc)
 turn_from row turn true (Some entry) at e =
-    let is : turn_of row entry ≡ turn = cc in
-    record {
-      entry_is = at ∙ ap (λ (t : Turn). Some t.entry) is;
-      local_is = ap (λ (t : Turn). t.local) is;
-      peer_is = ap (λ (t : Turn). t.peer) is;
-      position_is = ap (λ (t : Turn). t.position) is;
-      core_is = ap (λ (t : Turn). t.before) is;
-    }
+    let is : turn_of row entry ≡ turn = cc in subst (IsTurn row) is (search rules)
 
 pub turn_is : (row : Row) (turn : Turn) → row_turn row ≡ Some turn → IsTurn row turn
 turn_is row turn e = turn_from row turn row.is_out (slice_get row.accepted row.served) refl e
@@ -112,16 +104,13 @@ queued_by (Some ending) (Some frame) = refl
 pub frame_is : (h : List Event) (row : Row) (turn : Turn) (d : ℕ) → IsTied d (story h d) row → IsTurn row turn → frame_at h d turn.position ≡ frame_for turn
 frame_is h row turn d k is =
     let at : slice_get (accepted h d) turn.position ≡ Some turn.entry =
-    ap (λ xs. slice_get xs turn.position) k.accepts ∙ ap (slice_get row.accepted) (sym is.position_is) ∙ is.entry_is
+    (λ i. slice_get (k.accepts i) (sym is.position_is i)) ∙ is.entry_is
     in
     let core : core_of h d ≡ turn.before = core_tied d (story h d) row k ∙ is.core_is in
     let begun : beginning h d ≡ Some (record { local = turn.local; peer = octets_of turn.peer; moment = row.opened }) =
-    k.begins ∙ ap (λ l. Some (record { local = l; peer = octets_of row.peer; moment = row.opened })) is.local_is
-    ∙ ap (λ p. Some (record { local = turn.local; peer = octets_of p; moment = row.opened })) is.peer_is
+    k.begins ∙ (λ i. Some (record { local = is.local_is i; peer = octets_of (is.peer_is i); moment = row.opened }))
     in
-    ap (λ o. option_map (frame_from (beginning h d)) (option_and_then (request_of (core_of h d)) o)) at
-    ∙ ap (λ c. option_map (frame_from (beginning h d)) (request_of c turn.entry)) core
-    ∙ ap (λ o. option_map (frame_from o) (request_of turn.before turn.entry)) begun
+    λ i. option_map (frame_from (begun i)) (option_and_then (request_of (core i)) (at i))
 
 -- what is accepted for sending where a turn is given back
 pub queued_asked : (h : List Event) (old new : Shelf) (done : Done) (given : Given) → Tied h old → Sound old → (g : GivesDone old done given new) → queued_in (outputs.Gave done.turn.local done.turn.position given) h g.before.birth ≡ frames_in g.asked
@@ -130,10 +119,10 @@ queued_asked h old new done given t k g =
     let p = done.turn.position in
     let b = g.before.birth in
     let held : Held h l b g.before = held_of h old l g.before t k g.was in
+    let frame : frame_at h b p ≡ done.frame = frame_is h g.before done.turn b held.tied (turn_is g.before done.turn g.gives.was_out) ∙ sym done.frame_is in
+    let same : given ≡ given_of (requested_of g.before.ended done.frame) = g.given_is ∙ ap given_of g.gives.requested_is in
     ap (if_queued given) (for_own (named h l) b (option_to_list (frame_at h b p)) held.name)
-    ∙ ap (λ f. if_queued given (option_to_list f)) (frame_is h g.before done.turn b held.tied (turn_is g.before done.turn g.gives.was_out) ∙ sym done.frame_is)
-    ∙ ap (λ a. if_queued a (option_to_list done.frame)) (g.given_is ∙ ap given_of g.gives.requested_is)
-    ∙ queued_by g.before.ended done.frame ∙ ap frames_in (sym g.gives.requested_is)
+    ∙ (λ i. if_queued (same i) (option_to_list (frame i))) ∙ queued_by g.before.ended done.frame ∙ ap frames_in (sym g.gives.requested_is)
 
 -- a turn that was served is given back
 pub Tied-gives : RowsKeepTheirOrder → (h : List Event) (came : Option Prepared) (old new : Shelf) (done : Done) (given : Given) → Tied h old → Sound old → GivesDone old done given new

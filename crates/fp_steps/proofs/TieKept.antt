@@ -9,19 +9,16 @@ use Rattle.std.proofs.lemmas.Option.{same_Some}
 use Rattle.fp_book.proofs.Tells.{BeginsAnew, Tells, verdict_tells}
 use Rattle.fp_book.specs.Calls.{Follows}
 use Rattle.fp_book.specs.Shelf.{Shelf, Sound, empty_shelf}
-use Rattle.fp_book.specs.Verdict.{verdict}
+use Rattle.fp_book.specs.Lines.{verdict}
 use Rattle.fp_book.specs.declared.answers.Posted.{Posted}
 use Rattle.fp_book.specs.declared.verdict.Verdict.{Verdict}
-use Rattle.fp_book.specs.declared.verdict.Verdict.TheVariants.{Discard, Extend, Open, Refuse}
 use Rattle.fp_entry.specs.Arrival.{IsArrival}
-use Rattle.fp_entry.specs.Prepared.{IsLost, arrival_of, components_of}
+use Rattle.fp_entry.specs.Prepared.{IsLost, arrival_of}
 use Rattle.fp_entry.specs.declared.arrival.Arrival.{Arrival}
 use Rattle.fp_entry.specs.declared.prepared.Prepared.{Prepared}
-use Rattle.fp_entry.specs.declared.prepared.Prepared.TheVariants as prepared
 use Rattle.fp_q773.specs.Ids.{AreIds, AreIdsIn}
 use Rattle.fp_q773.specs.Tid.{octets_of, Tid}
 use Rattle.fp_q773.specs.declared.kind.Kind.{Kind}
-use Rattle.fp_q773.specs.declared.kind.Kind.TheVariants as kinds
 use Rattle.fp_records.specs.Table.{Contents}
 use Rattle.fp_row.specs.Laws.{RowsKeepTheirOrder}
 use Rattle.fp_row.specs.declared.row.Row.{Row}
@@ -30,13 +27,11 @@ use Rattle.fp_steps.specs.Accepted.{entry_count, is_ending}
 use Rattle.fp_steps.specs.Births.{Beginning, beginning, births, local_of, opened_in}
 use Rattle.fp_steps.specs.Headline.{Headline}
 use Rattle.fp_steps.specs.History.{Event, IsCame}
-use Rattle.fp_steps.specs.Makes.{Makes}
+use Rattle.fp_steps.specs.Makes.{MakesOf}
 use Rattle.fp_steps.specs.Sending.{abort_out, aborts, aborts_sent, out}
 use Rattle.fp_steps.specs.Tied.{AbortsTied, IsGone, IsStraight, Story, Tied, TiedAt, began_with, story, untold}
 use Rattle.fp_steps.specs.declared.output.Output.TheVariants as outputs
 use Rattle.fp_steps.specs.declared.step.Step.{Step}
-use Rattle.fp_steps.specs.declared.step.Step.TheVariants as steps
-use Rattle.fp_steps.proofs.AcceptedMessages.{Owes, verdict_owes}
 use Rattle.fp_steps.proofs.Cases.{Cases, by_made}
 use Rattle.fp_steps.proofs.HeldDialogues.{event, stays, straight_tied}
 use Rattle.fp_steps.proofs.OpenedDialogues.{all_opened}
@@ -44,7 +39,7 @@ use Rattle.fp_steps.proofs.TieAtMessages.{Tied-discards, Tied-ends, Tied-extends
 use Rattle.fp_steps.proofs.TieAtParcels.{Tied-down, Tied-picks, Tied-sends, Tied-unsends}
 use Rattle.fp_steps.proofs.TieAtTicks.{Tied-ticks}
 use Rattle.fp_steps.proofs.TieAtTurns.{Tied-gives, Tied-puts_back, Tied-takes}
-use Rattle.fp_steps.proofs.TieNext.{Tied-drained, Tied-quiet, quiet}
+use Rattle.fp_steps.proofs.TieNext.{Tied-quiet, quiet}
 
 -- nothing changes
 still : (h : List Event) (e : Event) (old new : Shelf) → Tied h old → new ≡ old → opened_in e.output ≡ None → entry_count (e ∷ h) ≡ entry_count h + 0
@@ -55,13 +50,13 @@ still h e old new t same none entries all sent_all out_stays told =
 
 -- by the step, and by its answer
 
-made_by : RowsKeepTheirOrder → (h : List Event) (step : Step) (came : Prepared) (answer : Posted) (components : ℕ) (old new : Shelf) (v : Verdict) → Tied h old → Sound old → Tells old came v → Owes (components_of came) v → Follows v old came answer new
+made_by : RowsKeepTheirOrder → (h : List Event) (step : Step) (came : Prepared) (answer : Posted) (components : ℕ) (old new : Shelf) (v : Verdict) → Tied h old → Sound old → Tells old came v → Follows v old came answer new
     → Tied (posts step came answer components ∷ h) new
-made_by law h step came answer components old new Discard t k told peer g = Tied-discards h step came answer components old new t g
-made_by law h step came answer components old new (Refuse cause closes) t k told peer g = Tied-refuses law h step came answer components old new cause closes t k told g
-made_by law h step came answer components old new (Open sender) t k told peer g = Tied-opens h step came answer components old new sender t k told g
-made_by law h step came answer components old new (Extend local false) t k told peer g = Tied-extends h step came answer components old new local t k told.0 (ap is_ending told.1) g
-made_by law h step came answer components old new (Extend local true) t k told peer g =
+made_by law h step came answer components old new Verdict.Discard t k told g = Tied-discards h step came answer components old new t g
+made_by law h step came answer components old new (Verdict.Refuse cause closes) t k told g = Tied-refuses law h step came answer components old new cause closes t k told g
+made_by law h step came answer components old new (Verdict.Open sender) t k told g = Tied-opens h step came answer components old new sender t k told g
+made_by law h step came answer components old new (Verdict.Extend local false) t k told g = Tied-extends h step came answer components old new local t k told.0 (ap is_ending told.1) g
+made_by law h step came answer components old new (Verdict.Extend local true) t k told g =
     Tied-ends law h step came answer components old new local t k told.0 (⊎_elim (λ kind. ap is_ending kind) (λ kind. ap is_ending kind) told.1) g
 
 made : RowsKeepTheirOrder → (h : List Event) (came : Option Prepared) (old new : Shelf) → Tied h old → Sound old → ((p : Prepared) → came ≡ Some p → BeginsAnew (arrival_of p).ids) → Cases (λ step output. Tied (event step came output ∷ h) new) came old new
@@ -70,27 +65,27 @@ made law h came old new t k anew =
     let e = event step came outputs.Nothing in
     still h e old new t same refl refl refl refl refl (λ d. stays e h d refl refl refl refl refl refl refl)
     in
-    let no_room = event steps.Take came outputs.NoRoom in
-    let busy = event steps.Pick came outputs.Busy in
+    let no_room = event Step.Take came outputs.NoRoom in
+    let busy = event Step.Pick came outputs.Busy in
     record {
-      posted = λ step posting p answer components is count g.
+      posted = λ step posting p answer components is count g totals.
           subst (λ c. Tied (event step c (outputs.Posted answer components) ∷ h) new) (sym is)
-          (made_by law h step p answer components old new (verdict old p) t k (verdict_tells old p (anew p is)) (verdict_owes old p) g);
+          (made_by law h step p answer components old new (verdict old p) t k (verdict_tells old p (anew p is)) g);
       ticked = λ moment added wanting none g. Tied-ticks h came old new moment added wanting t k none g;
       took = λ turn g. Tied-takes h came old new turn t k g;
       no_room = λ some full same. still h no_room old new t same refl refl refl refl refl (λ d. stays no_room h d refl refl refl refl refl refl refl);
-      none_taken = λ empty same. none steps.Take same;
+      none_taken = λ empty same. none Step.Take same;
       gave = λ done given g. Tied-gives law h came old new done given t k g;
-      none_given = λ local out same. none (steps.Give local) same;
+      none_given = λ local out same. none (Step.Give local) same;
       went_back = λ turn g. Tied-puts_back law h came old new turn t k g;
-      none_back = λ local out same. none (steps.PutBack local) same;
+      none_back = λ local out same. none (Step.PutBack local) same;
       picked = λ content frame is g. Tied-picks h came old new content frame t k is g;
       busy = λ some same. still h busy old new t same refl refl refl refl refl (λ d. stays busy h d refl refl refl refl refl refl refl);
-      none_picked = λ empty same. none steps.Pick same;
+      none_picked = λ empty same. none Step.Pick same;
       sent = λ content g. Tied-sends law h came old new content t k g;
-      none_sent = λ empty same. none steps.Sent same;
+      none_sent = λ empty same. none Step.Sent same;
       unsent = λ parcel g. Tied-unsends law h came old new parcel t k g;
-      none_unsent = λ empty same. none steps.Unsent same;
+      none_unsent = λ empty same. none Step.Unsent same;
       down = λ g. Tied-down law h came old new t k g;
     }
 
@@ -100,10 +95,10 @@ no_octets : (o : Option Tid) → option_map octets_of o ≡ None → o ≡ None
 no_octets None e = refl
 no_octets (Some tid) e = absurd (cc)
 
-anew_in : (kind : Kind) (contents : List ℕ) (orig dest : Option (List ℕ)) → AreIdsIn kind contents orig dest → kind ≡ kinds.Begin → dest ≡ None
-anew_in kind contents orig dest ids is = let g : AreIdsIn kinds.Begin contents orig dest = subst (λ k. AreIdsIn k contents orig dest) is ids in g.1
+anew_in : (kind : Kind) (contents : List ℕ) (orig dest : Option (List ℕ)) → AreIdsIn kind contents orig dest → kind ≡ Kind.Begin → dest ≡ None
+anew_in kind contents orig dest ids is = let g : AreIdsIn Kind.Begin contents orig dest = subst (λ k. AreIdsIn k contents orig dest) is ids in g.1
 
-anew_by : (octets : List ℕ) (kind : Kind) (orig dest : Option (List ℕ)) → AreIds octets kind orig dest → kind ≡ kinds.Begin → dest ≡ None
+anew_by : (octets : List ℕ) (kind : Kind) (orig dest : Option (List ℕ)) → AreIds octets kind orig dest → kind ≡ Kind.Begin → dest ≡ None
 anew_by [] kind orig dest ids is = ids.2
 anew_by (first ∷ octets) kind orig dest (told, inl found) is = anew_in kind found.0 orig dest found.3 is
 anew_by (first ∷ octets) kind orig dest (told, inr none) is = none.2
@@ -112,22 +107,18 @@ pub anew : (octets : List ℕ) (moment : ℕ) (arrival : Arrival) → IsArrival 
 anew octets moment arrival is begin = no_octets arrival.ids.dest (anew_by octets arrival.ids.kind (option_map octets_of arrival.ids.orig) (option_map octets_of arrival.ids.dest) is.has_ids begin)
 
 lost_arrival : (octets : List ℕ) (moment : ℕ) (came : Prepared) → IsLost octets moment came → IsArrival octets moment (arrival_of came)
-lost_arrival octets moment (prepared.Lost arrival) is = is
+lost_arrival octets moment (Prepared.Lost arrival) is = is
 lost_arrival octets moment came is = absurd is
 
 pub came_anew : (contents : Contents) (contexts : List (List ℕ)) (step : Step) (came : Option Prepared) → IsCame contents contexts step came → (p : Prepared) → came ≡ Some p → BeginsAnew (arrival_of p).ids
 came_anew contents contexts step None is p same = absurd (cc)
-came_anew contents contexts (steps.Post frame moment) (Some came) is p same = subst (λ (q : Prepared). BeginsAnew (arrival_of q).ids) (same_Some came p same) (anew frame moment (arrival_of came) is.0.is_arrival)
-came_anew contents contexts (steps.Lost frame moment) (Some came) is p same = subst (λ (q : Prepared). BeginsAnew (arrival_of q).ids) (same_Some came p same) (anew frame moment (arrival_of came) (lost_arrival frame moment came is))
+came_anew contents contexts (Step.Post frame moment) (Some came) is p same = subst (λ (q : Prepared). BeginsAnew (arrival_of q).ids) (same_Some came p same) (anew frame moment (arrival_of came) is.0.is_arrival)
+came_anew contents contexts (Step.Lost frame moment) (Some came) is p same = subst (λ (q : Prepared). BeginsAnew (arrival_of q).ids) (same_Some came p same) (anew frame moment (arrival_of came) (lost_arrival frame moment came is))
 came_anew contents contexts step (Some came) is p same = absurd is
 
 -- each step keeps the tie
-pub Tied-makes : RowsKeepTheirOrder → (contents : Contents) (contexts : List (List ℕ)) (h : List Event) (e : Event) (old new : Shelf) → Tied h old → IsCame contents contexts e.step e.came → Makes old e new → Tied (e ∷ h) new
-Tied-makes law contents contexts h e old new t is g =
-    subst (Tied (e ∷ h)) (sym g.new_is)
-    (Tied-drained (e ∷ h) g.after g.left
-    (by_made (λ step output. Tied (event step e.came output ∷ h) g.after) e.step e.came e.output (record old { log = g.before }) g.after
-    (made law h e.came (record old { log = g.before }) g.after (Tied-drained h old g.before t) g.sound (came_anew contents contexts e.step e.came is)) g.makes))
+pub Tied-makes : RowsKeepTheirOrder → (h : List Event) (e : Event) (old new : Shelf) → ((p : Prepared) → e.came ≡ Some p → BeginsAnew (arrival_of p).ids) → Tied h old → Sound old → MakesOf e.step e.came e.output old new → Tied (e ∷ h) new
+Tied-makes law h e old new anew t k g = by_made (λ step output. Tied (event step e.came output ∷ h) new) e.step e.came e.output old new (made law h e.came old new t k anew) g
 
 -- a book on which nothing came yet is tied to no history
 

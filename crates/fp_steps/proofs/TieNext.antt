@@ -1,12 +1,11 @@
 -- A step at which no dialogue is opened keeps the tie between a book and its history.
-use Rattle.std.proofs.Common.{◌≡◌, ℕ, ◌<◌, ◌+◌, eqb, Option, Some, None, List, [], ◌∷◌, ◌++◌, refl, sym, ◌∙◌, ap, subst, arith, append-nil, false}
+use Rattle.std.proofs.Common.{rules, ◌≡◌, ℕ, ◌<◌, ◌+◌, eqb, Option, Some, None, List, [], ◌∷◌, ◌++◌, refl, sym, ◌∙◌, ap, subst, arith, append-nil, false}
 use Rattle.std.specs.Prelude.{map as map_list, option_map}
 use Rattle.std.proofs.lemmas.Bool.{ne_eqb}
 use Rattle.std.specs.FinMap as map
 use Rattle.fp_book.proofs.Sums.{OneChanges}
 use Rattle.fp_book.specs.Parcel.{local_of as parcel_local, octets_of}
 use Rattle.fp_book.specs.Shelf.{Shelf, Sound}
-use Rattle.fp_book.specs.declared.line.LoggedStep.{LoggedStep}
 use Rattle.fp_book.specs.declared.parcel.Content.{Content}
 use Rattle.fp_reply.specs.ProviderAbort.{frame_octets}
 use Rattle.fp_row.specs.declared.row.Row.{Row}
@@ -32,8 +31,7 @@ pub aborts_stay : (h : List Event) (e : Event) (old new : Shelf) → AbortsTied 
     → new.is_down ≡ old.is_down → new.outbox.aborts ≡ old.outbox.aborts → AbortsTied (e ∷ h) new
 aborts_stay h e old new a all sent_all same down waiting = record {
   rest = a.rest;
-  all = ap (λ xs. xs ++ (abort_out (out (e ∷ h)) ++ a.rest)) (sent_all ∙ append-nil (aborts_sent h))
-      ∙ ap (λ o. aborts_sent h ++ (abort_out o ++ a.rest)) same ∙ a.all ∙ sym (append-nil (aborts h)) ∙ sym all;
+  all = (λ i. (sent_all ∙ append-nil (aborts_sent h)) i ++ (abort_out (same i) ++ a.rest)) ∙ a.all ∙ sym (append-nil (aborts h)) ∙ sym all;
   waiting = λ up. a.waiting (sym down ∙ up) ∙ ap (map_list frame_octets) (sym waiting);
 }
 
@@ -41,14 +39,9 @@ aborts_stay h e old new a all sent_all same down waiting = record {
 pub quiet : (h : List Event) (e : Event) (old new : Shelf) → Tied h old → opened_in e.output ≡ None → entry_count (e ∷ h) ≡ new.entries → aborts (e ∷ h) ≡ aborts h ++ []
     → aborts_sent (e ∷ h) ≡ aborts_sent h ++ [] → out (e ∷ h) ≡ out h
     → new.link ≡ old.link → new.births ≡ old.births → new.outbox.out ≡ old.outbox.out → new.is_down ≡ old.is_down → new.outbox.aborts ≡ old.outbox.aborts → Next h e old new
-quiet h e old new t none entries all sent_all out_stays link born out_is down waits = record {
-  link_is = link;
-  opens_none = none;
-  born = born;
-  entries = entries;
-  is_out = out_stays ∙ t.is_out ∙ ap (option_map (handed h)) (sym out_is);
-  aborts = aborts_stay h e old new t.aborts_are all sent_all out_stays down waits;
-}
+quiet h e old new t none entries all sent_all out_stays link born out_is down waits =
+    let is_out = out_stays ∙ t.is_out ∙ ap (option_map (handed h)) (sym out_is) in
+    let left = aborts_stay h e old new t.aborts_are all sent_all out_stays down waits in search rules
 
 -- what is out is of the dialogue that it was of, where its identifier names that still
 pub handed_still : (h : List Event) (e : Event) (o : Option Content)
@@ -88,15 +81,3 @@ Tied-quiet h e old new t g stays same =
     Tied-next h e old new t g
     (λ d. subst (λ s. TiedAt (births h) d s (map.get new.rows (local_of h d))) (sym (stays d)) (subst (λ rows. TiedAt (births h) d (story h d) (map.get rows (local_of h d))) (sym same) (t.rows d)))
     (λ d past. stays d)
-
--- the log has nothing to do with it
-pub Tied-drained : (h : List Event) (s : Shelf) (log : List LoggedStep) → Tied h s → Tied h (record s { log = log })
-Tied-drained h s log t = record {
-  births_are = t.births_are;
-  entries_are = t.entries_are;
-  opened = t.opened;
-  rows = t.rows;
-  later = t.later;
-  is_out = t.is_out;
-  aborts_are = let a : AbortsTied h s = t.aborts_are in record { rest = a.rest; all = a.all; waiting = a.waiting };
-}

@@ -11,13 +11,11 @@ use Rattle.fp_book.specs.Calls.{Answers, ClosesOne, Discards, EndsDialogue, Exte
 use Rattle.fp_book.specs.Log.{logged}
 use Rattle.fp_book.specs.Outbox.{is_of_other}
 use Rattle.fp_book.specs.Shelf.{Shelf, Sound, keep}
-use Rattle.fp_book.specs.Verdict.{named as named_in}
+use Rattle.fp_book.specs.Lines.{named as named_in}
 use Rattle.fp_book.specs.declared.answers.Posted.{Posted}
-use Rattle.fp_book.specs.declared.answers.Posted.TheVariants.{Accepted, Discarded, Opened}
 use Rattle.fp_book.specs.declared.line.LoggedStep.{LoggedStep}
 use Rattle.fp_book.specs.declared.parcel.Waiting.{Waiting}
 use Rattle.fp_book.specs.declared.verdict.Verdict.{Verdict}
-use Rattle.fp_book.specs.declared.verdict.Verdict.TheVariants.{Discard, Extend, Open, Refuse}
 use Rattle.fp_entry.specs.Prepared.{arrival_of}
 use Rattle.fp_entry.specs.declared.prepared.Prepared.{Prepared}
 use Rattle.fp_q773.specs.declared.provider_abort.AbortCause.{AbortCause}
@@ -25,7 +23,6 @@ use Rattle.fp_q773.specs.Tid.{Tid}
 use Rattle.fp_reply.specs.ProviderAbort.{AbortFrame}
 use Rattle.fp_row.specs.Row.{is_ready as row_is_ready}
 use Rattle.fp_row.specs.declared.ending.Ending.{Ending}
-use Rattle.fp_row.specs.declared.ending.Ending.TheVariants.{ByPeer, Closed}
 use Rattle.fp_row.specs.declared.row.Row.{Row}
 use Rattle.fp_tids.specs.Identifiers.{identifier}
 use Rattle.fp_steps.specs.Accepted.{ending, ending_at, ending_by, is_ending}
@@ -40,7 +37,7 @@ use Rattle.fp_steps.proofs.HeldDialogues.{Held, held_of, one_left, one_put, same
 use Rattle.fp_steps.proofs.QueueInOrder.{cores_new, cores_one, cores_same, joins_one, joins_same, joins_without, left_core, some_core}
 use Rattle.fp_steps.proofs.TieAtMessages.{names_only, names_taker, none_named_takes, posts, unended}
 use Rattle.fp_steps.proofs.TokensKept.{fresh_at}
-use Rattle.fp_steps.proofs.WaitingAtSteps.{Moves, still_few}
+use Rattle.fp_steps.proofs.WaitingAtSteps.{Moves, moves_to}
 
 -- the frames of a dialogue that was ended are dropped, and the others stay
 
@@ -102,8 +99,7 @@ ended_frames h s step came answer components local row x t k l names was by =
     ap (map_list (as_waiting h))
     (filter_agree (is_waiting (posts step came answer components ∷ h)) (waits_by (λ c. is_sending h c && not (eqb c b)) (picked h))
     (λ a.
-    ap (λ o. not (is_down h || is_some (ending_at o (names_taker h came a.dialogue) (ending h a.dialogue))) && nat_le (picked h a.dialogue) a.place) by
-    ∙ ap (λ t. not (is_down h || is_some (cond t (Some x) (ending h a.dialogue))) && nat_le (picked h a.dialogue) a.place) (names_only h s came local row a.dialogue t k names was)
+    (λ i. not (is_down h || is_some (ending_at (by i) (names_only h s came local row a.dialogue t k names was i) (ending h a.dialogue))) && nat_le (picked h a.dialogue) a.place)
     ∙ ap (λ s. s && nat_le (picked h a.dialogue) a.place) (sends_then (is_down h) (eqb a.dialogue b) (ending h a.dialogue) x)) (frames h))
     ∙ drops_one s.link h b (is_sending h) (picked h) t.opened held.first held.last (frames h)
     ∙ ap (λ n. filter (is_of_other n) (map_list (as_waiting h) (waiting h))) (sym held.place) ∙ ap (filter (is_of_other local)) l.frames
@@ -122,13 +118,10 @@ same_names f g p d (a ∷ xs) none same =
 -- by the verdict: discarded
 
 no_moves : (h : List Event) (step : Step) (came : Prepared) (answer : Posted) (components : ℕ) (old new : Shelf) → Lined h old → Discards old came answer new
-    → Moves h (posts step came Discarded components) old new
-no_moves h step came answer components old new l g = record {
-  down = l.down ∙ sym (ap (λ (s : Shelf). s.is_down) g.new_is);
-  frames = l.frames ∙ sym (ap (λ (s : Shelf). s.outbox.frames) g.new_is);
-  few = λ d. still_few h d (picked h d) [] (l.few d) refl;
-  joins = joins_same h (posts step came Discarded components) old new (ap (λ (s : Shelf). s.link) g.new_is) (ap (λ (s : Shelf). s.ready) g.new_is) l.order (cores_same old new (ap (λ (s : Shelf). s.rows) g.new_is));
-}
+    → Moves h (posts step came Posted.Discarded components) old new
+no_moves h step came answer components old new l g = moves_to h (posts step came Posted.Discarded components) old new l refl (λ d. refl) (ap (λ (s : Shelf). s.is_down) g.new_is)
+    (l.frames ∙ sym (ap (λ (s : Shelf). s.outbox.frames) g.new_is))
+    (joins_same h (posts step came Posted.Discarded components) old new (ap (λ (s : Shelf). s.link) g.new_is) (ap (λ (s : Shelf). s.ready) g.new_is) l.order (cores_same old new (ap (λ (s : Shelf). s.rows) g.new_is)))
 
 -- refused
 
@@ -139,7 +132,7 @@ answered_with closed closes None answer answered g = (closed.outbox.aborts, g.1)
 answered_with closed closes (Some (peer, cause)) answer answered g = (closed.outbox.aborts ++ g.1.frame ∷ [], g.1.new_is)
 
 -- the dialogue of a refused message is closed
-closes_by : (closed : Shelf) (local : ℕ) (abort : Option (Tid × AbortCause)) (answer : Posted) (answered : Shelf) (came : Option Prepared) → Answers closed (Some local) abort answer answered → ending_by answer came ≡ Some Closed
+closes_by : (closed : Shelf) (local : ℕ) (abort : Option (Tid × AbortCause)) (answer : Posted) (answered : Shelf) (came : Option Prepared) → Answers closed (Some local) abort answer answered → ending_by answer came ≡ Some Ending.Closed
 closes_by closed local None answer answered came g = ap (λ a. ending_by a came) g.0
 closes_by closed local (Some (peer, cause)) answer answered came g = ap (λ a. ending_by a came) g.0
 
@@ -159,26 +152,20 @@ refused_moves : (h : List Event) (step : Step) (came : Prepared) (answer : Poste
 refused_moves h step came answer components old closed answered None abort aborts log l t k names c a =
     let e = posts step came answer components in
     subst (λ (s : Shelf). Moves h e old (record s { outbox = record s.outbox { aborts = aborts }; log = log })) (sym c)
-    (record {
-      down = l.down;
-      frames = names_stay h step came answer components (waiting (e ∷ h)) (refused_opens closed None abort answer answered a)
-          ∙ ap (map_list (as_waiting h)) (quiet_frames h step came answer components (λ d. unended (ending_by answer (Some came)) (names_taker h came d) (ending h d) (none_named_takes h old came d t k names)))
-          ∙ l.frames;
-      few = λ d. still_few h d (picked h d) [] (l.few d) refl;
-      joins = joins_same h e old _ refl refl l.order (cores_same old old refl);
-    })
+    (moves_to h e old _ l refl (λ d. refl) refl
+    (names_stay h step came answer components (waiting (e ∷ h)) (refused_opens closed None abort answer answered a)
+    ∙ ap (map_list (as_waiting h)) (quiet_frames h step came answer components (λ d. unended (ending_by answer (Some came)) (names_taker h came d) (ending h d) (none_named_takes h old came d t k names)))
+    ∙ l.frames)
+    (joins_same h e old _ refl refl l.order (cores_same old old refl)))
 refused_moves h step came answer components old closed answered (Some local) abort aborts log l t k names c a =
     let e = posts step came answer components in
     subst (λ (s : Shelf). Moves h e old (record s { outbox = record s.outbox { aborts = aborts }; log = log })) (sym c.new_is)
-    (record {
-      down = l.down;
-      frames = names_stay h step came answer components (waiting (e ∷ h)) (refused_opens closed (Some local) abort answer answered a)
-          ∙ ended_frames h old step came answer components local c.before Closed t k l names c.was (closes_by closed local abort answer answered (Some came) a);
-      few = λ d. still_few h d (picked h d) [] (l.few d) refl;
-      joins = joins_without h e old _ local refl refl l.order
-          (cores_one old (record old { rows = keep old.rows local c.after }) local c.before (left_of c.after) (kept old.rows local (Some c.before) c.after c.was)
-          (λ after is free. left_core c.after c.before after c.ends.core is));
-    })
+    (moves_to h e old _ l refl (λ d. refl) refl
+    (names_stay h step came answer components (waiting (e ∷ h)) (refused_opens closed (Some local) abort answer answered a)
+    ∙ ended_frames h old step came answer components local c.before Ending.Closed t k l names c.was (closes_by closed local abort answer answered (Some came) a))
+    (joins_without h e old _ local refl refl l.order
+    (cores_one old (record old { rows = keep old.rows local c.after }) local c.before (left_of c.after) (kept old.rows local (Some c.before) c.after c.was)
+    (λ after is free. left_core c.after c.before after c.ends.core is))))
 
 -- opened
 opens_moves : (h : List Event) (step : Step) (came : Prepared) (answer : Posted) (components : ℕ) (old new : Shelf) (peer : Tid) → Lined h old → Tied h old → Sound old
@@ -186,19 +173,16 @@ opens_moves : (h : List Event) (step : Step) (came : Prepared) (answer : Posted)
 opens_moves h step came answer components old new peer l t k m g =
     let place = identifier old.link (old.given + 1) in
     let d = births h + 1 in
-    let e = posts step came (Opened place) components in
+    let e = posts step came (Posted.Opened place) components in
     let none : n_of d (frames h) ≡ 0 = counted h d ∙ ap (λ (s : Story). length s.queues) (t.later d (omega arith)) in
     let start : Option Beginning = Some (record { local = place; peer = sender_of came; moment = (arrival_of came).moment }) in
     subst (λ a. Moves h (posts step came a components) old new) (sym g.answer_is)
-    (record {
-      down = l.down ∙ sym (ap (λ (s : Shelf). s.is_down) g.new_is);
-      frames = same_names (as_waiting (e ∷ h)) (as_waiting h) (is_waiting h) d (frames h) none
-          (λ a ne. ap (λ b. record { local = began_with (cond b start (beginning h a.dialogue)); frame = a.frame }) (eqb_swap d a.dialogue ne))
-          ∙ l.frames ∙ sym (ap (λ (s : Shelf). s.outbox.frames) g.new_is);
-      few = λ d. still_few h d (picked h d) [] (l.few d) refl;
-      joins = joins_one h e old new place (row_is_ready g.after) m (ap (λ (s : Shelf). s.link) g.new_is) (ap (λ (s : Shelf). s.ready) g.new_is)
-          (cores_new old new place (Some g.after) (one_put old new place None g.after (fresh_at old (map.get old.rows place) k refl) (ap (λ (s : Shelf). s.rows) g.new_is))) l.order;
-    })
+    (moves_to h e old new l refl (λ d. refl) (ap (λ (s : Shelf). s.is_down) g.new_is)
+    (same_names (as_waiting (e ∷ h)) (as_waiting h) (is_waiting h) d (frames h) none
+    (λ a ne. ap (λ b. record { local = began_with (cond b start (beginning h a.dialogue)); frame = a.frame }) (eqb_swap d a.dialogue ne))
+    ∙ l.frames ∙ sym (ap (λ (s : Shelf). s.outbox.frames) g.new_is))
+    (joins_one h e old new place (row_is_ready g.after) m (ap (λ (s : Shelf). s.link) g.new_is) (ap (λ (s : Shelf). s.ready) g.new_is)
+    (cores_new old new place (Some g.after) (one_put old new place None g.after (fresh_at old (map.get old.rows place) k refl) (ap (λ (s : Shelf). s.rows) g.new_is))) l.order))
 
 -- accepted
 extends_moves : (h : List Event) (step : Step) (came : Prepared) (answer : Posted) (components : ℕ) (old new : Shelf) (local : ℕ) → Lined h old → Sound new → is_ending (arrival_of came).ids.kind ≡ false → ExtendsDialogue old local came answer new
@@ -206,44 +190,38 @@ extends_moves : (h : List Event) (step : Step) (came : Prepared) (answer : Poste
 extends_moves h step came answer components old new local l m no_end g =
     let count = length (entries_in came) in
     subst (λ a. Moves h (posts step came a components) old new) (sym g.answer_is)
-    (record {
-      down = l.down ∙ sym (ap (λ (s : Shelf). s.is_down) g.new_is);
-      frames = ap (map_list (as_waiting h)) (quiet_frames h step came (Accepted count) components (λ d. ap (λ x. ending_at (cond x (Some ByPeer) None) (names_taker h came d) (ending h d)) no_end))
-          ∙ l.frames ∙ sym (ap (λ (s : Shelf). s.outbox.frames) g.new_is);
-      few = λ d. still_few h d (picked h d) [] (l.few d) refl;
-      joins = joins_one h (posts step came (Accepted count) components) old new local (not (row_is_ready g.before) && row_is_ready g.after) m (ap (λ (s : Shelf). s.link) g.new_is)
-          (ap (λ (s : Shelf). s.ready) g.new_is)
-          (cores_one old new local g.before (Some g.after) (one_put old new local (Some g.before) g.after g.was (ap (λ (s : Shelf). s.rows) g.new_is))
-          (λ after is free. some_core g.after g.before after g.extends.stay.core is)) l.order;
-    })
+    (moves_to h (posts step came (Posted.Accepted count) components) old new l refl (λ d. refl) (ap (λ (s : Shelf). s.is_down) g.new_is)
+    (ap (map_list (as_waiting h)) (quiet_frames h step came (Posted.Accepted count) components (λ d. ap (λ x. ending_at (cond x (Some Ending.ByPeer) None) (names_taker h came d) (ending h d)) no_end))
+    ∙ l.frames ∙ sym (ap (λ (s : Shelf). s.outbox.frames) g.new_is))
+    (joins_one h (posts step came (Posted.Accepted count) components) old new local (not (row_is_ready g.before) && row_is_ready g.after) m (ap (λ (s : Shelf). s.link) g.new_is)
+    (ap (λ (s : Shelf). s.ready) g.new_is)
+    (cores_one old new local g.before (Some g.after) (one_put old new local (Some g.before) g.after g.was (ap (λ (s : Shelf). s.rows) g.new_is))
+    (λ after is free. some_core g.after g.before after g.extends.stay.core is)) l.order))
 
 ends_moves : (h : List Event) (step : Step) (came : Prepared) (answer : Posted) (components : ℕ) (old new : Shelf) (local : ℕ) → Lined h old → Tied h old → Sound old → Sound new → named_in old (arrival_of came).ids ≡ Some local
     → is_ending (arrival_of came).ids.kind ≡ true → EndsDialogue old local came answer new → Moves h (posts step came answer components) old new
 ends_moves h step came answer components old new local l t k m names is_end g =
     let count = length (entries_in came) in
     subst (λ a. Moves h (posts step came a components) old new) (sym g.answer_is)
-    (record {
-      down = l.down ∙ sym (ap (λ (s : Shelf). s.is_down) g.new_is);
-      frames = ended_frames h old step came (Accepted count) components local g.before ByPeer t k l names g.was (ap (λ x. cond x (Some ByPeer) None) is_end)
-          ∙ sym (ap (λ (s : Shelf). s.outbox.frames) g.new_is);
-      few = λ d. still_few h d (picked h d) [] (l.few d) refl;
-      joins = joins_one h (posts step came (Accepted count) components) old new local (not (row_is_ready g.before) && row_is_ready g.after) m (ap (λ (s : Shelf). s.link) g.new_is)
-          (ap (λ (s : Shelf). s.ready) g.new_is)
-          (cores_one old new local g.before (left_of g.after) (one_left old new local g.before g.after g.was (ap (λ (s : Shelf). s.rows) g.new_is))
-          (λ after is free. left_core g.after g.before after (g.ends.core ∙ g.extends.stay.core) is)) l.order;
-    })
+    (moves_to h (posts step came (Posted.Accepted count) components) old new l refl (λ d. refl) (ap (λ (s : Shelf). s.is_down) g.new_is)
+    (ended_frames h old step came (Posted.Accepted count) components local g.before Ending.ByPeer t k l names g.was (ap (λ x. cond x (Some Ending.ByPeer) None) is_end)
+    ∙ sym (ap (λ (s : Shelf). s.outbox.frames) g.new_is))
+    (joins_one h (posts step came (Posted.Accepted count) components) old new local (not (row_is_ready g.before) && row_is_ready g.after) m (ap (λ (s : Shelf). s.link) g.new_is)
+    (ap (λ (s : Shelf). s.ready) g.new_is)
+    (cores_one old new local g.before (left_of g.after) (one_left old new local g.before g.after g.was (ap (λ (s : Shelf). s.rows) g.new_is))
+    (λ after is free. left_core g.after g.before after (g.ends.core ∙ g.extends.stay.core) is)) l.order))
 
 pub moves_posted : (h : List Event) (step : Step) (came : Prepared) (answer : Posted) (components : ℕ) (old new : Shelf) (v : Verdict) → Lined h old → Tied h old → Sound old → Sound new → Tells old came v → Follows v old came answer new
     → Moves h (posts step came answer components) old new
-moves_posted h step came answer components old new Discard l t k m told g =
+moves_posted h step came answer components old new Verdict.Discard l t k m told g =
     subst (λ a. Moves h (posts step came a components) old new) (sym g.answer_is) (no_moves h step came answer components old new l g)
-moves_posted h step came answer components old new (Refuse cause closes) l t k m told g =
+moves_posted h step came answer components old new (Verdict.Refuse cause closes) l t k m told g =
     let abort = abort_for (length old.outbox.aborts) cause (arrival_of came).ids.orig in
     let log = logged g.answered.log (posted_line came answer) in
     let with = answered_with g.closed closes abort answer g.answered g.answering in
     subst (Moves h (posts step came answer components) old) (sym (g.new_is ∙ ap (λ (s : Shelf). record s { log = log }) with.1))
     (refused_moves h step came answer components old g.closed g.answered closes abort with.0 log l t k (sym told) g.closing g.answering)
-moves_posted h step came answer components old new (Open peer) l t k m told g = opens_moves h step came answer components old new peer l t k m g
-moves_posted h step came answer components old new (Extend local false) l t k m told g = extends_moves h step came answer components old new local l m (ap is_ending told.1) g
-moves_posted h step came answer components old new (Extend local true) l t k m told g =
+moves_posted h step came answer components old new (Verdict.Open peer) l t k m told g = opens_moves h step came answer components old new peer l t k m g
+moves_posted h step came answer components old new (Verdict.Extend local false) l t k m told g = extends_moves h step came answer components old new local l m (ap is_ending told.1) g
+moves_posted h step came answer components old new (Verdict.Extend local true) l t k m told g =
     ends_moves h step came answer components old new local l t k m told.0 (⊎_elim (λ kind. ap is_ending kind) (λ kind. ap is_ending kind) told.1) g

@@ -13,7 +13,6 @@ use Rattle.fp_book.specs.Shelf.{Shelf, Sound}
 use Rattle.fp_book.specs.declared.answers.Given.{Given}
 use Rattle.fp_book.specs.declared.line.LoggedStep.{LoggedStep}
 use Rattle.fp_book.specs.declared.parcel.Content.{Content}
-use Rattle.fp_book.specs.declared.parcel.Content.TheVariants as contents
 use Rattle.fp_book.specs.declared.parcel.Waiting.{Waiting}
 use Rattle.fp_entry.specs.declared.prepared.Prepared.{Prepared}
 use Rattle.fp_reply.specs.ProviderAbort.{frame_octets}
@@ -21,15 +20,13 @@ use Rattle.fp_row.specs.Calls.{frames_in, requested_of}
 use Rattle.fp_row.specs.Row.{is_ready as row_is_ready}
 use Rattle.fp_row.specs.declared.done.Done.{Done}
 use Rattle.fp_row.specs.declared.ending.Ending.{Ending}
-use Rattle.fp_row.specs.declared.ending.Ending.TheVariants.{Closed}
 use Rattle.fp_row.specs.declared.requested.Requested.{Requested}
-use Rattle.fp_row.specs.declared.requested.Requested.TheVariants as requested
 use Rattle.fp_row.specs.declared.turn.Turn.{Turn}
 use Rattle.fp_steps.specs.Accepted.{ending, is_ended}
 use Rattle.fp_steps.specs.Births.{is_one, local_of, named}
 use Rattle.fp_steps.specs.History.{Event}
 use Rattle.fp_steps.specs.Lined.{ByAge, Lined, Sorted, as_waiting}
-use Rattle.fp_steps.specs.Sending.{abort_out, aborts, aborts_sent, out, queued, queued_in}
+use Rattle.fp_steps.specs.Sending.{abort_out, aborts, aborts_sent, out, queued}
 use Rattle.fp_steps.specs.Tied.{AbortsTied, Tied}
 use Rattle.fp_steps.specs.Waiting.{QueuedFrame, aborts_waiting, frames, frames_by, is_down, is_sending, is_waiting, picked, waiting}
 use Rattle.fp_steps.specs.declared.output.Output.TheVariants as outputs
@@ -55,55 +52,50 @@ Lined-next h e old new t k u m g = record { down = g.down; frames = g.frames; fe
 pub still_few : (h : List Event) (d n : ℕ) (xs : List (List ℕ)) → picked h d ≤ length (queued h d) → n ≡ picked h d → n ≤ length (queued h d ++ xs)
 still_few h d n xs le is = omega (arith, le, is, length-append (queued h d) xs)
 
+-- none is picked, and the link stays up or down
+pub moves_to : (h : List Event) (e : Event) (old new : Shelf) → Lined h old → is_down (e ∷ h) ≡ is_down h → ((d : ℕ) → picked (e ∷ h) d ≡ picked h d) → new.is_down ≡ old.is_down
+    → map_list (as_waiting (e ∷ h)) (waiting (e ∷ h)) ≡ new.outbox.frames → Joins h e old new → Moves h e old new
+moves_to h e old new l down picks same frames joins =
+    record { down = down ∙ l.down ∙ sym same; frames = frames; few = λ d. still_few h d (picked (e ∷ h) d) _ (l.few d) (picks d); joins = joins }
+
 -- nothing moves
 pub same_moves : (h : List Event) (e : Event) (old new : Shelf) → Lined h old → new ≡ old → is_down (e ∷ h) ≡ is_down h
     → map_list (as_waiting (e ∷ h)) (waiting (e ∷ h)) ≡ map_list (as_waiting h) (waiting h) → ((d : ℕ) → picked (e ∷ h) d ≡ picked h d) → Moves h e old new
 same_moves h e old new l same down frames picks =
-    subst (Moves h e old) (sym same) (record {
-      down = down ∙ l.down;
-      frames = frames ∙ l.frames;
-      few = λ d. still_few h d (picked (e ∷ h) d) _ (l.few d) (picks d);
-      joins = joins_same h e old old refl refl l.order (cores_same old old refl);
-    })
+    subst (Moves h e old) (sym same) (moves_to h e old old l down picks refl (frames ∙ l.frames) (joins_same h e old old refl refl l.order (cores_same old old refl)))
 
 -- a turn is handed out
 pub moves_took : (h : List Event) (step : Step) (came : Option Prepared) (old new : Shelf) (turn : Turn) → Lined h old → TakesTurn old turn new → Moves h (event step came (outputs.Took turn.local turn.position)) old new
 moves_took h step came old new turn l g =
     let e = event step came (outputs.Took turn.local turn.position) in
     let order : Sorted (ByAge h) (turn.local ∷ g.rest) = subst (Sorted (ByAge h)) g.first l.order in
-    record {
-      down = l.down ∙ sym (ap (λ (s : Shelf). s.is_down) g.new_is);
-      frames = l.frames ∙ sym (ap (λ (s : Shelf). s.outbox.frames) g.new_is);
-      few = λ d. still_few h d (picked h d) [] (l.few d) refl;
-      joins = joins_none h e old new g.rest (ap (λ (s : Shelf). s.link) g.new_is) (ap (λ (s : Shelf). s.ready) g.new_is)
-          (λ y c. omega (arith, ap (count y) g.first, count-cons y turn.local g.rest, c)) order.1
-          (cores_one old new turn.local g.before (Some g.after) (one_put old new turn.local (Some g.before) g.after g.was (ap (λ (s : Shelf). s.rows) g.new_is))
-          (λ after is free. some_core g.after g.before after g.takes.stay.core is));
-    }
+    moves_to h e old new l refl (λ d. refl) (ap (λ (s : Shelf). s.is_down) g.new_is)
+    (l.frames ∙ sym (ap (λ (s : Shelf). s.outbox.frames) g.new_is))
+    (joins_none h e old new g.rest (ap (λ (s : Shelf). s.link) g.new_is) (ap (λ (s : Shelf). s.ready) g.new_is)
+    (λ y c. omega (arith, ap (count y) g.first, count-cons y turn.local g.rest, c)) order.1
+    (cores_one old new turn.local g.before (Some g.after) (one_put old new turn.local (Some g.before) g.after g.was (ap (λ (s : Shelf). s.rows) g.new_is))
+    (λ after is free. some_core g.after g.before after g.takes.stay.core is)))
 
 -- a turn goes back
 pub moves_back : (h : List Event) (step : Step) (came : Option Prepared) (old new : Shelf) (turn : Turn) → Lined h old → Sound new → PutsTurnBack old turn new → Moves h (event step came outputs.WentBack) old new
-moves_back h step came old new turn l m g = record {
-  down = l.down ∙ sym (ap (λ (s : Shelf). s.is_down) g.new_is);
-  frames = l.frames ∙ sym (ap (λ (s : Shelf). s.outbox.frames) g.new_is);
-  few = λ d. still_few h d (picked h d) [] (l.few d) refl;
-  joins = joins_one h (event step came outputs.WentBack) old new turn.local (row_is_ready g.after) m (ap (λ (s : Shelf). s.link) g.new_is) (ap (λ (s : Shelf). s.ready) g.new_is)
-      (cores_one old new turn.local g.before (left_of g.after) (one_left old new turn.local g.before g.after g.was (ap (λ (s : Shelf). s.rows) g.new_is))
-      (λ after is free. left_core g.after g.before after g.puts.stay.core is)) l.order;
-}
+moves_back h step came old new turn l m g = moves_to h (event step came outputs.WentBack) old new l refl (λ d. refl) (ap (λ (s : Shelf). s.is_down) g.new_is)
+    (l.frames ∙ sym (ap (λ (s : Shelf). s.outbox.frames) g.new_is))
+    (joins_one h (event step came outputs.WentBack) old new turn.local (row_is_ready g.after) m (ap (λ (s : Shelf). s.link) g.new_is) (ap (λ (s : Shelf). s.ready) g.new_is)
+    (cores_one old new turn.local g.before (left_of g.after) (one_left old new turn.local g.before g.after g.was (ap (λ (s : Shelf). s.rows) g.new_is))
+    (λ after is free. left_core g.after g.before after g.puts.stay.core is)) l.order)
 
 -- a turn that was served comes back
 
-asked_live : (ended : Option Ending) (frame : Option (List ℕ)) (f : List ℕ) → requested_of ended frame ≡ requested.Frame f → ended ≡ None
+asked_live : (ended : Option Ending) (frame : Option (List ℕ)) (f : List ℕ) → requested_of ended frame ≡ Requested.Frame f → ended ≡ None
 asked_live None frame f e = refl
 asked_live (Some ending) None f e = absurd (cc)
 asked_live (Some ending) (Some frame) f e = absurd (cc)
 
-one_more : (h : List Event) (l d : ℕ) (asked : Requested) → l ≡ local_of h d → ((frame : List ℕ) → asked ≡ requested.Frame frame → is_waiting h (made_of h d frame) ≡ true)
+one_more : (h : List Event) (l d : ℕ) (asked : Requested) → l ≡ local_of h d → ((frame : List ℕ) → asked ≡ Requested.Frame frame → is_waiting h (made_of h d frame) ≡ true)
     → map_list (as_waiting h) (filter (is_waiting h) (map_list (made_of h d) (frames_in asked))) ≡ waiting_in l asked
-one_more h l d requested.Nothing place waits = refl
-one_more h l d requested.Dropped place waits = refl
-one_more h l d (requested.Frame frame) place waits =
+one_more h l d Requested.Nothing place waits = refl
+one_more h l d Requested.Dropped place waits = refl
+one_more h l d (Requested.Frame frame) place waits =
     ap (λ b. map_list (as_waiting h) (cond b (made_of h d frame ∷ []) [])) (waits frame refl)
     ∙ ap (λ n. record { local = n; frame = frame } ∷ []) (sym place)
 
@@ -114,46 +106,38 @@ moves_gave h step came old new done given l t k m g =
     let b = g.before.birth in
     let output = outputs.Gave lo done.turn.position given in
     let held : Held h lo b g.before = held_of h old lo g.before t k g.was in
-    let waits : (frame : List ℕ) → g.asked ≡ requested.Frame frame → is_waiting h (made_of h b frame) ≡ true = λ frame is.
+    let waits : (frame : List ℕ) → g.asked ≡ Requested.Frame frame → is_waiting h (made_of h b frame) ≡ true = λ frame is.
     let live : g.before.ended ≡ None = asked_live g.before.ended done.frame frame (sym g.gives.requested_is ∙ is) in
     let not_ended : is_ended h b ≡ false = ap is_some (held.tied.ends ∙ live) in
-    let up : is_down h ≡ false = false_from_ne_true (is_down h) (λ down. none-some Closed (sym live ∙ (k.own lo g.before g.was).closed (sym l.down ∙ down))) in
-    ap (λ x. not (x || is_ended h b) && nat_le (picked h b) (length (queued h b))) up
-    ∙ ap (λ x. not x && nat_le (picked h b) (length (queued h b))) not_ended ∙ le-leb (picked h b) (length (queued h b)) (l.few b)
+    let up : is_down h ≡ false = false_from_ne_true (is_down h) (λ down. none-some Ending.Closed (sym live ∙ (k.own lo g.before g.was).closed (sym l.down ∙ down))) in
+    (λ i. not (up i || not_ended i) && nat_le (picked h b) (length (queued h b))) ∙ le-leb (picked h b) (length (queued h b)) (l.few b)
     in
     let more : map_list (as_waiting h) (filter (is_waiting h) (frames_by (named h lo) output h)) ≡ waiting_in lo g.asked =
     ap (λ o. map_list (as_waiting h) (filter (is_waiting h) (frames_by o output h))) held.name
     ∙ ap (λ xs. map_list (as_waiting h) (filter (is_waiting h) (map_list (made_of h b) xs))) (queued_asked h old new done given t k g)
     ∙ one_more h lo b g.asked held.place waits
     in
-    record {
-      down = l.down ∙ sym (ap (λ (s : Shelf). s.is_down) g.new_is);
-      frames = ap (map_list (as_waiting h)) (filter-append (is_waiting h) (frames h) (frames_by (named h lo) output h))
-          ∙ map-append (as_waiting h) (waiting h) (filter (is_waiting h) (frames_by (named h lo) output h))
-          ∙ ap (λ xs. xs ++ map_list (as_waiting h) (filter (is_waiting h) (frames_by (named h lo) output h))) l.frames
-          ∙ ap (λ xs. old.outbox.frames ++ xs) more ∙ sym (ap (λ (s : Shelf). s.outbox.frames) g.new_is);
-      few = λ d. still_few h d (picked h d) (queued_in output h d) (l.few d) refl;
-      joins = joins_one h (event step came output) old new lo (row_is_ready g.after) m (ap (λ (s : Shelf). s.link) g.new_is) (ap (λ (s : Shelf). s.ready) g.new_is)
-          (cores_one old new lo g.before (left_of g.after) (one_left old new lo g.before g.after g.was (ap (λ (s : Shelf). s.rows) g.new_is))
-          (λ after is free. absurd (true≢false (sym (out_by g.before.is_out _ done.turn g.gives.was_out) ∙ free)))) l.order;
-    }
+    moves_to h (event step came output) old new l refl (λ d. refl) (ap (λ (s : Shelf). s.is_down) g.new_is)
+    (ap (map_list (as_waiting h)) (filter-append (is_waiting h) (frames h) (frames_by (named h lo) output h))
+    ∙ map-append (as_waiting h) (waiting h) (filter (is_waiting h) (frames_by (named h lo) output h))
+    ∙ (λ i. l.frames i ++ more i) ∙ sym (ap (λ (s : Shelf). s.outbox.frames) g.new_is))
+    (joins_one h (event step came output) old new lo (row_is_ready g.after) m (ap (λ (s : Shelf). s.link) g.new_is) (ap (λ (s : Shelf). s.ready) g.new_is)
+    (cores_one old new lo g.before (left_of g.after) (one_left old new lo g.before g.after g.was (ap (λ (s : Shelf). s.rows) g.new_is))
+    (λ after is free. absurd (true≢false (sym (out_by g.before.is_out _ done.turn g.gives.was_out) ∙ free)))) l.order)
 
 -- what was being sent was
 sent_moves : (h : List Event) (step : Step) (came : Option Prepared) (old new : Shelf) → Lined h old → new.link ≡ old.link → new.is_down ≡ old.is_down
     → new.outbox.frames ≡ old.outbox.frames → new.ready ≡ old.ready → CoresStay old new
     → Moves h (event step came outputs.Sent) old new
-sent_moves h step came old new l link down fs ready cores = record {
-  down = l.down ∙ sym down;
-  frames = l.frames ∙ sym fs;
-  few = λ d. still_few h d (picked h d) [] (l.few d) refl;
-  joins = joins_same h (event step came outputs.Sent) old new link ready l.order cores;
-}
+sent_moves h step came old new l link down fs ready cores = moves_to h (event step came outputs.Sent) old new l refl (λ d. refl) down
+    (l.frames ∙ sym fs)
+    (joins_same h (event step came outputs.Sent) old new link ready l.order cores)
 
 pub moves_sent : (h : List Event) (step : Step) (came : Option Prepared) (old new : Shelf) (content : Content) → Lined h old → Sends old content new → Moves h (event step came outputs.Sent) old new
-moves_sent h step came old new (contents.Abort frame) l g =
+moves_sent h step came old new (Content.Abort frame) l g =
     sent_moves h step came old new l (ap (λ (s : Shelf). s.link) g.new_is) (ap (λ (s : Shelf). s.is_down) g.new_is) (ap (λ (s : Shelf). s.outbox.frames) g.new_is)
     (ap (λ (s : Shelf). s.ready) g.new_is) (cores_same old new (ap (λ (s : Shelf). s.rows) g.new_is))
-moves_sent h step came old new (contents.Frame w) l g =
+moves_sent h step came old new (Content.Frame w) l g =
     sent_moves h step came old new l (ap (λ (s : Shelf). s.link) g.new_is) (ap (λ (s : Shelf). s.is_down) g.new_is) (ap (λ (s : Shelf). s.outbox.frames) g.new_is)
     (ap (λ (s : Shelf). s.ready) g.new_is)
     (cores_one old new w.local g.before (left_of g.after) (one_left old new w.local g.before g.after g.was (ap (λ (s : Shelf). s.rows) g.new_is))
@@ -214,7 +198,7 @@ few_after h d c le lt =
 
 pub moves_picked : (h : List Event) (step : Step) (came : Option Prepared) (old new : Shelf) (content : Content) (frame : List ℕ) → Lined h old → Tied h old → Sound old → PicksParcel old content new
     → Moves h (event step came (outputs.Picked (parcel_local content) frame)) old new
-moves_picked h step came old new (contents.Abort abort) frame l t k g =
+moves_picked h step came old new (Content.Abort abort) frame l t k g =
     let e = event step came (outputs.Picked 0 frame) in
     let none : (c : ℕ) → picked (e ∷ h) c ≡ picked h c = λ c. ap (λ o. picks h o c) (none_named old.link h (named h 0) t.opened refl) in
     record {
@@ -224,7 +208,7 @@ moves_picked h step came old new (contents.Abort abort) frame l t k g =
       few = λ d. still_few h d (picked (e ∷ h) d) [] (l.few d) (none d);
       joins = joins_same h e old new (ap (λ (s : Shelf). s.link) g.new_is) (ap (λ (s : Shelf). s.ready) g.new_is) l.order (cores_same old new (ap (λ (s : Shelf). s.rows) g.new_is));
     }
-moves_picked h step came old new (contents.Frame w) frame l t k g =
+moves_picked h step came old new (Content.Frame w) frame l t k g =
     let e = event step came (outputs.Picked w.local frame) in
     let f : First h (waiting h) w g.rest.frames = first_of h (waiting h) w g.rest.frames (l.frames ∙ g.next.2) in
     let d = f.first.dialogue in

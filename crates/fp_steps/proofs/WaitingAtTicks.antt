@@ -18,13 +18,12 @@ use Rattle.fp_steps.specs.History.{Event}
 use Rattle.fp_steps.specs.Lined.{ByAge, Lined, Sorted}
 use Rattle.fp_steps.specs.Tied.{Tied, story}
 use Rattle.fp_steps.specs.Turns.{IsReadyBefore, due_of, ready_for}
-use Rattle.fp_steps.specs.Waiting.{picked}
 use Rattle.fp_steps.specs.declared.output.Output.TheVariants as outputs
 use Rattle.fp_steps.specs.declared.step.Step.TheVariants as steps
 use Rattle.fp_steps.proofs.HeldDialogues.{Held, core_tied, event, held_of}
 use Rattle.fp_steps.proofs.QueueInOrder.{InQueue, Joins, Same, aged, anew_by, cores_ticked, due_by, newly, queued_at, same_dialogue, sorted_filter, sorted_same}
 use Rattle.fp_steps.proofs.TieAtTicks.{among}
-use Rattle.fp_steps.proofs.WaitingAtSteps.{Moves, still_few}
+use Rattle.fp_steps.proofs.WaitingAtSteps.{Moves, moves_to}
 
 -- the identifiers of those that are due
 abbrev locals_of : List Due → List ℕ
@@ -109,9 +108,6 @@ joins_ticked h e old new moment added wanting t k u m l g =
 
 pub moves_ticked : (h : List Event) (came : Option Prepared) (old new : Shelf) (moment added wanting : ℕ) → Tied h old → Sound old → Tied (event (steps.Tick moment) came (outputs.Ticked added wanting) ∷ h) new → Sound new → Lined h old
     → Ticks old moment added wanting new → Moves h (event (steps.Tick moment) came (outputs.Ticked added wanting)) old new
-moves_ticked h came old new moment added wanting t k u m l g = record {
-  down = l.down ∙ sym (ap (λ (s : Shelf). s.is_down) g.new_is);
-  frames = l.frames ∙ sym (ap (λ (s : Shelf). s.outbox.frames) g.new_is);
-  few = λ d. still_few h d (picked h d) [] (l.few d) refl;
-  joins = joins_ticked h (event (steps.Tick moment) came (outputs.Ticked added wanting)) old new moment added wanting t k u m l g;
-}
+moves_ticked h came old new moment added wanting t k u m l g = moves_to h (event (steps.Tick moment) came (outputs.Ticked added wanting)) old new l refl (λ d. refl) (ap (λ (s : Shelf). s.is_down) g.new_is)
+    (l.frames ∙ sym (ap (λ (s : Shelf). s.outbox.frames) g.new_is))
+    (joins_ticked h (event (steps.Tick moment) came (outputs.Ticked added wanting)) old new moment added wanting t k u m l g)

@@ -1,6 +1,8 @@
 -- What holds of all runs, and of all histories of runs.
-use Rattle.std.specs.Prelude.{◌≡◌, ℕ, List, Option, ◌⊎◌}
+use Rattle.std.specs.Prelude.{◌≡◌, ℕ, List, Option, Some, None, ◌⊎◌}
 use mathlib.Core.List.{IsPrefix}
+use Rattle.fp_book.specs.Log as book
+use Rattle.fp_book.specs.Shelf.{Shelf, Sound}
 use Rattle.fp_book.specs.declared.line.LoggedStep.{LoggedStep}
 use Rattle.fp_entry.specs.declared.prepared.Prepared.{Prepared}
 use Rattle.fp_steps.specs.Accepted.{accepted}
@@ -10,8 +12,11 @@ use Rattle.fp_records.specs.Table.{Contents}
 use Rattle.fp_steps.specs.Counted.{totals_in}
 use Rattle.fp_steps.specs.Headline.{Headline, InOrder, Runs}
 use Rattle.fp_steps.specs.History.{Event, IsCame, outputs_of}
+use Rattle.fp_steps.specs.Makes.{MakesOf}
 use Rattle.fp_steps.specs.Retold.{Retells}
 use Rattle.fp_steps.specs.Sending.{sent}
+use Rattle.fp_steps.specs.Tied.{Tied}
+use Rattle.fp_steps.specs.Told.{logged}
 use Rattle.fp_steps.specs.Totals.{totals_of}
 use Rattle.fp_steps.specs.declared.output.Output.{Output}
 use Rattle.fp_steps.specs.declared.step.Step.{Step}
@@ -52,3 +57,14 @@ abbrev pub RetoldLinesAreCounted : Type 0
 RetoldLinesAreCounted =
     (contents : Contents) (contexts : List (List ℕ)) (link : ℕ) (lines : List LoggedStep) (h : List Event)
     → Retells contents contexts link lines h → totals_of (outputs_of h) ≡ totals_in lines h
+
+-- a log with the line of one more step, if that has one
+abbrev pub log_with : List LoggedStep → Option LoggedStep → List LoggedStep
+log_with log None = log
+log_with log (Some line) = book.logged log line
+
+-- A book to which a history leads logs of a step what the history tells of it, and nothing if that has no line.
+abbrev pub BooksLogWhatIsTold : Type 0
+BooksLogWhatIsTold =
+    (contents : Contents) (contexts : List (List ℕ)) (h : List Event) (step : Step) (came : Option Prepared) (output : Output) (s after : Shelf)
+    → Tied h s → Sound s → IsCame contents contexts step came → MakesOf step came output s after → after.log ≡ log_with s.log (logged h step output)

@@ -5,11 +5,13 @@ use Rattle.std.specs.Option.{option_and_then, option_map_or}
 use Rattle.fp_book.specs.declared.answers.Posted.{Posted}
 use Rattle.fp_book.specs.declared.answers.Posted.TheVariants as answers
 use Rattle.fp_book.specs.Calls.{abort_for, entries_in}
+-- how many components are accepted
+pub use Rattle.fp_book.specs.Receipt.{accepted_components as components_in}
 use Rattle.fp_book.specs.Lines.{elements_in, going_on, grows_a_dialogue, is_abort, is_begin, is_continue, is_end, is_lost, is_refused, is_unidirectional, is_unknown}
 use Rattle.fp_entry.specs.declared.entry.Entry.{Entry}
 use Rattle.fp_entry.specs.declared.prepared.Prepared.{Prepared}
 use Rattle.fp_entry.specs.Entries.{place_count}
-use Rattle.fp_entry.specs.Prepared.{arrival_of, components_of}
+use Rattle.fp_entry.specs.Prepared.{arrival_of}
 use Rattle.fp_q773.specs.declared.kind.Kind.{Kind}
 use Rattle.fp_q773.specs.declared.provider_abort.AbortCause.{AbortCause}
 use Rattle.fp_q773.specs.declared.provider_abort.AbortCause.TheVariants as cause
@@ -102,11 +104,3 @@ answer_to link h came =
     first_answer
     (answers_by (is_down h) (length (aborts_waiting h)) (is_none (addressee h came)) (is_none (going_on (arrival_of came).ids.kind (addressee h came)))
     (unserved h (going_on (arrival_of came).ids.kind (addressee h came))) (entry_count h) (held h) (births h) (begun link h came) came (arrival_of came).ids.kind)
-
--- how many components are accepted
-abbrev pub components_in : Posted → Prepared → ℕ
-components_in (answers.Opened local) came = components_of came
-components_in (answers.Accepted count) came = components_of came
-components_in (answers.Aborted named) came = 0
-components_in answers.Ended came = 0
-components_in answers.Discarded came = 0

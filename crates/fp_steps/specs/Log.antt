@@ -1,7 +1,10 @@
--- What is kept of a run while its log is told: the turns that are out, and what is out to be sent.
+-- What is known of a run while its log is told: the turns that are out, and what is out to be sent.
 use Rattle.std.specs.Prelude.{ℕ, ◌==◌, not, List, [], ◌∷◌, ◌++◌, Option, Some, None, filter, find, option_map}
+use Rattle.fp_book.specs.Parcel.{local_of}
 use Rattle.fp_book.specs.declared.line.LoggedStep.{LoggedStep}
 use Rattle.fp_book.specs.declared.line.LoggedStep.TheVariants as line
+use Rattle.fp_book.specs.declared.parcel.Parcel.{Parcel}
+use Rattle.fp_row.specs.declared.turn.Turn.{Turn}
 use Rattle.fp_steps.specs.declared.log.TurnOut.{TurnOut}
 use Rattle.fp_steps.specs.declared.output.Output.{Output}
 use Rattle.fp_steps.specs.declared.output.Output.TheVariants as outputs
@@ -46,17 +49,34 @@ abbrev pub back_by : List TurnOut → Step → Option LoggedStep
 back_by turns (steps.PutBack local) = option_map (λ place. line.PutBack local place) (place_in turns local)
 back_by turns _ = None
 
--- what is told of a step by its answer, by the turns that are out and the identifier of what is out to be sent
+-- so by the turns that a run keeps
+abbrev pub place_of : List Turn → ℕ → Option ℕ
+place_of turns local = option_map (λ (turn : Turn). turn.position) (find (λ (turn : Turn). turn.local == local) turns)
+
+abbrev pub back_of : List Turn → Step → Option LoggedStep
+back_of turns (steps.PutBack local) = option_map (λ place. line.PutBack local place) (place_of turns local)
+back_of turns _ = None
+
+-- the identifier of the parcel that it keeps
+abbrev pub sending_of : Option Parcel → Option ℕ
+sending_of parcel = option_map (λ (parcel : Parcel). local_of parcel.content) parcel
+
+-- what is told of a step by its answer, by what is told of a turn that goes back, and the identifier of what is out to be
+-- sent
+abbrev pub told_by : Option LoggedStep → Option ℕ → Step → Output → Option LoggedStep
+told_by back sending step (outputs.Posted answer components) = told_message step answer
+told_by back sending step (outputs.Ticked added wanting) = told_tick step added wanting
+told_by back sending step (outputs.Took local position) = Some (line.Take local position)
+told_by back sending step outputs.NoRoom = None
+told_by back sending step (outputs.Gave local position given) = Some (line.Give local position given)
+told_by back sending step outputs.WentBack = back
+told_by back sending step (outputs.Picked local frame) = Some (line.Pick local)
+told_by back sending step outputs.Busy = None
+told_by back sending step outputs.Sent = option_map (λ local. line.Sent local) sending
+told_by back sending step outputs.Unsent = option_map (λ local. line.Unsent local) sending
+told_by back sending step outputs.Down = Some line.Down
+told_by back sending step outputs.Nothing = None
+
+-- so by the turns that are out
 abbrev pub told_where : List TurnOut → Option ℕ → Step → Output → Option LoggedStep
-told_where turns sending step (outputs.Posted answer components) = told_message step answer
-told_where turns sending step (outputs.Ticked added wanting) = told_tick step added wanting
-told_where turns sending step (outputs.Took local position) = Some (line.Take local position)
-told_where turns sending step outputs.NoRoom = None
-told_where turns sending step (outputs.Gave local position given) = Some (line.Give local position given)
-told_where turns sending step outputs.WentBack = back_by turns step
-told_where turns sending step (outputs.Picked local frame) = Some (line.Pick local)
-told_where turns sending step outputs.Busy = None
-told_where turns sending step outputs.Sent = option_map (λ local. line.Sent local) sending
-told_where turns sending step outputs.Unsent = option_map (λ local. line.Unsent local) sending
-told_where turns sending step outputs.Down = Some line.Down
-told_where turns sending step outputs.Nothing = None
+told_where turns sending step output = told_by (back_by turns step) sending step output

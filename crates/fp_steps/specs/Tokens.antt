@@ -1,5 +1,5 @@
 -- How the tokens that a run keeps stand to its book.
-use Rattle.std.specs.Prelude.{◌≡◌, ℕ, ◌==◌, List, [], Option, Some, None, filter, option_to_list, vec_capacity}
+use Rattle.std.specs.Prelude.{◌≡◌, ℕ, ◌==◌, List, [], ◌∷◌, Option, Some, None, filter, option_to_list, vec_capacity}
 use Rattle.std.specs.Global.{Vec}
 use Rattle.std.specs.FinMap.{get}
 use Rattle.fp_book.specs.declared.line.Line.{Line}
@@ -12,6 +12,15 @@ use Rattle.fp_row.specs.declared.turn.Turn.{Turn}
 abbrev pub turns_at : ℕ → List Turn → List Turn
 turns_at local turns = filter (λ (t : Turn). t.local == local) turns
 
+-- the turn of a dialogue is taken out of the turns, if one is there
+pub record TakesFirst (local : ℕ) (old : List Turn) (turn : Turn) (new : List Turn) : Type 0 where
+  pub local_is : turn.local ≡ local
+  pub stays : (d : ℕ) → turns_at d old ≡ turns_at d (turn ∷ new)
+
+abbrev pub TakesOut : ℕ → List Turn → Option Turn → List Turn → Type 0
+TakesOut local old None new = (turns_at local old ≡ []) × (new ≡ old)
+TakesOut local old (Some turn) new = TakesFirst local old turn new
+
 -- the parcel is the one that is out, and there is none where none is
 abbrev pub ParcelIs : Option Parcel → Shelf → Type 0
 ParcelIs None s = s.outbox.out ≡ None
@@ -22,13 +31,14 @@ pub record Holds (turns : List Turn) (parcel : Option Parcel) (s : Shelf) : Type
   pub turns_are : (local : ℕ) → turns_at local turns ≡ option_to_list (turn_of (get s.rows local))
   pub parcel_is : ParcelIs parcel s
 
--- a place for one line of a log, with none in it
+-- room for one line of a log, with none in it
 pub record IsPlace (lines : Vec Line) : Type 0 where
   pub none : lines.items ≡ []
   pub room : vec_capacity lines ≡ 1
 
--- what each run keeps
+-- what each run keeps between two steps: nothing is left in the log of its book
 pub record IsKept (turns : List Turn) (parcel : Option Parcel) (book : Shelf) (lines : Vec Line) : Type 0 where
   pub sound : Sound book
   pub holds : Holds turns parcel book
+  pub log : book.log ≡ []
   pub place : IsPlace lines

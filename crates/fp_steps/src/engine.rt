@@ -1,15 +1,14 @@
 //! A book, and the tokens that are out of it.
 
-ghost use Rattle.std.specs.Prelude.{◌≡◌, ◌<◌, ◌==◌, IfOk, Some};
-ghost use Rattle.std.specs.List.{position};
+ghost use Rattle.std.specs.Prelude.{◌≡◌, ◌<◌, IfOk, Some};
 ghost use Rattle.std.specs.FinMap.{get};
-ghost use Rattle.fp_book.specs.Calls.{Posts, PutsTurnBack, turn_of};
+ghost use Rattle.fp_book.specs.Calls.{PutsTurnBack, turn_of};
 ghost use Rattle.fp_book.specs.Shelf.{Sound, empty_shelf};
-ghost use Rattle.fp_row.specs.declared.turn.Turn.{Turn};
-ghost use Rattle.fp_steps.specs.Makes.{GivesTo, PicksTo, PostsBy, PutsBackTo, SendsTo, TakesTo, TicksTo, TriesTo, UnsendsTo};
+ghost use Rattle.fp_steps.specs.Log.{sending_of};
+ghost use Rattle.fp_steps.specs.Makes.{GivesTo, MakesStep, PicksTo, PostsTo, PutsBackTo, SendsTo, TakesTo, TicksTo, UnsendsTo};
 ghost use Rattle.fp_steps.specs.Tokens.{Holds};
 
-use crate::parts::{components_if, index_of, is_lost};
+use crate::parts::{is_lost, take_turn};
 use crate::{Output, Step};
 use bytes::Bytes;
 use fp_apdu::Name;
@@ -88,10 +87,10 @@ impl Engine {
         ensures sound { Sound self.new.book }
         ensures holds { Holds self.new.turns.items self.new.parcel self.new.book }
     {
-        let Some(index) = index_of(&self.turns, local) else {
+        let Some(turn) = take_turn(&mut self.turns, local) else {
             return Ok(Output::Nothing);
         };
-        match self.turns.remove(index).serve(alloc) {
+        match turn.serve(alloc) {
             Err(turn) => {
                 give_up(&mut self.book, turn);
                 Err(AllocError)
@@ -121,10 +120,10 @@ impl Engine {
         ensures sound { Sound self.new.book }
         ensures holds { Holds self.new.turns.items self.new.parcel self.new.book }
     {
-        let Some(index) = index_of(&self.turns, local) else {
+        let Some(turn) = take_turn(&mut self.turns, local) else {
             return Output::Nothing;
         };
-        match self.book.put_back(self.turns.remove(index)) {
+        match self.book.put_back(turn) {
             Ok(()) => Output::WentBack,
             Err(strange) => {
                 strange.abandon();
@@ -212,24 +211,25 @@ impl Engine {
         })
     }
 
-    /// A message is posted; or, where memory is wanting for it, as one that was lost.
-    fn post(&mut self, alloc: Global, came: Prepared) -> Output
+    /// A message is posted. `Err`: memory was wanting for it.
+    fn post(&mut self, alloc: Global, came: Prepared) -> Result<Output, AllocError>
         requires sound { Sound self.old.book }
         requires holds { Holds self.old.turns.items self.old.parcel self.old.book }
-        ensures makes { PostsBy Posts (Some came) result self.old.book self.new.book }
+        ensures makes { IfOk result (λ output. PostsTo output (Some came) self.old.book self.new.book) }
         ensures sound { Sound self.new.book }
         ensures holds { Holds self.new.turns.items self.new.parcel self.new.book }
     {
-        let components = came.components();
-        let answer = self.book.post(alloc, came);
-        Output::Posted {
-            answer,
-            components: components_if(answer, components),
+        let receipt = self.book.post_with_receipt(alloc, came);
+        if receipt.lost {
+            return Err(AllocError);
         }
+        Ok(Output::Posted {
+            answer: receipt.posted,
+            components: receipt.components,
+        })
     }
 
-    /// A step is made. Memory may be wanting for a message that was read, which the log then tells. `Err`: it was
-    /// wanting for anything else.
+    /// A step is made. `Err`: memory was wanting.
     pub(crate) fn make(
         &mut self,
         alloc: Global,
@@ -239,7 +239,7 @@ impl Engine {
     ) -> Result<Output, AllocError>
         requires sound { Sound self.old.book }
         requires holds { Holds self.old.turns.items self.old.parcel self.old.book }
-        ensures makes { IfOk result (λ o. TriesTo table.now contexts.now self.old.book step.now o self.new.book) }
+        ensures makes { IfOk result (λ o. MakesStep table.now contexts.now self.old.book step.now o self.new.book) }
         ensures sound { Sound self.new.book }
         ensures holds { Holds self.new.turns.items self.new.parcel self.new.book }
     {
@@ -249,11 +249,11 @@ impl Engine {
                 if is_lost(&came) {
                     return Err(AllocError);
                 }
-                Ok(self.post(alloc, came))
+                self.post(alloc, came)
             }
             Step::Lost(frame, moment) => {
                 let came = Prepared::lost(frame.try_clone()?, *moment);
-                Ok(self.post(alloc, came))
+                self.post(alloc, came)
             }
             Step::Tick(moment) => self.tick(*moment),
             Step::Take => self.take(),
@@ -266,6 +266,16 @@ impl Engine {
                 self.book.down();
                 Ok(Output::Down)
             }
+        }
+    }
+
+    /// The dialogue whose frame is out to be sent, 0 for an Abort of the provider.
+    pub(crate) fn sending(&self) -> Option<u32>
+        ensures { result ≡ sending_of self.now.parcel }
+    {
+        match &self.parcel {
+            Some(parcel) => Some(parcel.local()),
+            None => None,
         }
     }
 

@@ -1,6 +1,6 @@
 //! What holds of all runs.
 
-ghost use Rattle.fp_steps.specs.Laws.{AnswersAreOne, HeadlineHolds, LinesAreRetoldOnce, RetoldLinesAreCounted, RunsAreOne, SentAlike};
+ghost use Rattle.fp_steps.specs.Laws.{AnswersAreOne, BooksLogWhatIsTold, HeadlineHolds, LinesAreRetoldOnce, RetoldLinesAreCounted, RunsAreOne, SentAlike};
 
 use fp_entry::prepared_is_one;
 
@@ -43,4 +43,10 @@ pub fn lines_are_retold_once()
 /// messages that were accepted, the turns that were given back, and the frames of dialogues that were sent.
 pub fn retold_lines_are_counted()
     ensures { RetoldLinesAreCounted }
+{}
+
+/// A book to which a history leads logs of a step what the history tells of it, and nothing if that
+/// has no line; where the log is full it counts the step in a gap.
+pub fn books_log_what_is_told()
+    ensures { BooksLogWhatIsTold }
 {}

@@ -14,6 +14,7 @@
 //! A [`LinkRun`] is such a run made step by step, for who doesn't know all steps at once; each of its clauses speaks of
 //! every history that leads to it (`specs/After.antt`). [`lines_of`] gives the log of a run, whose lines tell its steps
 //! (`specs/Told.antt`) and are in range (`specs/LogLines.antt`), and a history retells them (`specs/Retold.antt`).
+//! A book logs of a step what these tell of it ([`books_log_what_is_told`]).
 //!
 //! [`totals`] counts outputs alone, and a run's are sums over the dialogues of its history (`specs/Totals.antt`).
 //!
@@ -32,13 +33,12 @@ mod parts;
 mod ranges;
 mod step;
 mod stepped;
-mod telling;
 mod whole_run;
 
 pub use counting::totals;
 pub use laws::{
-    answers_are_one, equal_dialogues_send_the_same, headline_holds_at_the_end,
-    lines_are_retold_once, retold_lines_are_counted, runs_are_one,
+    answers_are_one, books_log_what_is_told, equal_dialogues_send_the_same,
+    headline_holds_at_the_end, lines_are_retold_once, retold_lines_are_counted, runs_are_one,
 };
 pub use link_run::LinkRun;
 pub use log::lines_of;

@@ -1,17 +1,20 @@
 //! A run of a link, step by step.
 
-ghost use Rattle.std.specs.Prelude.{◌≡◌, ◌<◌, ℕ, List, [], None, IfOk};
+ghost use Rattle.std.specs.Prelude.{◌≡◌, ◌<◌, ℕ, List, [], None, IfOk, drop};
+ghost use Rattle.fp_book.specs.Shelf.{Sound};
 ghost use Rattle.fp_records.specs.Table.{Contents};
 ghost use Rattle.fp_steps.specs.After.{Follows, IsAfter};
 ghost use Rattle.fp_steps.specs.History.{Event, outputs_of};
 ghost use Rattle.fp_steps.specs.Told.{written};
+ghost use Rattle.fp_steps.specs.Tokens.{IsPlace};
 ghost use Rattle.fp_steps.specs.Totals.{totals_of};
 
 use crate::engine::Engine;
-use crate::telling::{empty_log, is_wanting, next_line, told_by};
+use crate::log::told_by;
+use crate::parts::back_of;
 use crate::{Step, Stepped};
 use fp_apdu::Name;
-use fp_book::{Line, Totals, read_messages_have_few_entries};
+use fp_book::{Book, Line, Totals, read_messages_have_few_entries};
 use fp_records::Table;
 use fp_row::rows_keep_their_order;
 use fp_tids::LocalIds;
@@ -23,7 +26,7 @@ use std::marker::Model;
 #[must_use]
 pub struct LinkRun {
     engine: Engine,
-    // A place for one line of the log.
+    // Scratch space for draining the book's log; its contents are discarded.
     lines: Vec<Line>,
 }
 
@@ -43,6 +46,34 @@ impl Model for LinkRun {
     ghost view = { λ run. run.engine.book };
 
     ghost invariant = { λ run. IsKept run.engine.turns.items run.engine.parcel run.engine.book run.lines };
+}
+
+/// Drops the oldest line of the log, if there is one. `lines` has room for one line, and is empty
+/// again. Takes no memory.
+fn drop_line(book: &mut Book, lines: &mut Vec<Line>)
+    requires { IsPlace lines.old }
+    ensures log { book.new.log ≡ drop 1 book.old.log }
+    ensures rest { book.new ≡ record book.old { log = book.new.log } }
+    ensures sound { Sound book.new }
+    ensures place { IsPlace lines.new }
+{
+    book.drain(lines);
+    lines.clear();
+}
+
+/// Drops all lines of the log, so that it neither fills nor keeps frames. `lines` has room for one
+/// line, and is empty again. Takes no memory.
+fn empty_log(book: &mut Book, lines: &mut Vec<Line>)
+    requires sound { Sound book.old }
+    requires place { IsPlace lines.old }
+    ensures log { book.new.log ≡ [] }
+    ensures rest { book.new ≡ record book.old { log = book.new.log } }
+    ensures sound { Sound book.new }
+    ensures place { IsPlace lines.new }
+{
+    while book.line_count() > 0 {
+        drop_line(book, lines);
+    }
 }
 
 impl LinkRun {
@@ -74,13 +105,12 @@ impl LinkRun {
     {
         rows_keep_their_order();
         read_messages_have_few_entries();
+        let back = back_of(&self.engine.turns, step);
+        let sending = self.engine.sending();
+        let made = self.engine.make(alloc, table, contexts, step);
         empty_log(&mut self.engine.book, &mut self.lines);
-        let output = self.engine.make(alloc, table, contexts, step)?;
-        let line = next_line(&mut self.engine.book, &mut self.lines);
-        if is_wanting(step, &line) {
-            return Err(AllocError);
-        }
-        let line = told_by(step, &output, line);
+        let output = made?;
+        let line = told_by(back, sending, step, &output)?;
         Ok(Stepped { output, line })
     }
 

@@ -3,7 +3,7 @@
 ghost use Rattle.std.specs.Prelude.{◌≡◌, ◌<◌, ◌++◌, IfOk, map, option_to_list};
 ghost use Rattle.std.specs.List.{AllByRecursion};
 ghost use Rattle.fp_book.specs.declared.line.Line.TheVariants as line;
-ghost use Rattle.fp_steps.specs.Log.{back_by, back_in, moves, others, others_if, place_in, told_where, turns_after};
+ghost use Rattle.fp_steps.specs.Log.{back_by, back_in, moves, others, others_if, place_in, told_by, told_where, turns_after};
 ghost use Rattle.fp_steps.specs.LogLines.{IsLine, IsLog};
 ghost use Rattle.fp_steps.specs.Told.{is_written, told_message, told_tick, written};
 ghost use Rattle.fp_steps.specs.Totals.{local_after};
@@ -33,7 +33,7 @@ fn place_in(turns: &[TurnOut], local: u32) -> Option<u64>
 }
 
 /// The dialogue whose turn a step puts back.
-fn back_in(step: &Step) -> Option<u32>
+pub(crate) fn back_in(step: &Step) -> Option<u32>
     ensures { result ≡ back_in step.now }
 {
     match step {
@@ -125,15 +125,15 @@ fn back_by(turns: &[TurnOut], step: &Step) -> Option<LoggedStep>
     Some(LoggedStep::PutBack { local, position })
 }
 
-/// What a log tells of a step, where these turns are out, and the parcel of this dialogue. `Err`: a message has as many
-/// shares as can be counted.
-fn told_where(
-    turns: &[TurnOut],
+/// What a log tells of a step, given the log line of a turn that is put back, and the dialogue whose
+/// parcel is out. `Err`: a frame's reference count is at its maximum.
+pub(crate) fn told_by(
+    back: Option<LoggedStep>,
     sending: Option<u32>,
     step: &Step,
     output: &Output,
 ) -> Result<Option<LoggedStep>, AllocError>
-    ensures { IfOk result (λ told. told ≡ told_where turns.now sending step.now output.now) }
+    ensures { IfOk result (λ told. told ≡ told_by back sending step.now output.now) }
 {
     Ok(match output {
         Output::Posted { answer, .. } => told_message(step, *answer)?,
@@ -151,7 +151,7 @@ fn told_where(
             position: *position,
             given: *given,
         }),
-        Output::WentBack => back_by(turns, step),
+        Output::WentBack => back,
         Output::Picked { local, .. } => Some(LoggedStep::Pick { local: *local }),
         Output::Sent => sending.map(|local| LoggedStep::Sent { local }),
         Output::Unsent => sending.map(|local| LoggedStep::Unsent { local }),
@@ -210,7 +210,8 @@ impl LogSoFar {
         ensures turns { IfOk result (λ _. self.new.turns.items ≡ turns_after step.now output.now self.old.turns.items) }
         ensures sending { IfOk result (λ _. self.new.sending ≡ local_after output.now self.old.sending) }
     {
-        let told = told_where(&self.turns, self.sending, step, output)?;
+        let back = back_by(&self.turns, step);
+        let told = told_by(back, self.sending, step, output)?;
         add(&mut self.lines, link, written(told))?;
         follow_turns(&mut self.turns, step, output)?;
         self.sending = local_after(output, self.sending);

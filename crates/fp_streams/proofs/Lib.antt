@@ -1,3 +1,6 @@
-pub mod Going
+pub mod Feeding
 pub mod Lists
 pub mod Parts
+pub mod Reading
+pub mod Taken
+pub mod Told

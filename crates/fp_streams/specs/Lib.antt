@@ -1,7 +1,8 @@
 pub mod Device
+pub mod Feeding
+pub mod Following
 pub mod Grows
-pub mod Held
 pub mod Line
-pub mod Moved
 pub mod Parting
+pub mod Reads
 pub mod Write

@@ -5,7 +5,7 @@ ghost use Rattle.std.specs.Prelude.{◌≡◌, ◌≢◌};
 use crate::{DeviceFault, LinkRead, LinkWrite};
 use std::io::{ErrorKind, Read, Write};
 
-/// A reader or a writer, and how often it failed. The count begins again behind 2^64 - 1.
+/// A reader or a writer, and how often it failed. The count wraps after 2^64 - 1.
 ///
 /// A call that was interrupted is made again, and is no failure, up to 2^64 - 1 times.
 #[derive(Drop)]

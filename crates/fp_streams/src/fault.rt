@@ -1,9 +1,5 @@
 //! Why a stream went no further.
 
-ghost use Rattle.std.specs.Prelude.{◌≡◌};
-ghost use Rattle.fp_streams.specs.declared.fault.LinesFault.TheVariants.{Memory};
-
-use std::alloc::AllocError;
 use thiserror::Error;
 
 /// The device failed.
@@ -16,27 +12,17 @@ pub struct DeviceFault;
 #[error("the output cannot be written")]
 pub struct WriteFault;
 
-/// Why there is no next line yet.
-#[derive(Clone, Copy, Debug, PartialEq, Eq, Error)]
-pub enum LinesFault {
-    /// The next line is longer than a line may be.
-    #[error("the line is too long")]
-    TooLong,
-    /// The device failed in this call.
-    #[error("the input cannot be read")]
+/// Why not all lines of a reader were taken. Lines are counted from 1.
+#[derive(Debug, Drop)]
+pub enum LinesFault<F> {
+    /// The line of this number is longer than a line may be.
+    TooLong(u128),
+    /// The line of this number was refused, for this reason.
+    Refused(u128, F),
+    /// The device failed.
     ReadFault,
-    /// The next line isn't whole, and all reads that may be made were made.
-    #[error("turn limit")]
+    /// The limit on reads was reached before the end of the input.
     TurnLimit,
-    /// Memory was wanting.
-    #[error("out of memory")]
+    /// An allocation failed.
     Memory,
-}
-
-impl From<AllocError> for LinesFault {
-    ghost from_gives = { λ _ fault. fault ≡ Memory };
-
-    fn from(_error: AllocError) -> LinesFault {
-        LinesFault::Memory
-    }
 }

@@ -1,6 +1,6 @@
 //! One run of the program, from its words to its status.
 
-ghost use Rattle.std.specs.Prelude.{◌≡◌, ◌≤◌, is_ok, if◌then◌else◌, IfErr, IfSome, OnOk};
+ghost use Rattle.std.specs.Prelude.{◌≡◌, ◌≤◌, is_ok, if◌then◌else◌, IfErr, IfSome, None, OnOk};
 ghost use Rattle.std.specs.Io.KnownBytes.{IsAtEnd};
 ghost use Rattle.fp_replay.specs.Stopped as stopped;
 ghost use Rattle.fp_replay.specs.Stopped.{IsUnwritten, Replays};
@@ -234,12 +234,11 @@ fn answer_lines<R: Read, W: Write>(
 ) -> Result<(), AskFault>
     ensures end { OnOk result (IsAtEnd (R.remaining reader.new.device)) }
     ensures answered { OnOk result (IfSome (R.remaining reader.old.device)
-        (AnswersAll table.now contexts.now moment TURNS
-        (W.contents writer.old.device) (W.contents writer.new.device))) }
-    ensures stopped { IfErr result (Stops table.now contexts.now moment TURNS
+        (AnswersAll table.now contexts.now moment (W.contents writer.old.device) (W.contents writer.new.device))) }
+    ensures stopped { IfErr result (Stops table.now contexts.now moment
         (R.remaining reader.old.device) (R.remaining reader.new.device)
         (W.contents writer.old.device) (W.contents writer.new.device)) }
-    ensures within { Reads TURNS (R.remaining reader.old.device) (R.remaining reader.new.device) }
+    ensures within { Reads TURNS (R.remaining reader.old.device) (R.remaining reader.new.device) None None result }
     ensures reads { CountsReads result reader.old.failed reader.new.failed }
     ensures writes { CountsWrites result writer.old.failed writer.new.failed }
 {
@@ -256,12 +255,12 @@ fn replay_lines<R: Read, W: Write>(
 ) -> Result<(), ReplayFault>
     ensures end { OnOk result (IsAtEnd (R.remaining reader.new.device)) }
     ensures replayed { OnOk result (IfSome (R.remaining reader.old.device)
-        (Replays table.now contexts.now TURNS (W.contents writer.old.device) (W.contents writer.new.device))) }
-    ensures stopped { IfErr result (stopped.Stops table.now contexts.now TURNS
+        (Replays table.now contexts.now (W.contents writer.old.device) (W.contents writer.new.device))) }
+    ensures stopped { IfErr result (stopped.Stops table.now contexts.now
         (R.remaining reader.old.device) (R.remaining reader.new.device)
         (W.contents writer.old.device) (W.contents writer.new.device)) }
     ensures unwritten { IfErr result (IsUnwritten (W.contents writer.old.device) (W.contents writer.new.device)) }
-    ensures within { stopped.Reads TURNS (R.remaining reader.old.device) (R.remaining reader.new.device) }
+    ensures within { stopped.Reads TURNS (R.remaining reader.old.device) (R.remaining reader.new.device) None None result }
     ensures reads { stopped.CountsReads result reader.old.failed reader.new.failed }
     ensures writes { stopped.CountsWrites result writer.old.failed writer.new.failed }
 {

@@ -1,4 +1,4 @@
-use Rattle.fp_ask.proofs.Reading.{nothing_broken}
+use Rattle.fp_ask.proofs.Asking.{nothing_broken}
 use Rattle.fp_ask.proofs.input.ask.Goals as goal
 
 pub returns-in_default-clause-stopped : goal.returns-in_default-clause-stopped

@@ -9,7 +9,7 @@ use Rattle.fp_book.specs.Dialogues.{ExtendsAt, with_deadline}
 use Rattle.fp_book.specs.Log.{logged}
 use Rattle.fp_book.specs.Sending.{is_frame_of}
 use Rattle.fp_book.specs.Shelf.{Shelf, gone_with}
-use Rattle.fp_book.specs.Verdict.{verdict}
+use Rattle.fp_book.specs.Lines.{verdict}
 use Rattle.fp_book.specs.Views.{shelf_of}
 use Rattle.fp_entry.specs.declared.prepared.Prepared.{Prepared}
 use Rattle.fp_entry.specs.declared.prepared.Prepared.TheVariants.{Message}
@@ -18,7 +18,7 @@ use Rattle.fp_book.proofs.Closes.{drops_as}
 use Rattle.fp_book.proofs.Fits.{can_extend}
 use Rattle.fp_book.proofs.Grows.{grown_out, grown_shelf, was_idle}
 use Rattle.fp_book.proofs.Kept.{Leaves, leaves, place_to_join, room_for, same_parts, timed_by, turns_by}
-use Rattle.fp_book.proofs.Counts.{receipt_lost, receipt_of, some_of, up_if}
+use Rattle.fp_book.proofs.Counts.{receipt_lost, receipt_of, some_of}
 use Rattle.fp_book.proofs.Turns.{components_few, frames_at}
 use Rattle.fp_book.proofs.book.Book.extend.Goals as goal
 
@@ -45,10 +45,6 @@ overflow_cast-posted c = omega (arith, c.len-count.ensures, few c.args.self.now 
 pub overflow_cast-result : goal.overflow_cast-result
 overflow_cast-result c =
     omega (arith, c.component_count-components.ensures, components_few c.in-Message.incoming.entries, few c.args.self.now c.args.came _ c.args.local c.args.ends c.requires c.in-Message.is)
-
--- the link is up
-pub lose-requires : goal.lose-requires
-lose-requires c = ap (λ (s : Shelf). s.is_down) c.self.view_is ∙ up_if c.args.self.now c.args.came (Extend c.args.local c.args.ends) c.requires refl
 
 -- the parts of the book then
 abbrev after : goal.After-add → Inside

@@ -6,9 +6,9 @@ use Rattle.fp_book.specs.declared.dialogues.Left.{Left}
 use Rattle.fp_book.specs.declared.verdict.Verdict.TheVariants.{Open}
 use Rattle.fp_book.specs.Calls.{Follows, OpensDialogue, entries_in, joins, more_accepted}
 use Rattle.fp_book.specs.Dialogues.{OpensAt}
-use Rattle.fp_book.specs.Shelf.{Shelf, turns_of}
+use Rattle.fp_book.specs.Shelf.{turns_of}
 use Rattle.fp_book.specs.Totals.{sum_of}
-use Rattle.fp_book.specs.Verdict.{verdict}
+use Rattle.fp_book.specs.Lines.{verdict}
 use Rattle.fp_book.specs.Views.{shelf_of}
 use Rattle.fp_entry.specs.declared.prepared.Prepared.{Prepared}
 use Rattle.fp_entry.specs.declared.prepared.Prepared.TheVariants.{Message}
@@ -19,7 +19,7 @@ use Rattle.fp_tids.specs.Identifiers.{Gives, LocalIds, identifier}
 use Rattle.fp_book.proofs.Extends.{is_fresh}
 use Rattle.fp_book.proofs.Fits.{can_open}
 use Rattle.fp_book.proofs.Kept.{Leaves, leaves, place_for_new, room_for_new, same_parts, timed_inserted}
-use Rattle.fp_book.proofs.Counts.{receipt_lost, receipt_of, up_if}
+use Rattle.fp_book.proofs.Counts.{receipt_lost, receipt_of}
 use Rattle.fp_book.proofs.Sums.{inserted}
 use Rattle.fp_book.proofs.Turns.{components_few}
 use Rattle.fp_book.proofs.book.Book.open.Goals as goal
@@ -31,10 +31,6 @@ set_deadline-requires c = room_for_new _ _ _ c.self.invariant.timed (can_open (s
 -- and fewer dialogues that are ready
 pub join-requires : goal.join-requires
 join-requires c is = place_for_new _ c.self.invariant.sound (can_open (shelf_of c.self.inside) c.args.self.now c.args.came c.args.peer c.self.view_is c.requires).rows
-
--- the link is up
-pub lose-requires : goal.lose-requires
-lose-requires c = ap (λ (s : Shelf). s.is_down) c.self.view_is ∙ up_if c.args.self.now c.args.came (Open c.args.peer) c.requires refl
 
 -- a message has few components
 pub overflow_cast-result : goal.overflow_cast-result

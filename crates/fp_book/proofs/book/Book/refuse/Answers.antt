@@ -2,7 +2,7 @@ use Rattle.std.proofs.Common.{◌≡◌, length, sym, ◌∙◌, ap, subst}
 use Rattle.fp_book.specs.Calls.{Refuses, abort_for}
 use Rattle.fp_book.specs.Dialogues.{AnsweredBy, EndsAt}
 use Rattle.fp_book.specs.Log.{logged}
-use Rattle.fp_book.specs.Verdict.{verdict}
+use Rattle.fp_book.specs.Lines.{verdict}
 use Rattle.fp_book.specs.Views.{shelf_of}
 use Rattle.fp_book.specs.declared.verdict.Verdict.TheVariants.{Refuse}
 use Rattle.fp_entry.specs.Prepared.{arrival_of}

@@ -3,7 +3,7 @@ use Rattle.fp_book.proofs.Kept.{Leaves, leaves}
 use Rattle.fp_book.proofs.Ticks.{none_ticks, ticks}
 use Rattle.fp_book.specs.declared.book.Book.TheInside.{Inside}
 use Rattle.fp_book.specs.Calls.{Ticks}
-use Rattle.fp_book.specs.Verdict.{is_full}
+use Rattle.fp_book.specs.Lines.{is_full}
 use Rattle.fp_book.specs.Views.{shelf_of}
 use Rattle.fp_book.proofs.book.Book.tick.Goals as goal
 

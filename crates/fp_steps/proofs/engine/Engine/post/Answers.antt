@@ -1,14 +1,23 @@
-use Rattle.fp_steps.proofs.TokensKept.{holds_untouched, posts_untouched}
-use Rattle.fp_steps.proofs.LoggedLines.{components_are}
+use Rattle.std.proofs.Common.{subst}
+use Rattle.fp_book.specs.Calls.{Follows}
+use Rattle.fp_book.specs.Receipt.{treated_as}
+use Rattle.fp_book.specs.Lines.{verdict}
+use Rattle.fp_steps.proofs.TokensKept.{follows_untouched, holds_untouched}
 use Rattle.fp_steps.proofs.engine.Engine.post.Goals as goal
 
 pub returns-clause-makes : goal.returns-clause-makes
-returns-clause-makes c = (
-  components_are c.post-answer.result c.args.came 0 c.components-components.result c.components_if.result c.components_if.ensures c.components-components.ensures,
-  c.post-answer.ensures.posts,
-)
+returns-clause-makes c =
+    let old = c.args.self.now.book in
+    let new = c.post_with_receipt-receipt.new.self in
+    let posted = c.post_with_receipt-receipt.result.posted in
+    let receipt = c.post_with_receipt-receipt.ensures.receipt in (
+      receipt.components,
+      subst (λ lost. Follows (verdict old (treated_as lost c.args.came)) old (treated_as lost c.args.came) posted new) c.if-receipt.false receipt.follows,
+      c.post_with_receipt-receipt.ensures.totals,
+    )
 
 pub returns-clause-holds : goal.returns-clause-holds
-returns-clause-holds c =
-    holds_untouched c.args.self.now.turns.items c.args.self.now.parcel c.args.self.now.book c.post-answer.new.self
-    (posts_untouched c.args.self.now.book c.post-answer.new.self c.args.came c.post-answer.result c.requires.sound c.post-answer.ensures.posts) c.requires.holds
+returns-clause-holds c = holds_untouched _ _ _ _ (follows_untouched _ _ _ _ _ c.requires.sound c.post_with_receipt-receipt.ensures.receipt.follows) c.requires.holds
+
+pub returns-then-receipt-clause-holds : goal.returns-then-receipt-clause-holds
+returns-then-receipt-clause-holds c = holds_untouched _ _ _ _ (follows_untouched _ _ _ _ _ c.requires.sound c.post_with_receipt-receipt.ensures.receipt.follows) c.requires.holds

@@ -1,0 +1,271 @@
+//! Deadlines of dialogues by local transaction identifier, and the identifiers that a link gives.
+//!
+//! | Case | What it gives |
+//! |---|---|
+//! | `deadlines DONE, DONE, ..` | what is done to new deadlines, one after the other: what each gives that gives something |
+//! | `local-ids LINK DONE, ..` | the same, done to the identifiers of a link, 0 to 7, of which none was given yet |
+//!
+//! | Done to deadlines | What it gives |
+//! |---|---|
+//! | `set ID MS` | nothing: the identifier has this deadline, in milliseconds since 1970 |
+//! | `clear ID` | nothing: the identifier has no deadline |
+//! | `due MS` | the identifier that is due at this moment, or `none` |
+//! | `count` | how many have a deadline |
+//! | `fill COUNT rising` | nothing: so many identifiers from 20000001 on have the deadlines 1, 2, 3 .. |
+//! | `fill COUNT falling` | the same with the deadlines COUNT .. 3, 2, 1 |
+//! | `drain MS` | what is due at this moment is cleared until nothing is: how many, the first and the last, and whether each was one more than the one before, or one less; or `none` |
+//!
+//! | Done to identifiers | What it gives |
+//! |---|---|
+//! | `give` | the next identifier |
+//! | `end ID` | nothing: the dialogue of this identifier is held no longer |
+//! | `link ID` | the link of an identifier |
+
+use crate::values::local_of;
+use anyhow::bail;
+use cases::first_word;
+use fp_digits::Moment;
+use fp_tids::{LocalIds, link_of};
+use fp_timers::Deadlines;
+use std::alloc::Global;
+
+/// The first identifier that is given a deadline where many are.
+const FIRST: u32 = 0x2000_0001;
+
+/// Writes what a case of this module gives, and says whether it has one of this kind.
+pub(crate) fn answer(
+    alloc: Global,
+    kind: &str,
+    rest: &str,
+    out: &mut String,
+) -> anyhow::Result<bool> {
+    let written = match kind {
+        "deadlines" => of_deadlines(alloc, rest, out),
+        "local-ids" => of_local_ids(rest, out),
+        _ => return Ok(false),
+    };
+    written?;
+    Ok(true)
+}
+
+/// Does to new deadlines what a text says.
+fn of_deadlines(alloc: Global, text: &str, out: &mut String) -> anyhow::Result<()> {
+    let mut deadlines = Deadlines::new(alloc)?;
+    change_all(&mut deadlines, text, out)
+}
+
+/// Does to deadlines one thing after the other.
+fn change_all(deadlines: &mut Deadlines, text: &str, out: &mut String) -> anyhow::Result<()> {
+    for part in text.split(", ") {
+        change(deadlines, part, out)?;
+    }
+    Ok(())
+}
+
+/// Does something to deadlines, and writes what that gives.
+fn change(deadlines: &mut Deadlines, text: &str, out: &mut String) -> anyhow::Result<()> {
+    let (word, rest) = first_word(text);
+    match word {
+        "set" => set_of(deadlines, rest),
+        "clear" => clear(deadlines, rest),
+        "due" => push_due(deadlines, rest, out),
+        "count" => push_count(deadlines, out),
+        "fill" => fill(deadlines, rest),
+        "drain" => drain(deadlines, rest, out),
+        _ => bail!("no such case"),
+    }
+}
+
+/// Gives an identifier the deadline that a text says.
+fn set_of(deadlines: &mut Deadlines, text: &str) -> anyhow::Result<()> {
+    let (local, deadline) = first_word(text);
+    let local = local_of(local)?;
+    set(deadlines, local, deadline.parse()?)
+}
+
+/// Takes away the deadline of an identifier.
+fn clear(deadlines: &mut Deadlines, local: &str) -> anyhow::Result<()> {
+    deadlines.clear(local_of(local)?);
+    Ok(())
+}
+
+/// Writes the identifier that is due at a moment.
+fn push_due(deadlines: &Deadlines, moment: &str, out: &mut String) -> anyhow::Result<()> {
+    let moment = moment_of(moment)?;
+    push_local(deadlines.due(moment), out)
+}
+
+/// Writes how many have a deadline.
+fn push_count(deadlines: &Deadlines, out: &mut String) -> anyhow::Result<()> {
+    push_blank(out)?;
+    write!(out, "{}", deadlines.len())?;
+    Ok(())
+}
+
+/// The moment so many milliseconds after 1970.
+fn moment_of(text: &str) -> anyhow::Result<Moment> {
+    match Moment::new(text.parse()?) {
+        Some(moment) => Ok(moment),
+        None => bail!("no moment"),
+    }
+}
+
+/// Gives an identifier a deadline, if there is room for one more.
+fn set(deadlines: &mut Deadlines, local: u32, deadline: u64) -> anyhow::Result<()> {
+    if deadlines.len() >= Deadlines::MOST {
+        bail!("no room");
+    }
+    deadlines.set(local, deadline);
+    Ok(())
+}
+
+/// Gives so many identifiers a deadline each, later and later ones or earlier and earlier ones.
+fn fill(deadlines: &mut Deadlines, text: &str) -> anyhow::Result<()> {
+    let (count, order) = first_word(text);
+    let count: u16 = count.parse()?;
+    let rises = order == "rising";
+    for index in 0..count {
+        let deadline = if rises { index + 1 } else { count - index };
+        set(deadlines, FIRST + u32::from(index), u64::from(deadline))?;
+    }
+    Ok(())
+}
+
+/// The identifier that is due, which has no deadline any more.
+fn taken(deadlines: &mut Deadlines, moment: Moment) -> Option<u32> {
+    let local = deadlines.due(moment)?;
+    deadlines.clear(local);
+    Some(local)
+}
+
+/// Takes away what is due until nothing is, and writes how many there were, the first and the last, and their order.
+fn drain(deadlines: &mut Deadlines, moment: &str, out: &mut String) -> anyhow::Result<()> {
+    let moment = moment_of(moment)?;
+    match taken(deadlines, moment) {
+        Some(first) => push_drained(drain_all(deadlines, moment, first), out),
+        None => push_local(None, out),
+    }
+}
+
+/// Identifiers that were taken away one after the other.
+#[derive(Clone, Copy)]
+struct Drained {
+    count: u32,
+    first: u32,
+    last: u32,
+    rises: bool,
+    falls: bool,
+}
+
+/// What is taken away until nothing is due, the first of it before.
+fn drain_all(deadlines: &mut Deadlines, moment: Moment, first: u32) -> Drained {
+    let mut drained = Drained {
+        count: 1,
+        first,
+        last: first,
+        rises: true,
+        falls: true,
+    };
+    for _ in 0..Deadlines::MOST {
+        let Some(local) = taken(deadlines, moment) else {
+            break;
+        };
+        drained = with_next(drained, local);
+    }
+    drained
+}
+
+/// What was taken away, and one more.
+fn with_next(drained: Drained, local: u32) -> Drained {
+    Drained {
+        count: drained.count.saturating_add(1),
+        first: drained.first,
+        last: local,
+        rises: drained.rises && local == drained.last.saturating_add(1),
+        falls: drained.falls && local == drained.last.saturating_sub(1),
+    }
+}
+
+/// Writes what was taken away.
+fn push_drained(drained: Drained, out: &mut String) -> anyhow::Result<()> {
+    push_blank(out)?;
+    write!(
+        out,
+        "{} from {:08X} to {:08X}, ",
+        drained.count, drained.first, drained.last
+    )?;
+    out.push_str(order_text(drained.rises, drained.falls))?;
+    Ok(())
+}
+
+/// The order of identifiers, each of which is one more, or one less, than the one before.
+fn order_text(rises: bool, falls: bool) -> &'static str {
+    if rises {
+        "rising"
+    } else if falls {
+        "falling"
+    } else {
+        "in no order"
+    }
+}
+
+/// Does to the identifiers of a link what a text says. None of them was given yet.
+fn of_local_ids(text: &str, out: &mut String) -> anyhow::Result<()> {
+    let (link, rest) = first_word(text);
+    let link: u8 = link.parse()?;
+    if link >= LocalIds::LINKS {
+        bail!("no link");
+    }
+    use_all(&mut LocalIds::new(link), rest, out)
+}
+
+/// Does to identifiers one thing after the other.
+fn use_all(ids: &mut LocalIds, text: &str, out: &mut String) -> anyhow::Result<()> {
+    for part in text.split(", ") {
+        use_ids(ids, part, out)?;
+    }
+    Ok(())
+}
+
+/// Does something to identifiers, and writes what that gives.
+fn use_ids(ids: &mut LocalIds, text: &str, out: &mut String) -> anyhow::Result<()> {
+    let (word, local) = first_word(text);
+    match word {
+        "give" => push_local(ids.give(), out),
+        "end" => end(ids, local),
+        "link" => push_link(local, out),
+        _ => bail!("no such case"),
+    }
+}
+
+/// The dialogue of an identifier is held no longer.
+fn end(ids: &mut LocalIds, local: &str) -> anyhow::Result<()> {
+    ids.end(local_of(local)?);
+    Ok(())
+}
+
+/// Writes the link of an identifier.
+fn push_link(local: &str, out: &mut String) -> anyhow::Result<()> {
+    let link = link_of(local_of(local)?);
+    push_blank(out)?;
+    write!(out, "{link}")?;
+    Ok(())
+}
+
+/// Writes an identifier, in eight hexadecimal digits, or `none`.
+fn push_local(local: Option<u32>, out: &mut String) -> anyhow::Result<()> {
+    push_blank(out)?;
+    match local {
+        Some(local) => write!(out, "{local:08X}")?,
+        None => out.push_str("none")?,
+    }
+    Ok(())
+}
+
+/// Writes a blank after what is there, if anything is.
+fn push_blank(out: &mut String) -> anyhow::Result<()> {
+    if !out.is_empty() {
+        out.push(' ')?;
+    }
+    Ok(())
+}

@@ -1,0 +1,204 @@
+//! Whole dialogues, from frame to frame. A scene keeps the records and the dialogue from one case to the next.
+//!
+//! | Case | What it gives |
+//! |---|---|
+//! | `dialogue-table HEAD` | a file of records begins with this first record: how many numbers and rules it has |
+//! | `dialogue-row ROW` | this record is added after it: the same |
+//! | `at MS HEX` | so many milliseconds after noon this message comes: what its entries ask for, one after the other |
+//! | `at MS clock` | the clock tells this moment: what it asks for |
+//! | `reply LOCAL PEER REQUEST` | the frame of a request, as words of `request`, if the dialogue has these two identifiers |
+//! | `abort-frame PEER CAUSE` | the frame of an Abort of the provider for this cause, if the peer has this identifier |
+//!
+//! Noon is 2024-05-06T12:00:00Z. The application context 2A0304 is accepted. A Begin begins the dialogue anew, the
+//! first of its link, whose identifier is 00000001 on this side and the Begin's on the other. What is asked for is
+//! the frames that are sent, each with its head, or `none`; after that comes `over`, or the moment in milliseconds
+//! after noon at which the clock does something next, as in `none, due 10000`. Each entry is handed to the service
+//! step, also if the dialogue is over.
+
+mod request;
+
+use crate::dialogues::request::request_of;
+use crate::rows::Rows;
+use crate::values::{NOON, abort_cause_of, after_noon, frame_of, local_of, tid_of};
+use anyhow::bail;
+use cases::{first_word, push_octets};
+use fp_apdu::Name;
+use fp_digits::Moment;
+use fp_entry::{Arrival, Entry, EntryKind, Prepared};
+use fp_q773::{Kind, Tid};
+use fp_reply::{abort_frame, bytes_of};
+use fp_service::{Core, Request, step};
+use std::alloc::Global;
+
+/// The transaction identifier of the dialogue on this side.
+const LOCAL: u32 = 1;
+
+/// The application context that is accepted.
+const ACCEPTED: [u8; 3] = [0x2A, 0x03, 0x04];
+
+/// What the cases before have left for the next ones.
+#[derive(Drop)]
+pub(crate) struct Scene {
+    rows: Rows,
+    core: Core,
+    peer: Tid,
+}
+
+impl Scene {
+    /// That of the first case: there are no records, and no Begin has come.
+    pub(crate) fn new(alloc: Global) -> Scene {
+        Scene {
+            rows: Rows::new(alloc),
+            core: Core::new(1, after_noon(0)),
+            peer: Tid::of_number(0),
+        }
+    }
+
+    /// Writes what a case of this module gives, and says whether it has one of this kind.
+    pub(crate) fn answer(
+        &mut self,
+        alloc: Global,
+        kind: &str,
+        rest: &str,
+        out: &mut String,
+    ) -> anyhow::Result<bool> {
+        let written = match kind {
+            "dialogue-table" => self.rows.begin(alloc, rest, out),
+            "dialogue-row" => self.rows.push(alloc, rest, out),
+            "at" => self.at(alloc, rest, out),
+            "reply" => reply(alloc, rest, out),
+            "abort-frame" => framed_abort(alloc, rest, out),
+            _ => return Ok(false),
+        };
+        written?;
+        Ok(true)
+    }
+
+    /// An event of the dialogue.
+    fn at(&mut self, alloc: Global, text: &str, out: &mut String) -> anyhow::Result<()> {
+        let (milliseconds, event) = first_word(text);
+        let moment = after_noon(milliseconds.parse()?);
+        let served = match event {
+            "clock" => self.tick(alloc, moment, out),
+            octets => self.receive(alloc, moment, octets, out),
+        };
+        served?;
+        push_rest(&self.core, out)
+    }
+
+    /// The clock tells a moment.
+    fn tick(&mut self, alloc: Global, moment: Moment, out: &mut String) -> anyhow::Result<()> {
+        let kind = EntryKind::Clock;
+        self.serve(alloc, &Entry { moment, kind }, out)
+    }
+
+    /// A message of these octets comes.
+    fn receive(
+        &mut self,
+        alloc: Global,
+        moment: Moment,
+        octets: &str,
+        out: &mut String,
+    ) -> anyhow::Result<()> {
+        let Some(name) = Name::new(&ACCEPTED) else {
+            bail!("no name");
+        };
+        let table = self.rows.table()?;
+        let frame = frame_of(alloc, octets)?;
+        let prepared = Prepared::read(alloc, table, &[name], frame, moment);
+        self.serve_prepared(alloc, &prepared, out)
+    }
+
+    /// Serves the entries of a message. A Begin begins the dialogue.
+    fn serve_prepared(
+        &mut self,
+        alloc: Global,
+        prepared: &Prepared,
+        out: &mut String,
+    ) -> anyhow::Result<()> {
+        match prepared {
+            Prepared::Message { arrival, incoming } => {
+                self.begin(arrival);
+                self.serve_all(alloc, incoming.entries.as_slice(), out)
+            }
+            _ => bail!("no message"),
+        }
+    }
+
+    /// Begins the dialogue if a Begin came.
+    fn begin(&mut self, arrival: &Arrival) {
+        if let (Kind::Begin, Some(peer)) = (arrival.ids.kind, arrival.ids.orig) {
+            self.core = Core::new(1, arrival.moment);
+            self.peer = peer;
+        }
+    }
+
+    /// Serves entries one after the other, and writes what is sent for them.
+    fn serve_all(
+        &mut self,
+        alloc: Global,
+        entries: &[Entry],
+        out: &mut String,
+    ) -> anyhow::Result<()> {
+        for entry in entries {
+            self.serve(alloc, entry, out)?;
+        }
+        Ok(())
+    }
+
+    /// Serves an entry, and writes what is sent for it, after a blank if there is more.
+    fn serve(&mut self, alloc: Global, entry: &Entry, out: &mut String) -> anyhow::Result<()> {
+        let (core, request) = step(alloc, &self.core, entry)?;
+        self.core = core;
+        let Some(request) = request else {
+            return Ok(());
+        };
+        if !out.is_empty() {
+            out.push(' ')?;
+        }
+        push_frame(alloc, &request, LOCAL, &self.peer, out)
+    }
+}
+
+/// Writes `none` if nothing is sent, and whether a dialogue is over, or when the clock does something next.
+fn push_rest(core: &Core, out: &mut String) -> anyhow::Result<()> {
+    if out.is_empty() {
+        out.push_str("none")?;
+    }
+    if core.is_over() {
+        out.push_str(", over")?;
+    } else {
+        write!(out, ", due {}", core.next_due().saturating_sub(NOON))?;
+    }
+    Ok(())
+}
+
+/// Writes the frame of a request.
+fn push_frame(
+    alloc: Global,
+    request: &Request,
+    local: u32,
+    peer: &Tid,
+    out: &mut String,
+) -> anyhow::Result<()> {
+    let octets = bytes_of(alloc, request, local, peer)?;
+    push_octets(out, octets.as_slice())
+}
+
+/// Writes the frame of a request that a text spells.
+fn reply(alloc: Global, text: &str, out: &mut String) -> anyhow::Result<()> {
+    let (local, rest) = first_word(text);
+    let (peer, request) = first_word(rest);
+    let local = local_of(local)?;
+    let peer = tid_of(alloc, peer)?;
+    let request = request_of(alloc, request)?;
+    push_frame(alloc, &request, local, &peer, out)
+}
+
+/// Writes the frame of an Abort of the provider.
+fn framed_abort(alloc: Global, text: &str, out: &mut String) -> anyhow::Result<()> {
+    let (peer, cause) = first_word(text);
+    let peer = tid_of(alloc, peer)?;
+    let cause = abort_cause_of(cause)?;
+    push_octets(out, abort_frame(peer, cause).as_slice())
+}

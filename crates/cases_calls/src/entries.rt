@@ -1,0 +1,112 @@
+//! What a message brings to its dialogue (`fp_entry`): its entries, or why it brings none.
+//!
+//! | Case | What it gives |
+//! |---|---|
+//! | `prepare MOMENT CONTEXT HEX` | what the message of these octets is prepared to, and the frame that came: its identifiers, how many octets it has, and its moment |
+//! | `in-continue HEX` | what a Continue from 0000002A to 00000001 that holds this component alone is prepared to at noon, with indefinite lengths around the component |
+//! | `lost MOMENT HEX` | what the frame of these octets is if no memory was left |
+//! | `list MOMENTS KINDS` | a list before and after its first entry, and copies of its entries when it came apart and together again |
+//! | `append MOMENTS KINDS` | a list with no entry and then a copy of itself added after it |
+//! | `distinct MOMENTS KINDS` | how many of these entries are from components, take a place or are the clock's, how many are the same as their copy, and how many pairs of an entry and a copy are the same |
+//!
+//! A MOMENT is a number of milliseconds after noon of 2024-05-06, and MOMENTS are some of them with commas. CONTEXT
+//! is the application context name that is accepted, in hexadecimal, or `-` if none is. KINDS are those of `kinds`,
+//! separated by semicolons, each of them at each of the moments. `shown` has them as text. The records are [`RECORDS`].
+
+mod lists;
+mod shown;
+
+use crate::entries::lists::{append, distinct, list};
+use crate::entries::shown::push_prepared;
+use crate::values::{after_noon, frame_of, name_of};
+use cases::first_word;
+use fp_digits::Moment;
+use fp_entry::Prepared;
+use fp_records::Table;
+pub(crate) use shown::push_name;
+use std::alloc::Global;
+
+/// The records of all cases, for the service key 100.
+const RECORDS: &[u8] = b"key,100,60
+800123456,,1234567,00:00,24:00,1,route,302223344
+800123457,,1234567,00:00,24:00,1,route,302223344,302223355
+800123458,,1234567,00:00,24:00,1,refuse
+800123459,,1234567,00:00,24:00,1,pass
+";
+
+/// What all cases have in common.
+#[derive(Drop)]
+pub(crate) struct Scene {
+    table: Table,
+}
+
+impl Scene {
+    /// The records are read.
+    pub(crate) fn new(alloc: Global) -> anyhow::Result<Scene> {
+        Ok(Scene {
+            table: Table::read(alloc, RECORDS)?,
+        })
+    }
+
+    /// Writes what a case of this module gives, and says whether it has one of this kind.
+    pub(crate) fn answer(
+        &self,
+        alloc: Global,
+        kind: &str,
+        rest: &str,
+        out: &mut String,
+    ) -> anyhow::Result<bool> {
+        let written = match kind {
+            "prepare" => prepare(alloc, &self.table, rest, out),
+            "in-continue" => in_continue(alloc, &self.table, rest, out),
+            "lost" => lost(alloc, &self.table, rest, out),
+            "list" => list(alloc, &self.table, rest, out),
+            "append" => append(alloc, &self.table, rest, out),
+            "distinct" => distinct(alloc, &self.table, rest, out),
+            _ => return Ok(false),
+        };
+        written?;
+        Ok(true)
+    }
+}
+
+/// What a message is prepared to if this application context is accepted, or none.
+fn prepared(
+    alloc: Global,
+    table: &Table,
+    moment: Moment,
+    context: &str,
+    octets: &str,
+) -> anyhow::Result<Prepared> {
+    if context == "-" {
+        let frame = frame_of(alloc, octets)?;
+        return Ok(Prepared::read(alloc, table, &[], frame, moment));
+    }
+    let name = name_of(alloc, context)?;
+    let frame = frame_of(alloc, octets)?;
+    Ok(Prepared::read(alloc, table, &[name], frame, moment))
+}
+
+/// Writes what a message is prepared to.
+fn prepare(alloc: Global, table: &Table, text: &str, out: &mut String) -> anyhow::Result<()> {
+    let (milliseconds, rest) = first_word(text);
+    let (context, octets) = first_word(rest);
+    let moment = after_noon(milliseconds.parse()?);
+    let prepared = prepared(alloc, table, moment, context, octets)?;
+    push_prepared(table, &prepared, out)
+}
+
+/// Writes what a Continue with this component alone is prepared to.
+fn in_continue(alloc: Global, table: &Table, octets: &str, out: &mut String) -> anyhow::Result<()> {
+    let message = format!(in alloc; "658048040000002A4904000000016C80{octets}00000000")?;
+    let prepared = prepared(alloc, table, after_noon(0), "-", message.as_str())?;
+    push_prepared(table, &prepared, out)
+}
+
+/// Writes what a lost frame has.
+fn lost(alloc: Global, table: &Table, text: &str, out: &mut String) -> anyhow::Result<()> {
+    let (milliseconds, octets) = first_word(text);
+    let moment = after_noon(milliseconds.parse()?);
+    let lost = Prepared::lost(frame_of(alloc, octets)?, moment);
+    push_prepared(table, &lost, out)
+}

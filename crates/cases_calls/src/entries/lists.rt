@@ -1,0 +1,194 @@
+//! Lists of entries, their copies, and which of them are the same.
+
+use crate::entries::shown::push_entries;
+use crate::kinds::kind_of;
+use crate::values::after_noon;
+use cases::first_word;
+use fp_entry::{Entries, Entry, EntryKind};
+use fp_records::Table;
+use std::alloc::Global;
+
+/// The entries that a text spells.
+fn entries_of(alloc: Global, table: &Table, text: &str) -> anyhow::Result<Entries> {
+    let (moments, kinds) = first_word(text);
+    let mut entries = Entries::new(alloc);
+    for kind in kinds.split("; ") {
+        push_kind(alloc, table, &mut entries, moments, kind)?;
+    }
+    Ok(entries)
+}
+
+/// Adds what a text spells at each of these moments.
+fn push_kind(
+    alloc: Global,
+    table: &Table,
+    entries: &mut Entries,
+    moments: &str,
+    text: &str,
+) -> anyhow::Result<()> {
+    let kind = kind_of(alloc, table, text)?;
+    push_at(entries, moments, &kind)
+}
+
+/// Adds what came at each of these moments.
+fn push_at(entries: &mut Entries, moments: &str, kind: &EntryKind) -> anyhow::Result<()> {
+    for moment in moments.split(',') {
+        entries.push(Entry {
+            moment: after_noon(moment.parse()?),
+            kind: kind.try_clone()?,
+        })?;
+    }
+    Ok(())
+}
+
+/// Writes what a list is before its first entry and with all, and copies of its entries when it came apart and together
+/// again.
+pub(crate) fn list(
+    alloc: Global,
+    table: &Table,
+    text: &str,
+    out: &mut String,
+) -> anyhow::Result<()> {
+    let entries = entries_of(alloc, table, text)?;
+    let copies = copies_of(alloc, entries.as_slice())?;
+    let is_empty = Entries::new(alloc).is_empty();
+    let together = Entries::from_vec(entries.into_vec());
+    push_list(table, is_empty, &together, copies.as_slice(), out)
+}
+
+/// Writes whether a list was empty before its first entry and is with all, and its copies.
+fn push_list(
+    table: &Table,
+    was_empty: bool,
+    together: &Entries,
+    copies: &[Entry],
+    out: &mut String,
+) -> anyhow::Result<()> {
+    write!(out, "empty {was_empty}, then {}; ", together.is_empty())?;
+    push_copies(table, together.as_slice(), copies, out)
+}
+
+/// Copies of entries, one by one.
+fn copies_of(alloc: Global, entries: &[Entry]) -> anyhow::Result<Entries> {
+    let mut copies = Entries::new(alloc);
+    for entry in entries {
+        copies.push(entry.try_clone()?)?;
+    }
+    Ok(copies)
+}
+
+/// Writes how many entries there are, how many are the same as their copy, and the copies.
+fn push_copies(
+    table: &Table,
+    entries: &[Entry],
+    copies: &[Entry],
+    out: &mut String,
+) -> anyhow::Result<()> {
+    let same = count_places(entries, copies);
+    write!(
+        out,
+        "{} entries, {same} are the same as their copy: ",
+        entries.len()
+    )?;
+    push_entries(table, copies, out)
+}
+
+/// Writes a list, no entry, and a copy of the list, one after the other.
+pub(crate) fn append(
+    alloc: Global,
+    table: &Table,
+    text: &str,
+    out: &mut String,
+) -> anyhow::Result<()> {
+    let mut entries = entries_of(alloc, table, text)?;
+    append_copy(alloc, &mut entries)?;
+    push_entries(table, entries.as_slice(), out)
+}
+
+/// Adds no entry and a copy of a list after it.
+fn append_copy(alloc: Global, entries: &mut Entries) -> anyhow::Result<()> {
+    let copies = entries.try_clone(alloc)?;
+    entries.append(Entries::new(alloc))?;
+    entries.append(copies)?;
+    Ok(())
+}
+
+/// Writes what entries are when each is compared with each copy.
+pub(crate) fn distinct(
+    alloc: Global,
+    table: &Table,
+    text: &str,
+    out: &mut String,
+) -> anyhow::Result<()> {
+    let entries = entries_of(alloc, table, text)?;
+    let copies = entries.try_clone(alloc)?;
+    push_distinct(&entries, copies.as_slice(), out)
+}
+
+/// Writes how many entries there are, and how many copies are the same.
+fn push_distinct(entries: &Entries, copies: &[Entry], out: &mut String) -> anyhow::Result<()> {
+    push_numbers(entries, out)?;
+    push_pairs(entries.as_slice(), copies, out)
+}
+
+/// Writes how many entries there are, and how many of a kind.
+fn push_numbers(entries: &Entries, out: &mut String) -> anyhow::Result<()> {
+    let clocks = count_clocks(entries.as_slice());
+    write!(
+        out,
+        "{} entries, {} from components, ",
+        entries.len(),
+        entries.component_count()
+    )?;
+    write!(
+        out,
+        "{} with a place, {clocks} of the clock; ",
+        entries.place_count()
+    )?;
+    Ok(())
+}
+
+/// Writes how many copies are the same as their entry, and as any.
+fn push_pairs(entries: &[Entry], copies: &[Entry], out: &mut String) -> anyhow::Result<()> {
+    let own = count_places(entries, copies);
+    let mut pairs: usize = 0;
+    let mut same: usize = 0;
+    for entry in entries {
+        pairs = pairs.saturating_add(copies.len());
+        same = same.saturating_add(count_same(entry, copies));
+    }
+    write!(
+        out,
+        "{} copies, {own} are the same as their entry; ",
+        copies.len()
+    )?;
+    write!(out, "of {pairs} pairs {same} are the same")?;
+    Ok(())
+}
+
+/// How many entries are the same as this one.
+fn count_same(entry: &Entry, others: &[Entry]) -> usize {
+    let mut count: usize = 0;
+    for other in others {
+        count = count.saturating_add(usize::from(entry == other));
+    }
+    count
+}
+
+/// How many entries are the same as the one in the same place.
+fn count_places(entries: &[Entry], others: &[Entry]) -> usize {
+    let mut count: usize = 0;
+    for (entry, other) in entries.iter().zip(others) {
+        count = count.saturating_add(usize::from(entry == other));
+    }
+    count
+}
+
+/// How many entries are the clock's.
+fn count_clocks(entries: &[Entry]) -> usize {
+    let mut count: usize = 0;
+    for entry in entries {
+        count = count.saturating_add(usize::from(entry.kind.is_clock()));
+    }
+    count
+}

@@ -1,0 +1,238 @@
+//! The invocations of a dialogue: what a component means to the invocation that it names, the identifiers and the time
+//! limits (ITU-T Q.774, 3.2, the invocation state machines, ISM).
+//!
+//! A class is `class-1` to `class-4`. A moment is `NOON+N`, N milliseconds after 2024-05-06T12:00:00Z.
+//!
+//! | Case | What it gives |
+//! |---|---|
+//! | `ism new` | a new list, with no invocation |
+//! | `ism start CLASS MOMENT` | the identifier of an invocation that starts, or what is in its way |
+//! | `ism result ID last`, `ism result ID not-last` | what a ReturnResult with this identifier means |
+//! | `ism error ID` | what a ReturnError means |
+//! | `ism reject ID` | what a Reject means |
+//! | `ism due MOMENT` | how many are due at this moment, and end |
+//! | `ism fail COUNT CLASS MOMENT` | so many start, and each gets its ReturnError before the next one: their identifiers |
+//! | `ism keep` | the list as it is, of which a copy is kept |
+//! | `ism kept` | the copy |
+//!
+//! After each comes the list: the identifiers that are active, of all from -128 to 127; the identifier that comes
+//! next; and the earliest moment at which one is due.
+
+use crate::kinds::is_last;
+use crate::values::{NOON, after_noon};
+use anyhow::bail;
+use cases::first_word;
+use fp_digits::Moment;
+use fp_ism::{Invocations, Outcome};
+use fp_q773::OperationClass;
+
+/// What the cases before have left for the next ones.
+#[derive(Drop)]
+pub(crate) struct Scene {
+    invocations: Invocations,
+    kept: Invocations,
+}
+
+impl Scene {
+    /// That of the first case.
+    pub(crate) fn new() -> Scene {
+        Scene {
+            invocations: Invocations::new(),
+            kept: Invocations::new(),
+        }
+    }
+
+    /// Writes what a case of this module gives, and says whether it has one of this kind.
+    pub(crate) fn answer(
+        &mut self,
+        kind: &str,
+        rest: &str,
+        out: &mut String,
+    ) -> anyhow::Result<bool> {
+        let written = match kind {
+            "ism" => self.ism(rest, out),
+            _ => return Ok(false),
+        };
+        written?;
+        Ok(true)
+    }
+
+    /// Does what a text says, and writes what that gives.
+    fn ism(&mut self, text: &str, out: &mut String) -> anyhow::Result<()> {
+        match text {
+            "keep" => self.keep(out),
+            "kept" => push_with("kept", &self.kept, out),
+            _ => self.change(text, out),
+        }
+    }
+
+    /// Keeps a copy of the list.
+    fn keep(&mut self, out: &mut String) -> anyhow::Result<()> {
+        self.kept = self.invocations;
+        push_with("kept", &self.kept, out)
+    }
+
+    /// Does to the list what a text says, and writes what that gives.
+    fn change(&mut self, text: &str, out: &mut String) -> anyhow::Result<()> {
+        change(&mut self.invocations, text, out)?;
+        push_with("", &self.invocations, out)
+    }
+}
+
+/// Does to a list what a text says, and writes what that gives.
+fn change(list: &mut Invocations, text: &str, out: &mut String) -> anyhow::Result<()> {
+    let (word, text) = first_word(text);
+    match word {
+        "new" => anew(list, out),
+        "start" => start(list, text, out),
+        "result" => result(list, text, out),
+        "error" => error(list, text, out),
+        "reject" => reject(list, text, out),
+        "due" => due(list, text, out),
+        "fail" => fail(list, text, out),
+        _ => bail!("no such case"),
+    }
+}
+
+/// Begins a new list.
+fn anew(list: &mut Invocations, out: &mut String) -> anyhow::Result<()> {
+    *list = Invocations::new();
+    out.push_str("new")?;
+    Ok(())
+}
+
+/// Starts an invocation, and writes its identifier or what is in its way.
+fn start(list: &mut Invocations, text: &str, out: &mut String) -> anyhow::Result<()> {
+    let (class, moment) = first_word(text);
+    let class = class_of(class)?;
+    match list.start(class, moment_of(moment)?) {
+        Ok(identifier) => write!(out, "{identifier}")?,
+        Err(full) => write!(out, "{full}")?,
+    }
+    Ok(())
+}
+
+/// Writes what a ReturnResult means.
+fn result(list: &mut Invocations, text: &str, out: &mut String) -> anyhow::Result<()> {
+    let (identifier, last) = first_word(text);
+    let outcome = list.result(identifier.parse()?, is_last(last)?);
+    push_outcome(outcome, out)
+}
+
+/// Writes what a ReturnError means.
+fn error(list: &mut Invocations, identifier: &str, out: &mut String) -> anyhow::Result<()> {
+    push_outcome(list.error(identifier.parse()?), out)
+}
+
+/// Writes what a Reject means.
+fn reject(list: &mut Invocations, identifier: &str, out: &mut String) -> anyhow::Result<()> {
+    push_outcome(list.reject(identifier.parse()?), out)
+}
+
+/// Writes what a component means.
+fn push_outcome(outcome: Outcome, out: &mut String) -> anyhow::Result<()> {
+    write!(out, "{outcome:?}")?;
+    Ok(())
+}
+
+/// Ends what is due, and writes how many that are.
+fn due(list: &mut Invocations, moment: &str, out: &mut String) -> anyhow::Result<()> {
+    let count = list.due(moment_of(moment)?);
+    write!(out, "{count}")?;
+    Ok(())
+}
+
+/// Starts so many invocations one after the other, whose identifiers rise by one, and each of which fails.
+fn fail(list: &mut Invocations, text: &str, out: &mut String) -> anyhow::Result<()> {
+    let (count, rest) = first_word(text);
+    let (class, moment) = first_word(rest);
+    let count: u8 = count.parse()?;
+    let class = class_of(class)?;
+    let moment = moment_of(moment)?;
+    let first = list.next();
+    let last = last_failed(list, count, class, moment)?;
+    write!(out, "{first} to {last}, each Failure")?;
+    Ok(())
+}
+
+/// The last identifier of so many invocations, each of which starts and fails.
+fn last_failed(
+    list: &mut Invocations,
+    count: u8,
+    class: OperationClass,
+    moment: Moment,
+) -> anyhow::Result<i32> {
+    let mut expected = i32::from(list.next());
+    for _ in 0..count {
+        if i32::from(failed(list, class, moment)?) != expected {
+            bail!("not one more than the one before");
+        }
+        expected = expected.saturating_add(1);
+    }
+    Ok(expected.saturating_sub(1))
+}
+
+/// Starts an invocation as the next one, and its ReturnError is a failure: its identifier.
+fn failed(list: &mut Invocations, class: OperationClass, moment: Moment) -> anyhow::Result<i8> {
+    let next = list.next();
+    let identifier = list.start(class, moment)?;
+    if identifier != next {
+        bail!("not the next one started");
+    }
+    if list.error(identifier) != Outcome::Failure {
+        bail!("the error is no failure");
+    }
+    Ok(identifier)
+}
+
+/// The moment that a text `NOON+N` names.
+fn moment_of(text: &str) -> anyhow::Result<Moment> {
+    match text.strip_prefix("NOON+") {
+        Some(later) => Ok(after_noon(later.parse()?)),
+        None => bail!("no moment"),
+    }
+}
+
+/// The class that a text names.
+fn class_of(text: &str) -> anyhow::Result<OperationClass> {
+    match text {
+        "class-1" => Ok(OperationClass::Class1),
+        "class-2" => Ok(OperationClass::Class2),
+        "class-3" => Ok(OperationClass::Class3),
+        "class-4" => Ok(OperationClass::Class4),
+        _ => bail!("no class"),
+    }
+}
+
+/// Writes what was given, and a list.
+fn push_with(given: &str, list: &Invocations, out: &mut String) -> anyhow::Result<()> {
+    write!(out, "{given}; active")?;
+    push_active(list, out)?;
+    write!(out, "; next {}; due ", list.next())?;
+    push_due(list.next_due(), out)
+}
+
+/// Writes when the first invocation is due.
+fn push_due(due: Option<u64>, out: &mut String) -> anyhow::Result<()> {
+    match due {
+        None => out.push_str("none")?,
+        Some(due) if due >= NOON => write!(out, "NOON+{}", due - NOON)?,
+        Some(due) => write!(out, "{due}, before noon")?,
+    }
+    Ok(())
+}
+
+/// Writes the identifiers of the invocations that are active, each after a blank, or ` none`.
+pub(crate) fn push_active(list: &Invocations, out: &mut String) -> anyhow::Result<()> {
+    let mut is_none = true;
+    for identifier in i8::MIN..=i8::MAX {
+        if list.active(identifier) {
+            write!(out, " {identifier}")?;
+            is_none = false;
+        }
+    }
+    if is_none {
+        out.push_str(" none")?;
+    }
+    Ok(())
+}

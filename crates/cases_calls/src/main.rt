@@ -1,0 +1,112 @@
+//! Worked cases from octets to the service logic, one a line: `INPUT => WANTED`. The library `cases` says how they are
+//! written and compared. The first word of a case names the reader, the writer or the call that it is about; each module
+//! has a table of its own. Some cases go on from the one before: what they need is in a scene.
+//!
+//! | Module | What it is about |
+//! |---|---|
+//! | `ber` | elements of X.690 and their spellings |
+//! | `numbers` | numbers, causes and moments |
+//! | `frames` | frames and their heads |
+//! | `messages` | messages and components of TCAP, their identifiers |
+//! | `portions` | the dialogue portion |
+//! | `streams` | the lines of a reader, and octets written whole |
+//! | `arguments` | operations of INAP and their arguments |
+//! | `records` | files of records, their faults, and the choice of a rule |
+//! | `invocations` | the invocations of a dialogue: outcomes, identifiers, time limits |
+//! | `entries` | what a message brings to its dialogue |
+//! | `steps` | the service step, entry by entry |
+//! | `dialogues` | whole dialogues, from frame to frame |
+//! | `deadlines` | deadlines by local identifier, and the identifiers that a link gives |
+//!
+//! `elements` makes elements of text, and `values` moments, numbers, names, frames and identifiers; `texts` writes what
+//! several modules write. `kinds` has the kinds of entries, and `rows` files of records that grow row by row.
+#![tactic(auto)]
+
+mod arguments;
+mod ber;
+mod deadlines;
+mod dialogues;
+mod elements;
+mod entries;
+mod frames;
+mod invocations;
+mod kinds;
+mod messages;
+mod numbers;
+mod portions;
+mod records;
+mod rows;
+mod steps;
+mod streams;
+mod texts;
+mod values;
+
+use cases::{Answers, first_word};
+use std::alloc::Global;
+
+/// What answers the cases, with what those before have left for the next ones.
+#[derive(Drop)]
+struct Scene {
+    alloc: Global,
+    records: records::Scene,
+    invocations: invocations::Scene,
+    entries: entries::Scene,
+    steps: steps::Scene,
+    dialogues: dialogues::Scene,
+}
+
+/// Writes what a case without a scene gives, and says whether a module has one of this kind.
+fn plain(alloc: Global, kind: &str, rest: &str, out: &mut String) -> anyhow::Result<bool> {
+    Ok(
+        ber::answer(alloc, kind, rest, out)?
+            || numbers::answer(alloc, kind, rest, out)?
+            || frames::answer(alloc, kind, rest, out)?
+            || messages::answer(alloc, kind, rest, out)?
+            || portions::answer(alloc, kind, rest, out)?
+            || streams::answer(alloc, kind, rest, out)?
+            || arguments::answer(alloc, kind, rest, out)?
+            || deadlines::answer(alloc, kind, rest, out)?,
+    )
+}
+
+impl Scene {
+    /// Writes what a case of a scene gives, and says whether a module has one of this kind.
+    fn of_scene(&mut self, kind: &str, rest: &str, out: &mut String) -> anyhow::Result<bool> {
+        let alloc = self.alloc;
+        Ok(
+            self.records.answer(alloc, kind, rest, out)?
+                || self.invocations.answer(kind, rest, out)?
+                || self.entries.answer(alloc, kind, rest, out)?
+                || self.steps.answer(alloc, kind, rest, out)?
+                || self.dialogues.answer(alloc, kind, rest, out)?,
+        )
+    }
+}
+
+impl Answers for Scene {
+    fn answer(&mut self, input: &str, out: &mut String) -> anyhow::Result<()> {
+        let (kind, rest) = first_word(input);
+        if !plain(self.alloc, kind, rest, out)? && !self.of_scene(kind, rest, out)? {
+            anyhow::bail!("no such case");
+        }
+        Ok(())
+    }
+}
+
+/// The scene of the first case.
+fn first(alloc: Global) -> anyhow::Result<Scene> {
+    let entries = entries::Scene::new(alloc)?;
+    Ok(Scene {
+        alloc,
+        records: records::Scene::new(),
+        invocations: invocations::Scene::new(),
+        entries,
+        steps: steps::Scene::new(alloc),
+        dialogues: dialogues::Scene::new(alloc),
+    })
+}
+
+fn main(rt: HostRuntime) -> anyhow::Result<()> {
+    let mut scene = first(rt.alloc())?;
+    cases::run(&rt, &mut scene)
+}

@@ -1,0 +1,125 @@
+//! The service step, entry by entry. A scene keeps the records and the core of a dialogue from one case to the next.
+//!
+//! | Case | What it gives |
+//! |---|---|
+//! | `step-table HEAD` | a file of records begins with this first record: how many numbers and rules it has |
+//! | `step-row ROW` | this record is added after it: the same |
+//! | `fresh`, `fresh BIRTH MS` | the core of a dialogue, the BIRTH-th of its link (else the first), whose Begin came so many milliseconds after noon (else at noon) |
+//! | `step MS ENTRY` | the core after this entry, which comes so many milliseconds after noon, and after it what is asked for |
+//! | `core keep` | `kept`: the core is kept |
+//! | `again MS ENTRY` | as `step`, from the core that is kept |
+//! | `core compare` | whether the core is the `same` as the kept one, or `different` |
+//! | `core itself` | the same, of the core and itself |
+//!
+//! Noon is 2024-05-06T12:00:00Z, a Monday. `kinds` has the entries, `shown` cores and requests.
+
+mod shown;
+
+use crate::kinds::kind_of;
+use crate::rows::Rows;
+use crate::steps::shown::{push_core, push_served};
+use crate::values::after_noon;
+use cases::first_word;
+use fp_entry::Entry;
+use fp_service::{Core, step};
+use std::alloc::Global;
+
+/// What the cases before have left for the next ones.
+#[derive(Drop)]
+pub(crate) struct Scene {
+    rows: Rows,
+    core: Core,
+    kept: Core,
+}
+
+impl Scene {
+    /// That of the first case: there are no records.
+    pub(crate) fn new(alloc: Global) -> Scene {
+        Scene {
+            rows: Rows::new(alloc),
+            core: Core::new(1, after_noon(0)),
+            kept: Core::new(1, after_noon(0)),
+        }
+    }
+
+    /// Writes what a case of this module gives, and says whether it has one of this kind.
+    pub(crate) fn answer(
+        &mut self,
+        alloc: Global,
+        kind: &str,
+        rest: &str,
+        out: &mut String,
+    ) -> anyhow::Result<bool> {
+        let written = match kind {
+            "step-table" => self.rows.begin(alloc, rest, out),
+            "step-row" => self.rows.push(alloc, rest, out),
+            "fresh" => self.fresh(rest, out),
+            "step" => self.step(alloc, rest, out),
+            "again" => self.step_again(alloc, rest, out),
+            "core" => self.whole(rest, out),
+            _ => return Ok(false),
+        };
+        written?;
+        Ok(true)
+    }
+
+    /// A dialogue begins, and its core is written.
+    fn fresh(&mut self, text: &str, out: &mut String) -> anyhow::Result<()> {
+        self.begin(if text.is_empty() { "1 0" } else { text })?;
+        push_core(&self.core, out)
+    }
+
+    /// A dialogue begins: which of its link, and when.
+    fn begin(&mut self, text: &str) -> anyhow::Result<()> {
+        let (birth, milliseconds) = first_word(text);
+        let birth = birth.parse()?;
+        let moment = after_noon(milliseconds.parse()?);
+        self.core = Core::new(birth, moment);
+        Ok(())
+    }
+
+    /// An entry comes.
+    fn step(&mut self, alloc: Global, text: &str, out: &mut String) -> anyhow::Result<()> {
+        let (milliseconds, kind) = first_word(text);
+        let moment = after_noon(milliseconds.parse()?);
+        let kind = kind_of(alloc, self.rows.table()?, kind)?;
+        self.serve(alloc, &Entry { moment, kind }, out)
+    }
+
+    /// An entry comes to the core that is kept.
+    fn step_again(&mut self, alloc: Global, text: &str, out: &mut String) -> anyhow::Result<()> {
+        self.core = self.kept;
+        self.step(alloc, text, out)
+    }
+
+    /// Serves an entry, and writes the core after it and what is asked for.
+    fn serve(&mut self, alloc: Global, entry: &Entry, out: &mut String) -> anyhow::Result<()> {
+        let (core, request) = step(alloc, &self.core, entry)?;
+        self.core = core;
+        push_served(&core, &request, out)
+    }
+
+    /// A case about the core as a whole.
+    fn whole(&mut self, word: &str, out: &mut String) -> anyhow::Result<()> {
+        let text = match word {
+            "keep" => {
+                self.kept = self.core;
+                "kept"
+            }
+            "compare" => comparison(&self.core, &self.kept),
+            "itself" => comparison(&self.core, &self.core),
+            _ => "no case of a core",
+        };
+        out.push_str(text)?;
+        Ok(())
+    }
+}
+
+/// How two cores compare, whichever is asked about the other.
+fn comparison(core: &Core, other: &Core) -> &'static str {
+    match (core == other, other == core) {
+        (true, true) => "same",
+        (false, false) => "different",
+        _ => "same from one side alone",
+    }
+}

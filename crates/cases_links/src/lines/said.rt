@@ -1,0 +1,138 @@
+//! What lines say, in words.
+
+use cases::push_octets;
+use fp_book::{Given, Line, LoggedStep, Posted};
+use fp_digits::Moment;
+use fp_frames::Frame;
+use std::fmt::Write;
+
+/// Writes words and a number after them.
+fn push_number(out: &mut String, words: &str, number: u64) -> anyhow::Result<()> {
+    Ok(write!(out, "{words}{number}")?)
+}
+
+/// What became of a message.
+fn word_of(answer: Posted) -> &'static str {
+    match answer {
+        Posted::Opened(_) => ", opened ",
+        Posted::Accepted(_) => ", accepted ",
+        Posted::Aborted(_) => ", aborted for cause ",
+        Posted::Ended => ", ended",
+        Posted::Discarded => ", discarded",
+    }
+}
+
+/// Writes what became of a message.
+fn push_posted(out: &mut String, answer: Posted) -> anyhow::Result<()> {
+    let word = word_of(answer);
+    match answer {
+        Posted::Opened(local) => push_number(out, word, u64::from(local)),
+        Posted::Accepted(entries) => push_number(out, word, u64::from(entries)),
+        Posted::Aborted(cause) => push_number(out, word, u64::from(cause.code())),
+        Posted::Ended | Posted::Discarded => Ok(out.push_str(word)?),
+    }
+}
+
+/// Writes a message that came, and what became of it.
+fn push_message(
+    out: &mut String,
+    moment: Moment,
+    message: &Frame,
+    answer: Posted,
+) -> anyhow::Result<()> {
+    push_octets(out, message.octets())?;
+    push_number(out, " at ", moment.milliseconds())?;
+    push_posted(out, answer)
+}
+
+/// Writes a turn: the place of its entry, and its dialogue.
+fn push_turn(out: &mut String, local: u32, position: u64) -> anyhow::Result<()> {
+    push_number(out, "", position)?;
+    push_number(out, " of ", u64::from(local))
+}
+
+/// Writes a tick.
+fn push_tick(out: &mut String, moment: Moment, added: u32, wanting: u32) -> anyhow::Result<()> {
+    push_number(out, "", moment.milliseconds())?;
+    push_number(out, ", added ", u64::from(added))?;
+    push_number(out, ", wanting ", u64::from(wanting))
+}
+
+/// What became of a request.
+fn given_word(given: Given) -> &'static str {
+    match given {
+        Given::Silent => ", silent",
+        Given::Queued => ", queued",
+        Given::Dropped => ", dropped",
+    }
+}
+
+/// What a step did.
+fn verb_of(step: &LoggedStep) -> &'static str {
+    match step {
+        LoggedStep::Post { .. } => "posted ",
+        LoggedStep::Lost { .. } => "lost ",
+        LoggedStep::Tick { .. } => "tick at ",
+        LoggedStep::Take { .. } => "took ",
+        LoggedStep::Give { .. } => "gave ",
+        LoggedStep::PutBack { .. } => "put back ",
+        LoggedStep::Pick { .. } => "picked ",
+        LoggedStep::Sent { .. } => "sent ",
+        LoggedStep::Unsent { .. } => "not sent ",
+        LoggedStep::Down => "down",
+        LoggedStep::Gap { .. } => "gap of ",
+    }
+}
+
+/// Writes a step.
+fn push_step(out: &mut String, step: &LoggedStep) -> anyhow::Result<()> {
+    out.push_str(verb_of(step))?;
+    match step {
+        LoggedStep::Post {
+            moment,
+            message,
+            answer,
+        }
+        | LoggedStep::Lost {
+            moment,
+            message,
+            answer,
+        } => push_message(out, *moment, message, *answer),
+        LoggedStep::Tick {
+            moment,
+            added,
+            wanting,
+        } => push_tick(out, *moment, *added, *wanting),
+        LoggedStep::Take { local, position } | LoggedStep::PutBack { local, position } => {
+            push_turn(out, *local, *position)
+        }
+        LoggedStep::Give {
+            local,
+            position,
+            given,
+        } => {
+            push_turn(out, *local, *position)?;
+            Ok(out.push_str(given_word(*given))?)
+        }
+        LoggedStep::Pick { local } | LoggedStep::Sent { local } | LoggedStep::Unsent { local } => {
+            push_number(out, "", u64::from(*local))
+        }
+        LoggedStep::Gap { lost } => push_number(out, "", *lost),
+        LoggedStep::Down => Ok(()),
+    }
+}
+
+/// Writes a line.
+pub(crate) fn push_line(out: &mut String, line: &Line) -> anyhow::Result<()> {
+    match line {
+        Line::Head { links } => {
+            push_number(out, "log of ", u64::from(*links))?;
+            Ok(out.push_str(" links")?)
+        }
+        Line::Step { link, step } => {
+            push_number(out, "link ", u64::from(*link))?;
+            out.push_str(": ")?;
+            push_step(out, step)
+        }
+    }
+}

@@ -1,0 +1,141 @@
+//! Dialogues by their local transaction identifiers.
+//!
+//! | Step | What it answers |
+//! |---|---|
+//! | `put LOCAL BIRTH` | a dialogue of this birth is put under this identifier: `put` |
+//! | `fill COUNT` | COUNT are put under the identifiers from 20000001 on, their births 1, 2, 3 ..: how many there are then |
+//! | `empty COUNT` | the same identifiers are removed, the first one first: how many there are then |
+//! | `get LOCAL` | the birth of the dialogue under this identifier, or `none` |
+//! | `remove LOCAL` | it is removed: its birth, or `none` |
+//! | `count` | how many there are |
+//! | `after LOCAL`, `first` | the least identifier above this one, or of all, or `none` |
+//! | `walk` | from the first to the last by `after`: how many, and whether each was one more than the one before |
+
+use crate::script::{Steps, play};
+use crate::texts::{local_of, moment_after, push_local, push_text};
+use anyhow::bail;
+use cases::first_word;
+use fp_q773::Tid;
+use fp_row::{Row, Rows};
+use std::alloc::Global;
+use std::fmt::Write;
+
+/// The first identifier of `fill`.
+const FIRST: u32 = 0x2000_0001;
+
+/// The dialogues of a case.
+#[derive(Drop)]
+struct Register {
+    alloc: Global,
+    rows: Rows,
+}
+
+/// Writes a birth, or `none`.
+fn push_birth(out: &mut String, birth: Option<u64>) -> anyhow::Result<()> {
+    match birth {
+        Some(birth) => write!(out, "{birth}")?,
+        None => out.push_str("none")?,
+    }
+    Ok(())
+}
+
+impl Register {
+    /// Puts a dialogue of this birth under an identifier.
+    fn put(&mut self, local: u32, birth: u64) -> anyhow::Result<()> {
+        let row = Row::open(
+            self.alloc,
+            local,
+            Tid::of_number(local),
+            birth,
+            moment_after(0)?,
+        );
+        match self.rows.insert(local, row) {
+            Ok(()) => Ok(()),
+            Err(_) => bail!("out of memory"),
+        }
+    }
+
+    /// Puts a dialogue of a birth under an identifier, both from text.
+    fn put_of(&mut self, text: &str, out: &mut String) -> anyhow::Result<()> {
+        let (local, birth) = first_word(text);
+        let local = local_of(local)?;
+        self.put(local, birth.parse()?)?;
+        push_text(out, "put")
+    }
+
+    /// Writes how many there are.
+    fn push_count(&self, out: &mut String) -> anyhow::Result<()> {
+        write!(out, "{}", self.rows.len())?;
+        Ok(())
+    }
+
+    /// Puts COUNT dialogues under rising identifiers.
+    fn fill(&mut self, count: &str, out: &mut String) -> anyhow::Result<()> {
+        let count: u16 = count.parse()?;
+        for index in 0..count {
+            self.put(FIRST + u32::from(index), u64::from(index) + 1)?;
+        }
+        self.push_count(out)
+    }
+
+    /// Removes them.
+    fn empty(&mut self, count: &str, out: &mut String) -> anyhow::Result<()> {
+        let count: u16 = count.parse()?;
+        for index in 0..count {
+            drop(self.rows.remove(FIRST + u32::from(index)));
+        }
+        self.push_count(out)
+    }
+
+    /// Walks from the first to the last, and writes what it comes by.
+    fn walk(&self, out: &mut String) -> anyhow::Result<()> {
+        let mut last = None;
+        let mut count: u32 = 0;
+        let mut rises = true;
+        for _ in 0..=self.rows.len() {
+            let Some(local) = self.rows.after(last) else {
+                break;
+            };
+            if let Some(before) = last {
+                rises = rises && local.checked_sub(before) == Some(1);
+            }
+            count = count.saturating_add(1);
+            last = Some(local);
+        }
+        let order = if rises { "one by one" } else { "with gaps" };
+        write!(out, "{count} {order}")?;
+        Ok(())
+    }
+
+    /// A step about one dialogue.
+    fn look(&mut self, verb: &str, local: &str, out: &mut String) -> anyhow::Result<()> {
+        let local = local_of(local)?;
+        match verb {
+            "get" => push_birth(out, self.rows.get(local).map(Row::birth)),
+            "remove" => push_birth(out, self.rows.remove(local).map(|row| row.birth())),
+            "after" => push_local(out, self.rows.after(Some(local))),
+            _ => bail!("no step: {verb}"),
+        }
+    }
+}
+
+impl Steps for Register {
+    fn step(&mut self, step: &str, out: &mut String) -> anyhow::Result<()> {
+        let (verb, rest) = first_word(step);
+        match verb {
+            "put" => self.put_of(rest, out),
+            "walk" => self.walk(out),
+            "first" => push_local(out, self.rows.after(None)),
+            "count" => self.push_count(out),
+            "fill" => self.fill(rest, out),
+            "empty" => self.empty(rest, out),
+            _ => self.look(verb, rest, out),
+        }
+    }
+}
+
+/// Writes what the steps of a case answer.
+pub(crate) fn answer(alloc: Global, script: &str, out: &mut String) -> anyhow::Result<()> {
+    let rows = Rows::new(alloc);
+    play(&mut Register { alloc, rows }, script, out)
+}

@@ -1,0 +1,101 @@
+//! Whole runs of a link: what each of its steps answers.
+//!
+//! A case `run LINK: STEP; STEP; ..` makes its steps one after another on this link, and begins at noon. A step about a
+//! turn names its dialogue, by the local identifier in eight hexadecimal digits; one about a parcel is about the one
+//! that is out. A step that is impossible answers `nothing`.
+//!
+//! What became of a message is a letter, and how many components were accepted. `O` and the local identifier: a dialogue
+//! was opened. `A` and a number: this number of entries was accepted. `X` and a cause: an Abort of the provider waits to
+//! be sent. `E`: a dialogue was ended, and nothing is sent. `D`: discarded. Of a request: `Q` if its frame waits to be
+//! sent, `S` if there is none, and `D` if it isn't accepted.
+//!
+//! | Step | What it answers |
+//! |---|---|
+//! | `post HEX` | a message came: `O`, `A`, `X`, `E` or `D`, and how many components were accepted |
+//! | `lost HEX` | a message came, and memory ran out when it was read: the same |
+//! | `tick` | `ticked`, how many dialogues were given a Clock, and how many were left since memory ran out |
+//! | `take` | `took`, the dialogue and the place of the entry, or `nothing`, or `no room` |
+//! | `give LOCAL` | its turn is served and given back: `gave`, the dialogue, the place, and `S`, `Q` or `D` |
+//! | `put-back LOCAL` | its turn is put back, not served: `back` |
+//! | `pick` | `picked`, the dialogue and the octets of what is sent next, or `nothing`, or `busy` |
+//! | `sent`, `unsent` | the parcel was sent, or wasn't: the same word |
+//! | `down` | the link is gone: `down` |
+//!
+//! These aren't steps of the run:
+//!
+//! | Word | What it answers |
+//! |---|---|
+//! | `at MS` | from now on it is MS milliseconds after noon: the same number |
+//! | `totals` | what the outputs before it come to |
+//!
+//! And these are many steps each:
+//!
+//! | Word | What it answers |
+//! |---|---|
+//! | `posts COUNT HEX` | COUNT times `post`: the number, the first answer and the last; all have the same letter |
+//! | `rounds COUNT TURNS LOCAL HEX` | COUNT times `post`, and after each TURNS times `take` and `give`: the last answer |
+//! | `calls COUNT SERIAL HEX` | COUNT times a Begin, its two turns and its frame, the first with this serial of a local |
+//! | | identifier and each with the next one: what the steps of the last one answer, with `, ` between them |
+//!
+//! A case `random SEED RUNS STEPS` makes RUNS runs of STEPS steps each, or a few more, drawn from this seed, and checks
+//! what each output must be after those before it. It answers how many runs there were, how many steps of each kind, how
+//! many outputs of each kind, and how many Rejects were compared with an earlier one of their dialogue; or what is wrong
+//! with the first run that is wrong. Its steps are those of `drawn.rt`, and its checks those of `watch.rt`.
+
+mod drawn;
+mod draws;
+mod kinds;
+mod making;
+mod octets;
+mod random;
+mod seen;
+mod templates;
+mod texts;
+mod watch;
+
+use anyhow::bail;
+use fp_records::Table;
+use fp_steps::{Output, Step};
+use making::Making;
+pub(crate) use random::answer as answer_random;
+use std::alloc::Global;
+
+/// The number of links.
+pub(crate) const LINKS: u8 = 8;
+
+/// The outputs of these steps on a link.
+pub(crate) fn outputs_of(
+    alloc: Global,
+    table: &Table,
+    link: u8,
+    steps: &[Step],
+) -> anyhow::Result<Vec<Output>> {
+    if link >= LINKS {
+        bail!("no link");
+    }
+    Ok(fp_steps::run(alloc, table, &[], link, steps)?)
+}
+
+/// The steps of a script.
+pub(crate) fn steps_of(alloc: Global, link: u8, script: &str) -> anyhow::Result<Vec<Step>> {
+    let mut making = Making::new(alloc, link);
+    making.add_script(script)?;
+    Ok(making.steps)
+}
+
+/// Writes what the steps of a case answer.
+pub(crate) fn answer(
+    alloc: Global,
+    table: &Table,
+    case: &str,
+    out: &mut String,
+) -> anyhow::Result<()> {
+    let Some((link, script)) = case.split_once(": ") else {
+        bail!("no link");
+    };
+    let link: u8 = link.parse()?;
+    let mut making = Making::new(alloc, link);
+    making.add_script(script)?;
+    let outputs = outputs_of(alloc, table, link, making.steps.as_slice())?;
+    texts::push_answers(out, making.parts.as_slice(), outputs.as_slice())
+}

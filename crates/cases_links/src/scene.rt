@@ -1,0 +1,362 @@
+//! Dialogues, their turns and their frames.
+//!
+//! A case may open several dialogues: a step is about the one that was opened or gone to last. The turns that it takes
+//! have names of one letter. A step about a turn spends it, unless the turn comes back, which then keeps its name.
+//!
+//! | Step | What it answers |
+//! |---|---|
+//! | `row LOCAL PEER BIRTH` | a Begin opens a dialogue of these identifiers, the BIRTH-th of its link: `opened` |
+//! | `to N` | the N-th dialogue of the case, from 1: its identifiers and its birth |
+//! | `at MS` | from now on it is MS milliseconds after noon: the same number |
+//! | `post HEX` | its entries of this message are accepted: how many there are, or `refused` |
+//! | `clock` | it is given a Clock: `due`, or `not due` |
+//! | `take NAME` | its next turn is taken: its place, or `none` |
+//! | `show NAME` | what the turn, or what was served, says of itself |
+//! | `serve NAME` | the turn is served, and not given back: `served` |
+//! | `give NAME` | the turn is served, if it wasn't, and given back: `nothing`, `frame HEX`, `dropped`, or `strange` |
+//! | `put-back NAME` | the turn is put back: `back`, or `strange` |
+//! | `abandon NAME` | the turn is never given back: `abandoned` |
+//! | `each` | its turns are taken and given one by one: how many, how many frames, and the last of these |
+//! | `sent` | one more of its frames was sent: `sent`, or `none` |
+//! | `end peer`, `end closed` | its peer ends it, or it is closed: `ended` |
+//! | `end peer sending`, `end closed sending` | the same while a frame of it is being sent |
+//! | `state` | which it is of `admitted`, `ready`, `held`, else `gone`; the places its entries take; its deadline |
+
+use crate::held::{
+    Held, Named, abandon, abandon_all, find, find_served, keep, serve, served, show,
+};
+use crate::messages::prepared;
+use crate::script::{Steps, play};
+use crate::texts::{NOON, local_of, moment_after, name_of, peer_of, push_dialogue, push_text};
+use anyhow::bail;
+use cases::{first_word, push_octets};
+use fp_digits::Moment;
+use fp_entry::{Entries, Prepared};
+use fp_records::Table;
+use fp_row::{Ending, Requested, Row};
+use std::alloc::Global;
+use std::fmt::Write;
+
+/// The dialogues of a case, and its turns that are out. It must be spent.
+#[must_use]
+struct Scene<'a> {
+    alloc: Global,
+    table: &'a Table,
+    rows: Vec<Row>,
+    // The place of the dialogue that a step is about.
+    place: usize,
+    moment: Moment,
+    turns: Vec<Named>,
+}
+
+/// What several turns requested: how many there were, how many frames, and the last of these.
+#[derive(Drop)]
+struct Tally {
+    turns: u32,
+    frames: u32,
+    last: Requested,
+}
+
+/// A dialogue accepts entries.
+fn accept(row: &mut Row, entries: Entries, out: &mut String) -> anyhow::Result<()> {
+    let count = entries.len();
+    if row.accept(entries)? {
+        write!(out, "{count}")?;
+    } else {
+        out.push_str("refused")?;
+    }
+    Ok(())
+}
+
+/// A dialogue accepts the entries of a message.
+fn accept_message(
+    alloc: Global,
+    row: &mut Row,
+    prepared: &Prepared,
+    out: &mut String,
+) -> anyhow::Result<()> {
+    match prepared {
+        Prepared::Message { incoming, .. } => {
+            accept(row, incoming.entries.try_clone(alloc)?, out)
+        }
+        _ => bail!("no message"),
+    }
+}
+
+/// A message comes to a dialogue.
+fn post(
+    alloc: Global,
+    table: &Table,
+    moment: Moment,
+    row: &mut Row,
+    message: &str,
+    out: &mut String,
+) -> anyhow::Result<()> {
+    let prepared = prepared(alloc, table, moment, message)?;
+    accept_message(alloc, row, &prepared, out)
+}
+
+/// Who ends a dialogue.
+fn ending_of(text: &str) -> anyhow::Result<Ending> {
+    match text {
+        "peer" => Ok(Ending::ByPeer),
+        "closed" => Ok(Ending::Closed),
+        _ => bail!("no ending: {text}"),
+    }
+}
+
+/// Writes what becomes of a request.
+fn push_requested(out: &mut String, requested: &Requested) -> anyhow::Result<()> {
+    match requested {
+        Requested::Nothing => out.push_str("nothing")?,
+        Requested::Dropped => out.push_str("dropped")?,
+        Requested::Frame(frame) => {
+            out.push_str("frame ")?;
+            push_octets(out, frame.octets())?;
+        }
+    }
+    Ok(())
+}
+
+/// Takes the next turn of a dialogue.
+fn take(row: &mut Row, turns: &mut Vec<Named>, name: &str, out: &mut String) -> anyhow::Result<()> {
+    let name = name_of(name)?;
+    let Some(turn) = row.take()? else {
+        return push_text(out, "none");
+    };
+    let position = turn.position();
+    keep(turns, name, Held::Turn(turn));
+    write!(out, "{position}")?;
+    Ok(())
+}
+
+/// Gives a turn to a dialogue.
+fn give(
+    alloc: Global,
+    row: &mut Row,
+    turns: &mut Vec<Named>,
+    name: &str,
+    out: &mut String,
+) -> anyhow::Result<()> {
+    let name = name_of(name)?;
+    let done = find_served(alloc, turns, name)?;
+    match row.give(done) {
+        Ok(requested) => push_requested(out, &requested),
+        Err(done) => {
+            keep(turns, name, Held::Done(done));
+            push_text(out, "strange")
+        }
+    }
+}
+
+/// Puts a turn back.
+fn put_back(
+    row: &mut Row,
+    turns: &mut Vec<Named>,
+    name: &str,
+    out: &mut String,
+) -> anyhow::Result<()> {
+    let name = name_of(name)?;
+    let held = match find(turns, name)? {
+        Held::Turn(turn) => match row.put_back(turn) {
+            Ok(()) => return push_text(out, "back"),
+            Err(turn) => Held::Turn(turn),
+        },
+        held => held,
+    };
+    keep(turns, name, held);
+    push_text(out, "strange")
+}
+
+/// Takes, serves and gives the next turn of a dialogue: what becomes of its request, if there is a turn.
+fn serve_next(alloc: Global, row: &mut Row) -> anyhow::Result<Option<Requested>> {
+    let Some(turn) = row.take()? else {
+        return Ok(None);
+    };
+    match row.give(served(alloc, turn)?) {
+        Ok(requested) => Ok(Some(requested)),
+        Err(done) => {
+            done.abandon();
+            bail!("a turn came back");
+        }
+    }
+}
+
+impl Tally {
+    /// Counts one more turn, and what became of its request.
+    fn count(&mut self, requested: Requested) {
+        self.turns = self.turns.saturating_add(1);
+        if let Requested::Frame(_) = &requested {
+            self.frames = self.frames.saturating_add(1);
+            self.last = requested;
+        }
+    }
+}
+
+/// Takes and gives the turns of a dialogue one after the other, at most a thousand.
+fn serve_each(alloc: Global, row: &mut Row, tally: &mut Tally) -> anyhow::Result<()> {
+    for _ in 0..1000 {
+        match serve_next(alloc, row)? {
+            Some(requested) => tally.count(requested),
+            None => break,
+        }
+    }
+    Ok(())
+}
+
+/// Takes and gives the turns of a dialogue one after the other.
+fn each(alloc: Global, row: &mut Row, out: &mut String) -> anyhow::Result<()> {
+    let mut tally = Tally {
+        turns: 0,
+        frames: 0,
+        last: Requested::Nothing,
+    };
+    serve_each(alloc, row, &mut tally)?;
+    write!(out, "{} turns, {} frames, ", tally.turns, tally.frames)?;
+    if tally.frames == 0 {
+        out.push_str("no frame")?;
+        return Ok(());
+    }
+    push_requested(out, &tally.last)
+}
+
+/// Those of three words that hold of a dialogue.
+fn words_of(row: &Row) -> &'static str {
+    match (row.is_admitted(), row.is_ready(), row.is_held()) {
+        (true, true, true) => "admitted ready held",
+        (true, false, true) => "admitted held",
+        (false, true, true) => "ready held",
+        (false, false, true) => "held",
+        (false, false, false) => "gone",
+        _ => "not held, and not gone",
+    }
+}
+
+/// Writes what a dialogue is.
+fn push_state(out: &mut String, row: &Row) -> anyhow::Result<()> {
+    write!(out, "{}, {} places, ", words_of(row), row.places_taken())?;
+    match row.deadline() {
+        Some(deadline) => write!(out, "due {}", deadline.saturating_sub(NOON))?,
+        None => out.push_str("no deadline")?,
+    }
+    Ok(())
+}
+
+/// A dialogue is given a Clock.
+fn clock(row: &mut Row, moment: Moment, out: &mut String) -> anyhow::Result<()> {
+    let is_due = row.accept_clock(moment)?;
+    push_text(out, if is_due { "due" } else { "not due" })
+}
+
+/// One more frame of a dialogue was sent.
+fn sent(row: &mut Row, out: &mut String) -> anyhow::Result<()> {
+    push_text(out, if row.sent() { "sent" } else { "none" })
+}
+
+/// A dialogue is ended, while a frame of it is being sent if a text says more than who ends it.
+fn end(row: &mut Row, text: &str, out: &mut String) -> anyhow::Result<()> {
+    let (ending, sending) = first_word(text);
+    row.end(ending_of(ending)?, !sending.is_empty());
+    push_text(out, "ended")
+}
+
+impl Scene<'_> {
+    /// Opens a dialogue.
+    fn open(&mut self, text: &str, out: &mut String) -> anyhow::Result<()> {
+        let (local, rest) = first_word(text);
+        let (peer, birth) = first_word(rest);
+        let local = local_of(local)?;
+        let peer = peer_of(peer)?;
+        let row = Row::open(self.alloc, local, peer, birth.parse()?, self.moment);
+        self.place = self.rows.len();
+        self.rows.push(row)?;
+        push_text(out, "opened")
+    }
+
+    /// Goes to a dialogue, and writes which it is.
+    fn go(&mut self, number: &str, out: &mut String) -> anyhow::Result<()> {
+        let number: usize = number.parse()?;
+        self.place = number.saturating_sub(1);
+        match self.rows.get(self.place) {
+            Some(row) => push_dialogue(out, row.local(), row.peer(), row.birth()),
+            None => bail!("no dialogue"),
+        }
+    }
+
+    /// It is this number of milliseconds after noon now.
+    fn wait(&mut self, milliseconds: &str, out: &mut String) -> anyhow::Result<()> {
+        let milliseconds: u32 = milliseconds.parse()?;
+        self.moment = moment_after(milliseconds)?;
+        write!(out, "{milliseconds}")?;
+        Ok(())
+    }
+
+    /// Spends the turns that are out.
+    fn abandon(self) {
+        let Scene {
+            alloc: _,
+            table: _,
+            rows: _,
+            place: _,
+            moment: _,
+            turns,
+        } = self;
+        abandon_all(turns);
+    }
+
+    /// A step about a dialogue.
+    fn row_step(&mut self, verb: &str, rest: &str, out: &mut String) -> anyhow::Result<()> {
+        let (alloc, moment) = (self.alloc, self.moment);
+        let Some(row) = self.rows.get_mut(self.place) else {
+            bail!("no dialogue");
+        };
+        match verb {
+            "post" => post(alloc, self.table, moment, row, rest, out),
+            "state" => push_state(out, row),
+            "each" => each(alloc, row, out),
+            "take" => take(row, &mut self.turns, rest, out),
+            "give" => give(alloc, row, &mut self.turns, rest, out),
+            "put-back" => put_back(row, &mut self.turns, rest, out),
+            "clock" => clock(row, moment, out),
+            "sent" => sent(row, out),
+            "end" => end(row, rest, out),
+            _ => bail!("no step: {verb}"),
+        }
+    }
+}
+
+impl Steps for Scene<'_> {
+    fn step(&mut self, step: &str, out: &mut String) -> anyhow::Result<()> {
+        let (verb, rest) = first_word(step);
+        match verb {
+            "row" => self.open(rest, out),
+            "to" => self.go(rest, out),
+            "at" => self.wait(rest, out),
+            "show" => show(self.turns.as_slice(), rest, out),
+            "serve" => serve(self.alloc, &mut self.turns, rest, out),
+            "abandon" => abandon(&mut self.turns, rest, out),
+            _ => self.row_step(verb, rest, out),
+        }
+    }
+}
+
+/// Writes what the steps of a case answer.
+pub(crate) fn answer(
+    alloc: Global,
+    table: &Table,
+    script: &str,
+    out: &mut String,
+) -> anyhow::Result<()> {
+    let moment = moment_after(0)?;
+    let mut scene = Scene {
+        alloc,
+        table,
+        rows: Vec::new(alloc),
+        place: 0,
+        moment,
+        turns: Vec::new(alloc),
+    };
+    let answered = play(&mut scene, script, out);
+    scene.abandon();
+    answered
+}

@@ -1,0 +1,76 @@
+//! The lines of an input, each answered before the next one is taken.
+
+ghost use Rattle.std.specs.Prelude.{◌≡◌, IfErr, IfSome, OnOk};
+ghost use Rattle.std.specs.Io.KnownBytes.{IsAtEnd};
+ghost use Rattle.fp_ask.specs.Answering.{IsAt, RefusesOne, TakesOne, seen};
+ghost use Rattle.fp_ask.specs.Asked.{AnswersAll, CountsReads, CountsWrites, Reads, Stops};
+ghost use Rattle.fp_ask.specs.Lines.{at_start};
+
+use crate::AskFault;
+use crate::answerer::Answerer;
+use crate::line::MOST;
+use crate::output::write_frames;
+use crate::refusal::{Refusal, asked};
+use fp_apdu::Name;
+use fp_digits::Moment;
+use fp_records::Table;
+use fp_streams::{LinkRead, LinkWrite, TakesLine, follow_lines, line_feeds_end_lines};
+use std::alloc::Global;
+
+/// A link, what its lines are answered from, and the writer of the answers.
+pub(crate) struct Answering<'a, W> {
+    pub(crate) alloc: Global,
+    pub(crate) table: &'a Table,
+    pub(crate) contexts: &'a [Name],
+    pub(crate) answerer: &'a mut Answerer,
+    pub(crate) writer: &'a mut W,
+}
+
+impl<W: LinkWrite> TakesLine for Answering<'_, W> {
+    type Fault = Refusal;
+
+    ghost takes = { λ old has_line_feed line new.
+        TakesOne (seen W.contents W.failures old) line (seen W.contents W.failures new) };
+
+    ghost refuses = { λ old has_line_feed line refusal new.
+        RefusesOne (seen W.contents W.failures old) line refusal (seen W.contents W.failures new) };
+
+    /// Writes what is sent for a line, and flushes it.
+    fn take_line(&mut self, line: &[u8], _has_line_feed: bool) -> Result<(), Refusal> {
+        let taken = self
+            .answerer
+            .take_line(self.alloc, self.table, self.contexts, line)?;
+        let Some(frames) = taken else {
+            return Err(Refusal::BadLine);
+        };
+        write_frames(self.alloc, frames.as_slice(), self.writer)
+    }
+}
+
+impl<W: LinkWrite> Answering<'_, W> {
+    /// Answers each line of an input of which nothing was read, on a link to which nothing came before this moment.
+    pub(crate) fn answer_lines<R: LinkRead>(
+        &mut self,
+        moment: Moment,
+        most_reads: u64,
+        reader: &mut R,
+    ) -> Result<(), AskFault>
+        requires at { IsAt (at_start moment) self.old.answerer.now }
+        ensures same_writer { self.new.writer.ghost_name ≡ self.old.writer.ghost_name }
+        ensures end { OnOk result (IsAtEnd (R.remaining reader.new)) }
+        ensures answered { OnOk result (IfSome (R.remaining reader.old)
+            (AnswersAll self.old.table.now self.old.contexts.now moment
+            (W.contents self.old.writer.now) (W.contents self.new.writer.now))) }
+        ensures stopped { IfErr result (Stops self.old.table.now self.old.contexts.now moment
+            (R.remaining reader.old) (R.remaining reader.new)
+            (W.contents self.old.writer.now) (W.contents self.new.writer.now)) }
+        ensures within { Reads most_reads (R.remaining reader.old) (R.remaining reader.new)
+            (R.pieces reader.old) (R.pieces reader.new) result }
+        ensures reads { CountsReads result (R.failures reader.old) (R.failures reader.new) }
+        ensures writes { CountsWrites result
+            (W.failures self.old.writer.now) (W.failures self.new.writer.now) }
+    {
+        line_feeds_end_lines();
+        asked(follow_lines(self.alloc, MOST, most_reads, reader, self))
+    }
+}

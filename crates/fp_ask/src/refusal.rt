@@ -1,0 +1,44 @@
+//! Why a line isn't answered.
+
+ghost use Rattle.std.specs.Prelude.{◌≡◌};
+ghost use Rattle.fp_ask.specs.Asked.{asked_of};
+ghost use Rattle.fp_ask.specs.declared.refusal.Refusal.TheVariants.{Memory};
+
+use crate::AskFault;
+use fp_streams::LinesFault;
+use std::alloc::AllocError;
+
+/// Why a line isn't answered.
+#[derive(Clone, Copy, Debug)]
+pub(crate) enum Refusal {
+    /// It is no message and no wait, or waits past the last moment.
+    BadLine,
+    /// The device that is written to failed.
+    WriteFault,
+    /// An allocation failed.
+    Memory,
+}
+
+impl From<AllocError> for Refusal {
+    ghost from_gives = { λ _ refusal. refusal ≡ Memory };
+
+    fn from(_error: AllocError) -> Refusal {
+        Refusal::Memory
+    }
+}
+
+/// The result of `ask`, from that of `follow_lines`.
+pub(crate) fn asked(followed: Result<(), LinesFault<Refusal>>) -> Result<(), AskFault>
+    ensures { result ≡ asked_of followed }
+{
+    match followed {
+        Ok(()) => Ok(()),
+        Err(LinesFault::TooLong(number)) => Err(AskFault::BadLine(number)),
+        Err(LinesFault::Refused(number, Refusal::BadLine)) => Err(AskFault::BadLine(number)),
+        Err(LinesFault::Refused(_, Refusal::WriteFault)) => Err(AskFault::WriteFault),
+        Err(LinesFault::Refused(_, Refusal::Memory)) => Err(AskFault::Memory),
+        Err(LinesFault::ReadFault) => Err(AskFault::ReadFault),
+        Err(LinesFault::TurnLimit) => Err(AskFault::TurnLimit),
+        Err(LinesFault::Memory) => Err(AskFault::Memory),
+    }
+}

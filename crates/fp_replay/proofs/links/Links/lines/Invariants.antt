@@ -1,0 +1,11 @@
+use Rattle.std.proofs.Common.{◌≡◌, ℕ, List, string_bytes}
+use Rattle.fp_records.specs.Table.{Contents}
+use Rattle.fp_replay.specs.Making.{AreAfter}
+use Rattle.fp_replay.specs.Replayed.{report_of, totals_along}
+use Rattle.fp_steps.specs.History.{Event}
+use Rattle.fp_replay.proofs.links.Links.lines.Given as goal
+
+abbrev pub invariant-loop-link : goal.invariant-loop-link
+invariant-loop-link l =
+    (contents : Contents) (contexts : List (List ℕ)) (history : ℕ → List Event) → AreAfter contents contexts history l.self.runs.items
+    → string_bytes l.lines ≡ report_of l.link (totals_along history)

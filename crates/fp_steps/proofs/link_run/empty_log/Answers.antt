@@ -1,0 +1,13 @@
+use Rattle.std.proofs.Common.{refl, ◌∙◌, ap}
+use Rattle.fp_book.specs.Shelf.{Shelf}
+use Rattle.fp_steps.proofs.link_run.empty_log.Goals as goal
+
+pub loop-book-init : goal.loop-book-init
+loop-book-init c = (refl, c.requires.sound, c.requires.place)
+
+pub loop-book-preserved : goal.loop-book-preserved
+loop-book-preserved c = (
+  c.drop_line.ensures.rest ∙ ap (λ (s : Shelf). record s { log = c.drop_line.new.book.log }) c.loop-book.invariant.0,
+  c.drop_line.ensures.sound,
+  c.drop_line.ensures.place,
+)

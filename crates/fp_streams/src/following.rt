@@ -1,0 +1,144 @@
+//! The lines of a reader, each taken before the next one is looked for.
+
+ghost use Rattle.std.specs.Prelude.{◌≡◌, ◌<◌, ◌≤◌, ◌+◌, ◌^◌, ◌++◌, Some, MatchResult, length, slice_get, take};
+ghost use Rattle.fp_streams.specs.Feeding.{FeedStops, Feeds, RefusesLast, fault_at};
+ghost use Rattle.fp_streams.specs.Following.{Follows, IsLine, ReaderFailed, TakesLast};
+ghost use Rattle.fp_streams.specs.Line.{IsOneLine};
+
+use crate::{LinesFault, LinkRead, TakesLine};
+use std::alloc::Global;
+
+/// The most octets that one read may give.
+const MOST_READ: usize = 4096;
+
+/// Hands each line of a reader to `taker`, in their order, and each before the next read is made.
+///
+/// A line feed ends a line and is no part of it; the last line can end at the end of the input instead. A line has at
+/// most `most_octets` octets, and at most `most_reads` reads are made, of up to 4,096 octets each. A fault ends the
+/// call. The lines before it were taken, after [`LinesFault::Memory`] perhaps not all; what was read and not taken is
+/// lost.
+pub fn follow_lines<R: LinkRead, T: TakesLine>(
+    alloc: Global,
+    most_octets: usize,
+    most_reads: u64,
+    reader: &mut R,
+    taker: &mut T,
+) -> Result<(), LinesFault<T::Fault>>
+    ensures follows { Follows T.takes T.refuses most_octets most_reads
+        (R.remaining reader.old) (R.remaining reader.new) (R.pieces reader.old) (R.pieces reader.new)
+        taker.old taker.new result }
+    ensures failure { ReaderFailed result (R.failures reader.old) (R.failures reader.new) }
+{
+    let mut room = [0; MOST_READ];
+    let mut following = Following {
+        most_octets,
+        begun: Vec::new(alloc),
+        taken: 0,
+    };
+    for _read in 0..most_reads {
+        let Ok(count) = reader.read(&mut room) else {
+            return Err(LinesFault::ReadFault);
+        };
+        if count == 0 {
+            return match following.end(taker) {
+                Ok(()) => Ok(()),
+                Err(fault) => Err(LinesFault::Refused(following.taken + 1, fault)),
+            };
+        }
+        if let Err(stop) = following.feed(&room[..count], taker) {
+            return Err(stop.at(following.taken + 1));
+        }
+    }
+    Err(LinesFault::TurnLimit)
+}
+
+/// How far the lines of a reader were taken.
+#[derive(Drop)]
+struct Following {
+    most_octets: usize,
+    begun: Vec<u8>,
+    taken: u128,
+}
+
+impl Following {
+    /// Takes the lines that end in these octets, which were read, and keeps the octets after the last line feed.
+    fn feed<T: TakesLine>(&mut self, octets: &[u8], taker: &mut T) -> Result<(), Stop<T::Fault>>
+        requires begun { IsLine self.old.most_octets self.old.begun.items }
+        requires room { self.old.taken + length octets.now < 2 ^ 128 }
+        ensures most { self.new.most_octets ≡ self.old.most_octets }
+        ensures grown { self.new.taken ≤ self.old.taken + length octets.now }
+        ensures fed { MatchResult result
+            (λ _. Feeds T.takes self.old.most_octets taker.old taker.new
+            (self.old.begun.items ++ octets.now) self.old.taken self.new.taken self.new.begun.items)
+            (FeedStops T.takes T.refuses self.old.most_octets taker.old taker.new
+            (self.old.begun.items ++ octets.now) self.old.taken self.new.taken) }
+    {
+        let mut at = 0;
+        loop {
+            let rest = &octets[at..];
+            let count = line_length(rest);
+            if count > self.most_octets - self.begun.len() {
+                return Err(Stop::TooLong);
+            }
+            let Ok(()) = self.begun.extend_from_slice(&rest[..count]) else {
+                return Err(Stop::Memory);
+            };
+            if count == rest.len() {
+                return Ok(());
+            }
+            if let Err(fault) = taker.take_line(self.begun.as_slice(), true) {
+                return Err(Stop::Refused(fault));
+            }
+            self.begun.clear();
+            self.taken += 1;
+            at += count + 1;
+        }
+    }
+
+    /// The input ended: takes what was begun as the last line, if there is anything.
+    fn end<T: TakesLine>(&self, taker: &mut T) -> Result<(), T::Fault>
+        ensures { MatchResult result (λ _. TakesLast T.takes taker.old self.now.begun.items taker.new)
+            (λ fault. RefusesLast T.refuses taker.old self.now.begun.items fault taker.new) }
+    {
+        if self.begun.is_empty() {
+            return Ok(());
+        }
+        taker.take_line(self.begun.as_slice(), false)
+    }
+}
+
+/// Why no further line was taken of what was read.
+enum Stop<F> {
+    /// The next line is longer than a line may be.
+    TooLong,
+    /// The next line was refused, for this reason.
+    Refused(F),
+    /// An allocation failed.
+    Memory,
+}
+
+impl<F> Stop<F> {
+    /// The fault of the lines, the next of which has this number.
+    fn at(self, number: u128) -> LinesFault<F>
+        ensures { result ≡ fault_at number self }
+    {
+        match self {
+            Stop::TooLong => LinesFault::TooLong(number),
+            Stop::Refused(fault) => LinesFault::Refused(number, fault),
+            Stop::Memory => LinesFault::Memory,
+        }
+    }
+}
+
+/// The number of octets before the first line feed, or before the end.
+fn line_length(octets: &[u8]) -> usize
+    ensures most { result ≤ length octets.now }
+    ensures one_line { IsOneLine (take result octets.now) }
+    ensures line_feed { result < length octets.now → slice_get octets.now result ≡ Some 10 }
+{
+    let mut count = 0;
+    while count < octets.len() && octets[count] != b'\n' {
+        count += 1;
+    }
+    count
+}
