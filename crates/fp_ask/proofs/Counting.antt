@@ -6,6 +6,7 @@ use Rattle.fp_book.specs.Totals.{sum_of}
 use Rattle.fp_row.specs.declared.row.Row.{Row}
 use Rattle.fp_ask.specs.Tied.{Rows}
 
+-- nothing is added for any dialogue
 amount_zero : (o : Option Row) → amount zero_of o ≡ 0
 amount_zero None = refl
 amount_zero (Some row) = refl

@@ -1,6 +1,5 @@
 mod Arriving
 mod Asking
-mod Beginning
 mod Counting
 mod Dialogues
 mod DueOrder
@@ -10,7 +9,6 @@ mod OneText
 mod OneTurn
 mod Posting
 mod Resting
-mod Results
 mod Rows
 mod Texts
 mod Ticking

@@ -1,8 +1,8 @@
 -- What is written for one line more.
 use Rattle.std.proofs.Common.{◌≡◌, ℕ, ◌+◌, ◌<◌, Bool, true, false, cond, ◌&&◌, List, [], ◌∷◌, ◌++◌, length, Option, Some, None, refl, sym, ◌∙◌, ap, subst, arith, append_assoc, append-nil, length-drop}
-use Rattle.std.specs.Prelude.{codes, drop, is_some, nat_eq, nat_lt, nat_le, Result, Ok, Err}
+use Rattle.std.specs.Prelude.{codes, drop, nat_eq, nat_lt, nat_le, Result, Ok, Err}
 use Rattle.std.specs.List.{starts_with}
-use Rattle.std.proofs.lemmas.Bool.{false≢true, lt-leb, ltb-true}
+use Rattle.std.proofs.lemmas.Bool.{cond_both, lt-leb, ltb-true}
 use Rattle.hex.specs.Hex.{decode_of}
 use Rattle.hex.specs.declared.error.FromHexError.{FromHexError}
 use Rattle.hex.proofs.HexLemmas.{decode_of-ok}
@@ -13,16 +13,16 @@ use Rattle.fp_entry.specs.Prepared.{IsPrepared}
 use Rattle.fp_ask.specs.declared.answerer.Answerer.{Answerer}
 use Rattle.fp_ask.specs.Answering.{Answers, IsAt}
 use Rattle.fp_ask.specs.Solo.{is_read, post, tick}
-use Rattle.fp_ask.specs.Tied.{LinkFollows, Tells}
+use Rattle.fp_ask.specs.Tied.{LinkFollows}
 use Rattle.fp_ask.specs.Line.{Input, line_in, message, message_in, some_wait, text_of, wait, wait_in}
 use Rattle.fp_ask.specs.Lines.{IsBad, Solo, State, Takes, Written, written_at}
 use Rattle.fp_ask.proofs.Waits.{wait_in-over}
 
--- what is so behind two pieces of text
+-- what is so after two pieces of text
 abbrev pub both : Written → Written → Written
 both first rest = record { state = rest.state; text = first.text ++ rest.text }
 
--- good lines, and a good one behind them
+-- good lines, and a good one after them
 pub solo_more : (contents : Contents) (contexts : List (List ℕ)) (state : State) (lines : List (List ℕ)) (line : List ℕ) (written more : Written)
     → Solo contents contexts state lines written → Takes contents contexts written.state (line_in line) more
     → Solo contents contexts state (lines ++ line ∷ []) (both written more)
@@ -43,15 +43,12 @@ solo_more contents contexts state (first ∷ lines) line written more (t, rest, 
       ap (λ (x : Written). both x more) e ∙ ap (λ (l : List ℕ). record { state = more.state; text = l }) (append_assoc t.text rest.text more.text),
     )
 
-no_wait : (text : List ℕ) → 8192 < length text → wait_in (drop 1 text) ≡ None
-no_wait text long =
-    let size = length-drop 1 text in
-    wait_in-over (drop 1 text) (omega (arith, size, long))
-
+-- what a test that fails would give is none,
 none_if : (a b : Bool) (m : Input) → b ≡ false → cond {A = Option Input} (a && b) (Some m) None ≡ None
 none_if true b m e = ap (λ x. cond {A = Option Input} x (Some m) None) e
 none_if false b m e = refl
 
+-- as the message of a line of more than 8,192 characters
 no_message : (text : List ℕ) (r : Result (List ℕ) FromHexError) → decode_of text ≡ r → 8192 < length text → message_in r ≡ None
 no_message text (Ok octets) e long =
     let size = (decode_of-ok text octets e).2 in
@@ -59,13 +56,11 @@ no_message text (Ok octets) e long =
     none_if (nat_le 1 (length octets)) (nat_le (length octets) 4096) (message octets) most
 no_message text (Err e') e long = refl
 
-by_start : (b : Bool) (text : List ℕ) → 8192 < length text → cond {A = Option Input} b (some_wait (wait_in (drop 1 text))) (message_in (decode_of text)) ≡ None
-by_start true text long = ap some_wait (no_wait text long)
-by_start false text long = no_message text (decode_of text) refl long
-
 -- a line of more than 8,192 characters is bad
 pub long_is_bad : (state : State) (line : List ℕ) → 8192 < length line → IsBad state (line_in line)
-long_is_bad state line long = subst (IsBad state) (sym (by_start (starts_with nat_eq line (codes "+")) line long)) tt
+long_is_bad state line long = cond_both (starts_with nat_eq line (codes "+")) (some_wait (wait_in (drop 1 line))) (message_in (decode_of line)) (IsBad state)
+    (λ _. subst (λ o. IsBad state (some_wait o)) (sym (wait_in-over (drop 1 line) (omega (arith, length-drop 1 line, long)))) tt)
+    (λ _. subst (IsBad state) (sym (no_message line (decode_of line) refl long)) tt)
 
 -- a message was taken
 pub taken_message : (contents : Contents) (contexts : List (List ℕ)) (state : State) (line octets : List ℕ) (came : Prepared) (frames : List (List ℕ)) (old new : Answerer)
@@ -94,27 +89,18 @@ pub taken_wait : (contents : Contents) (contexts : List (List ℕ)) (state : Sta
 taken_wait contents contexts state line milliseconds moment frames old new is at in_time later follows then =
     let goes = follows state.link at.tells in
     let moment_is : moment ≡ state.moment + milliseconds = later ∙ ap (λ m. m + milliseconds) (sym at.moment) in
-    let outcome = tick state.link moment in
-    let written = written_at (state.moment + milliseconds) (tick state.link (state.moment + milliseconds)) in
     record {
-      written = written;
-      takes = subst (λ i. Takes contents contexts state i written) (sym is) (record {
+      written = written_at moment (tick state.link moment);
+      takes = subst (λ i. Takes contents contexts state i (written_at moment (tick state.link moment))) (sym is) (record {
         in_time = subst (λ m. m + milliseconds < END) (sym at.moment) in_time;
-        written_is = refl;
+        written_is = λ i. written_at (moment_is i) (tick state.link (moment_is i));
       });
-      text = ap text_of (ap (λ m. (tick state.link m).frames) (sym moment_is) ∙ sym goes.frames_are);
-      at = record {
-        moment = sym moment_is ∙ sym then;
-        tells = subst (λ m. Tells (tick state.link m).link new.link) moment_is goes.tells;
-      };
+      text = ap text_of (sym goes.frames_are);
+      at = record { moment = sym then; tells = goes.tells };
     }
 
-by_time : (b : Bool) (moment milliseconds later : ℕ) → nat_lt (moment + milliseconds) END ≡ b
-    → cond {A = Option ℕ} b (Some (moment + milliseconds)) None ≡ Some later → (moment + milliseconds < END) × (later ≡ moment + milliseconds)
-by_time true moment milliseconds later is e = (ltb-true (moment + milliseconds) END is, (let n : moment + milliseconds ≡ later = cc in sym n))
-by_time false moment milliseconds later is e = absurd (false≢true (ap is_some e))
-
--- where there is a moment so much later, it is that
+-- if there is a moment that much later, it is that
 pub in_time : (moment milliseconds later : ℕ) → cond {A = Option ℕ} (nat_lt (moment + milliseconds) END) (Some (moment + milliseconds)) None ≡ Some later
     → (moment + milliseconds < END) × (later ≡ moment + milliseconds)
-in_time moment milliseconds later e = by_time (nat_lt (moment + milliseconds) END) moment milliseconds later refl e
+in_time moment milliseconds later = cond_both (nat_lt (moment + milliseconds) END) (Some (moment + milliseconds)) None
+    (λ o. o ≡ Some later → (moment + milliseconds < END) × (later ≡ moment + milliseconds)) (λ is e. (ltb-true (moment + milliseconds) END is, cc)) (λ _ e. absurd (cc))

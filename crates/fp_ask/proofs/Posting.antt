@@ -1,7 +1,8 @@
 -- What is done with a message, by the book and by the list.
 use Rattle.std.proofs.Common.{◌≡◌, ℕ, Bool, true, false, cond, ◌||◌, ◌+◌, ◌≤◌, nat_lt, Option, Some, None, length, refl, sym, ◌∙◌, ap, subst, zero-add, arith}
 use Rattle.std.specs.FinMap as fin
-use Rattle.std.proofs.lemmas.Bool.{false≢true, le-ltb, ltb-false}
+use Rattle.std.proofs.lemmas.Bool.{false≢true}
+use Rattle.std.proofs.lemmas.Bool.Decides.{nat_tests}
 use Rattle.fp_book.specs.declared.answers.Receipt.{Receipt}
 use Rattle.fp_book.specs.declared.verdict.Verdict.{Verdict}
 use Rattle.fp_book.specs.declared.verdict.Verdict.TheVariants.{Discard, Refuse, Open, Extend}
@@ -13,78 +14,63 @@ use Rattle.fp_book.specs.Verdict as book
 use Rattle.fp_book.proofs.Fits.{verdict_allowed}
 use Rattle.fp_book.proofs.Lines.{first_line_decides}
 use Rattle.fp_entry.specs.declared.arrival.Arrival.{Arrival}
+use Rattle.fp_entry.specs.declared.fault.Fault.{Fault}
 use Rattle.fp_entry.specs.declared.incoming.Incoming.{Incoming}
 use Rattle.fp_entry.specs.declared.prepared.Prepared.{Prepared}
 use Rattle.fp_entry.specs.declared.prepared.Prepared.TheVariants.{Message, Refused, Lost}
 use Rattle.fp_entry.specs.Entries.{place_count}
-use Rattle.fp_entry.specs.Prepared.{arrival_of}
 use Rattle.fp_q773.specs.declared.kind.Kind.{Kind}
-use Rattle.fp_q773.specs.declared.kind.Kind.TheVariants.{Unidirectional, Begin, End, Continue, Abort, Unknown}
-use Rattle.fp_q773.specs.declared.provider_abort.AbortCause.TheVariants as cause
+use Rattle.fp_q773.specs.declared.provider_abort.AbortCause.{AbortCause}
 use Rattle.fp_q773.specs.Tid.{Tid}
-use Rattle.fp_ask.specs.Solo.{LinkState, begun, came as came_of, is_read, is_too_much, misread, no_dialogue_left, opened, post, refused, too_many, too_many_entries, is_full}
+use Rattle.fp_ask.specs.Solo.{LinkState, begun, came as came_of, is_read, is_too_much, misread, no_dialogue_left, opened, post, refused, too_many, too_many_entries}
 use Rattle.fp_ask.specs.Tied.{Came, Fit, IsOfFrame, Matches, Rest}
 use Rattle.fp_ask.proofs.Arriving.{done, follows_came, follows_fit}
 use Rattle.fp_ask.proofs.Resting.{dialogue_test, full_test, named_test, place_test}
 
+-- the same test leads to the same outcome
 by_test : (a b : Bool) (x y : Verdict) (w : LinkState) (came : Prepared) → a ≡ b → cond a (done x w came) (done y w came) ≡ done (cond b x y) w came
 by_test a true x y w came e = ap (λ t. cond t (done x w came) (done y w came)) e
 by_test a false x y w came e = ap (λ t. cond t (done x w came) (done y w came)) e
 
 -- of a message that was read its elements alone decide whether it has too many
-few_by : (b : Bool) (elements entries : ℕ) → nat_lt 16 elements ≡ b → entries ≤ elements + 1 → b ≡ (b || nat_lt 17 entries)
-few_by true elements entries e few = refl
-few_by false elements entries e few = sym (le-ltb 17 entries (let most = ltb-false 16 elements e in omega (arith, few, most)))
-
 few_enough : (elements entries : ℕ) → entries ≤ elements + 1 → nat_lt 16 elements ≡ (nat_lt 16 elements || nat_lt 17 entries)
-few_enough elements entries few = few_by (nat_lt 16 elements) elements entries refl few
+few_enough elements entries few = grind (arith, nat_tests)
 
 module _ (s : Shelf) (w : LinkState) (r : Rest s) (m : Matches w s) (arrival : Arrival) (incoming : Incoming) (known : IsAsRead arrival incoming) where
+  -- too many elements,
   many_test : too_many incoming ≡ book.too_many incoming
   many_test = few_enough incoming.elements (length incoming.entries) known.few
 
+  -- no place for one more dialogue,
   open_test : (too_many incoming || (no_dialogue_left w || too_many_entries incoming)) ≡ (book.too_many incoming || (book.no_dialogue_left s || book.no_place_left None (place_count incoming.entries)))
-  open_test =
-      ap (λ b. b || (no_dialogue_left w || too_many_entries incoming)) many_test
-      ∙ ap (λ b. book.too_many incoming || (b || too_many_entries incoming)) (dialogue_test s w r m)
-      ∙ ap (λ n. book.too_many incoming || (book.no_dialogue_left s || nat_lt 64 n)) (sym (zero-add (place_count incoming.entries)))
+  open_test = λ i. many_test i || (dialogue_test s w r m i || nat_lt 64 (sym (zero-add (place_count incoming.entries)) i))
 
+  -- a Begin,
   begun_is : (o : Option Tid) → arrival.ids.orig ≡ o → begun w o arrival.moment incoming ≡ done (book.begin_of s o incoming) w (Message arrival incoming)
   begun_is None e = refl
   begun_is (Some peer) e =
-      ap (λ o. cond (too_many incoming || (no_dialogue_left w || too_many_entries incoming)) (refused w (Some cause.ResourceLimitation) None o) (opened w peer arrival.moment incoming.entries)) (sym e)
-      ∙ by_test _ _ (Refuse (Some cause.ResourceLimitation) None) (Open peer) w (Message arrival incoming) open_test
+      ap (λ o. cond (too_many incoming || (no_dialogue_left w || too_many_entries incoming)) (refused w (Some AbortCause.ResourceLimitation) None o) (opened w peer arrival.moment incoming.entries)) (sym e)
+      ∙ by_test _ _ (Refuse (Some AbortCause.ResourceLimitation) None) (Open peer) w (Message arrival incoming) open_test
 
+  -- no place for more entries,
   more_test : (local : ℕ) → is_too_much w incoming ≡ (book.too_many incoming || (book.no_place_left (fin.get s.rows local) (place_count incoming.entries) || book.is_full s))
-  more_test local =
-      ap (λ b. b || (too_many_entries incoming || is_full w)) many_test
-      ∙ ap (λ b. book.too_many incoming || (too_many_entries incoming || b)) (full_test s w m)
-      ∙ ap (λ b. book.too_many incoming || (b || book.is_full s)) (sym (place_test s r local (place_count incoming.entries)))
+  more_test local = λ i. many_test i || (sym (place_test s r local (place_count incoming.entries)) i || full_test s w m i)
 
-  one_entry : arrival.ids.kind ≡ Abort → false ≡ nat_lt 1 (length incoming.entries)
-  one_entry is = ap (nat_lt 1) (sym (known.aborts is))
-
+  -- and any message
   message_is : (kind : Kind) (dialogue : Option ℕ) → arrival.ids.kind ≡ kind → came_of w arrival.ids arrival.moment incoming kind dialogue ≡ done (book.message_of s arrival.ids incoming kind dialogue) w (Message arrival incoming)
-  message_is Unidirectional dialogue is = refl
-  message_is Begin dialogue is = begun_is arrival.ids.orig refl
-  message_is Continue None is = refl
-  message_is Continue (Some local) is = by_test _ _ (Refuse (Some cause.ResourceLimitation) (Some local)) (Extend local false) w (Message arrival incoming) (more_test local)
-  message_is End None is = refl
-  message_is End (Some local) is = by_test _ _ (Refuse (Some cause.ResourceLimitation) (Some local)) (Extend local true) w (Message arrival incoming) (more_test local)
-  message_is Abort None is = refl
-  message_is Abort (Some local) is = by_test false (nat_lt 1 (length incoming.entries)) (Refuse None (Some local)) (Extend local true) w (Message arrival incoming) (one_entry is)
-  message_is Unknown dialogue is = refl
+  message_is Kind.Begin dialogue is = begun_is arrival.ids.orig refl
+  message_is Kind.Continue (Some local) is = by_test _ _ (Refuse (Some AbortCause.ResourceLimitation) (Some local)) (Extend local false) w (Message arrival incoming) (more_test local)
+  message_is Kind.End (Some local) is = by_test _ _ (Refuse (Some AbortCause.ResourceLimitation) (Some local)) (Extend local true) w (Message arrival incoming) (more_test local)
+  message_is Kind.Abort (Some local) is =
+      by_test false (nat_lt 1 (length incoming.entries)) (Refuse None (Some local)) (Extend local true) w (Message arrival incoming) (ap (nat_lt 1) (sym (known.aborts is)))
+  message_is kind dialogue is = refl
 
-misread_is : (w : LinkState) (arrival : Arrival) (came : Prepared) → arrival_of came ≡ arrival → (kind : Kind) (dialogue : Option ℕ) → misread w arrival.ids kind dialogue ≡ done (book.refused_of kind dialogue) w came
-misread_is w arrival came e Unidirectional dialogue = refl
-misread_is w arrival came e Begin dialogue = ap (λ (a : Arrival). refused w (Some cause.BadlyFormattedTransactionPortion) dialogue a.ids.orig) (sym e)
-misread_is w arrival came e End dialogue = ap (λ (a : Arrival). refused w (Some cause.BadlyFormattedTransactionPortion) dialogue a.ids.orig) (sym e)
-misread_is w arrival came e Continue dialogue = ap (λ (a : Arrival). refused w (Some cause.BadlyFormattedTransactionPortion) dialogue a.ids.orig) (sym e)
-misread_is w arrival came e Abort dialogue = ap (λ (a : Arrival). refused w (Some cause.BadlyFormattedTransactionPortion) dialogue a.ids.orig) (sym e)
-misread_is w arrival came e Unknown dialogue = ap (λ (a : Arrival). refused w (Some cause.UnrecognizedMessageType) dialogue a.ids.orig) (sym e)
+-- octets that are no message that is taken
+misread_is : (w : LinkState) (arrival : Arrival) (fault : Fault) (kind : Kind) (dialogue : Option ℕ) → misread w arrival.ids kind dialogue ≡ done (book.refused_of kind dialogue) w (Refused arrival fault)
+misread_is w arrival fault Kind.Unidirectional dialogue = refl
+misread_is w arrival fault kind dialogue = refl
 
--- the message was read, or refused
-
+-- on a link that is up the kind of the message decides
 up_verdict : (s : Shelf) (came : Prepared) → s.is_down ≡ false → book.verdict s came ≡ book.arrived s came
 up_verdict s came up = sym (first_line_decides s came) ∙ ap (λ b. cond b Discard (book.arrived s came)) up
 
@@ -97,13 +83,14 @@ post_is s w (Message arrival incoming) law of r m is =
     ∙ ap (λ v. done v w (Message arrival incoming)) (sym (up_verdict s (Message arrival incoming) r.served.fit.up))
 post_is s w (Refused arrival fault) law of r m is =
     ap (misread w arrival.ids arrival.ids.kind) (named_test s w m arrival.ids)
-    ∙ misread_is w arrival (Refused arrival fault) refl arrival.ids.kind (book.named s arrival.ids)
+    ∙ misread_is w arrival fault arrival.ids.kind (book.named s arrival.ids)
     ∙ ap (λ v. done v w (Refused arrival fault)) (sym (up_verdict s (Refused arrival fault) r.served.fit.up))
 post_is s w (Lost arrival) law of r m is = absurd (false≢true is)
 
 -- A MESSAGE FOR WHICH THERE WAS MEMORY
 
-module _ (s new : Shelf) (came : Prepared) (receipt : Receipt) (r : Rest s) (is : IsReceipt s came receipt new) (kept : receipt.lost ≡ false) where
+module _ {s new : Shelf} {came : Prepared} {receipt : Receipt} (r : Rest s) (is : IsReceipt s came receipt new) (kept : receipt.lost ≡ false) where
+  -- so the book did what it does with the message as it came
   followed : Follows (book.verdict s came) s came receipt.posted new
   followed = subst (λ lost. Follows (book.verdict s (treated_as lost came)) s (treated_as lost came) receipt.posted new) kept is.follows
 
@@ -111,7 +98,7 @@ module _ (s new : Shelf) (came : Prepared) (receipt : Receipt) (r : Rest s) (is 
   pub posted_fit : Sound new → Fit new
   posted_fit sound = follows_fit (book.verdict s came) s new came receipt.posted r sound (verdict_allowed s came) followed
 
-  -- and is told by the list
+  -- and is described by the list
   pub posted_came : (w : LinkState) → ReadMessagesHaveFewEntries → IsOfFrame came → Matches w s → is_read came ≡ true → Came (post w came) new
   posted_came w law of m read =
       subst (λ p. Came p new) (sym (post_is s w came law of r m read)) (follows_came (book.verdict s came) s new w came receipt.posted r m (verdict_allowed s came) followed)

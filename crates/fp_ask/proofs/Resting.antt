@@ -2,12 +2,11 @@
 use Rattle.std.proofs.Common.{◌≡◌, ℕ, ◌≤◌, ◌+◌, Bool, true, false, cond, eqb, not, ◌&&◌, ◌||◌, nat_eq, nat_le, nat_lt, ◌^◌, Option, Some, None, is_some, List, [], ◌∷◌, ◌++◌, length, drop, refl, sym, ◌∙◌, ap, arith, append-nil, zero-add}
 use Rattle.std.specs.FinMap as fin
 use Rattle.std.specs.Option.{option_and_then, option_map_or}
-use Rattle.std.proofs.lemmas.Bool.{eq-eqb, false≢true, ltb-true}
+use Rattle.std.proofs.lemmas.Bool.{cond_both, eq-eqb}
+use Rattle.std.proofs.lemmas.Bool.Decides.{nat_tests}
 use Rattle.std.proofs.lemmas.List.{length-take-le}
-use Rattle.fp_book.specs.Outbox.{Outbox, nothing}
 use Rattle.fp_book.specs.Shelf.{Shelf, Sound, of_row, ready_count, unsent_for}
 use Rattle.fp_book.specs.Verdict as book
-use Rattle.fp_book.proofs.Changes.{count}
 use Rattle.fp_book.proofs.Sums.{len-sum, removed, sum-none}
 use Rattle.fp_entry.specs.declared.entry.Entry.{Entry}
 use Rattle.fp_entry.specs.Entries.{place_count}
@@ -22,19 +21,11 @@ use Rattle.fp_tids.specs.Identifiers.{identifier}
 use Rattle.fp_ask.specs.Solo.{Dialogue, LinkState, found, going, is_full, named, no_dialogue_left}
 use Rattle.fp_ask.specs.Tied.{Matches, Rest, Rows, Same, is_out, live, dialogue_of, times}
 use Rattle.fp_ask.proofs.Rows.{none_waits}
-use Rattle.fp_ask.proofs.Dialogues.{by_number, swapped, times-cons, unit}
+use Rattle.fp_ask.proofs.Dialogues.{by_number, count, none_if, swapped, times-cons, unit}
 
-not_one : (b : Bool) → 0 ≡ cond {A = ℕ} b 1 0 → b ≡ false
-not_one true h = absurd (omega (arith, h))
-not_one false h = refl
-
--- no dialogue is ready
-pub nothing_ready : (s : Shelf) (d : ℕ) (row : Row) → Sound s → s.ready ≡ [] → fin.get s.rows d ≡ Some row → is_ready row ≡ false
-nothing_ready s d row k none was = not_one (is_ready row) (sym (ap (count d) none) ∙ k.ready d ∙ ap ready_count was)
-
+-- of a dialogue that is not ready, and of which no turn is out, nothing waits
 waits_by : (out waits : Bool) → out ≡ false → (not out && waits) ≡ false → waits ≡ false
-waits_by true waits o h = absurd (false≢true (sym o))
-waits_by false waits o h = h
+waits_by out waits o h = grind (arith, nat_tests)
 
 -- as many frames were sent as are counted, and kept as are counted
 all_sent : (row : Row) → sent_of row ≡ kept_of row → row.sent ≡ row.kept
@@ -43,18 +34,13 @@ all_sent row same =
     let kept : row.kept ≤ n = omega (arith, row.kept_within, queued_within row) in
     omega (arith, ap length same, length-take-le row.sent (frames_of row) (sent_within row), length-take-le row.kept (frames_of row) kept)
 
-nothing_unsent : (d : ℕ) (outbox : Outbox) → outbox ≡ nothing → unsent_for d outbox ≡ []
-nothing_unsent d outbox e = ap (unsent_for d) e
-
+-- what is held only because it takes messages takes them
 held_by : (a o w k : Bool) → (a || (o || (w || k))) ≡ true → o ≡ false → w ≡ false → k ≡ false → a ≡ true
-held_by true o w k h x y z = refl
-held_by false true w k h x y z = absurd (false≢true (sym x))
-held_by false false true k h x y z = absurd (false≢true (sym y))
-held_by false false false true h x y z = absurd (false≢true (sym z))
-held_by false false false false h x y z = absurd (false≢true h)
+held_by a o w k h x y z = grind (arith, nat_tests)
 
+-- equal numbers are not less
 not_less : (m n : ℕ) → m ≡ n → nat_lt m n ≡ false
-not_less m n e = grind (arith, ltb-true)
+not_less m n e = grind (arith, nat_tests)
 
 -- what is known of a dialogue then
 pub record Quiet (row : Row) : Type 0 where
@@ -62,43 +48,36 @@ pub record Quiet (row : Row) : Type 0 where
   pub unready : is_ready row ≡ false
   pub waiting : waiting_of row ≡ []
   pub admitted : is_admitted row ≡ true
-  pub ended : row.ended ≡ None
   pub unserved : unserved row ≡ []
 
+-- if nothing waits everything was served
 unserved_by : (ended : Option Ending) (over out : Bool) (xs : List Entry) → (not (is_some ended) && not over) ≡ true → out ≡ false
     → cond (is_closed ended || over) [] (drop (cond {A = ℕ} out 1 0) xs) ≡ [] → xs ≡ []
-unserved_by (Some ending) over out xs a o h = absurd (false≢true a)
-unserved_by None true out xs a o h = absurd (false≢true a)
-unserved_by None false true xs a o h = absurd (false≢true (sym o))
 unserved_by None false false xs a o h = h
+unserved_by ended over out xs a o h = absurd (cc)
 
-ended_by : (ended : Option Ending) (over : Bool) → (not (is_some ended) && not over) ≡ true → ended ≡ None
-ended_by None over h = refl
-ended_by (Some ending) over h = absurd (false≢true h)
-
+-- it is known of each dialogue that is held
 pub quiet : (s : Shelf) → Rest s → (d : ℕ) (row : Row) → fin.get s.rows d ≡ Some row → Quiet row
 quiet s r d row was =
     let sound = r.served.fit.sound in
     let out : row.is_out ≡ false = sym (ap is_out was) ∙ r.served.fit.idle d in
-    let unready : is_ready row ≡ false = nothing_ready s d row sound r.served.ready was in
-    let waits_none : waits row ≡ false = waits_by row.is_out (waits row) out unready in
+    let unready : is_ready row ≡ false = none_if (is_ready row) (sym (sound.ready d ∙ ap ready_count was) ∙ ap (count d) r.served.ready) in
     let none = none_waits row out unready in
     let frames : sent_of row ≡ kept_of row =
-    sym (append-nil (sent_of row)) ∙ ap (λ u. sent_of row ++ u) (sym (nothing_unsent d s.outbox r.outbox))
-    ∙ ap (λ o. of_row sent_of o ++ unsent_for d s.outbox) (sym was) ∙ sound.frames d ∙ ap (of_row kept_of) was in
+    sym (append-nil (sent_of row)) ∙ (λ i. of_row sent_of (sym was i) ++ unsent_for d (sym r.outbox i)) ∙ sound.frames d ∙ ap (of_row kept_of) was in
     let admitted : is_admitted row ≡ true =
-    held_by (is_admitted row) row.is_out (waits row) (nat_lt row.sent row.kept) (sound.own d row was).is_left out waits_none (not_less row.sent row.kept (all_sent row frames)) in
+    held_by (is_admitted row) row.is_out (waits row) (nat_lt row.sent row.kept) (sound.own d row was).is_left out (waits_by row.is_out (waits row) out unready) (not_less row.sent row.kept (all_sent row frames)) in
     record {
       is_out = out;
       unready = unready;
       waiting = none;
       admitted = admitted;
-      ended = ended_by row.ended (is_over row.core) admitted;
       unserved = unserved_by row.ended (is_over row.core) row.is_out (unserved row) admitted out none;
     }
 
 -- THE TESTS OF A BOOK ARE THOSE OF THE LIST
 
+-- no entry takes a place
 places_none : (s : Shelf) → Rest s → (d : ℕ) (o : Option Row) → fin.get s.rows d ≡ o → option_map_or places_taken o 0 ≡ 0
 places_none s r d None was = refl
 places_none s r d (Some row) was = ap place_count (quiet s r d row was).unserved
@@ -108,27 +87,29 @@ pub place_test : (s : Shelf) → Rest s → (d places : ℕ) → book.no_place_l
 place_test s r d places =
     ap (λ n. nat_lt 64 (n + places)) (places_none s r d (fin.get s.rows d) refl) ∙ ap (nat_lt 64) (zero-add places)
 
--- a dialogue that stands in no list isn't found
-none_found : (b : Bool) (t : Dialogue) (d : ℕ) (rest : Option Dialogue) → eqb t.local d ≡ b → unit b ≡ 0 → rest ≡ None → cond b (Some t) rest ≡ None
-none_found true t d rest e n h = absurd (omega (arith, n))
-none_found false t d rest e n h = h
-
+-- a dialogue that is in no list isn't found,
 pub not_found : (d : ℕ) (dialogues : List Dialogue) → times d dialogues ≡ 0 → found d dialogues ≡ None
 not_found d [] h = refl
-not_found d (t ∷ dialogues) h =
-    let parts = times-cons d t dialogues in
-    none_found (eqb t.local d) t d (found d dialogues) refl (omega (arith, h, parts)) (not_found d dialogues (omega (arith, h, parts)))
+not_found d (t ∷ dialogues) h = cond_both (eqb t.local d) (Some t) (found d dialogues) (λ o. o ≡ None)
+    (λ e. absurd (omega (arith, ap unit e, h, times-cons d t dialogues))) (λ _. not_found d dialogues (omega (arith, h, times-cons d t dialogues)))
+
+-- and one that isn't found is in no list
+pub stands_nowhere : (d : ℕ) (dialogues : List Dialogue) → found d dialogues ≡ None → times d dialogues ≡ 0
+stands_nowhere d [] h = refl
+stands_nowhere d (t ∷ dialogues) h = grind (arith, times-cons, stands_nowhere d dialogues)
 
 found_first : (t : Dialogue) (dialogues : List Dialogue) → found t.local (t ∷ dialogues) ≡ Some t
 found_first t dialogues = ap (λ b. cond b (Some t) (found t.local dialogues)) (eq-eqb t.local t.local refl)
 
+-- a dialogue of the list is held,
 live_some : (o : Option Row) (t : Dialogue) → live o ≡ Some t → (row : Row) × (o ≡ Some row)
 live_some None t e = absurd (cc)
 live_some (Some row) t e = (row, refl)
 
+-- and one that is held is in the list
 live_none : (o : Option Row) → ((row : Row) → o ≡ Some row → is_admitted row ≡ true) → live o ≡ None → o ≡ None
 live_none None h e = refl
-live_none (Some row) h e = absurd (let is : live (Some row) ≡ Some (dialogue_of row) = ap (λ b. cond b (Some (dialogue_of row)) None) (h row refl) in let clash : None ≡ Some (dialogue_of row) = sym e ∙ is in cc)
+live_none (Some row) h e = grind (arith, h row refl)
 
 abbrev AllGoOn : Rows → Type 0
 AllGoOn rows = (d : ℕ) (row : Row) → fin.get rows d ≡ Some row → is_admitted row ≡ true
@@ -164,13 +145,10 @@ full_test s w m = ap (λ n. nat_le (2 ^ 63) n) m.entries
 -- no further dialogue
 pub dialogue_test : (s : Shelf) (w : LinkState) → Rest s → Matches w s → no_dialogue_left w ≡ book.no_dialogue_left s
 dialogue_test s w r m =
-    ap (λ n. nat_le 4096 n || (nat_eq (w.births + 1) (2 ^ 29) || is_full w)) (size_is s w r m)
-    ∙ ap (λ n. nat_le 4096 (fin.len s.rows) || (nat_eq (n + 1) (2 ^ 29) || is_full w)) (m.births ∙ r.served.fit.sound.births)
-    ∙ ap (λ b. nat_le 4096 (fin.len s.rows) || (nat_eq (s.given + 1) (2 ^ 29) || b)) (full_test s w m)
+    λ i. nat_le 4096 (size_is s w r m i) || (nat_eq ((m.births ∙ r.served.fit.sound.births) i + 1) (2 ^ 29) || full_test s w m i)
 
 some_by : (b : Bool) (t : Dialogue) → is_some (cond b (Some t) None) ≡ b
-some_by true t = refl
-some_by false t = refl
+some_by b t = grind arith
 
 some_live : (o : Option Row) → is_some (live o) ≡ option_map_or is_admitted o false
 some_live None = refl
@@ -186,17 +164,6 @@ named_by s w m (Some d) = going_test s w m d
 -- the dialogue that a message names
 pub named_test : (s : Shelf) (w : LinkState) → Matches w s → (ids : Ids) → named w ids ≡ book.named s ids
 named_test s w m ids = named_by s w m (option_and_then (λ tid. book.number_of (octets_of tid)) ids.dest)
-
--- one that isn't found stands nowhere
-stands_by : (b : Bool) (t : Dialogue) (rest : Option Dialogue) → cond b (Some t) rest ≡ None → (b ≡ false) × (rest ≡ None)
-stands_by true t rest e = absurd (cc)
-stands_by false t rest e = (refl, e)
-
-pub stands_nowhere : (d : ℕ) (dialogues : List Dialogue) → found d dialogues ≡ None → times d dialogues ≡ 0
-stands_nowhere d [] h = refl
-stands_nowhere d (t ∷ dialogues) h =
-    let parts = stands_by (eqb t.local d) t (found d dialogues) h in
-    omega (arith, times-cons d t dialogues, ap unit parts.0, stands_nowhere d dialogues parts.1)
 
 -- no dialogue has the identifier of the next one
 next_free : (s : Shelf) (o : Option Row) → Sound s → fin.get s.rows (identifier s.link (s.given + 1)) ≡ o → o ≡ None

@@ -1,15 +1,11 @@
 -- The lines of some of the frames, and those of all.
-use Rattle.std.proofs.Common.{◌≡◌, ℕ, List, [], ◌∷◌, ◌++◌, Option, drop, take, refl, sym, ◌∙◌, ap, append_assoc}
+use Rattle.std.proofs.Common.{◌≡◌, ℕ, List, ◌∷◌, ◌++◌, Option, drop, take, sym, ◌∙◌, ap, append_assoc}
 use Rattle.std.specs.Io.KnownBytes.{Appends}
 use Rattle.std.proofs.KnownBytes.{Appends-trans}
 use Rattle.std.proofs.lemmas.List.{take-append-drop}
+use Rattle.std.proofs.lemmas.List.Concat.{flat_map-append}
 use Rattle.fp_streams.specs.Write.{AppendsFront}
 use Rattle.fp_ask.specs.Line.{line_for, text_of}
-
--- the lines of two lists of frames, one behind the other
-pub text_append : (a b : List (List ℕ)) → text_of (a ++ b) ≡ text_of a ++ text_of b
-text_append [] b = refl
-text_append (frame ∷ a) b = ap (λ l. line_for frame ++ l) (text_append a b) ∙ sym (append_assoc (line_for frame) (text_of a) (text_of b))
 
 -- the lines of the first frames are a front of those of all
 pub first_front : (old new : Option (List ℕ)) (i : ℕ) (frames : List (List ℕ)) → Appends old new (text_of (take i frames)) → AppendsFront old new (text_of frames)
@@ -17,7 +13,7 @@ first_front old new i frames wrote = record {
   front = text_of (take i frames);
   rest = text_of (drop i frames);
   wrote = wrote;
-  whole = sym (text_append (take i frames) (drop i frames)) ∙ ap text_of (take-append-drop i frames);
+  whole = sym (flat_map-append line_for (take i frames) (drop i frames)) ∙ ap text_of (take-append-drop i frames);
 }
 
 -- and so are those and a front of the next frame's
@@ -29,7 +25,6 @@ more_front old mid new i frames frame rest wrote next f = record {
   wrote = Appends-trans old mid new (text_of (take i frames)) f.front wrote f.wrote;
   whole =
       append_assoc (text_of (take i frames)) f.front (f.rest ++ text_of rest)
-      ∙ ap (λ l. text_of (take i frames) ++ l) (sym (append_assoc f.front f.rest (text_of rest)) ∙ ap (λ l. l ++ text_of rest) f.whole)
-      ∙ ap (λ l. text_of (take i frames) ++ l) (sym (ap text_of next))
-      ∙ sym (text_append (take i frames) (drop i frames)) ∙ ap text_of (take-append-drop i frames);
+      ∙ ap (λ l. text_of (take i frames) ++ l) (sym (append_assoc f.front f.rest (text_of rest)) ∙ (λ k. f.whole k ++ text_of rest) ∙ sym (ap text_of next))
+      ∙ sym (flat_map-append line_for (take i frames) (drop i frames)) ∙ ap text_of (take-append-drop i frames);
 }

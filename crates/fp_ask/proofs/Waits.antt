@@ -8,24 +8,27 @@ use Rattle.std.proofs.lemmas.Bool.Decides.{nat_tests}
 use Rattle.std.proofs.lemmas.List.{drop_all}
 use Rattle.fp_ask.specs.Line.{wait_in}
 
--- the number that digits make behind those of n
+-- the number that digits make after those of n
 unfoldable pub waiting : ℕ → List ℕ → Option ℕ
 waiting n digits = if list_all is_ascii_digit digits then Some (fold (λ m digit. 10 * m + (digit - 48)) n digits) else None
 
+-- one digit more,
 pub waiting-more : (n i : ℕ) (digits : List ℕ) → i < length digits → is_ascii_digit (get_or digits i 0) ≡ true
     → waiting n (drop i digits) ≡ waiting (10 * n + (get_or digits i 0 - 48)) (drop (i + 1) digits)
 unfolding waiting
 waiting-more n i digits within digit = rw (add-one, drop-cons digits i 0, digit) refl
 
+-- another character,
 pub waiting-letter : (n i : ℕ) (digits : List ℕ) → i < length digits → is_ascii_digit (get_or digits i 0) ≡ false → waiting n (drop i digits) ≡ None
 unfolding waiting
 waiting-letter n i digits within letter = rw (drop-cons digits i 0, letter) refl
 
+-- and the end
 pub waiting-end : (n i : ℕ) (digits : List ℕ) → length digits ≤ i → waiting n (drop i digits) ≡ Some n
 unfolding waiting
 waiting-end n i digits past = rw (drop_all i digits past) refl
 
--- the number of 1 to 13 digits is what they make behind no digit
+-- the number of 1 to 13 digits is what they make after no digit
 pub waiting-whole : (digits : List ℕ) → 0 < length digits → length digits ≤ 13 → wait_in digits ≡ waiting 0 digits
 unfolding waiting
 waiting-whole digits some most =

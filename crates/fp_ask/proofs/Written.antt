@@ -15,6 +15,7 @@ written old new line frames holds taking h state at =
     let a = taking state at in
     record { written = a.written; takes = a.takes; text = subst holds (sym a.text) h; at = a.at }
 
+-- what a line made of the link and of the output
 pub line_written : {A : Type 0} (old new : Taker) (line : List ℕ) (frames : List (List ℕ)) (result : Result A Refusal)
     → new.contents ≡ old.contents → new.contexts ≡ old.contexts → new.writer ≡ old.writer
     → Taking old.contents old.contexts line old.answerer (Some frames) new.answerer

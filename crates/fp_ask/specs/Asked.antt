@@ -35,8 +35,8 @@ pub record StopsAt (contents : Contents) (contexts : List (List ℕ)) (moment nu
   pub bad : IsBad written.state (line_in line)
   pub wrote : Appends old new written.text
 
--- So much of the input was read. Each line of it that a line feed ended is good, and what is written for them was
--- written; with a line feed behind what was read there would be one line more.
+-- This much of the input was read. Each line of it that a line feed ended is good, and what is written for them was
+-- written; with a line feed after what was read there would be one line more.
 pub record Halts (contents : Contents) (contexts : List (List ℕ)) (moment : ℕ) (left old new : Option (List ℕ)) (input : List ℕ) : Type 0 where
   pub read : List ℕ
   pub consumed : Consumes (Some input) left read
@@ -47,7 +47,7 @@ pub record Halts (contents : Contents) (contexts : List (List ℕ)) (moment : �
   pub solo : Solo contents contexts (at_start moment) ended written
   pub wrote : Appends old new written.text
 
--- So much of the input was read. The first lines of that are lines of the input, and good, and a front of what is
+-- This much of the input was read. The first lines of that are lines of the input, and good, and a front of what is
 -- written for them was written.
 pub record Breaks (contents : Contents) (contexts : List (List ℕ)) (moment : ℕ) (left old new : Option (List ℕ)) (input : List ℕ) : Type 0 where
   pub read : List ℕ
@@ -61,13 +61,17 @@ pub record Breaks (contents : Contents) (contexts : List (List ℕ)) (moment : �
   pub solo : Solo contents contexts (at_start moment) first written
   pub front : AppendsFront old new written.text
 
--- why the lines weren't all answered, of a reader that had these octets and has those left
+-- why the lines of an input weren't all answered, of a reader that has these octets left
+abbrev pub StopsIn : Contents → List (List ℕ) → ℕ → Option (List ℕ) → Option (List ℕ) → Option (List ℕ) → AskFault → List ℕ → Type 0
+StopsIn contents contexts moment left old new (BadLine number) input = StopsAt contents contexts moment number old new input
+StopsIn contents contexts moment left old new ReadFault input = Halts contents contexts moment left old new input
+StopsIn contents contexts moment left old new WriteFault input = Breaks contents contexts moment left old new input
+StopsIn contents contexts moment left old new TurnLimit input = Halts contents contexts moment left old new input
+StopsIn contents contexts moment left old new Memory input = Breaks contents contexts moment left old new input
+
+-- and of a reader that had these octets, or of which that isn't known
 abbrev pub Stops : Contents → List (List ℕ) → ℕ → Option (List ℕ) → Option (List ℕ) → Option (List ℕ) → Option (List ℕ) → AskFault → Type 0
-Stops contents contexts moment had left old new (BadLine number) = IfSome had (StopsAt contents contexts moment number old new)
-Stops contents contexts moment had left old new ReadFault = IfSome had (Halts contents contexts moment left old new)
-Stops contents contexts moment had left old new WriteFault = IfSome had (Breaks contents contexts moment left old new)
-Stops contents contexts moment had left old new TurnLimit = IfSome had (Halts contents contexts moment left old new)
-Stops contents contexts moment had left old new Memory = IfSome had (Breaks contents contexts moment left old new)
+Stops contents contexts moment had left old new fault = IfSome had (StopsIn contents contexts moment left old new fault)
 
 -- how many reads were made, by the fault
 abbrev pub ReadsStop : ℕ → ℕ → Option (List ℕ) → List (List ℕ) → AskFault → Type 0

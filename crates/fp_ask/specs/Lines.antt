@@ -33,7 +33,7 @@ pub record TakesMessage (contents : Contents) (contexts : List (List ℕ)) (stat
   pub read : is_read came ≡ true
   pub written_is : written ≡ written_at state.moment (post state.link came)
 
--- time goes by: there is a moment so much later, and what is written is what is sent at it
+-- time passes: there is a moment that much later, and what is written is what is sent at it
 pub record TakesWait (state : State) (milliseconds : ℕ) (written : Written) : Type 0 where
   pub in_time : state.moment + milliseconds < END
   pub written_is : written ≡ written_at (state.moment + milliseconds) (tick state.link (state.moment + milliseconds))
@@ -44,13 +44,13 @@ Takes contents contexts state None written = ⊥
 Takes contents contexts state (Some (message octets)) written = TakesMessage contents contexts state octets written
 Takes contents contexts state (Some (wait milliseconds)) written = TakesWait state milliseconds written
 
--- a bad line: it says nothing that is taken, or there is no moment so much later
+-- a bad line: it says nothing that is taken, or there is no moment that much later
 abbrev pub IsBad : State → Option Input → Type 0
 IsBad state None = ⊤
 IsBad state (Some (message octets)) = ⊥
 IsBad state (Some (wait milliseconds)) = END ≤ state.moment + milliseconds
 
--- these lines are good, one after the other, and this is what is so behind them, and all that is written for them
+-- these lines are good, one after the other, and this is what is so after them, and all that is written for them
 abbrev pub Solo : Contents → List (List ℕ) → State → List (List ℕ) → Written → Type 0
 Solo contents contexts state [] written = written ≡ record { state = state; text = [] }
 Solo contents contexts state (line ∷ lines) written =

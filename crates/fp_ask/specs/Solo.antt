@@ -1,5 +1,5 @@
--- What is sent for messages and for moments, one after another, told over a plain list of dialogues. What one of them
--- brings is served and answered before the next one comes.
+-- What is sent for messages and for moments, one after another, over a plain list of dialogues. What one of them brings
+-- is served and answered before the next one comes.
 use Rattle.std.specs.Prelude.{ℕ, Bool, true, false, not, ◌+◌, ◌^◌, ◌==◌, ◌&&◌, ◌||◌, List, [], ◌∷◌, ◌++◌, Option, Some, None, is_some, length, map, nat_eq, nat_le, nat_lt, if◌then◌else◌}
 use Rattle.std.specs.List.{filter, find}
 use Rattle.std.specs.Option.{option_and_then}
@@ -113,7 +113,7 @@ pub record Outcome : Type 0 where
 abbrev pub discarded : LinkState → Outcome
 discarded w = record { link = w; frames = [] }
 
--- the frame of the provider's Abort, where a cause is named and the message told its sender's identifier
+-- the frame of the provider's Abort, if a cause is named and the message has its sender's identifier
 abbrev pub aborts : Option AbortCause → Option Tid → List (List ℕ)
 aborts None sender = []
 aborts (Some cause) None = []
@@ -131,7 +131,7 @@ refused w cause closes sender = record {
   frames = aborts cause sender;
 }
 
--- so many entries more were accepted, and these were served
+-- this many entries more were accepted, and these were served
 abbrev pub accepted : LinkState → ℕ → ℕ → Served → Outcome
 accepted w births entries served = record {
   link = record { births = births; entries = w.entries + entries; dialogues = served.dialogues };
@@ -227,13 +227,14 @@ misread w ids Continue dialogue = refused w (Some cause.BadlyFormattedTransactio
 misread w ids Abort dialogue = refused w (Some cause.BadlyFormattedTransactionPortion) dialogue ids.orig
 misread w ids Unknown dialogue = refused w (Some cause.UnrecognizedMessageType) dialogue ids.orig
 
--- whether memory was there to read the message
+-- whether the message was read, and not lost because memory ran out
 abbrev pub is_read : Prepared → Bool
 is_read (Message arrival incoming) = true
 is_read (Refused arrival fault) = true
 is_read (Lost arrival) = false
 
--- What comes of a message that was read from a frame, or refused. Of one for which memory was wanting no clause asks.
+-- What comes of a message that was read from a frame, or refused. No clause asks about one that was lost because memory
+-- ran out.
 abbrev pub post : LinkState → Prepared → Outcome
 post w (Message arrival incoming) = came w arrival.ids arrival.moment incoming arrival.ids.kind (named w arrival.ids)
 post w (Refused arrival fault) = misread w arrival.ids arrival.ids.kind (named w arrival.ids)

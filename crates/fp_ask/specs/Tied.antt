@@ -1,4 +1,4 @@
--- How a book stands to the plain list of dialogues.
+-- How the plain list of dialogues describes a book.
 use Rattle.std.specs.Prelude.{◌≡◌, ◌<◌, ◌≤◌, ◌+◌, ◌==◌, ℕ, Bool, false, List, [], ◌∷◌, ◌++◌, Option, Some, None, count_by, length, map, if◌then◌else◌, ◌⊎◌}
 use Rattle.std.specs.List.{flat_map}
 use Rattle.std.specs.Ordering.{nat_cmp}
@@ -79,11 +79,11 @@ pub record Rest (s : Shelf) : Type 0 where
 abbrev pub Same : List Dialogue → Rows → Type 0
 Same dialogues rows = (local : ℕ) → found local dialogues ≡ live (get rows local)
 
--- how often a dialogue stands in the list
+-- how often a dialogue is in the list
 abbrev pub times : ℕ → List Dialogue → ℕ
 times local dialogues = count_by (λ (dialogue : Dialogue). dialogue.local == local) dialogues
 
--- the plain list tells of this book
+-- the plain list describes this book
 pub record Matches (w : LinkState) (s : Shelf) : Type 0 where
   pub births : w.births ≡ s.births
   pub entries : w.entries ≡ s.entries
@@ -105,7 +105,7 @@ pub record Came (p : Outcome) (new : Shelf) : Type 0 where
   pub entries : p.link.entries ≡ new.entries
   pub once : (local : ℕ) → times local p.link.dialogues ≤ 1
 
--- what was counted is as it was
+-- what was counted is unchanged
 pub record SameCounts (old new : Shelf) : Type 0 where
   pub births : new.births ≡ old.births
   pub entries : new.entries ≡ old.entries
@@ -119,16 +119,16 @@ pub record GoesOn (p : Outcome) (new : Shelf) (frames : List (List ℕ)) : Type 
   pub matches : Matches p.link new
   pub frames_are : frames ≡ p.frames
 
--- whatever list tells of the book before
+-- whatever list describes the book before
 abbrev pub Follows : (LinkState → Outcome) → Shelf → Shelf → List (List ℕ) → Type 0
 Follows play old new frames = (w : LinkState) → Matches w old → GoesOn (play w) new frames
 
--- the plain list tells of this book, if there is one
+-- the plain list describes this book, if there is one
 abbrev pub Tells : LinkState → Option Shelf → Type 0
 Tells w None = ⊥
 Tells w (Some s) = Matches w s
 
--- a link went on as the plain list does, and these frames were sent, whatever list tells of it before
+-- a link went on as the plain list does, and these frames were sent, whatever list describes it before
 pub record LinkGoesOn (p : Outcome) (new : Option Shelf) (frames : List (List ℕ)) : Type 0 where
   pub tells : Tells p.link new
   pub frames_are : frames ≡ p.frames
@@ -144,7 +144,7 @@ pub record IsOfFrame (came : Prepared) : Type 0 where
   pub moment : ℕ
   pub prepared : IsPrepared contents contexts octets moment came
 
--- the dialogues are as they were, but for what was sent
+-- the dialogues are unchanged, except for what was sent
 pub record KeepsDialogues (old new : Shelf) : Type 0 where
   pub lives : (local : ℕ) → live (get new.rows local) ≡ live (get old.rows local)
   pub counts : SameCounts old new

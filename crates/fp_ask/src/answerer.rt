@@ -13,7 +13,7 @@ use fp_entry::Prepared;
 use fp_records::Table;
 use std::alloc::{AllocError, Global};
 
-/// A link, and the moment that it is.
+/// A link, and the current moment.
 #[derive(Drop)]
 pub(crate) struct Answerer {
     link: Link,

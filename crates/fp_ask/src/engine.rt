@@ -35,7 +35,7 @@ pub(crate) fn serve_waiting(alloc: Global, book: &mut Book) -> Result<(), AllocE
     }
 }
 
-/// Copies what is to be sent behind other frames.
+/// Appends a copy of these octets to the frames.
 fn push_copy(alloc: Global, frames: &mut Vec<SentFrame>, octets: &[u8]) -> Result<(), AllocError>
     ensures { OnOk result (frames.new.items ≡ frames.old.items ++ octets.now ∷ []) }
 {
@@ -55,9 +55,9 @@ pub(crate) fn send_waiting(alloc: Global, book: &mut Book) -> Result<Vec<SentFra
     loop {
         match book.pick() {
             Picked::Parcel(parcel) => {
-                if let Err(wanting) = push_copy(alloc, &mut frames, parcel.octets()) {
+                if let Err(error) = push_copy(alloc, &mut frames, parcel.octets()) {
                     parcel.abandon();
-                    return Err(wanting);
+                    return Err(error);
                 }
                 if let Err(parcel) = book.sent(parcel) {
                     parcel.abandon();

@@ -12,16 +12,16 @@ pub enum AskFault {
     /// The line of this number, counted from 1, is no message and no wait, or waits past the last moment.
     #[error("line {0}: bad line")]
     BadLine(u128),
-    /// The device that is read from failed.
+    /// The reader failed.
     #[error("input: cannot be read")]
     ReadFault,
-    /// The device that is written to failed.
+    /// The writer failed.
     #[error("output: cannot be written")]
     WriteFault,
-    /// All reads that may be made were made, and none of them found the end of the input.
+    /// The limit on reads was reached before the end of the input.
     #[error("turn limit")]
     TurnLimit,
-    /// Memory was wanting.
+    /// An allocation failed.
     #[error("out of memory")]
     Memory,
 }

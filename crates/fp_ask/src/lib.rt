@@ -16,7 +16,7 @@
 //! `specs/Answering.antt` says; and what [`ask`] writes is what `specs/Lines.antt` has for the lines of its input, one
 //! after another. Which reads were made is known one by one (`specs/Asked.antt`). A session's clauses hold for every
 //! list that describes it before (`specs/Tied.antt`), and say that the list goes on to describe it after; at the
-//! beginning the empty one does. After an error nothing is said of a session.
+//! beginning the empty one does. After an error no clause speaks of a session.
 #![tactic(auto)]
 
 mod answerer;

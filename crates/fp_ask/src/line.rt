@@ -14,7 +14,7 @@ use std::alloc::{AllocError, Global};
 pub(crate) enum Line {
     /// A message comes.
     Message(Frame),
-    /// So many milliseconds go by.
+    /// This many milliseconds pass.
     Wait(u64),
 }
 
@@ -24,10 +24,10 @@ pub(crate) const MOST: usize = 8192;
 /// The most digits of a wait.
 const MOST_WAIT_DIGITS: usize = 13;
 
-/// What a line says, or `None` where it says nothing that is taken.
+/// What a line says, or `None` for a bad line.
 ///
-/// `text` is the line without its line feed. It is a message where it is the hexadecimal text of 1 to 4,096 octets, in
-/// digits of either case, and a wait where it is `+` and 1 to 13 decimal digits.
+/// `text` is the line without its line feed. It is a message if it is the hexadecimal text of 1 to 4,096 octets, in
+/// digits of either case, and a wait if it is `+` and 1 to 13 decimal digits.
 pub(crate) fn line_of(alloc: Global, text: &[u8]) -> Result<Option<Line>, AllocError>
     ensures { IfOk result (λ line. option_map input_of line ≡ line_in text.now) }
 {

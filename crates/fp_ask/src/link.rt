@@ -62,7 +62,7 @@ impl Link {
         Ok(frames)
     }
 
-    /// Time goes by: returns the frames that are sent for it.
+    /// Moves the clock to this moment, and returns the frames that are sent then.
     pub(crate) fn tick(
         &mut self,
         alloc: Global,

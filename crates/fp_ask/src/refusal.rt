@@ -13,7 +13,7 @@ use std::alloc::AllocError;
 pub(crate) enum Refusal {
     /// It is no message and no wait, or waits past the last moment.
     BadLine,
-    /// The device that is written to failed.
+    /// The writer failed.
     WriteFault,
     /// An allocation failed.
     Memory,

@@ -29,7 +29,7 @@ impl SentFrame {
         Ok(SentFrame { octets: copy })
     }
 
-    /// The message, the octets behind the head.
+    /// The message: the octets after the head.
     pub fn message(&self) -> &[u8]
         ensures { result.now ≡ drop 4 self.now }
     {

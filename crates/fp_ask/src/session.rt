@@ -18,7 +18,7 @@ use std::marker::Model;
 #[derive(Debug, Drop)]
 pub struct Session {
     book: Book,
-    // Room for lines of the book's log, which nobody reads.
+    // Room for log lines of the book, which nobody reads.
     lines: Vec<Line>,
 }
 
@@ -39,15 +39,15 @@ impl Model for Session {
     ghost invariant = { λ session. 0 < vec_capacity session.lines };
 }
 
-/// Whether memory was there to read a message.
+/// Whether a message was read, and not lost because an allocation failed.
 fn was_read(came: &Prepared) -> bool
     ensures { result ≡ is_read came.now }
 {
     !matches!(came, Prepared::Lost { .. })
 }
 
-/// Drops the lines of the log, so that it keeps no message. A call can add more lines than `lines` has room for. Takes
-/// no memory.
+/// Drops the log lines, so that the log keeps no message. A call can add more lines than `lines` has room for. It
+/// allocates nothing.
 fn clear_log(book: &mut Book, lines: &mut Vec<Line>)
     requires { 0 < vec_capacity lines.old }
     ensures book { book.new ≡ record book.old { log = [] } }
@@ -64,7 +64,7 @@ fn clear_log(book: &mut Book, lines: &mut Vec<Line>)
 }
 
 impl Session {
-    /// How many lines of the log are drained at a time.
+    /// The number of log lines that are drained at a time.
     const LINES: usize = 64;
 
     /// A session to which nothing came yet.
@@ -78,8 +78,8 @@ impl Session {
         })
     }
 
-    /// Takes a message, and answers the frames that are sent for it. Where memory is wanting, also where it was wanting
-    /// to read the message, nothing is said of the session from then on.
+    /// Takes a message, and returns the frames that are sent for it. If memory runs out, or ran out when the message was
+    /// read, no clause speaks of the session after that.
     pub fn post(&mut self, alloc: Global, came: Prepared) -> Result<Vec<SentFrame>, AllocError>
         requires rest { Rest self.old }
         ensures rest { OnOk result (Rest self.new) }
@@ -98,8 +98,8 @@ impl Session {
         self.serve_and_send(alloc)
     }
 
-    /// Time goes by: answers the frames that are sent for it. Where memory is wanting, nothing is said of the session
-    /// from then on.
+    /// Moves the clock to this moment, and returns the frames that are sent then. If memory runs out, no clause speaks of
+    /// the session after that.
     pub fn tick(&mut self, alloc: Global, moment: Moment) -> Result<Vec<SentFrame>, AllocError>
         requires rest { Rest self.old }
         ensures rest { OnOk result (Rest self.new) }
@@ -112,7 +112,7 @@ impl Session {
         self.serve_and_send(alloc)
     }
 
-    /// Serves and sends what waits, and drops the lines of the log.
+    /// Serves and sends what waits, and drops the log lines.
     fn serve_and_send(&mut self, alloc: Global) -> Result<Vec<SentFrame>, AllocError>
         requires fit { Fit self.old }
         ensures rest { OnOk result (Rest self.new) }

@@ -15,16 +15,13 @@ loop-turn-init c = record {
 
 served : (c : goal.In_default) → OneServed c.loop-turn.book c.give.new.self
 served c =
-    let taken : TakesTurn c.loop-turn.book c.in-Ok.done.turn c.take.new.self =
-    subst (λ (t : Turn). TakesTurn c.loop-turn.book t c.take.new.self) (sym c.in-Ok.ensures.turn) c.in-Turn.ensures.takes in
-    taken_and_given c.loop-turn.book c.take.new.self c.give.new.self c.in-Ok.done c.in_default.field-0 c.loop-turn.invariant.fit c.in-Turn.ensures.sound c.in_default.ensures.sound
-    taken c.in_default.ensures.ok
+    let taken = subst (λ (t : Turn). TakesTurn c.loop-turn.book t c.take.new.self) (sym c.in-Ok.ensures.turn) c.in-Turn.ensures.takes in
+    taken_and_given c.loop-turn.invariant.fit c.in-Turn.ensures.sound c.in_default.ensures.sound taken c.in_default.ensures.ok
 
 pub unreachable-requires : goal.unreachable-requires
 unreachable-requires c =
-    let taken : TakesTurn c.loop-turn.book c.in-Ok.done.turn c.take.new.self =
-    subst (λ (t : Turn). TakesTurn c.loop-turn.book t c.take.new.self) (sym c.in-Ok.ensures.turn) c.in-Turn.ensures.takes in
-    false≢true (c.in-Err-give.ensures.known.1 (known_done c.loop-turn.book c.take.new.self c.in-Ok.done taken))
+    let taken = subst (λ (t : Turn). TakesTurn c.loop-turn.book t c.take.new.self) (sym c.in-Ok.ensures.turn) c.in-Turn.ensures.takes in
+    false≢true (c.in-Err-give.ensures.known.1 (known_done c.in-Ok.done taken))
 
 pub loop-turn-smaller : goal.loop-turn-smaller
 loop-turn-smaller c = (served c).less

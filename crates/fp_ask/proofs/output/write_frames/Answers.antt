@@ -1,10 +1,20 @@
-use Rattle.std.proofs.Common.{◌+◌, drop, get_or, sym, ap, ◌∙◌, subst, add-one}
+use Rattle.std.proofs.Common.{◌≡◌, ◌+◌, true, drop, get_or, sym, ap, ◌∙◌, subst, add-one}
+use Rattle.std.specs.Prelude.{OnErr, is_err, Result, Ok, Err}
 use Rattle.std.proofs.Math.Seq.{drop-cons}
 use Rattle.fp_streams.specs.Write.{AppendsFront}
 use Rattle.fp_ask.specs.Line.{line_for}
-use Rattle.fp_ask.proofs.Results.{always_err, from_err}
 use Rattle.fp_ask.proofs.Texts.{first_front, more_front}
 use Rattle.fp_ask.proofs.output.write_frames.Goals as goal
+
+-- what holds holds of an error,
+always_err : {X E : Type 0} (r : Result X E) (Q : Type 0) → Q → OnErr r Q
+always_err (Ok x) Q q = tt
+always_err (Err e) Q q = q
+
+-- and what holds of an error holds if there is one
+from_err : {X E : Type 0} (r : Result X E) (Q : Type 0) → is_err r ≡ true → OnErr r Q → Q
+from_err (Ok x) Q is q = absurd (cc)
+from_err (Err e) Q is q = q
 
 pub returns-in_err-text-clause-front : goal.returns-in_err-text-clause-front
 returns-in_err-text-clause-front g c =
