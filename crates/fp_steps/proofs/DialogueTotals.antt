@@ -1,44 +1,6 @@
 -- Each step adds to the totals of its book, and to the sums over all dialogues, what its output tells.
-use Rattle.std.proofs.Common.{◌≡◌, ℕ, ◌<◌, ◌≤◌, ◌+◌, ◌^◌, Bool, true, false, cond, eqb, not, Option, Some, None, List, [], ◌∷◌, ◌++◌, length, refl, sym, ◌∙◌, ap, subst, arith, zero, suc, ⊎_elim, add-one, length-append}
-use Rattle.std.specs.Prelude.{is_none, option_map, ⊤}
-use Rattle.std.proofs.lemmas.Bool.{cases_Bool, eqb-false, eqb-true, ne_eqb}
-use Rattle.std.proofs.lemmas.List.{length-map}
-use Rattle.std.proofs.lemmas.List.Sums.{sum_by-append}
-use Rattle.fp_book.proofs.Sums.{sum-le}
-use Rattle.fp_book.proofs.Tells.{BeginsAnew, Tells, verdict_tells}
-use Rattle.fp_book.specs.Calls.{Follows, Sends, abort_for, entries_in, more_accepted, posted_totals}
-use Rattle.fp_book.specs.Shelf.{Shelf, Sound, no_totals}
-use Rattle.fp_book.specs.Totals.{sent_by, served_by, sum_of}
-use Rattle.fp_book.specs.Lines.{verdict}
-use Rattle.fp_book.specs.declared.answers.Posted.{Posted}
-use Rattle.fp_book.specs.declared.parcel.Content.{Content}
-use Rattle.fp_book.specs.declared.totals.Totals.{Totals}
-use Rattle.fp_book.specs.declared.verdict.Verdict.{Verdict}
-use Rattle.fp_entry.specs.Entries.{component_count, entry_at, is_from_component}
-use Rattle.fp_entry.specs.Prepared.{arrival_of, components_of as components_came}
-use Rattle.fp_entry.specs.declared.entry.Entry.{Entry}
-use Rattle.fp_entry.specs.declared.entry.EntryKind.TheVariants.{Clock}
-use Rattle.fp_entry.specs.declared.prepared.Prepared.{Prepared}
-use Rattle.fp_q773.specs.Tid.{octets_of, Tid}
-use Rattle.fp_q773.specs.declared.provider_abort.AbortCause.{AbortCause}
-use Rattle.fp_reply.specs.Reply.{frame_of}
-use Rattle.fp_row.specs.Laws.{RowsKeepTheirOrder}
-use Rattle.fp_row.specs.Row.{frames_of, requests_of}
-use Rattle.fp_row.specs.declared.row.Row.{Row}
-use Rattle.fp_service.specs.declared.request.Request.{Request}
-use Rattle.fp_tids.specs.Identifiers.{identifier}
-use Rattle.fp_steps.specs.Accepted.{accepted, accepted_in, course, position_in, positions, receiver, served}
-use Rattle.fp_steps.specs.Births.{births, births_after, destination, for_one, named, opened_by, opened_in}
-use Rattle.fp_steps.specs.Headline.{Headline}
-use Rattle.fp_steps.specs.History.{Event, outputs_of}
-use Rattle.fp_steps.specs.Lines.{answer_by, components_in}
-use Rattle.fp_steps.specs.Makes.{MakesOf}
-use Rattle.fp_steps.specs.Sending.{frame_for, out, sent, sent_in}
-use Rattle.fp_steps.specs.Tied.{Story, Tied, handed, story, untold}
-use Rattle.fp_steps.specs.Totals.{AddUp, AreFew, is_sent, plus, sum_to, totals_of, totals_over}
-use Rattle.fp_steps.specs.declared.output.Output.{Output}
-use Rattle.fp_steps.specs.declared.step.Step.{Step}
-use Rattle.fp_steps.proofs.Cases.{Cases, by_made}
+use Rattle.fp_steps.proofs.Names.{AbortCause, AddUp, AreFew, Bool, Clock, Content, Entry, Event, Follows, Headline, List, MakesOf, None, Option, Output, Posted, Prepared, Request, Row, RowsKeepTheirOrder, Sends, Shelf, Some, Sound, Step, Story, Tells, Tid, Tied, Totals, Verdict, [], abort_for, accepted, accepted_in, add-one, answer_by, ap, arith, arrival_of, births, births_after, cases_Bool, component_count, components_came, components_in, cond, course, destination, entries_in, entry_at, eqb, eqb-false, eqb-true, false, for_one, frame_for, frame_of, frames_of, handed, identifier, is_from_component, is_none, is_sent, length, length-append, length-map, more_accepted, named, ne_eqb, no_totals, not, octets_of, opened_by, opened_in, option_map, out, outputs_of, plus, position_in, positions, posted_totals, receiver, refl, requests_of, sent, sent_by, sent_in, served, served_by, story, subst, suc, sum-le, sum_by-append, sum_of, sum_to, sym, totals_of, totals_over, true, untold, verdict, verdict_tells, zero, ℕ, ⊎_elim, ⊤, ◌++◌, ◌+◌, ◌<◌, ◌^◌, ◌∙◌, ◌∷◌, ◌≡◌, ◌≤◌}
+use Rattle.fp_steps.proofs.Cases.{Cases, by_made, IsAnew}
 use Rattle.fp_steps.proofs.HeldDialogues.{event, for_other, for_own, held_of, none_named, not_abort}
 use Rattle.fp_steps.proofs.MessageAnswers.{answer_is, answer_of}
 use Rattle.fp_steps.proofs.OutputTotals.{added, local_in, make, none_more, one_if, plus_none, same, totals_next}
@@ -49,10 +11,7 @@ use Rattle.fp_steps.proofs.TieAtMessages.{dest_of, posts}
 
 sum_none : (n : ℕ) (of : ℕ → ℕ) → ((d : ℕ) → d ≤ n → of d ≡ 0) → sum_to n of ≡ 0
 sum_none zero of none = refl
-sum_none (suc n) of none =
-    let rest : sum_to n of ≡ 0 = sum_none n of (λ d le. none d (omega (arith, le))) in
-    let here : of (suc n) ≡ 0 = none (suc n) (omega arith) in
-    omega (arith, rest, here)
+sum_none (suc n) of none = omega (arith, sum_none n of (λ d le. none d (omega (arith, le))), none (suc n) (omega arith))
 
 zeros : (n : ℕ) → sum_to n (λ d. 0) ≡ 0
 zeros n = sum_none n (λ d. 0) (λ d le. refl)
@@ -68,10 +27,7 @@ sum_one (suc n) b much of first last own others =
     let here : of (suc n) ≡ much = subst (λ m. of m ≡ much) (sym same) own in
     omega (arith, rest, here))
     (λ ne.
-    let rest : sum_to n of ≡ much = sum_one n b much of first (omega (arith, last, eqb-false (suc n) b ne)) own others in
-    let here : of (suc n) ≡ 0 = others (suc n) ne in
-    omega (arith, rest, here))
-    (cases_Bool (eqb (suc n) b))
+    omega (arith, sum_one n b much of first (omega (arith, last, eqb-false (suc n) b ne)) own others, others (suc n) ne)) (cases_Bool (eqb (suc n) b))
 
 -- what one dialogue gets of a list
 sum_for : {X : Type 0} → (size : List X → ℕ) (n : ℕ) (o : Option ℕ) (b : ℕ) (xs : List X) → size [] ≡ 0 → o ≡ Some b → 0 < b → b ≤ n → sum_to n (λ d. size (for_one o d xs)) ≡ size xs
@@ -80,18 +36,14 @@ sum_for size n o b xs empty is first last =
 
 sum_more : (n : ℕ) (f g more : ℕ → ℕ) → ((d : ℕ) → g d ≡ f d + more d) → sum_to n g ≡ sum_to n f + sum_to n more
 sum_more zero f g more each = refl
-sum_more (suc n) f g more each =
-    let rest : sum_to n g ≡ sum_to n f + sum_to n more = sum_more n f g more each in
-    let here : g (suc n) ≡ f (suc n) + more (suc n) = each (suc n) in
-    omega (arith, rest, here)
+sum_more (suc n) f g more each = omega (arith, sum_more n f g more each, each (suc n))
 
 -- one birth more, that has nothing
 sum_new : (o : Option ℕ) (n : ℕ) (of : ℕ → ℕ) → of (n + 1) ≡ 0 → sum_to (births_after o n) of ≡ sum_to n of
 sum_new None n of none = refl
 sum_new (Some local) n of none =
     let next : sum_to (n + 1) of ≡ sum_to n of + of (suc n) = ap (λ m. sum_to m of) (add-one n) in
-    let here : of (suc n) ≡ 0 = ap of (sym (add-one n)) ∙ none in
-    omega (arith, next, here)
+    let here : of (suc n) ≡ 0 = ap of (sym (add-one n)) ∙ none in omega (arith, next, here)
 
 -- SUMS OVER DIALOGUES
 
@@ -129,8 +81,8 @@ sums_next h e none =
     ∙ ap (λ m. m + sum_to n (λ d. length (sent_in e.output h d))) (had (λ t. length t.sends) refl))
 
 -- each place that was served holds an entry
-by_places : (h : List Event) → Headline h → totals_over h ≡ sums (births h) h
-by_places h l =
+by_places : {h : List Event} → Headline h → totals_over h ≡ sums (births h) h
+by_places {h} l =
     ap (λ n. make (sum_to (births h) (components_at h)) n (sum_to (births h) (sent_at h)))
     (sum_to_same (births h) (λ d. length (served h d)) (served_at h) (λ d first last. l.each_there d))
 
@@ -160,25 +112,24 @@ ticked h came moment many wanting old new stay =
     (same (shares (births h) h e) no_totals (sum_none (births h) (λ d. component_count (accepted_in e h d (course h d) e.output)) (λ d le. clock_none _ moment)) (zeros (births h)) (zeros (births h)))
 
 -- what is out to be sent
-out_is : (h : List Event) (s : Shelf) (content : Content) → Tied h s → s.outbox.out ≡ Some content → out h ≡ Some (handed h content)
-out_is h s content t was = t.is_out ∙ ap (option_map (handed h)) was
+out_is : {h : List Event} {s : Shelf} (content : Content) → Tied h s → s.outbox.out ≡ Some content → out h ≡ Some (handed h content)
+out_is {h} content t was = t.is_out ∙ ap (option_map (handed h)) was
 
 -- a frame of a dialogue, whose identifier isn't 0, is sent, or an Abort of the provider
-frame_sent : (h : List Event) (came : Option Prepared) (old new : Shelf) (content : Content) → Tied h old → Sound old → Sends old content new → Counts h (event Step.Sent came Output.Sent) old new
-frame_sent h came old new (Content.Abort frame) t k g =
-    let is = out_is h old (Content.Abort frame) t g.was_out in
+frame_sent : {h : List Event} (came : Option Prepared) {old : Shelf} (new : Shelf) (content : Content) → Tied h old → Sound old → Sends old content new → Counts h (event Step.Sent came Output.Sent) old new
+frame_sent {h} came {old} new (Content.Abort frame) t k g =
+    let is = out_is (Content.Abort frame) t g.was_out in
     let octets = (handed h (Content.Abort frame)).octets in
     let e = event Step.Sent came Output.Sent in
     quiet h e old new (ap (λ (s : Shelf). s.totals) g.new_is) (ap (λ o. make 0 0 (one_if (is_sent Output.Sent (local_in o)))) is)
     (same (shares (births h) h e) no_totals (zeros (births h)) (zeros (births h))
     (ap (λ o. sum_to (births h) (λ d. length (frame_for o d))) is
-    ∙ ap (λ o. sum_to (births h) (λ d. length (for_one o d (octets ∷ [])))) (none_named old.link h (named h 0) t.opened refl) ∙ zeros (births h)))
-frame_sent h came old new (Content.Frame w) t k g =
-    let is = out_is h old (Content.Frame w) t g.was_out in
-    let born = held_of h old w.local g.before t k g.was in
-    let e = event Step.Sent came Output.Sent in
+    ∙ ap (λ o. sum_to (births h) (λ d. length (for_one o d (octets ∷ [])))) (none_named old.link h t.opened) ∙ zeros (births h)))
+frame_sent {h} came {old} new (Content.Frame w) t k g =
+    let is = out_is (Content.Frame w) t g.was_out in
+    let born = held_of w.local g.before t k g.was in let e = event Step.Sent came Output.Sent in
     let one : one_if (is_sent Output.Sent (local_in (out h))) ≡ 1 =
-    ap (λ o. one_if (is_sent Output.Sent (local_in o))) is ∙ ap (λ b. one_if (not b)) (not_abort h old w.local g.before t k g.was)
+    ap (λ o. one_if (is_sent Output.Sent (local_in o))) is ∙ ap (λ b. one_if (not b)) (not_abort w.local g.before t k g.was)
     in
     let share : sum_to (births h) (λ d. length (frame_for (out h) d)) ≡ 1 =
     ap (λ o. sum_to (births h) (λ d. length (frame_for o d))) is ∙ sum_for length (births h) (named h w.local) g.before.birth (w.frame ∷ []) refl born.name born.first born.last
@@ -235,42 +186,39 @@ refused h came None false = tt
 refused h came (Some (peer, cause)) b = tt
 
 -- by the verdict
-receives : (h : List Event) (came : Prepared) (answer : Posted) (old new : Shelf) (waiting next : ℕ) (v : Verdict) → Tied h old → Sound old → Tells old came v → Follows v old came answer new → Receives h came (answer_of waiting next came v)
-receives h came answer old new waiting next Verdict.Discard t k told g = tt
-receives h came answer old new waiting next (Verdict.Refuse cause closes) t k told g = refused h came (abort_for waiting cause (arrival_of came).ids.orig) (is_none closes)
-receives h came answer old new waiting next (Verdict.Open peer) t k told g = tt
-receives h came answer old new waiting next (Verdict.Extend local false) t k told g =
-    let born = held_of h old local g.before t k g.was in (g.before.birth, dest_of h old came local g.before t k told.0 g.was, born.first, born.last)
-receives h came answer old new waiting next (Verdict.Extend local true) t k told g =
-    let born = held_of h old local g.before t k g.was in (g.before.birth, dest_of h old came local g.before t k told.0 g.was, born.first, born.last)
+receives : {h : List Event} (came : Prepared) (answer : Posted) {old : Shelf} (new : Shelf) (waiting next : ℕ) (v : Verdict) → Tied h old → Sound old → Tells old came v → Follows v old came answer new → Receives h came (answer_of waiting next came v)
+receives came answer new waiting next Verdict.Discard t k told g = tt
+receives {h} came answer new waiting next (Verdict.Refuse cause closes) t k told g = refused h came (abort_for waiting cause (arrival_of came).ids.orig) (is_none closes)
+receives came answer new waiting next (Verdict.Open peer) t k told g = tt
+receives came answer new waiting next (Verdict.Extend local false) t k told g =
+    let born = held_of local g.before t k g.was in (g.before.birth, dest_of came local g.before t k told.0 g.was, born.first, born.last)
+receives came answer new waiting next (Verdict.Extend local true) t k told g =
+    let born = held_of local g.before t k g.was in (g.before.birth, dest_of came local g.before t k told.0 g.was, born.first, born.last)
 
 -- EACH STEP
 
 abbrev CountsBy : List Event → Option Prepared → Shelf → Shelf → Step → Output → Type 0
 CountsBy h came old new step output = Counts h (event step came output) old new
 
-counts : (h : List Event) (came : Option Prepared) (old new : Shelf) → ((p : Prepared) → came ≡ Some p → BeginsAnew (arrival_of p).ids) → Tied h old → Sound old → Cases (CountsBy h came old new) came old new
-counts h came old new anew t k =
+counts : {h : List Event} (came : Option Prepared) {old : Shelf} (new : Shelf) → IsAnew came → Tied h old → Sound old → Cases (CountsBy h came old new) came old new
+counts {h} came {old} new anew t k =
     let none : (step : Step) (output : Output) → new.totals ≡ old.totals → added h (event step came output) ≡ no_totals → shares (births (event step came output ∷ h)) h (event step came output) ≡ no_totals → CountsBy h came old new step output =
-    λ step output. quiet h (event step came output) old new
-    in
+    λ step output. quiet h (event step came output) old new in
     let stays : new ≡ old → new.totals ≡ old.totals = ap (λ (s : Shelf). s.totals) in
     let empty = none_shared (births h) in
     record {
       posted = λ step posting p answer components is count g totals.
-          let v = verdict old p in
-          let waiting = length old.outbox.aborts in
+          let v = verdict old p in let waiting = length old.outbox.aborts in
           let next = identifier old.link (old.given + 1) in
           let says = answer_is old new p answer v g in
           subst (λ c. Counts h (event step c (Output.Posted answer components)) old new) (sym is)
-          (message h step p answer components old new (subst (Receives h p) (sym says) (receives h p answer old new waiting next v t k (verdict_tells old p (anew p is)) g)) count totals);
+          (message h step p answer components old new (subst (Receives h p) (sym says) (receives p answer new waiting next v t k (verdict_tells old p (anew p is)) g)) count totals);
       ticked = λ moment many wanting zero g. ticked h came moment many wanting old new (ap (λ (s : Shelf). s.totals) g.new_is);
       took = λ turn g. none Step.Take (Output.Took turn.local turn.position) (ap (λ (s : Shelf). s.totals) g.new_is) refl empty;
       no_room = λ some full same. none Step.Take Output.NoRoom (stays same) refl empty;
       none_taken = λ none_ready same. none Step.Take Output.Nothing (stays same) refl empty;
       gave = λ done given g.
-          let local = done.turn.local in
-          let born = held_of h old local g.before t k g.was in
+          let local = done.turn.local in let born = held_of local g.before t k g.was in
           let e = event (Step.Give local) came (Output.Gave local done.turn.position given) in
           record {
             shared = same (shares (births h) h e) (added h e) (zeros (births h)) (sum_for length (births h) (named h local) g.before.birth (done.turn.position ∷ []) refl born.name born.first born.last) (zeros (births h));
@@ -283,7 +231,7 @@ counts h came old new anew t k =
       picked = λ content frame octets g. none Step.Pick (Output.Picked _ frame) (ap (λ (s : Shelf). s.totals) g.new_is) refl empty;
       busy = λ some same. none Step.Pick Output.Busy (stays same) refl empty;
       none_picked = λ none_waits same. none Step.Pick Output.Nothing (stays same) refl empty;
-      sent = λ content g. frame_sent h came old new content t k g;
+      sent = λ content g. frame_sent came new content t k g;
       none_sent = λ none_out same. none Step.Sent Output.Nothing (stays same) refl empty;
       unsent = λ parcel g. none Step.Unsent Output.Unsent (ap (λ (s : Shelf). s.totals) g.down.new_is) refl empty;
       none_unsent = λ none_out same. none Step.Unsent Output.Nothing (stays same) refl empty;
@@ -301,8 +249,8 @@ sent_most law row =
     let count : length (frames_of row) ≡ length (requests_of row) = length-map (requests_of row) (λ (request : Request). frame_of request row.local (octets_of row.peer)) in
     omega (arith, few, count, row.queued_within, row.kept_within, row.sent_within)
 
-few_counted : RowsKeepTheirOrder → (s : Shelf) → Sound s → AreFew s.totals
-few_counted law s k =
+few_counted : RowsKeepTheirOrder → {s : Shelf} → Sound s → AreFew s.totals
+few_counted law {s} k =
     let served : sum_of served_by s.rows ≤ sum_of (λ (row : Row). length row.accepted) s.rows = sum-le served_by (λ (row : Row). length row.accepted) s.rows (λ row. row.served_within) in
     let sent : sum_of sent_by s.rows ≤ sum_of served_by s.rows = sum-le sent_by served_by s.rows (sent_most law) in
     record {
@@ -312,16 +260,16 @@ few_counted law s k =
     }
 
 -- a step more, after a history whose totals the book has
-pub add_up_next : RowsKeepTheirOrder → (h : List Event) (e : Event) (old new : Shelf) → ((p : Prepared) → e.came ≡ Some p → BeginsAnew (arrival_of p).ids) → Tied h old → Sound old → MakesOf e.step e.came e.output old new → Sound new
+pub add_up_next : RowsKeepTheirOrder → {h : List Event} (e : Event) {old new : Shelf} → IsAnew e.came → Tied h old → Sound old → MakesOf e.step e.came e.output old new → Sound new
     → Headline h → Headline (e ∷ h) → AddUp (outputs_of h) h → old.totals ≡ totals_of (outputs_of h) → AddUp (outputs_of (e ∷ h)) (e ∷ h) × (new.totals ≡ totals_of (outputs_of (e ∷ h)))
-add_up_next law h e old new anew t sound_old g sound held holds k was =
-    let c : Counts h e old new = by_made (CountsBy h e.came old new) e.step e.came e.output old new (counts h e.came old new anew t sound_old) g in
+add_up_next law {h} e {old} {new} anew t sound_old g sound held holds k was =
+    let c : Counts h e old new = by_made _ e.step e.output (counts e.came new anew t sound_old) g in
     let more : totals_of (outputs_of (e ∷ h)) ≡ plus (totals_of (outputs_of h)) (added h e) = totals_next h e in
     let counted : new.totals ≡ totals_of (outputs_of (e ∷ h)) = c.counted ∙ ap (λ t. plus t (added h e)) was ∙ sym more in
     let all : sums (births (e ∷ h)) (e ∷ h) ≡ plus (sums (births h) h) (added h e) = sums_next h e (t.later (births h + 1) (omega arith)) ∙ ap (plus (sums (births h) h)) c.shared in (
       record {
-        totals = more ∙ ap (λ t. plus t (added h e)) (k.totals ∙ by_places h held) ∙ sym all ∙ sym (by_places (e ∷ h) holds);
-        few = subst AreFew counted (few_counted law new sound);
+        totals = more ∙ ap (λ t. plus t (added h e)) (k.totals ∙ by_places held) ∙ sym all ∙ sym (by_places holds);
+        few = subst AreFew counted (few_counted law sound);
       },
       counted,
     )

@@ -1,14 +1,6 @@
 -- The frames that wait are those that were accepted for sending and not picked: the oldest goes where one is picked,
 -- one more stands behind the others where a request is accepted, and those of a dialogue go where it is ended.
-use Rattle.std.proofs.Common.{Bool, List, None, Option, Some, [], add-zero, ap, append-nil, arith, cond, eqb, false, length, length-append, refl, subst, suc, sym, true, ℕ, ⊎_elim, ◌&&◌, ◌++◌, ◌+◌, ◌<◌, ◌∙◌, ◌∷◌, ◌≡◌, ◌≤◌}
-use Rattle.std.specs.Prelude.{filter, map, nat_le, option_to_list, ⊤}
-use Rattle.std.proofs.lemmas.Bool.{and_parts, and_right, cases_Bool, eq-eqb, eqb-true, le-leb, leb-false, leb-true, lt-leb}
-use Rattle.fp_book.specs.declared.answers.Given.{Given}
-use Rattle.fp_steps.specs.Births.{for_one, named}
-use Rattle.fp_steps.specs.History.{Event}
-use Rattle.fp_steps.specs.Sending.{frame_at, if_queued, queued, queued_in}
-use Rattle.fp_steps.specs.Waiting.{QueuedFrame, frames, frames_after, frames_by}
-use Rattle.fp_steps.specs.declared.output.Output.{Output}
+use Rattle.fp_steps.proofs.Names.{Bool, Event, Given, List, None, Option, Output, QueuedFrame, Some, [], add-zero, and_parts, ap, append-nil, arith, cases_Bool, cond, eqb, eqb-true, false, filter, for_one, frame_at, frames, frames_after, frames_by, if_queued, length, length-append, map_list as map, named, nat_le, nat_tests, option_to_list, queued, queued_in, refl, subst, suc, sym, true, ℕ, ⊎_elim, ⊤, ◌&&◌, ◌++◌, ◌+◌, ◌<◌, ◌∙◌, ◌∷◌, ◌≡◌, ◌≤◌}
 use Rattle.fp_steps.proofs.HeldDialogues.{for_other}
 use Rattle.fp_steps.proofs.TieAtTurns.{none_queued}
 
@@ -26,12 +18,8 @@ abbrev pub n_of : ℕ → List QueuedFrame → ℕ
 n_of d [] = 0
 n_of d (a ∷ xs) = cond (eqb d a.dialogue) (suc (n_of d xs)) (n_of d xs)
 
-either_more : (b : Bool) (m n : ℕ) → cond b (suc m) m + n ≡ m + cond b (suc n) n
-either_more true m n = omega arith
-either_more false m n = refl
-
 n_of_more : (d : ℕ) (f : ℕ → ℕ) (a : QueuedFrame) (xs : List QueuedFrame) → bump a.dialogue f d + n_of d xs ≡ f d + n_of d (a ∷ xs)
-n_of_more d f a xs = either_more (eqb d a.dialogue) (f d) (n_of d xs)
+n_of_more d f a xs = grind (arith, nat_tests)
 
 -- one dialogue's, or another's
 bump_own : (d c : ℕ) (f : ℕ → ℕ) → eqb c d ≡ true → bump d f c ≡ suc (f c)
@@ -51,28 +39,15 @@ numbered-snoc f (b ∷ xs) a n is = (n.0, numbered-snoc (bump b.dialogue f) xs a
 abbrev pub waits_by : (ℕ → Bool) → (ℕ → ℕ) → QueuedFrame → Bool
 waits_by sends k a = sends a.dialogue && nat_le (k a.dialogue) a.place
 
-filter_both : (p q : QueuedFrame → Bool) (a : QueuedFrame) (xs : List QueuedFrame) (b : Bool) → p a ≡ b → q a ≡ b → filter p xs ≡ filter q xs → filter p (a ∷ xs) ≡ filter q (a ∷ xs)
-filter_both p q a xs b x y e =
-    ap (λ b. cond b (a ∷ filter p xs) (filter p xs)) (x ∙ sym y) ∙ ap (λ r. cond (q a) (a ∷ r) r) e
-
 -- none of a dialogue's later frames is affected where one more of it was picked
 stay_all : (sends : ℕ → Bool) (k : ℕ → ℕ) (d : ℕ) (g : ℕ → ℕ) (xs : List QueuedFrame) → Numbered g xs → k d < g d → filter (waits_by sends (bump d k)) xs ≡ filter (waits_by sends k) xs
 stay_all sends k d g [] n lt = refl
 stay_all sends k d g (a ∷ xs) n lt =
-    let c = a.dialogue in
-    let more : k d < bump c g d = omega (arith, lt, bump_more c d g) in
-    let rest : filter (waits_by sends (bump d k)) xs ≡ filter (waits_by sends k) xs = stay_all sends k d (bump c g) xs n.1 more in
-    let place : a.place ≡ g c = n.0 in
-    ⊎_elim
-    (λ e.
-    let same : c ≡ d = eqb-true c d e in
-    let kc : k c ≡ k d = ap k same in
-    let gc : g c ≡ g d = ap g same in
-    let one : nat_le (k c) a.place ≡ true = le-leb (k c) a.place (omega (arith, place, kc, gc, lt)) in
-    let two : nat_le (bump d k c) a.place ≡ true = le-leb (bump d k c) a.place (omega (arith, bump_own d c k e, place, kc, gc, lt)) in
-    filter_both (waits_by sends (bump d k)) (waits_by sends k) a xs (sends c && true) (ap (λ b. sends c && b) two) (ap (λ b. sends c && b) one) rest)
-    (λ e. filter_both (waits_by sends (bump d k)) (waits_by sends k) a xs (waits_by sends k a) (ap (λ n. sends c && nat_le n a.place) (bump_other d c k e)) refl rest)
-    (cases_Bool (eqb c d))
+    let p : QueuedFrame → Bool = waits_by sends (bump d k) in
+    let place : a.place ≡ g a.dialogue = n.0 in
+    let same : p a ≡ waits_by sends k a = grind (arith, nat_tests) in
+    ap (λ b. cond b (a ∷ filter p xs) (filter p xs)) same
+    ∙ ap (λ r. cond (waits_by sends k a) (a ∷ r) r) (stay_all sends k d (bump a.dialogue g) xs n.1 (omega (arith, lt, bump_more a.dialogue d g)))
 
 -- what becomes of those that wait where the oldest is picked
 pub record Goes (sends : ℕ → Bool) (k f : ℕ → ℕ) (xs : List QueuedFrame) (first : QueuedFrame) (rest : List QueuedFrame) : Type 0 where
@@ -83,54 +58,26 @@ pub record Goes (sends : ℕ → Bool) (k f : ℕ → ℕ) (xs : List QueuedFram
 the_first : (a b : QueuedFrame) (xs bs : List QueuedFrame) → a ∷ xs ≡ b ∷ bs → (a ≡ b) × (xs ≡ bs)
 the_first a b xs bs e = ((let x : a ≡ b = cc in x), (let y : xs ≡ bs = cc in y))
 
-left_of : (a b : Bool) → (a && b) ≡ true → a ≡ true
-left_of true b e = refl
-left_of false b e = absurd (cc)
-
 first_here : (sends : ℕ → Bool) (k f : ℕ → ℕ) (a : QueuedFrame) (xs : List QueuedFrame) → Numbered f (a ∷ xs) → (sends a.dialogue ≡ true → f a.dialogue ≤ k a.dialogue) → waits_by sends k a ≡ true
     → Goes sends k f (a ∷ xs) a (filter (waits_by sends k) xs)
 first_here sends k f a xs n few w =
     let d = a.dialogue in
+    let p : QueuedFrame → Bool = waits_by sends (bump d k) in
     let place : a.place ≡ f d = n.0 in
-    let le : k d ≤ a.place = leb-true (k d) a.place (and_parts (sends d) (nat_le (k d) a.place) w).1 in
-    let alive : sends d ≡ true = left_of (sends d) (nat_le (k d) a.place) w in
-    let most : f d ≤ k d = few alive in
-    let own : eqb d d ≡ true = eq-eqb d d refl in
-    let gone : waits_by sends (bump d k) a ≡ false =
-    and_right (sends d) (nat_le (bump d k d) a.place) (lt-leb (bump d k d) a.place (omega (arith, bump_own d d k own, place, most)))
-    in
-    let later : k d < bump d f d = omega (arith, bump_own d d f own, le, place) in
-    let count : n_of d (a ∷ xs) ≡ suc (n_of d xs) = ap (λ b. cond b (suc (n_of d xs)) (n_of d xs)) own in
+    let most : f d ≤ k d = few (and_parts (sends d) (nat_le (k d) a.place) w).0 in
+    let gone : p a ≡ false = grind (arith, nat_tests) in
     record {
-      left = ap (λ b. cond b (a ∷ filter (waits_by sends (bump d k)) xs) (filter (waits_by sends (bump d k)) xs)) gone ∙ stay_all sends k d (bump d f) xs n.1 later;
-      place = omega (arith, place, most, le);
-      within = omega (arith, le, place, count);
+      left = ap (λ b. cond b (a ∷ filter p xs) (filter p xs)) gone ∙ stay_all sends k d (bump d f) xs n.1 (grind (arith, nat_tests));
+      place = grind (arith, nat_tests);
+      within = grind (arith, nat_tests);
     }
 
 still_few : (sends : ℕ → Bool) (k f : ℕ → ℕ) (a : QueuedFrame) → a.place ≡ f a.dialogue → ((c : ℕ) → sends c ≡ true → f c ≤ k c) → waits_by sends k a ≡ false
     → (c : ℕ) → sends c ≡ true → bump a.dialogue f c ≤ k c
-still_few sends k f a place few w c alive =
-    let le : f c ≤ k c = few c alive in
-    ⊎_elim
-    (λ e.
-    let same : c ≡ a.dialogue = eqb-true c a.dialogue e in
-    let lives : sends a.dialogue ≡ true = ap sends (sym same) ∙ alive in
-    let less : a.place < k a.dialogue = leb-false (k a.dialogue) a.place (ap (λ b. b && nat_le (k a.dialogue) a.place) (sym lives) ∙ w) in
-    let kc : k c ≡ k a.dialogue = ap k same in
-    let fc : f c ≡ f a.dialogue = ap f same in
-    omega (arith, bump_own a.dialogue c f e, less, place, kc, fc))
-    (λ e. omega (arith, bump_other a.dialogue c f e, le))
-    (cases_Bool (eqb c a.dialogue))
+still_few sends k f a place few w c alive = grind (arith, nat_tests, few c alive)
 
 stays_gone : (sends : ℕ → Bool) (k : ℕ → ℕ) (d : ℕ) (a : QueuedFrame) → waits_by sends k a ≡ false → waits_by sends (bump d k) a ≡ false
-stays_gone sends k d a w =
-    let c = a.dialogue in
-    ⊎_elim
-    (λ alive.
-    let less : a.place < k c = leb-false (k c) a.place (ap (λ b. b && nat_le (k c) a.place) (sym alive) ∙ w) in
-    and_right (sends c) (nat_le (bump d k c) a.place) (lt-leb (bump d k c) a.place (omega (arith, less, bump_more d c k))))
-    (λ dead. ap (λ b. b && nat_le (bump d k c) a.place) dead)
-    (cases_Bool (sends c))
+stays_gone sends k d a w = grind (arith, nat_tests)
 
 pub first_goes : (sends : ℕ → Bool) (k f : ℕ → ℕ) (xs : List QueuedFrame) (first : QueuedFrame) (rest : List QueuedFrame) → Numbered f xs → ((c : ℕ) → sends c ≡ true → f c ≤ k c) → filter (waits_by sends k) xs ≡ first ∷ rest
     → Goes sends k f xs first rest
@@ -149,8 +96,7 @@ first_goes sends k f (a ∷ xs) first rest n few is =
       left = ap (λ b. cond b (a ∷ filter (waits_by sends (bump first.dialogue k)) xs) (filter (waits_by sends (bump first.dialogue k)) xs)) (stays_gone sends k first.dialogue a w) ∙ g.left;
       place = g.place;
       within = omega (arith, within, n_of_more first.dialogue f a xs);
-    })
-    (cases_Bool (waits_by sends k a))
+    }) (cases_Bool (waits_by sends k a))
 
 -- none goes out where none is to
 pub filter_none : (p : QueuedFrame → Bool) (xs : List QueuedFrame) → ((a : QueuedFrame) → p a ≡ false) → filter p xs ≡ []
@@ -166,23 +112,17 @@ made_of h d frame = record { dialogue = d; place = length (queued h d); frame = 
 abbrev pub zero_of : ℕ → ℕ
 zero_of d = 0
 
-both_more : (b : Bool) (m n k : ℕ) → m ≡ n + k → cond b (suc m) m ≡ cond b (suc n) n + k
-both_more true m n k e = omega (arith, e)
-both_more false m n k e = e
-
 n_of-append : (d : ℕ) (xs ys : List QueuedFrame) → n_of d (xs ++ ys) ≡ n_of d xs + n_of d ys
 n_of-append d [] ys = omega arith
-n_of-append d (x ∷ xs) ys = both_more (eqb d x.dialogue) (n_of d (xs ++ ys)) (n_of d xs) (n_of d ys) (n_of-append d xs ys)
+n_of-append d (x ∷ xs) ys = grind (arith, nat_tests, n_of-append d xs ys)
 
 n_of-own : (h : List Event) (c d : ℕ) (xs : List (List ℕ)) → eqb d c ≡ true → n_of d (map (made_of h c) xs) ≡ length xs
 n_of-own h c d [] e = refl
-n_of-own h c d (x ∷ xs) e =
-    let l : n_of d (map (made_of h c) (x ∷ xs)) ≡ suc (n_of d (map (made_of h c) xs)) = ap (λ b. cond b (suc (n_of d (map (made_of h c) xs))) (n_of d (map (made_of h c) xs))) e in
-    omega (arith, l, n_of-own h c d xs e)
+n_of-own h c d (x ∷ xs) e = grind (arith, nat_tests, n_of-own h c d xs e)
 
 n_of-other : (h : List Event) (c d : ℕ) (xs : List (List ℕ)) → eqb d c ≡ false → n_of d (map (made_of h c) xs) ≡ 0
 n_of-other h c d [] e = refl
-n_of-other h c d (x ∷ xs) e = ap (λ b. cond b (suc (n_of d (map (made_of h c) xs))) (n_of d (map (made_of h c) xs))) e ∙ n_of-other h c d xs e
+n_of-other h c d (x ∷ xs) e = grind (arith, nat_tests, n_of-other h c d xs e)
 
 -- each is counted
 counted_gave : (h : List Event) (l p : ℕ) (given : Given) (d : ℕ) (o : Option ℕ) → named h l ≡ o → n_of d (frames h) ≡ length (queued h d)
@@ -207,8 +147,7 @@ counted_gave h l p given d (Some c) name same =
     (cases_Bool (eqb d c))
 
 most_by : (b : Bool) (xs : List (List ℕ)) → length xs ≤ 1 → length (cond b xs []) ≤ 1
-most_by true xs le = le
-most_by false xs le = omega arith
+most_by b xs le = grind (arith, nat_tests)
 
 one_queued : (given : Given) (o : Option ℕ) (d : ℕ) (q : Option (List ℕ)) → length (if_queued given (for_one o d (option_to_list q))) ≤ 1
 one_queued Given.Silent o d q = omega arith

@@ -1,40 +1,18 @@
 -- What a history tells of a dialogue, one event further; and of one that a book holds.
-use Rattle.std.proofs.Common.{Bool, List, None, Option, Some, [], add-one, ap, append-nil, append_assoc, arith, cond, eqb, false, is_some, length, length-append, map, nat_le, nat_lt, not, refl, subst, suc, sym, take, true, zero, ℕ, ⊎_elim, ◌&&◌, ◌++◌, ◌<◌, ◌∙◌, ◌∷◌, ◌≡◌, ◌≤◌}
-use Rattle.std.specs.Prelude.{option_to_list, slice_get}
-use Rattle.std.specs.Option.{option_map_or}
-use mathlib.Core.List.{IsPrefix}
+use Rattle.fp_steps.proofs.Names.{Beginning, Bool, Ending, Entry, Event, IsGone, IsOwn, IsPrefix, IsSame, IsStraight, IsTied, KeepsOrder, List, None, NotHeld, OneChanges, Opened, Option, Output, Prepared, Row, RowsKeepTheirOrder, Shelf, Some, Sound, Step, Story, Tied, TiedAt, [], accepted, accepted_in, add-one, admits, and_left, and_right, ap, append-nil, append_assoc, arith, asked_in, began_with, beginning, beginning_of, births, by_held, by_local, cond, core_after, core_in, course, cut, ending, ending_in, eq-eqb, eqb, eqb-false, false, for_one, frame_from, frames_of, fresh, get, get_or_from_slice_get, in_places, insert, inserted, is_admitted, is_closed, is_one, is_over, is_some, keep, kept, left_of, length, length-append, length-take-le, local_of, lt-leb, map_list as map, named, nat_le, nat_lt, nat_tests, ne_eqb, not, not_held, numbers, octets_of, option_map_or, option_to_list, position_in, positions, queued, queued_in, queued_of, refl, requests, row_waits as waits, sent, sent_in, sent_of, served_in, served_of, slice_get, start_in, start_of, story, subst, suc, sym, take, take_more, true, turn_after, turn_out, waits_in, zero, ℕ, ◌&&◌, ◌++◌, ◌<◌, ◌∙◌, ◌∷◌, ◌≡◌, ◌≤◌}
 use Rattle.std.proofs.lemmas.List.Concat.{flat_map-append}
-use Rattle.std.proofs.lemmas.List.{length-take-le, take_more}
-use Rattle.std.proofs.lemmas.Option.{get_or_from_slice_get}
-use Rattle.std.proofs.lemmas.Bool.{and_left, and_right, eq-eqb, eqb-false, lt-leb, ne_eqb}
-use Rattle.std.specs.FinMap as map
-use Rattle.std.proofs.lemmas.Bool.Decides.{leb_tells}
-use Rattle.fp_book.proofs.Changes.{NotHeld, by_held, by_local, not_held}
-use Rattle.fp_book.proofs.Sums.{OneChanges, inserted, kept, left_of}
-use Rattle.fp_book.specs.Shelf.{IsOwn, Shelf, Sound, keep}
-use Rattle.fp_entry.specs.declared.entry.Entry.{Entry}
-use Rattle.fp_entry.specs.declared.prepared.Prepared.{Prepared}
-use Rattle.fp_q773.specs.Tid.{octets_of}
 use Rattle.fp_row.proofs.Fronts.{slice_get_some}
-use Rattle.fp_row.specs.Calls.{IsSame}
-use Rattle.fp_row.specs.Laws.{KeepsOrder, RowsKeepTheirOrder}
-use Rattle.fp_row.specs.Row.{frames_of, is_admitted, is_closed, queued_of, sent_of, served_of, start_of, waits}
-use Rattle.fp_row.specs.declared.ending.Ending.{Ending}
-use Rattle.fp_row.specs.declared.row.Row.{Row}
-use Rattle.fp_service.specs.Dialogue.{fresh, is_over}
-use Rattle.fp_service.specs.Fold.{core_after, cut, requests}
-use Rattle.fp_steps.specs.Accepted.{accepted, accepted_in, admits, course, ending, ending_in, in_places, position_in, positions}
-use Rattle.fp_steps.specs.Births.{Beginning, beginning, births, for_one, is_one, local_of, named}
-use Rattle.fp_steps.specs.Headline.{numbers}
-use Rattle.fp_steps.specs.History.{Event}
-use Rattle.fp_steps.specs.Sending.{frame_from, queued, queued_in, sent, sent_in}
-use Rattle.fp_steps.specs.Tied.{IsGone, IsStraight, IsTied, Opened, Story, Tied, TiedAt, asked_in, began_with, beginning_of, core_in, served_in, start_in, story, waits_in}
-use Rattle.fp_steps.specs.Turns.{turn_after, turn_out}
-use Rattle.fp_steps.specs.declared.output.Output.{Output}
-use Rattle.fp_steps.specs.declared.step.Step.{Step}
 
 abbrev pub event : Step → Option Prepared → Output → Event
 event step came output = record { step = step; came = came; output = output }
+
+-- by whether there is something
+pub by_option : {X : Type 0} → (P : Option X → Type 0) (o : Option X) → (o ≡ None → P None) → ((x : X) → o ≡ Some x → P (Some x)) → P o
+by_option P None none some = none refl
+by_option P (Some x) none some = some x refl
+
+pub eqb_swap : (a b : ℕ) → eqb a b ≡ false → eqb b a ≡ false
+eqb_swap a b ne = ne_eqb b a (λ same. eqb-false a b ne (sym same))
 
 -- two stories of equal parts are one
 pub same_story : (s t : Story) → s.began ≡ t.began → s.accepts ≡ t.accepts → s.places ≡ t.places → s.queues ≡ t.queues → s.sends ≡ t.sends → s.ended ≡ t.ended → s.out ≡ t.out → s ≡ t
@@ -55,8 +33,7 @@ becomes e h d x o b a p q s n t =
     (none_more (accepted h d) (accepted_in e h d (course h d) e.output) a)
     (none_more (positions h d) (position_in e.output h d) p)
     (none_more (queued h d) (queued_in e.output h d) q)
-    (none_more (sent h d) (sent_in e.output h d) s)
-    n t
+    (none_more (sent h d) (sent_in e.output h d) s) n t
 
 -- or has nothing to do with it at all
 pub stays : (e : Event) (h : List Event) (d : ℕ) → beginning (e ∷ h) d ≡ beginning h d → accepted_in e h d (course h d) e.output ≡ [] → position_in e.output h d ≡ [] → queued_in e.output h d ≡ []
@@ -91,30 +68,26 @@ first_places xs (suc n) h =
     let found : (x : Entry) × (slice_get xs n ≡ Some x) = slice_get_some xs n below in
     flat_map-append f (numbers n) (n ∷ [])
     ∙ ap (λ r. r ++ (f n ++ [])) (first_places xs n (omega (arith, h)))
-    ∙ ap (λ r. take n xs ++ r) (append-nil (f n))
-    ∙ ap (λ o. take n xs ++ option_to_list o) found.1
+    ∙ ap (λ r. take n xs ++ r) (append-nil (f n)) ∙ ap (λ o. take n xs ++ option_to_list o) found.1
     ∙ ap (λ x. take n xs ++ x ∷ []) (sym (get_or_from_slice_get xs n found.0 found.0 found.1))
-    ∙ sym (take_more xs n found.0 below)
-    ∙ ap (λ m. take m xs) (add-one n)
+    ∙ sym (take_more xs n found.0 below) ∙ ap (λ m. take m xs) (add-one n)
 
 -- the same dialogue begins with the same core
-pub start_tied : (d : ℕ) (t : Story) (row : Row) → IsTied d t row → start_in d t ≡ start_of row
-start_tied d t row k =
+pub start_tied : {d : ℕ} {t : Story} {row : Row} → IsTied d t row → start_in d t ≡ start_of row
+start_tied k =
     λ i. fresh (sym k.birth i) (option_map_or (λ (b : Beginning). b.moment) (k.begins i) 0)
 
 -- and served the same
-pub served_tied : (d : ℕ) (t : Story) (row : Row) → IsTied d t row → served_in t ≡ served_of row
-served_tied d t row k =
+pub served_tied : {d : ℕ} {t : Story} {row : Row} → IsTied d t row → served_in t ≡ served_of row
+served_tied {row} k =
     (λ i. in_places (k.accepts i) (k.serves i)) ∙ first_places row.accepted row.served row.served_within
 
-pub core_tied : (d : ℕ) (t : Story) (row : Row) → IsTied d t row → core_in d t ≡ row.core
-core_tied d t row k =
-    (λ i. core_after (start_tied d t row k i) (served_tied d t row k i)) ∙ sym row.core_is
+pub core_tied : {d : ℕ} {t : Story} {row : Row} → IsTied d t row → core_in d t ≡ row.core
+core_tied {row} k = (λ i. core_after (start_tied k i) (served_tied k i)) ∙ sym row.core_is
 
 -- so it requests the same frames
-pub asked_tied : (d : ℕ) (t : Story) (row : Row) → IsTied d t row → asked_in d t ≡ frames_of row
-asked_tied d t row k =
-    λ i. map (frame_from (k.begins i)) (requests (start_tied d t row k i) (served_tied d t row k i))
+pub asked_tied : {d : ℕ} {t : Story} {row : Row} → IsTied d t row → asked_in d t ≡ frames_of row
+asked_tied k = λ i. map (frame_from (k.begins i)) (requests (start_tied k i) (served_tied k i))
 
 pub prefix_trans : {X : Type 0} → (xs ys zs : List X) → IsPrefix xs ys → IsPrefix ys zs → IsPrefix xs zs
 prefix_trans xs ys zs p q =
@@ -124,79 +97,74 @@ prefix_same : {X : Type 0} → (xs ys us vs : List X) → xs ≡ us → ys ≡ v
 prefix_same xs ys us vs a b p = (p.0, ap (λ r. r ++ p.0) a ∙ p.1 ∙ sym b)
 
 -- so many were served
-pub count_tied : (d : ℕ) (t : Story) (row : Row) → IsTied d t row → length t.places ≡ row.served
-count_tied d t row k = ap length k.serves ∙ length-numbers row.served
+pub count_tied : {d : ℕ} {t : Story} {row : Row} → IsTied d t row → length t.places ≡ row.served
+count_tied {row} k = ap length k.serves ∙ length-numbers row.served
 
 -- the story of a dialogue that is held is straight
-pub straight_tied : RowsKeepTheirOrder → (d : ℕ) (t : Story) (row : Row) → IsTied d t row → IsStraight d t
-straight_tied law d t row k =
-    let o : KeepsOrder row = law row in
-    let asked = asked_tied d t row k in
+pub straight_tied : RowsKeepTheirOrder → {d : ℕ} {t : Story} {row : Row} → IsTied d t row → IsStraight d t
+straight_tied law {t} {row} k =
+    let o : KeepsOrder row = law row in let asked = asked_tied k in
     let sent_queued : IsPrefix (sent_of row) (queued_of row) = prefix_trans _ _ _ o.sent o.kept in
     record {
-      served_first = prefix_same _ _ _ _ (served_tied d t row k) (ap (λ c. cut c t.accepts) (start_tied d t row k) ∙ ap (cut (start_of row)) k.accepts) o.served;
+      served_first = prefix_same _ _ _ _ (served_tied k) (ap (λ c. cut c t.accepts) (start_tied k) ∙ ap (cut (start_of row)) k.accepts) o.served;
       sent_first = prefix_same _ _ _ _ k.sends asked (prefix_trans _ _ _ sent_queued o.queued);
-      each_once = k.serves ∙ ap numbers (sym (count_tied d t row k));
-      each_there = ap length (served_tied d t row k) ∙ length-take-le row.served row.accepted row.served_within ∙ sym (count_tied d t row k);
+      each_once = k.serves ∙ ap numbers (sym (count_tied k));
+      each_there = ap length (served_tied k) ∙ length-take-le row.served row.accepted row.served_within ∙ sym (count_tied k);
       sent_queued = prefix_same _ _ _ _ k.sends k.queues sent_queued;
       queued_first = prefix_same _ _ _ _ k.queues asked o.queued;
     }
 
 -- it takes messages where the row does
-pub live_tied : (d : ℕ) (t : Story) (row : Row) → IsTied d t row → (not (is_some t.ended) && not (is_over (core_in d t))) ≡ is_admitted row
-live_tied d t row k =
-    λ i. not (is_some (k.ends i)) && not (is_over (core_tied d t row k i))
+pub live_tied : {d : ℕ} {t : Story} {row : Row} → IsTied d t row → (not (is_some t.ended) && not (is_over (core_in d t))) ≡ is_admitted row
+live_tied k = λ i. not (is_some (k.ends i)) && not (is_over (core_tied k i))
 
 -- and an entry of it waits where one of the row does
-pub waits_tied : (d : ℕ) (t : Story) (row : Row) → IsTied d t row → waits_in d t ≡ waits row
-waits_tied d t row k =
-    λ i. not (is_closed (k.ends i)) && (not (is_over (core_tied d t row k i)) && nat_lt (count_tied d t row k i) (length (k.accepts i)))
+pub waits_tied : {d : ℕ} {t : Story} {row : Row} → IsTied d t row → waits_in d t ≡ waits row
+waits_tied k =
+    λ i. not (is_closed (k.ends i)) && (not (is_over (core_tied k i)) && nat_lt (count_tied k i) (length (k.accepts i)))
 
 -- what goes is gone
-pub gone_tied : RowsKeepTheirOrder → (births d : ℕ) (t : Story) (row : Row) → IsTied d t row → NotHeld row → IsGone births d t
-gone_tied law births d t row k none = record {
-  straight = straight_tied law d t row k;
-  admitted = and_right (nat_lt 0 d && nat_le d births) _ (live_tied d t row k ∙ none.admitted);
-  waits = waits_tied d t row k ∙ none.waits;
+pub gone_tied : RowsKeepTheirOrder → (births : ℕ) {d : ℕ} {t : Story} {row : Row} → IsTied d t row → NotHeld row → IsGone births d t
+gone_tied law births {d} {row} k none = record {
+  straight = straight_tied law k;
+  admitted = and_right (nat_lt 0 d && nat_le d births) _ (live_tied k ∙ none.admitted);
+  waits = waits_tied k ∙ none.waits;
   outs = k.outs ∙ none.is_out;
   all_sent = λ live.
       let same : row.sent ≡ row.kept = omega (arith, none.sent, row.sent_within) in
-      k.sends ∙ ap (λ n. take n (frames_of row)) same ∙ (law row).all_kept (sym k.ends ∙ live) ∙ sym (asked_tied d t row k);
+      k.sends ∙ ap (λ n. take n (frames_of row)) same ∙ (law row).all_kept (sym k.ends ∙ live) ∙ sym (asked_tied k);
 }
 
 -- it began as it did
-pub same_beginning : (before after : Row) → IsSame before after → beginning_of after ≡ beginning_of before
-same_beginning before after same =
+pub same_beginning : {before after : Row} → IsSame before after → beginning_of after ≡ beginning_of before
+same_beginning same =
     λ i. record { local = same.local i; peer = octets_of (same.peer i); moment = same.opened i }
 
 -- the same dialogue, of which nothing else changed that its story tells
-pub tied_same : (d : ℕ) (t : Story) (x : Bool) (before after : Row) → IsTied d t before → IsSame before after → after.accepted ≡ before.accepted → after.served ≡ before.served → queued_of after ≡ queued_of before
+pub tied_same : {d : ℕ} {t : Story} (x : Bool) {before after : Row} → IsTied d t before → IsSame before after → after.accepted ≡ before.accepted → after.served ≡ before.served → queued_of after ≡ queued_of before
     → sent_of after ≡ sent_of before → after.core ≡ before.core → after.ended ≡ before.ended → after.is_out ≡ x → IsTied d (record t { out = x }) after
-tied_same d t x before after k same accepted served queued sent core ended out = let begins = k.begins ∙ ap Some (sym (same_beginning before after same)) in grind arith
+tied_same x k same accepted served queued sent core ended out = let begins = k.begins ∙ ap Some (sym (same_beginning same)) in grind arith
 
 -- A book and its dialogues
 
 -- a dialogue that was opened has an identifier that no other one has
-apart_by : (link : ℕ) (h : List Event) (c d : ℕ) (o : Option Beginning) → Opened link h → beginning h c ≡ o → 0 < d → d ≤ births h → eqb c d ≡ false → eqb (local_of h c) (local_of h d) ≡ false
-apart_by link h c d None g is first last ne =
-    ne_eqb (local_of h c) (local_of h d) (λ e. let none : local_of h c ≡ 0 = ap began_with is in omega (arith, e, none, first, g.locals d first last))
-apart_by link h c d (Some b) g is first last ne =
-    let there : (0 < c) × (c ≤ births h) = g.begins c b is in
-    ne_eqb (local_of h c) (local_of h d) (λ e. eqb-false c d ne (omega (arith, e, g.locals c there.0 there.1, g.locals d first last)))
-
 pub apart : (link : ℕ) (h : List Event) (c d : ℕ) → Opened link h → 0 < d → d ≤ births h → eqb c d ≡ false → eqb (local_of h c) (local_of h d) ≡ false
-apart link h c d g first last ne = apart_by link h c d (beginning h c) g refl first last ne
+apart link h c d g first last ne = ne_eqb (local_of h c) (local_of h d) (λ e.
+    by_option (λ o. ⊥) (beginning h c)
+    (λ is. let none : local_of h c ≡ 0 = ap began_with is in omega (arith, e, none, first, g.locals d first last))
+    (λ b is.
+    let there : (0 < c) × (c ≤ births h) = g.begins c b is in
+    eqb-false c d ne (omega (arith, e, g.locals c there.0 there.1, g.locals d first last))))
 
 pub same_local : (link : ℕ) (h : List Event) (c d : ℕ) → Opened link h → 0 < d → d ≤ births h → eqb (local_of h c) (local_of h d) ≡ eqb c d
 same_local link h c d g first last =
     by_local c d (λ c. eqb (local_of h c) (local_of h d) ≡ eqb c d) (eq-eqb (local_of h d) (local_of h d) refl ∙ sym (eq-eqb d d refl)) (λ ne. apart link h c d g first last ne ∙ sym ne)
 
 -- no dialogue has the identifier of an Abort of the provider
-pub none_named : (link : ℕ) (h : List Event) (o : Option ℕ) → Opened link h → named h 0 ≡ o → o ≡ None
-none_named link h None g is = refl
-none_named link h (Some d) g is =
+pub none_named : (link : ℕ) (h : List Event) → Opened link h → named h 0 ≡ None
+none_named link h g = by_option (λ o. o ≡ None) (named h 0) (λ is. refl) (λ d is.
     let there : (0 ≡ local_of h d) × (0 < d) × (d ≤ births h) = g.names 0 d is in
-    absurd (let zero_is : 0 ≡ local_of h d = there.0 in let first : 0 < d = there.1 in omega (arith, zero_is, first, g.locals d there.1 there.2))
+    absurd (let zero_is : 0 ≡ local_of h d = there.0 in let first : 0 < d = there.1 in omega (arith, zero_is, first, g.locals d there.1 there.2)))
 
 -- a dialogue that a book holds, under this identifier and with this birth
 pub record Held (h : List Event) (local d : ℕ) (row : Row) : Type 0 where
@@ -206,58 +174,54 @@ pub record Held (h : List Event) (local d : ℕ) (row : Row) : Type 0 where
   pub last : d ≤ births h
   pub tied : IsTied d (story h d) row
 
-pub held_of : (h : List Event) (s : Shelf) (local : ℕ) (row : Row) → Tied h s → Sound s → map.get s.rows local ≡ Some row → Held h local row.birth row
-held_of h s local row t k was =
-    let own : IsOwn s local row = k.own local row was in
-    let d = own.serial.0 in
+pub held_of : {h : List Event} {s : Shelf} (local : ℕ) (row : Row) → Tied h s → Sound s → get s.rows local ≡ Some row → Held h local row.birth row
+held_of {h} {s} local row t k was =
+    let own : IsOwn s local row = k.own local row was in let d = own.serial.0 in
     let last : d ≤ births h = let le : d ≤ s.given = own.serial.2 in omega (arith, le, k.births, t.births_are) in
     let place : local ≡ local_of h d = own.serial.3 ∙ sym (t.opened.locals d own.serial.1 last) in
-    let tied : IsTied d (story h d) row = subst (TiedAt (births h) d (story h d)) (ap (map.get s.rows) (sym place) ∙ was) (t.rows d) in
+    let tied : IsTied d (story h d) row = subst (TiedAt (births h) d (story h d)) (ap (get s.rows) (sym place) ∙ was) (t.rows d) in
     subst (λ d. Held h local d row) (sym tied.birth)
     (record { name = ap (named h) place ∙ t.opened.are_named d own.serial.1 last; place = place; first = own.serial.1; last = last; tied = tied })
 
-pub held_at : (h : List Event) (s : Shelf) (d : ℕ) (row : Row) → Tied h s → Sound s → map.get s.rows (local_of h d) ≡ Some row → Held h (local_of h d) d row
-held_at h s d row t k was =
+pub held_at : {h : List Event} {s : Shelf} (d : ℕ) (row : Row) → Tied h s → Sound s → get s.rows (local_of h d) ≡ Some row → Held h (local_of h d) d row
+held_at {h} d row t k was =
     let tied : IsTied d (story h d) row = subst (TiedAt (births h) d (story h d)) was (t.rows d) in
-    subst (λ d'. Held h (local_of h d) d' row) tied.birth (held_of h s (local_of h d) row t k was)
+    subst (λ d'. Held h (local_of h d) d' row) tied.birth (held_of (local_of h d) row t k was)
 
 -- it isn't under the identifier of an Abort of the provider
-pub not_abort : (h : List Event) (s : Shelf) (local : ℕ) (row : Row) → Tied h s → Sound s → map.get s.rows local ≡ Some row → eqb local 0 ≡ false
-not_abort h s local row t k was = let serial = (k.own local row was).serial in ne_eqb local 0 (λ e. let first : 0 < serial.0 = serial.1 in let place = serial.3 in omega (arith, e, first, place))
+pub not_abort : {h : List Event} {s : Shelf} (local : ℕ) (row : Row) → Tied h s → Sound s → get s.rows local ≡ Some row → eqb local 0 ≡ false
+not_abort local row t k was = let serial = (k.own local row was).serial in ne_eqb local 0 (λ e. let first : 0 < serial.0 = serial.1 in let place = serial.3 in omega (arith, e, first, place))
 
 -- what is left of a dialogue is tied, or it is gone
-pub left_tied : RowsKeepTheirOrder → (n d : ℕ) (t : Story) (after : Row) → IsTied d t after → TiedAt n d t (left_of after)
-left_tied law n d t after k = by_held after (TiedAt n d t) (λ _. k) (λ none. gone_tied law n d t after k (not_held after none))
+pub left_tied : RowsKeepTheirOrder → (n : ℕ) {d : ℕ} {t : Story} {after : Row} → IsTied d t after → TiedAt n d t (left_of after)
+left_tied law n {d} {t} {after} k = by_held after (TiedAt n d t) (λ _. k) (λ none. gone_tied law n k (not_held after none))
 
 -- the dialogues of a book where one is put in its place, or what is left of it
-pub one_put : (old new : Shelf) (local : ℕ) (before : Option Row) (after : Row) → map.get old.rows local ≡ before → new.rows ≡ map.insert old.rows local after
+pub one_put : (old new : Shelf) (local : ℕ) (before : Option Row) (after : Row) → get old.rows local ≡ before → new.rows ≡ insert old.rows local after
     → OneChanges old.rows new.rows local before (Some after)
 one_put old new local before after was is = subst (λ rows. OneChanges old.rows rows local before (Some after)) (sym is) (inserted old.rows local before after was)
 
-pub one_left : (old new : Shelf) (local : ℕ) (before after : Row) → map.get old.rows local ≡ Some before → new.rows ≡ keep old.rows local after
+pub one_left : (old new : Shelf) (local : ℕ) (before after : Row) → get old.rows local ≡ Some before → new.rows ≡ keep old.rows local after
     → OneChanges old.rows new.rows local (Some before) (left_of after)
 one_left old new local before after was is = subst (λ rows. OneChanges old.rows rows local (Some before) (left_of after)) (sym is) (kept old.rows local (Some before) after was)
 
 -- one dialogue changes, and the others keep their stories
-pub rows_one : (h : List Event) (e : Event) (old new : Shelf) (local : ℕ) (before : Row) (left : Option Row) → Tied h old → Sound old → OneChanges old.rows new.rows local (Some before) left
+pub rows_one : {h : List Event} (e : Event) {old : Shelf} (new : Shelf) {local : ℕ} (before : Row) {left : Option Row} → Tied h old → Sound old → OneChanges old.rows new.rows local (Some before) left
     → TiedAt (births h) before.birth (story (e ∷ h) before.birth) left → ((d : ℕ) → eqb d before.birth ≡ false → story (e ∷ h) d ≡ story h d)
-    → (d : ℕ) → TiedAt (births h) d (story (e ∷ h) d) (map.get new.rows (local_of h d))
-rows_one h e old new local before left t k one own others d =
-    let b : Held h local before.birth before = held_of h old local before t k one.was in
-    by_local d before.birth (λ d. TiedAt (births h) d (story (e ∷ h) d) (map.get new.rows (local_of h d)))
-    (subst (TiedAt (births h) before.birth (story (e ∷ h) before.birth)) (sym one.there ∙ ap (map.get new.rows) b.place) own)
+    → (d : ℕ) → TiedAt (births h) d (story (e ∷ h) d) (get new.rows (local_of h d))
+rows_one {h} e {old} new {local} before t k one own others d =
+    let b : Held h local before.birth before = held_of local before t k one.was in
+    by_local d before.birth (λ d. TiedAt (births h) d (story (e ∷ h) d) (get new.rows (local_of h d)))
+    (subst (TiedAt (births h) before.birth (story (e ∷ h) before.birth)) (sym one.there ∙ ap (get new.rows) b.place) own)
     (λ ne.
     let other : eqb (local_of h d) local ≡ false = ap (eqb (local_of h d)) b.place ∙ apart old.link h d before.birth t.opened b.first b.last ne in
-    subst (λ t. TiedAt (births h) d t (map.get new.rows (local_of h d))) (sym (others d ne))
+    subst (λ t. TiedAt (births h) d t (get new.rows (local_of h d))) (sym (others d ne))
     (subst (TiedAt (births h) d (story h d)) (sym (one.others (local_of h d) other)) (t.rows d)))
 
 -- Which births were given
 
 pub born_at : (d n : ℕ) → 0 < d → d ≤ n → (nat_lt 0 d && nat_le d n) ≡ true
-born_at d n first last =
-    let a : nat_lt 0 d ≡ true = ⊎_elim (λ h. h.0) (λ h. absurd (let lt : d < 1 = h.1 in omega (arith, first, lt))) (leb_tells 1 d) in
-    let b : nat_le d n ≡ true = ⊎_elim (λ h. h.0) (λ h. absurd (let lt : n < d = h.1 in omega (arith, last, lt))) (leb_tells d n) in
-    ap (λ x. x && nat_le d n) a ∙ b
+born_at d n first last = grind (arith, nat_tests)
 
 -- none that isn't opened yet takes messages
 pub not_born : (h : List Event) (d : ℕ) → births h < d → admits h d ≡ false

@@ -1,31 +1,5 @@
 -- Where a link is idle, all that is to be served was, and all that is to be sent.
-use Rattle.std.proofs.Common.{◌≡◌, ◌≤◌, ℕ, true, false, not, ◌&&◌, Option, Some, None, List, [], ◌∷◌, ◌++◌, length, is_some, refl, sym, ◌∙◌, ap, arith, append-nil, length-append, ⊎_elim}
-use Rattle.std.specs.Prelude.{map as map_list, nat_lt, option_map}
-use Rattle.std.specs.FinMap as map
-use Rattle.std.proofs.lemmas.Bool.{cases_Bool, ltb-false}
-use mathlib.Core.List.{IsPrefix}
-use Rattle.fp_book.proofs.Turns.{frames_at}
-use Rattle.fp_book.specs.Shelf.{Shelf, Sound, frame_out, frames_for}
-use Rattle.fp_book.specs.declared.parcel.Content.{Content}
-use Rattle.fp_entry.specs.declared.entry.Entry.{Entry}
-use Rattle.fp_row.specs.Laws.{RowsKeepTheirOrder}
-use Rattle.fp_row.specs.Row.{is_closed, kept_of, sent_of}
-use Rattle.fp_row.specs.declared.ending.Ending.{Ending}
-use Rattle.fp_row.specs.declared.row.Row.{Row}
-use Rattle.fp_service.proofs.Folding.{cut-closed, cut-cut, cut-front}
-use Rattle.fp_service.specs.Dialogue.{is_over}
-use Rattle.fp_service.specs.Fold.{core_after, cut}
-use Rattle.fp_service.specs.declared.dialogue.Core.{Core}
-use Rattle.fp_steps.specs.Accepted.{accepted, core_of, ending, positions, served, start}
-use Rattle.fp_steps.specs.Births.{births, local_of}
-use Rattle.fp_steps.specs.Headline.{Headline}
-use Rattle.fp_steps.specs.History.{Event}
-use Rattle.fp_steps.specs.Idle.{IdleIsDone}
-use Rattle.fp_steps.specs.Lined.{Lined, as_waiting}
-use Rattle.fp_steps.specs.Sending.{abort_out, aborts, aborts_sent, asked, out, sent}
-use Rattle.fp_steps.specs.Tied.{AbortsTied, Tied, TiedAt, handed, story}
-use Rattle.fp_steps.specs.Turns.{waits}
-use Rattle.fp_steps.specs.Waiting.{aborts_waiting, is_down}
+use Rattle.fp_steps.proofs.Names.{AbortsTied, Content, Core, Ending, Entry, Event, Headline, IdleIsDone, IsPrefix, Lined, List, None, Option, Row, RowsKeepTheirOrder, Shelf, Some, Sound, Tied, TiedAt, [], abort_out, aborts, aborts_sent, aborts_waiting, accepted, ap, append-nil, arith, as_waiting, asked, births, cases_Bool, core_after, core_of, cut, cut-closed, cut-cut, cut-front, ending, false, frame_out, frames_at, frames_for, get, handed, is_closed, is_down, is_over, is_some, kept_of, length, length-append, local_of, map_list, nat_tests, not, option_map, out, positions, refl, sent, sent_of, served, start, story, sym, true, waits, ℕ, ⊎_elim, ◌&&◌, ◌++◌, ◌∙◌, ◌∷◌, ◌≡◌, ◌≤◌}
 use Rattle.fp_steps.proofs.HeldDialogues.{asked_tied}
 use Rattle.fp_steps.proofs.WaitingAtSteps.{aborts_wait}
 
@@ -41,8 +15,7 @@ whole_front xs (y ∷ ys) zs e le =
 -- what is cut at its end isn't longer
 cut_shorter : (core : Core) (xs : List Entry) → length (cut core xs) ≤ length xs
 cut_shorter core xs =
-    let f = cut-front core xs in
-    let n : length (cut core xs ++ f.0) ≡ length xs = ap length f.1 in
+    let f = cut-front core xs in let n : length (cut core xs ++ f.0) ≡ length xs = ap length f.1 in
     omega (arith, n, length-append (cut core xs) f.0)
 
 -- behind what ends a core nothing is served
@@ -53,16 +26,12 @@ ended_all core xs ys zs e over =
     whole_front xs ys (cut core zs) e (omega (arith, n, cut_shorter core xs))
 
 -- of a dialogue that isn't closed, and of which nothing waits, all was served
-served_all : (h : List Event) (d : ℕ) → Headline h → waits h d ≡ false → is_closed (ending h d) ≡ false → served h d ≡ cut (start h d) (accepted h d)
-served_all h d k none live =
+served_all : {h : List Event} (d : ℕ) → Headline h → waits h d ≡ false → is_closed (ending h d) ≡ false → served h d ≡ cut (start h d) (accepted h d)
+served_all {h} d k none live =
     let first : IsPrefix (served h d) (cut (start h d) (accepted h d)) = (k.dialogues d).served_first in
-    let more = nat_lt (length (positions h d)) (length (accepted h d)) in
-    let rest : (not (is_over (core_of h d)) && more) ≡ false = ap (λ b. not b && (not (is_over (core_of h d)) && more)) (sym live) ∙ none in
-    ⊎_elim
-    (λ over. ended_all (start h d) (served h d) first.0 (accepted h d) first.1 over)
+    ⊎_elim (λ over. ended_all (start h d) (served h d) first.0 (accepted h d) first.1 over)
     (λ going.
-    let last : more ≡ false = ap (λ b. not b && more) (sym going) ∙ rest in
-    let le : length (accepted h d) ≤ length (positions h d) = ltb-false (length (positions h d)) (length (accepted h d)) last in
+    let le : length (accepted h d) ≤ length (positions h d) = grind (arith, nat_tests) in
     let there : length (served h d) ≡ length (positions h d) = k.each_there d in
     whole_front (served h d) first.0 (cut (start h d) (accepted h d)) first.1 (omega (arith, le, there, cut_shorter (start h d) (accepted h d))))
     (cases_Bool (is_over (core_of h d)))
@@ -79,34 +48,34 @@ not_ended None e = refl
 not_ended (Some ending) e = absurd (cc)
 
 -- of a dialogue that nothing ended from outside all was sent
-sent_all : RowsKeepTheirOrder → (h : List Event) (s : Shelf) (d : ℕ) (o : Option Row) → Sound s → s.outbox.out ≡ None → s.outbox.frames ≡ [] → map.get s.rows (local_of h d) ≡ o
+sent_all : RowsKeepTheirOrder → (h : List Event) {s : Shelf} (d : ℕ) (o : Option Row) → Sound s → s.outbox.out ≡ None → s.outbox.frames ≡ [] → get s.rows (local_of h d) ≡ o
     → TiedAt (births h) d (story h d) o → ending h d ≡ None → sent h d ≡ asked h d
-sent_all law h s d None k none_out none_waits was t live = t.all_sent live
-sent_all law h s d (Some row) k none_out none_waits was t live =
+sent_all law h d None k none_out none_waits was t live = t.all_sent live
+sent_all law h {s} d (Some row) k none_out none_waits was t live =
     let l = local_of h d in
-    let all : sent_of row ++ (frame_out l s.outbox.out ++ frames_for l s.outbox.frames) ≡ kept_of row = frames_at s l (Some row) k was in
+    let all : sent_of row ++ (frame_out l s.outbox.out ++ frames_for l s.outbox.frames) ≡ kept_of row = frames_at _ l (Some row) k was in
     let none : frame_out l s.outbox.out ++ frames_for l s.outbox.frames ≡ [] = ap (λ o. frame_out l o ++ frames_for l s.outbox.frames) none_out ∙ ap (frames_for l) none_waits in
-    t.sends ∙ sym (append-nil (sent_of row)) ∙ ap (λ fs. sent_of row ++ fs) (sym none) ∙ all ∙ (law row).all_kept (sym t.ends ∙ live) ∙ sym (asked_tied d (story h d) row t)
+    t.sends ∙ sym (append-nil (sent_of row)) ∙ ap (λ fs. sent_of row ++ fs) (sym none) ∙ all ∙ (law row).all_kept (sym t.ends ∙ live) ∙ sym (asked_tied t)
 
 -- ABORTS OF THE PROVIDER
 
 -- where none waits and nothing is out all were sent
-aborts_all : (h : List Event) (s : Shelf) → Tied h s → Sound s → Lined h s → is_down h ≡ false → out h ≡ None → aborts_waiting h ≡ [] → aborts_sent h ≡ aborts h
-aborts_all h s t k l up none_out none_waits =
+aborts_all : {h : List Event} {s : Shelf} → Tied h s → Sound s → Lined h s → is_down h ≡ false → out h ≡ None → aborts_waiting h ≡ [] → aborts_sent h ≡ aborts h
+aborts_all {h} {s} t k l up none_out none_waits =
     let a : AbortsTied h s = t.aborts_are in
-    let rest : a.rest ≡ [] = a.waiting (sym l.down ∙ up) ∙ sym (aborts_wait h s t k l) ∙ none_waits in
+    let rest : a.rest ≡ [] = a.waiting (sym l.down ∙ up) ∙ sym (aborts_wait t k l) ∙ none_waits in
     sym (append-nil (aborts_sent h)) ∙ ap (λ o. aborts_sent h ++ (abort_out o ++ [])) (sym none_out) ∙ ap (λ r. aborts_sent h ++ (abort_out (out h) ++ r)) (sym rest) ∙ a.all
 
 -- ALL OF IT
 
-pub idle_is_done : RowsKeepTheirOrder → (h : List Event) (s : Shelf) → Tied h s → Lined h s → Sound s → Headline h → IdleIsDone h
-idle_is_done law h s t l k head idle =
+pub idle_is_done : RowsKeepTheirOrder → {h : List Event} {s : Shelf} → Tied h s → Lined h s → Sound s → Headline h → IdleIsDone h
+idle_is_done law {h} {s} t l k head idle =
     let out_none : s.outbox.out ≡ None = none_handed h s.outbox.out (sym t.is_out ∙ idle.no_pick.0) in
     let frames_none : s.outbox.frames ≡ [] = sym l.frames ∙ ap (map_list (as_waiting h)) idle.no_pick.2 in
     record {
-      all_served = λ d. served_all h d head (ap (λ b. not b && waits h d) (sym (idle.no_turn d)) ∙ idle.no_take d);
-      all_sent = λ d live. sent_all law h s d (map.get s.rows (local_of h d)) k out_none frames_none refl (t.rows d) (not_ended (ending h d) live);
-      all_aborts = aborts_all h s t k l idle.up idle.no_pick.0 idle.no_pick.1;
+      all_served = λ d. served_all d head (ap (λ b. not b && waits h d) (sym (idle.no_turn d)) ∙ idle.no_take d);
+      all_sent = λ d live. sent_all law h d (get s.rows (local_of h d)) k out_none frames_none refl (t.rows d) (not_ended (ending h d) live);
+      all_aborts = aborts_all t k l idle.up idle.no_pick.0 idle.no_pick.1;
     }
 
 -- and of a link on which nothing came yet

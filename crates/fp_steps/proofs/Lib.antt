@@ -1,3 +1,5 @@
+-- the names that all of them use
+mod Names
 -- EACH STEP: its answers, and what its book then is
 mod Cases
 -- THE TIE: a dialogue that a book holds has what the history tells of its birth

@@ -1,29 +1,7 @@
 -- The log of a run so far, and what is kept while it is told.
-use Rattle.std.proofs.Common.{Bool, List, None, Option, Some, [], ap, append-nil, arith, cond, eqb, false, get_or, length, not, refl, subst, sym, take, true, ℕ, ⊎_elim, ◌++◌, ◌+◌, ◌<◌, ◌∙◌, ◌∷◌, ◌≡◌, ◌≤◌}
-use Rattle.std.specs.Prelude.{find, map as map_list, min, option_map, option_to_list, reverse}
-use Rattle.std.proofs.lemmas.Bool.{cases_Bool, eq-eqb, eqb-true, false≢true}
-use Rattle.std.specs.List.{AllByRecursion}
-use Rattle.std.proofs.lemmas.Grind.{reverse_onto}
-use Rattle.std.proofs.lemmas.List.{length-map, length-reverse, map-append, reverse-append, same_from_push, take_all, take_more}
-use Rattle.fp_book.specs.declared.line.Line.{Line}
-use Rattle.fp_book.specs.declared.line.LoggedStep.{LoggedStep}
-use Rattle.fp_entry.specs.declared.prepared.Prepared.{Prepared}
-use Rattle.fp_records.specs.Table.{Contents}
-use Rattle.fp_steps.specs.Accepted.{positions}
-use Rattle.fp_steps.specs.Answers.{AllAnswered, IsAnswer, IsLongestReady, put_back}
-use Rattle.fp_steps.specs.Births.{births, for_one, is_one, local_of, named, named_after, opened_by}
-use Rattle.fp_steps.specs.History.{Event, Tells, outputs_of}
-use Rattle.fp_steps.specs.Log.{back_by, others, place_in, told_where, turns_after}
-use Rattle.fp_steps.specs.LogLines.{IsLine, IsLog}
-use Rattle.fp_steps.specs.Sending.{Handed, out}
-use Rattle.fp_steps.specs.Tied.{Opened as OpenedAs}
-use Rattle.fp_steps.specs.Told.{lines_told, log_of, logged, told, told_back, written}
-use Rattle.fp_steps.specs.Totals.{local_after}
-use Rattle.fp_steps.specs.Turns.{turn_out}
+use Rattle.fp_steps.proofs.Names.{AllAnswered, AllByRecursion, Bool, Contents, Event, Handed, HistoryTells as Tells, IsAnswer, IsLine, IsLog, IsLongestReady, Line, List, LoggedStep, None, Opened as OpenedAs, Option, Output, Prepared, Some, Step, [], ap, append-nil, arith, back_by, births, cases_Bool, cond, eq-eqb, eqb, eqb-true, false, false≢true, for_one, get_or, is_one, length, length-map, length-reverse, lines_told, local_after, local_of, log_of, logged, map-append, map_list, min, named, named_after, nat_tests, opened_by, option_map, option_to_list, others, out, outputs_of, place_in, positions, put_back, refl, reverse, reverse-append, reverse_onto, same_from_push, subst, sym, take, take_all, take_more, told, told_back, told_where, true, turn_out, turns_after, written, ℕ, ⊎_elim, ◌++◌, ◌+◌, ◌<◌, ◌∙◌, ◌∷◌, ◌≡◌, ◌≤◌}
 use Rattle.fp_steps.specs.declared.log.TurnOut.{TurnOut}
-use Rattle.fp_steps.specs.declared.output.Output.{Output}
-use Rattle.fp_steps.specs.declared.step.Step.{Step}
-use Rattle.fp_steps.proofs.HeldDialogues.{same_local}
+use Rattle.fp_steps.proofs.HeldDialogues.{same_local, is_own}
 use Rattle.fp_steps.proofs.OpenedDialogues.{all_opened, out_born, taken_if, the_one, took_is, turned_if}
 use Rattle.fp_steps.proofs.OutputTotals.{local_in, local_more, outputs_more}
 
@@ -32,31 +10,12 @@ use Rattle.fp_steps.proofs.OutputTotals.{local_in, local_more, outputs_more}
 -- a turn that goes out is the one that is found
 find_own : (turn : TurnOut) (local : ℕ) (turns : List TurnOut) → eqb turn.local local ≡ true → place_in (others local turns ++ turn ∷ []) local ≡ Some turn.position
 find_own turn local [] is = ap (λ b. option_map (λ (t : TurnOut). t.position) (cond b (Some turn) None)) is
-find_own turn local (t ∷ turns) is =
-    ⊎_elim
-    (λ e. ap (λ b. place_in (cond (not b) (t ∷ others local turns) (others local turns) ++ turn ∷ []) local) e ∙ find_own turn local turns is)
-    (λ ne. ap (λ b. place_in (cond (not b) (t ∷ others local turns) (others local turns) ++ turn ∷ []) local) ne
-    ∙ ap (λ b. option_map (λ (x : TurnOut). x.position) (cond b (Some t) (find (λ (x : TurnOut). eqb x.local local) (others local turns ++ turn ∷ [])))) ne
-    ∙ find_own turn local turns is)
-    (cases_Bool (eqb t.local local))
+find_own turn local (t ∷ turns) is = grind (arith, nat_tests, find_own turn local turns is)
 
 -- the turns of all others stay
 find_others : (l local : ℕ) (turns more : List TurnOut) → eqb l local ≡ false → place_in more local ≡ None → place_in (others l turns ++ more) local ≡ place_in turns local
 find_others l local [] more ne none = none
-find_others l local (t ∷ turns) more ne none =
-    let rest : place_in (others l turns ++ more) local ≡ place_in turns local = find_others l local turns more ne none in
-    let at : Bool → List TurnOut → Option ℕ = λ b xs. option_map (λ (x : TurnOut). x.position) (cond b (Some t) (find (λ (x : TurnOut). eqb x.local local) xs)) in
-    ⊎_elim
-    (λ e.
-    let other : eqb t.local local ≡ false = ap (λ n. eqb n local) (eqb-true t.local l e) ∙ ne in
-    ap (λ b. place_in (cond (not b) (t ∷ others l turns) (others l turns) ++ more) local) e ∙ rest ∙ sym (ap (λ b. at b turns) other))
-    (λ ne2.
-    ap (λ b. place_in (cond (not b) (t ∷ others l turns) (others l turns) ++ more) local) ne2
-    ∙ ⊎_elim
-    (λ here. ap (λ b. at b (others l turns ++ more)) here ∙ sym (ap (λ b. at b turns) here))
-    (λ gone. ap (λ b. at b (others l turns ++ more)) gone ∙ rest ∙ sym (ap (λ b. at b turns) gone))
-    (cases_Bool (eqb t.local local)))
-    (cases_Bool (eqb t.local l))
+find_others l local (t ∷ turns) more ne none = grind (arith, nat_tests, find_others l local turns more ne none)
 
 not_found : (turn : TurnOut) (local : ℕ) → eqb turn.local local ≡ false → place_in (turn ∷ []) local ≡ None
 not_found turn local ne = ap (λ b. option_map (λ (t : TurnOut). t.position) (cond b (Some turn) None)) ne
@@ -79,27 +38,16 @@ posted_stays : (link : ℕ) (h : List Event) (turns : List TurnOut) (local d : �
     → named_after o (births h + 1) (named h local) local ≡ Some d → turn_out h d ≡ true → place_in (turns ++ []) local ≡ Some (length (positions h d ++ []))
 posted_stays link h turns local d None all k name is = stays h turns local d k name is
 posted_stays link h turns local d (Some l) all k name is =
-    ⊎_elim
-    (λ e.
-    let one : Some (births h + 1) ≡ Some d = sym (ap (λ b. cond b (Some (births h + 1)) (named h local)) e) ∙ name in
-    let same : births h + 1 ≡ d = cc in
     let born : d ≤ births h = out_born link h d all is in
-    absurd (omega (arith, same, born)))
-    (λ ne. stays h turns local d k (sym (ap (λ b. cond b (Some (births h + 1)) (named h local)) ne) ∙ name) is)
-    (cases_Bool (eqb local l))
+    let still : named h local ≡ Some d → place_in (turns ++ []) local ≡ Some (length (positions h d ++ [])) = λ at. stays h turns local d k at is in
+    grind (arith, nat_tests, still)
 
 not_one : (b before : Bool) → cond b false before ≡ true → b ≡ false
-not_one true before e = absurd (false≢true e)
-not_one false before e = refl
+not_one b before e = grind (arith, nat_tests)
 
 -- the dialogue whose turn came back isn't one whose turn is out
 not_back : (h : List Event) (l local d : ℕ) → named h local ≡ Some d → is_one (named h l) d ≡ false → eqb l local ≡ false
-not_back h l local d name other =
-    ⊎_elim
-    (λ e.
-    let same : named h l ≡ Some d = ap (named h) (eqb-true l local e) ∙ name in
-    absurd (false≢true (sym other ∙ ap (λ o. is_one o d) same ∙ eq-eqb d d refl)))
-    (λ ne. ne) (cases_Bool (eqb l local))
+not_back h l local d name other = grind (arith, nat_tests, is_own (named h l) d)
 
 no_place : {X : Type 0} (o : Option ℕ) (d : ℕ) (xs : List X) → is_one o d ≡ false → for_one o d xs ≡ []
 no_place None d xs e = refl
@@ -110,16 +58,15 @@ back_stays : (h : List Event) (turns : List TurnOut) (l local d : ℕ) (before :
 back_stays h turns l local d before k name was is =
     others_stay h turns [] l local d k name (sym was ∙ turned_if (is_one (named h l) d) before is) (not_back h l local d name (not_one (is_one (named h l) d) before is)) refl
 
-took_stays : (link : ℕ) (h : List Event) (turns : List TurnOut) (l position local d : ℕ) → AllAnswered link h → IsLongestReady h l position → AreOut h turns → named h local ≡ Some d → cond (is_one (named h l) d) true (turn_out h d) ≡ true
+took_stays : (link : ℕ) {h : List Event} (turns : List TurnOut) {l position : ℕ} (local d : ℕ) → AllAnswered link h → IsLongestReady h l position → AreOut h turns → named h local ≡ Some d → cond (is_one (named h l) d) true (turn_out h d) ≡ true
     → place_in (others l turns ++ record { local = l; position = position } ∷ []) local ≡ Some (length (positions h d ++ []))
-took_stays link h turns l position local d all taken k name is =
+took_stays link {h} turns {l} {position} local d all taken k name is =
     let turn : TurnOut = record { local = l; position = position } in
     let g : OpenedAs link h = all_opened link h all in
     let there : (local ≡ local_of h d) × (0 < d) × (d ≤ births h) = g.names local d name in
     ⊎_elim
     (λ e.
-    let here : l ≡ local = eqb-true l local e in
-    let same : taken.dialogue ≡ d =
+    let here : l ≡ local = eqb-true l local e in let same : taken.dialogue ≡ d =
     eqb-true taken.dialogue d (sym (same_local link h taken.dialogue d g there.1 there.2) ∙ eq-eqb (local_of h taken.dialogue) (local_of h d) (sym taken.local_is ∙ here ∙ there.0))
     in
     ap (λ n. place_in (others n turns ++ turn ∷ []) local) here ∙ find_own turn local turns e ∙ ap Some (taken.next ∙ ap (λ n. length (positions h n)) same)
@@ -128,22 +75,18 @@ took_stays link h turns l position local d all taken k name is =
     ⊎_elim
     (λ one. absurd (false≢true (sym ne ∙ eq-eqb l local ((g.names l d (the_one (named h l) d one)).0 ∙ sym there.0))))
     (λ was. others_stay h turns (turn ∷ []) l local d k name was ne (not_found turn local ne))
-    (taken_if (is_one (named h l) d) (turn_out h d) is))
-    (cases_Bool (eqb l local))
+    (taken_if (is_one (named h l) d) (turn_out h d) is)) (cases_Bool (eqb l local))
 
 -- after a step
 moved : (link : ℕ) (h : List Event) (turns : List TurnOut) (step : Step) (came : Option Prepared) (output : Output) → IsAnswer link h step came output → AllAnswered link h → AreOut h turns
     → AreOut (record { step = step; came = came; output = output } ∷ h) (turns_after step output turns)
 moved link h turns step came (Output.Posted answer components) is all k local d name out_now = posted_stays link h turns local d (opened_by answer) all k name out_now
-moved link h turns step came (Output.Took l position) is all k local d name out_now = took_stays link h turns l position local d all (took_is link h step came l position is) k name out_now
+moved link h turns step came (Output.Took l position) is all k local d name out_now = took_stays link turns local d all (took_is link h step came l position is) k name out_now
 moved link h turns step came (Output.Gave l position given) is all k local d name out_now =
     back_stays h turns l local d (turn_out h d) k name refl out_now
     ∙ ap (λ xs. Some (length (positions h d ++ xs))) (sym (no_place (named h l) d (position ∷ []) (not_one (is_one (named h l) d) (turn_out h d) out_now)))
 moved link h turns (Step.PutBack lo) came Output.WentBack is all k local d name out_now = back_stays h turns lo local d (turn_out h d) k name refl out_now
 moved link h turns step came output is all k local d name out_now = stays h turns local d k name out_now
-
-pub AreOut-more : (link : ℕ) (h : List Event) (turns : List TurnOut) (e : Event) → IsAnswer link h e.step e.came e.output → AllAnswered link h → AreOut h turns → AreOut (e ∷ h) (turns_after e.step e.output turns)
-AreOut-more link h turns e is all k = moved link h turns e.step e.came e.output is all k
 
 -- WHAT IS TOLD
 
@@ -152,8 +95,7 @@ out_there : (h : List Event) (turns : List TurnOut) (local : ℕ) (o : Option �
     → option_map (λ n. LoggedStep.PutBack local n) (place_in turns local) ≡ option_map (λ d. LoggedStep.PutBack local (length (positions h d))) o
 out_there h turns local None k name is = absurd (cc)
 out_there h turns local (Some d) k name is =
-    ⊎_elim
-    (λ e. ap (option_map (λ n. LoggedStep.PutBack local n)) (k local d name e))
+    ⊎_elim (λ e. ap (option_map (λ n. LoggedStep.PutBack local n)) (k local d name e))
     (λ ne. absurd (let clash : Output.WentBack ≡ Output.Nothing = is ∙ ap (λ b. cond b Output.WentBack Output.Nothing) ne in cc))
     (cases_Bool (turn_out h d))
 
@@ -190,13 +132,13 @@ log_more link h e =
     ∙ ap (λ xs. Line.Head (link + 1) ∷ xs) (map-append (Line.Step link) (reverse (lines_told h)) one)
 
 -- one step more
-telling_more : (link : ℕ) (h : List Event) (e : Event) (log more : List Line) (turns then : List TurnOut) (before after : Option ℕ) → IsAnswer link h e.step e.came e.output → AllAnswered link h → Telling link h log turns before
+telling_more : {link : ℕ} {h : List Event} (e : Event) {log : List Line} (more : List Line) {turns : List TurnOut} (then : List TurnOut) {before : Option ℕ} (after : Option ℕ) → IsAnswer link h e.step e.came e.output → AllAnswered link h → Telling link h log turns before
     → more ≡ log ++ map_list (Line.Step link) (option_to_list (written (told_where turns before e.step e.output))) → then ≡ turns_after e.step e.output turns → after ≡ local_after e.output before → Telling link (e ∷ h) more then after
-telling_more link h e log more turns then before after is all k more_is then_is after_is = record {
+telling_more {link} {h} e more {turns} then {before} after is all k more_is then_is after_is = record {
   lines_are =
       let says : told_where turns before e.step e.output ≡ told h e.step e.output = ap (λ o. told_where turns o e.step e.output) k.sending_is ∙ told_is link h turns e.step e.came e.output k.turns_are is in
       more_is ∙ (λ i. k.lines_are i ++ map_list (Line.Step link) (option_to_list (written (says i)))) ∙ sym (log_more link h e);
-  turns_are = subst (AreOut (e ∷ h)) (sym then_is) (AreOut-more link h turns e is all k.turns_are);
+  turns_are = subst (AreOut (e ∷ h)) (sym then_is) (moved link h turns e.step e.came e.output is all k.turns_are);
   sending_is = after_is ∙ local_more e.output h (out h) before k.sending_is;
 }
 
@@ -217,7 +159,7 @@ told_more link steps outputs step output log more turns then before after k more
     let s = same_from_push (reverse (map_list (λ (e : Event). e.step) h)) steps e.step step (sym (reverse_onto (map_list (λ (e : Event). e.step) h) e.step []) ∙ tells.steps_are) in
     let o = same_from_push (outputs_of h) outputs e.output output (sym (outputs_more h e) ∙ tells.outputs_are) in
     let before_it : Tells contents contexts steps outputs h = record { steps_are = s.0; outputs_are = o.0; messages = tells.messages.1 } in
-    telling_more link h e log more turns then before after is all (k contents contexts h before_it all)
+    telling_more e more then after is all (k contents contexts h before_it all)
     (more_is ∙ (λ i. log ++ map_list (Line.Step link) (option_to_list (written (told_where turns before (sym s.1 i) (sym o.1 i))))))
     (then_is ∙ (λ i. turns_after (sym s.1 i) (sym o.1 i) turns))
     (after_is ∙ ap (λ x. local_after x before) (sym o.1))
@@ -244,11 +186,11 @@ logging_none link steps outputs log turns low log_is none = record {
   in_range = subst (AllByRecursion IsLine) (sym log_is) ((omega (arith, low), omega (arith, low)), tt);
 }
 
-pub logging_next : (link : ℕ) (steps : List Step) (outputs : List Output) (i : ℕ) (step : Step) (output : Output) (log more : List Line) (turns then : List TurnOut) (before after : Option ℕ) → Logging link (take i steps) (take i outputs) log turns before
+pub logging_next : {link : ℕ} (steps : List Step) (outputs : List Output) (i : ℕ) (step : Step) (output : Output) {log : List Line} (more : List Line) {turns : List TurnOut} (then : List TurnOut) {before : Option ℕ} (after : Option ℕ) → Logging link (take i steps) (take i outputs) log turns before
     → i < length steps → i < length outputs → step ≡ get_or steps i step → output ≡ get_or outputs i output
     → more ≡ log ++ map_list (Line.Step link) (option_to_list (written (told_where turns before step output))) → (AllByRecursion IsLine log → AllByRecursion IsLine more) → then ≡ turns_after step output turns → after ≡ local_after output before
     → Logging link (take (i + 1) steps) (take (i + 1) outputs) more then after
-logging_next link steps outputs i step output log more turns then before after k in_steps in_outputs step_is output_is more_is ranges then_is after_is =
+logging_next {link} steps outputs i step output {log} more {turns} then {before} after k in_steps in_outputs step_is output_is more_is ranges then_is after_is =
     subst (λ ss. Logging link ss (take (i + 1) outputs) more then after) (sym (take_more steps i step in_steps ∙ ap (λ s. take i steps ++ s ∷ []) (sym step_is)))
     (subst (λ os. Logging link (take i steps ++ step ∷ []) os more then after) (sym (take_more outputs i output in_outputs ∙ ap (λ o. take i outputs ++ o ∷ []) (sym output_is)))
     (record { told = told_more link (take i steps) (take i outputs) step output log more turns then before after k.told more_is then_is after_is; in_range = ranges k.in_range }))

@@ -1,25 +1,6 @@
 -- The totals of a history that retells lines are what can be counted in those.
-use Rattle.std.proofs.Common.{◌≡◌, ℕ, ◌+◌, Option, Some, None, List, [], ◌∷◌, length, refl, sym, ◌∙◌, ap, subst, arith}
-use Rattle.std.specs.Prelude.{IfSome, count_by, option_map}
-use Rattle.std.proofs.lemmas.List.Sums.{sum_by-cons}
-use Rattle.fp_book.specs.declared.answers.Posted.{Posted}
-use Rattle.fp_book.specs.declared.line.LoggedStep.{LoggedStep}
-use Rattle.fp_book.specs.declared.totals.Totals.{Totals}
-use Rattle.fp_entry.specs.Prepared.{IsLost}
-use Rattle.fp_entry.specs.declared.prepared.Prepared.{Prepared}
-use Rattle.fp_records.specs.Table.{Contents}
-use Rattle.fp_steps.specs.Accepted.{positions}
-use Rattle.fp_steps.specs.Answers.{IsAnswer}
-use Rattle.fp_steps.specs.Births.{named}
+use Rattle.fp_steps.proofs.Names.{Contents, Event, Handed, IfSome, IsAnswer, IsCame, IsLost, List, LoggedStep, None, Option, Output, Posted, Prepared, RetoldLinesAreCounted, Some, Step, Totals, [], added_by, answer_to, ap, arith, components_in, count_by, length, named, option_map, out, plus, positions, refl, subst, sum_by-cons, sym, told, told_back, told_message, told_tick, ℕ, ◌+◌, ◌∙◌, ◌∷◌, ◌≡◌}
 use Rattle.fp_steps.specs.Counted.{accepted_by, accepted_in, is_give, is_sent_frame, totals_in}
-use Rattle.fp_steps.specs.History.{Event, IsCame}
-use Rattle.fp_steps.specs.Laws.{RetoldLinesAreCounted}
-use Rattle.fp_steps.specs.Lines.{answer_to, components_in}
-use Rattle.fp_steps.specs.Sending.{Handed, out}
-use Rattle.fp_steps.specs.Told.{told, told_back, told_message, told_tick}
-use Rattle.fp_steps.specs.Totals.{added_by, plus}
-use Rattle.fp_steps.specs.declared.output.Output.{Output}
-use Rattle.fp_steps.specs.declared.step.Step.{Step}
 use Rattle.fp_steps.proofs.OutputTotals.{added, local_in, make, one_if, same, totals_next}
 
 -- what is counted of a line, whose message was prepared to this

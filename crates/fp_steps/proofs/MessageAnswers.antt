@@ -1,37 +1,5 @@
 -- Each message is answered as its history tells: by the first line that fits.
-use Rattle.std.proofs.Common.{Bool, List, None, Option, Some, [], ap, cond, drop, false, inl, inr, is_none, length, refl, subst, sym, true, ℕ, ⊎_elim, ◌++◌, ◌+◌, ◌∙◌, ◌∷◌, ◌≡◌, ◌⊎◌}
-use Rattle.std.specs.Prelude.{map as map_list}
-use Rattle.std.specs.Option.{option_and_then, option_map_or}
-use Rattle.std.proofs.lemmas.Bool.{cases_Bool}
-use Rattle.std.proofs.lemmas.List.{length-map}
-use Rattle.std.specs.FinMap as map
-use Rattle.std.proofs.lemmas.Option.{none-some, same_Some}
-use Rattle.fp_book.specs.Calls.{Answers, Follows, abort_for, entries_in}
-use Rattle.fp_book.specs.Lines.{SevenLinesDecide, first_lines, first_that_fits, going_on, is_begin, last_lines, seven_lines, unserved_in}
-use Rattle.fp_book.specs.Shelf.{Shelf, Sound, of_row}
-use Rattle.fp_book.specs.Lines.{admitted, named as named_in, verdict}
-use Rattle.fp_book.specs.declared.answers.Posted.{Posted}
-use Rattle.fp_book.specs.declared.verdict.Verdict.{Verdict}
-use Rattle.fp_entry.specs.Prepared.{IsLost, IsPrepared, arrival_of}
-use Rattle.fp_entry.specs.declared.prepared.Prepared.{Prepared}
-use Rattle.fp_q773.specs.declared.kind.Kind.{Kind}
-use Rattle.fp_q773.specs.declared.provider_abort.AbortCause.{AbortCause}
-use Rattle.fp_q773.specs.Tid.{Tid}
-use Rattle.fp_records.specs.Table.{Contents}
-use Rattle.fp_reply.specs.ProviderAbort.{frame_octets}
-use Rattle.fp_row.specs.Laws.{RowsKeepTheirOrder}
-use Rattle.fp_row.specs.Row.{is_admitted, unserved as row_unserved}
-use Rattle.fp_row.specs.declared.row.Row.{Row}
-use Rattle.fp_tids.specs.Identifiers.{identifier}
-use Rattle.fp_steps.specs.Accepted.{accepted, admits}
-use Rattle.fp_steps.specs.Births.{births, local_of, named}
-use Rattle.fp_steps.specs.History.{Event, IsCame}
-use Rattle.fp_steps.specs.Lined.{Lined}
-use Rattle.fp_steps.specs.Lines.{addressee, answer_by, answer_to, answers_by, begun, components_in, first_answer, refused, taking, unserved}
-use Rattle.fp_steps.specs.Tied.{IsTied, Tied, TiedAt, story}
-use Rattle.fp_steps.specs.Waiting.{aborts_waiting, held}
-use Rattle.fp_steps.specs.declared.output.Output.TheVariants as outputs
-use Rattle.fp_steps.specs.declared.step.Step.{Step}
+use Rattle.fp_steps.proofs.Names.{AbortCause, Answers, Bool, Contents, Event, Follows, IsCame, IsLost, IsPrepared, IsTied, Kind, Lined, List, None, Option, Output, Posted, Prepared, Row, RowsKeepTheirOrder, SevenLinesDecide, Shelf, Some, Sound, Step, Tid, Tied, TiedAt, Verdict, [], abort_for, aborts_waiting, accepted, addressee, admits, admitted, answer_by, answer_to, answers_by, ap, arrival_of, begun, births, cases_Bool, components_in, cond, drop, entries_in, false, first_answer, first_lines, first_that_fits, frame_octets, get, going_on, held, identifier, inl, inr, is_admitted, is_begin, is_none, last_lines, len, length, length-map, local_of, map_list, named, named_in, none-some, of_row, option_and_then, option_map_or, refl, refused, row_unserved, same_Some, seven_lines, story, subst, sym, taking, true, unserved, unserved_in, verdict, ℕ, ⊎_elim, ◌++◌, ◌+◌, ◌∙◌, ◌∷◌, ◌≡◌, ◌⊎◌}
 use Rattle.fp_steps.proofs.HeldCount.{held_is}
 use Rattle.fp_steps.proofs.HeldDialogues.{count_tied, held_of}
 use Rattle.fp_steps.proofs.TieAtMessages.{admits_is, number_in}
@@ -75,7 +43,7 @@ opened_by waiting next came (Some peer) = refl
 
 -- the lines of the book are the same, by what they ask for
 same_lines : (s : Shelf) (came : Prepared) (kind : Kind) (o : Option ℕ) (waiting next : ℕ) → map_list (answered_line waiting next came) (first_lines s came kind o ++ last_lines s came kind o)
-    ≡ answers_by s.is_down waiting (is_none o) (is_none (going_on kind o)) (unserved_in s (going_on kind o)) s.entries (map.len s.rows) s.given (answer_of waiting next came (option_map_or (λ peer. Verdict.Open peer) (arrival_of came).ids.orig Verdict.Discard)) came kind
+    ≡ answers_by s.is_down waiting (is_none o) (is_none (going_on kind o)) (unserved_in s (going_on kind o)) s.entries (len s.rows) s.given (answer_of waiting next came (option_map_or (λ peer. Verdict.Open peer) (arrival_of came).ids.orig Verdict.Discard)) came kind
 same_lines s came kind None waiting next = refl
 same_lines s came kind (Some local) waiting next = refl
 
@@ -87,7 +55,7 @@ record Both (h : List Event) (s : Shelf) (o p : Option ℕ) : Type 0 where
   row : Row
   is : o ≡ Some local
   also : p ≡ Some birth
-  was : map.get s.rows local ≡ Some row
+  was : get s.rows local ≡ Some row
   tied : IsTied birth (story h birth) row
 
 row_there : (o : Option Row) → option_map_or is_admitted o false ≡ true → (row : Row) × (o ≡ Some row)
@@ -97,35 +65,35 @@ row_there (Some row) e = (row, refl)
 if_one : {x : Bool} (n : ℕ) (b : Bool) → b ≡ x → cond b (Some n) None ≡ cond x (Some n) None
 if_one n b e = ap (λ b. cond b (Some n) None) e
 
-unnamed_row : (h : List Event) (s : Shelf) (local : ℕ) (o : Option Row) → Tied h s → Sound s → map.get s.rows local ≡ o → named h local ≡ None → option_map_or is_admitted o false ≡ false
-unnamed_row h s local None t k was none = refl
-unnamed_row h s local (Some row) t k was none = absurd (none-some row.birth (sym none ∙ (held_of h s local row t k was).name))
+unnamed_row : {h : List Event} {s : Shelf} (local : ℕ) (o : Option Row) → Tied h s → Sound s → get s.rows local ≡ o → named h local ≡ None → option_map_or is_admitted o false ≡ false
+unnamed_row local None t k was none = refl
+unnamed_row local (Some row) t k was none = absurd (none-some row.birth (sym none ∙ (held_of local row t k was).name))
 
-named_at : (h : List Event) (s : Shelf) (local : ℕ) (o : Option ℕ) → Tied h s → Sound s → named h local ≡ o
+named_at : {h : List Event} {s : Shelf} (local : ℕ) (o : Option ℕ) → Tied h s → Sound s → named h local ≡ o
     → ((admitted s.rows local ≡ None) × (option_and_then (taking h) o ≡ None)) ⊎ Both h s (admitted s.rows local) (option_and_then (taking h) o)
-named_at h s local None t k name = inl (if_one local (option_map_or is_admitted (map.get s.rows local) false) (unnamed_row h s local (map.get s.rows local) t k refl name), refl)
-named_at h s local (Some d) t k name =
+named_at {s} local None t k name = inl (if_one local (option_map_or is_admitted (get s.rows local) false) (unnamed_row local (get s.rows local) t k refl name), refl)
+named_at {h} {s} local (Some d) t k name =
     let place : local ≡ local_of h d = (t.opened.names local d name).0 in
-    let same : admits h d ≡ option_map_or is_admitted (map.get s.rows local) false = admits_is h s d t k ∙ ap (λ l. option_map_or is_admitted (map.get s.rows l) false) (sym place) in
+    let same : admits h d ≡ option_map_or is_admitted (get s.rows local) false = admits_is d t k ∙ ap (λ l. option_map_or is_admitted (get s.rows l) false) (sym place) in
     ⊎_elim
     (λ e.
-    let row = row_there (map.get s.rows local) (sym same ∙ e) in
+    let row = row_there (get s.rows local) (sym same ∙ e) in
     inr (record {
       local = local;
       birth = d;
       row = row.0;
-      is = if_one local (option_map_or is_admitted (map.get s.rows local) false) (sym same ∙ e);
+      is = if_one local (option_map_or is_admitted (get s.rows local) false) (sym same ∙ e);
       also = if_one d (admits h d) e;
       was = row.1;
-      tied = subst (TiedAt (births h) d (story h d)) (ap (map.get s.rows) (sym place) ∙ row.1) (t.rows d);
+      tied = subst (TiedAt (births h) d (story h d)) (ap (get s.rows) (sym place) ∙ row.1) (t.rows d);
     }))
-    (λ e. inl (if_one local (option_map_or is_admitted (map.get s.rows local) false) (sym same ∙ e), if_one d (admits h d) e))
+    (λ e. inl (if_one local (option_map_or is_admitted (get s.rows local) false) (sym same ∙ e), if_one d (admits h d) e))
     (cases_Bool (admits h d))
 
-named_both : (h : List Event) (s : Shelf) (n : Option ℕ) → Tied h s → Sound s
+named_both : {h : List Event} {s : Shelf} (n : Option ℕ) → Tied h s → Sound s
     → ((option_and_then (admitted s.rows) n ≡ None) × (option_and_then (taking h) (option_and_then (named h) n) ≡ None)) ⊎ Both h s (option_and_then (admitted s.rows) n) (option_and_then (taking h) (option_and_then (named h) n))
-named_both h s None t k = inl (refl, refl)
-named_both h s (Some local) t k = named_at h s local (named h local) t k refl
+named_both None t k = inl (refl, refl)
+named_both {h} (Some local) t k = named_at local (named h local) t k refl
 
 -- what the lines ask for of it
 record Asks (h : List Event) (s : Shelf) (kind : Kind) (o p : Option ℕ) : Type 0 where
@@ -137,35 +105,30 @@ asks_none : (h : List Event) (s : Shelf) (b : Bool) → unserved_in s (cond b No
 asks_none h s true = refl
 asks_none h s false = refl
 
-asks_some : (h : List Event) (s : Shelf) (local d : ℕ) (row : Row) (b : Bool) → map.get s.rows local ≡ Some row → IsTied d (story h d) row
+asks_some : (h : List Event) (s : Shelf) (local : ℕ) {d : ℕ} {row : Row} (b : Bool) → get s.rows local ≡ Some row → IsTied d (story h d) row
     → (is_none (cond b None (Some local)) ≡ is_none (cond b None (Some d))) × (unserved_in s (cond b None (Some local)) ≡ unserved h (cond b None (Some d)))
-asks_some h s local d row true was k = (refl, refl)
-asks_some h s local d row false was k = (refl, ap (of_row row_unserved) was ∙ sym (ap (λ n. drop n (accepted h d)) (count_tied d (story h d) row k) ∙ ap (drop row.served) k.accepts))
+asks_some h s local true was k = (refl, refl)
+asks_some h s local {d} {row} false was k = (refl, ap (of_row row_unserved) was ∙ sym (ap (λ n. drop n (accepted h d)) (count_tied k) ∙ ap (drop row.served) k.accepts))
 
-asks : (h : List Event) (s : Shelf) (came : Prepared) → Tied h s → Sound s → Asks h s (arrival_of came).ids.kind (named_in s (arrival_of came).ids) (addressee h came)
-asks h s came t k =
+asks : {h : List Event} {s : Shelf} (came : Prepared) → Tied h s → Sound s → Asks h s (arrival_of came).ids.kind (named_in s (arrival_of came).ids) (addressee h came)
+asks {h} {s} came t k =
     let kind = (arrival_of came).ids.kind in
     ⊎_elim
-    (λ none.
-    subst (λ o. Asks h s kind o (addressee h came)) (sym none.0)
+    (λ none. subst (λ o. Asks h s kind o (addressee h came)) (sym none.0)
     (subst (λ p. Asks h s kind None p) (sym none.1) (record { names = refl; anew = refl; entries = asks_none h s (is_begin kind) })))
-    (λ both.
-    subst (λ o. Asks h s kind o (addressee h came)) (sym both.is)
+    (λ both. subst (λ o. Asks h s kind o (addressee h came)) (sym both.is)
     (subst (λ p. Asks h s kind (Some both.local) p) (sym both.also)
-    (let so = asks_some h s both.local both.birth both.row (is_begin kind) both.was both.tied in record { names = refl; anew = so.0; entries = so.1 })))
-    (named_both h s (number_in came) t k)
+    (let so = asks_some h s both.local (is_begin kind) both.was both.tied in record { names = refl; anew = so.0; entries = so.1 })))
+    (named_both (number_in came) t k)
 
 -- what a message is answered
-pub answered_so : (h : List Event) (s : Shelf) (came : Prepared) → Tied h s → Sound s → Lined h s → held h ≡ map.len s.rows → verdict s came ≡ first_that_fits (seven_lines s came)
+pub answered_so : {h : List Event} {s : Shelf} (came : Prepared) → Tied h s → Sound s → Lined h s → held h ≡ len s.rows → verdict s came ≡ first_that_fits (seven_lines s came)
     → answer_of (length s.outbox.aborts) (identifier s.link (s.given + 1)) came (verdict s came) ≡ answer_to s.link h came
-answered_so h s came t k l many seven =
-    let kind = (arrival_of came).ids.kind in
-    let waiting = length s.outbox.aborts in
-    let next = identifier s.link (s.given + 1) in
-    let o = named_in s (arrival_of came).ids in
-    let p = addressee h came in
-    let a : Asks h s kind o p = asks h s came t k in
-    let aborts : waiting ≡ length (aborts_waiting h) = sym (length-map s.outbox.aborts frame_octets) ∙ ap length (sym (aborts_wait h s t k l)) in
+answered_so {h} {s} came t k l many seven =
+    let kind = (arrival_of came).ids.kind in let waiting = length s.outbox.aborts in
+    let next = identifier s.link (s.given + 1) in let o = named_in s (arrival_of came).ids in
+    let p = addressee h came in let a : Asks h s kind o p = asks came t k in
+    let aborts : waiting ≡ length (aborts_waiting h) = sym (length-map s.outbox.aborts frame_octets) ∙ ap length (sym (aborts_wait t k l)) in
     let given : s.given ≡ births h = sym (t.births_are ∙ k.births) in
     let opens : answer_of waiting next came (option_map_or (λ peer. Verdict.Open peer) (arrival_of came).ids.orig Verdict.Discard) ≡ begun s.link h came =
     opened_by waiting next came (arrival_of came).ids.orig ∙ ap (λ n. option_map_or (λ (peer : Tid). Posted.Opened (identifier s.link (n + 1))) (arrival_of came).ids.orig Posted.Discarded) given
@@ -186,22 +149,18 @@ pub lost_prepared : (contents : Contents) (contexts : List (List ℕ)) (octets :
 lost_prepared contents contexts octets moment (Prepared.Lost arrival) is = record { is_arrival = is; is_reading = tt }
 lost_prepared contents contexts octets moment p is = absurd is
 
-none_decided : Decided None
-none_decided s p same = absurd (cc)
-
 pub decided : SevenLinesDecide → (contents : Contents) (contexts : List (List ℕ)) (step : Step) (came : Option Prepared) → IsCame contents contexts step came → Decided came
-decided seven contents contexts step None is = none_decided
+decided seven contents contexts step None is = λ s p same. absurd (cc)
 decided seven contents contexts (Step.Post frame moment) (Some p) is = decided_as p (λ s. seven contents contexts frame moment s p is.0)
 decided seven contents contexts (Step.Lost frame moment) (Some p) is = decided_as p (λ s. seven contents contexts frame moment s p (lost_prepared contents contexts frame moment p is))
 decided seven contents contexts step (Some p) is = absurd is
 
-pub posted_is : RowsKeepTheirOrder → (h : List Event) (old new : Shelf) (p : Prepared) (answer : Posted) (components : ℕ) → Tied h old → Sound old → Lined h old
+pub posted_is : RowsKeepTheirOrder → {h : List Event} {old : Shelf} (new : Shelf) (p : Prepared) (answer : Posted) (components : ℕ) → Tied h old → Sound old → Lined h old
     → verdict old p ≡ first_that_fits (seven_lines old p)
-    → components ≡ components_in answer p → Follows (verdict old p) old p answer new → outputs.Posted answer components ≡ outputs.Posted (answer_to old.link h p) (components_in (answer_to old.link h p) p)
-posted_is law h old new p answer components t k l seven count g =
-    let waiting = length old.outbox.aborts in
-    let next = identifier old.link (old.given + 1) in
+    → components ≡ components_in answer p → Follows (verdict old p) old p answer new → Output.Posted answer components ≡ Output.Posted (answer_to old.link h p) (components_in (answer_to old.link h p) p)
+posted_is law {h} {old} new p answer components t k l seven count g =
+    let waiting = length old.outbox.aborts in let next = identifier old.link (old.given + 1) in
     let is : answer ≡ answer_of waiting next p (verdict old p) = answer_is old new p answer (verdict old p) g in
-    let so : answer ≡ answer_to old.link h p = is ∙ answered_so h old p t k l (held_is law h old t k l) seven in
+    let so : answer ≡ answer_to old.link h p = is ∙ answered_so p t k l (held_is law t k l) seven in
     let many : components ≡ components_in (answer_to old.link h p) p = count ∙ ap (λ a. components_in a p) so in
-    λ i. outputs.Posted (so i) (many i)
+    λ i. Output.Posted (so i) (many i)

@@ -1,30 +1,9 @@
 -- What is answered and retold is one.
-use Rattle.std.proofs.Common.{◌≡◌, ℕ, ◌<◌, ◌≤◌, true, false, eqb, Option, Some, None, List, [], ◌∷◌, length, is_some, refl, sym, ◌∙◌, ap, subst, arith, ⊎_elim, inl, inr}
-use Rattle.std.specs.Prelude.{map, option_map, reverse}
-use Rattle.std.specs.List.{AllByRecursion}
-use Rattle.std.proofs.lemmas.List.{reverse-reverse}
-use Rattle.std.proofs.lemmas.Bool.{cases_Bool, eq-eqb, eqb-true, false≢true}
-use Rattle.fp_book.specs.Lines.{is_lost}
-use Rattle.fp_entry.specs.Arrival.{SameArrival}
+use Rattle.fp_steps.proofs.Names.{AllAnswered, AllByRecursion, AnswersAreOne, Arrival, Contents, Event, IsAnswer, IsCame, IsLongestReady, IsLost, IsNext, IsNone, IsPicked, IsPosted, IsReadyBefore, IsTaken, LinesAreRetoldOnce, List, None, Option, Output, Prepared, QueuedFrame, RetellsOne, RunsAreOne, SameAnswers as Answers, SameArrival, SameIncoming, Some, Step, Tid, [], aborts_waiting, ap, arith, cases_Bool, eqb, eqb-true, false, false≢true, is_lost, is_some, length, local_of, map_list as map, octets_of, option_map, out, outputs_of, places, positions, refl, reverse, reverse-reverse, subst, sym, true, waiting, ℕ, ⊎_elim, ◌<◌, ◌∙◌, ◌∷◌, ◌≡◌, ◌≤◌}
 use Rattle.fp_entry.specs.Laws.{PreparedIsOne}
-use Rattle.fp_entry.specs.Prepared.{Answers, IsLost, SameIncoming}
-use Rattle.fp_entry.specs.declared.arrival.Arrival.{Arrival}
 use Rattle.fp_entry.specs.declared.incoming.Incoming.{Incoming}
-use Rattle.fp_entry.specs.declared.prepared.Prepared.{Prepared}
-use Rattle.fp_q773.specs.Tid.{octets_of, Tid}
-use Rattle.fp_records.specs.Table.{Contents}
-use Rattle.fp_steps.specs.Accepted.{positions}
-use Rattle.fp_steps.specs.Answers.{AllAnswered, IsAnswer, IsLongestReady, IsNext, IsPicked, IsPosted, IsTaken}
-use Rattle.fp_steps.specs.Births.{local_of}
-use Rattle.fp_steps.specs.History.{Event, IsCame, IsNone, outputs_of}
-use Rattle.fp_steps.specs.Laws.{AnswersAreOne, LinesAreRetoldOnce, RunsAreOne}
-use Rattle.fp_steps.specs.Retold.{RetellsOne}
-use Rattle.fp_steps.specs.Sending.{out}
-use Rattle.fp_steps.specs.Turns.{IsReadyBefore, ready_for}
-use Rattle.fp_steps.specs.Waiting.{QueuedFrame, aborts_waiting, places, waiting}
-use Rattle.fp_steps.specs.declared.output.Output.{Output}
-use Rattle.fp_steps.specs.declared.step.Step.{Step}
 use Rattle.fp_steps.proofs.MessageAnswers.{lost_prepared}
+use Rattle.fp_steps.proofs.HeldDialogues.{eqb_swap}
 
 -- WHAT CAME
 
@@ -34,27 +13,26 @@ same_option None (Some y) same = absurd (cc)
 same_option (Some x) None same = absurd (cc)
 same_option (Some x) (Some y) same = same
 
-one_arrival : (a b : Arrival) → SameArrival a b → a ≡ b
-one_arrival a b same =
+one_arrival : {a b : Arrival} → SameArrival a b → a ≡ b
+one_arrival {a} {b} same =
     let orig : a.ids.orig ≡ b.ids.orig = same_option a.ids.orig b.ids.orig same.identifiers.originating in
     let dest : a.ids.dest ≡ b.ids.dest = same_option a.ids.dest b.ids.dest same.identifiers.destination in
     λ i. record { frame = same.frames i; moment = same.moments i; ids = record { kind = same.identifiers.kinds i; orig = orig i; dest = dest i } }
 
-one_incoming : (a b : Incoming) → SameIncoming a b → a ≡ b
-one_incoming a b same =
-    λ i. record { entries = same.entries i; elements = same.elements i }
+one_incoming : {a b : Incoming} → SameIncoming a b → a ≡ b
+one_incoming same = λ i. record { entries = same.entries i; elements = same.elements i }
 
 -- a message that was read
 one_read : (x y : Prepared) → is_lost x ≡ false → is_lost y ≡ false → Answers x y → x ≡ y
-one_read (Prepared.Message a i) (Prepared.Message b j) r t same = ap (λ x. Prepared.Message x i) (one_arrival a b same.same_arrival) ∙ ap (λ x. Prepared.Message b x) (one_incoming i j same.same_reading)
-one_read (Prepared.Refused a f) (Prepared.Refused b g) r t same = ap (λ x. Prepared.Refused x f) (one_arrival a b same.same_arrival) ∙ ap (λ x. Prepared.Refused b x) same.same_reading
+one_read (Prepared.Message a i) (Prepared.Message b j) r t same = ap (λ x. Prepared.Message x i) (one_arrival same.same_arrival) ∙ ap (λ x. Prepared.Message b x) (one_incoming same.same_reading)
+one_read (Prepared.Refused a f) (Prepared.Refused b g) r t same = ap (λ x. Prepared.Refused x f) (one_arrival same.same_arrival) ∙ ap (λ x. Prepared.Refused b x) same.same_reading
 one_read (Prepared.Lost a) y r t same = absurd (false≢true (sym r))
 one_read x (Prepared.Lost b) r t same = absurd (false≢true (sym t))
 one_read x y r t same = absurd same.same_reading
 
 -- one that wasn't
 one_lost : (octets : List ℕ) (moment : ℕ) (x y : Prepared) → IsLost octets moment x → IsLost octets moment y → Answers x y → x ≡ y
-one_lost octets moment (Prepared.Lost a) (Prepared.Lost b) l m same = ap (λ x. Prepared.Lost x) (one_arrival a b same.same_arrival)
+one_lost octets moment (Prepared.Lost a) (Prepared.Lost b) l m same = ap (λ x. Prepared.Lost x) (one_arrival same.same_arrival)
 one_lost octets moment (Prepared.Lost a) y l m same = absurd m
 one_lost octets moment x y l m same = absurd l
 
@@ -77,25 +55,17 @@ came_is_one one contents contexts step x y p q = no_message x y p q
 
 -- two dialogues aren't each ready before the other
 never_both : (h : List Event) (c d : ℕ) → IsReadyBefore h c d → IsReadyBefore h d c → ⊥
-never_both h c d (inl a) (inl b) = omega (arith, a, b)
-never_both h c d (inl a) (inr b) = let e : ready_for h d ≡ ready_for h c = b.0 in omega (arith, a, e)
-never_both h c d (inr a) (inl b) = let e : ready_for h c ≡ ready_for h d = a.0 in omega (arith, b, e)
-never_both h c d (inr (e, inl a)) (inr (f, inl b)) = omega (arith, a, b)
-never_both h c d (inr (e, inl a)) (inr (f, inr b)) = let g = b.0 in omega (arith, a, g)
-never_both h c d (inr (e, inr a)) (inr (f, inl b)) = let g = a.0 in omega (arith, b, g)
-never_both h c d (inr (e, inr a)) (inr (f, inr b)) = let g = a.1 in let i = b.1 in omega (arith, g, i)
+never_both h c d a b = grind arith
 
-one_longest : (h : List Event) (l p m q : ℕ) → IsLongestReady h l p → IsLongestReady h m q → Output.Took l p ≡ Output.Took m q
-one_longest h l p m q a b =
-    let same : a.dialogue ≡ b.dialogue =
-    ⊎_elim (λ e. eqb-true a.dialogue b.dialogue e)
-    (λ ne. absurd (never_both h b.dialogue a.dialogue (b.longest a.dialogue a.stands ne) (a.longest b.dialogue b.stands (⊎_elim (λ e. absurd (false≢true (sym ne ∙ eq-eqb a.dialogue b.dialogue (sym (eqb-true b.dialogue a.dialogue e))))) (λ n. n) (cases_Bool (eqb b.dialogue a.dialogue))))))
-    (cases_Bool (eqb a.dialogue b.dialogue))
-    in
+one_longest : {h : List Event} {l p m q : ℕ} → IsLongestReady h l p → IsLongestReady h m q → Output.Took l p ≡ Output.Took m q
+one_longest {h} {p} {m} a b =
+    let same : a.dialogue ≡ b.dialogue = ⊎_elim (λ e. eqb-true a.dialogue b.dialogue e)
+    (λ ne. absurd (never_both h b.dialogue a.dialogue (b.longest a.dialogue a.stands ne) (a.longest b.dialogue b.stands (eqb_swap a.dialogue b.dialogue ne))))
+    (cases_Bool (eqb a.dialogue b.dialogue)) in
     ap (λ x. Output.Took x p) (a.local_is ∙ ap (local_of h) same ∙ sym b.local_is) ∙ ap (λ x. Output.Took m x) (a.next ∙ ap (λ d. length (positions h d)) same ∙ sym b.next)
 
 one_taken : (h : List Event) (x y : Output) → IsTaken h x → IsTaken h y → x ≡ y
-one_taken h (Output.Took l p) (Output.Took m q) a b = one_longest h l p m q a.0 b.0
+one_taken h (Output.Took l p) (Output.Took m q) a b = one_longest a.0 b.0
 one_taken h (Output.Took l p) Output.NoRoom a b = absurd (let lt : places h < 8192 = a.1 in let le : 8192 ≤ places h = b.1 in omega (arith, lt, le))
 one_taken h (Output.Took l p) Output.Nothing a b = absurd (false≢true (sym (b a.0.dialogue) ∙ a.0.stands))
 one_taken h Output.NoRoom (Output.Took m q) a b = absurd (let lt : places h < 8192 = b.1 in let le : 8192 ≤ places h = a.1 in omega (arith, lt, le))
@@ -183,8 +153,7 @@ one_history one contents contexts link (e ∷ g) (f ∷ h) same p q a b =
 pub runs_one : PreparedIsOne → RunsAreOne
 runs_one one contents contexts link steps outputs others r t =
     let forth = λ (h : List Event). reverse-reverse (map (λ (e : Event). e.step) h) in
-    let same : r.history ≡ t.history =
-    one_history one contents contexts link r.history t.history
+    let same : r.history ≡ t.history = one_history one contents contexts link r.history t.history
     (sym (forth r.history) ∙ ap reverse (r.tells.steps_are ∙ sym t.tells.steps_are) ∙ forth t.history)
     r.tells.messages t.tells.messages r.answers t.answers in
     (sym r.tells.outputs_are ∙ ap outputs_of same ∙ t.tells.outputs_are, same)
@@ -196,8 +165,7 @@ retold_once one contents contexts link [] [] [] a b = refl
 retold_once one contents contexts link (line ∷ lines) (e ∷ g) (f ∷ h) (a, r) (b, t) =
     let rest : h ≡ g = retold_once one contents contexts link lines h g t r in
     let then : RetellsOne contents contexts link line g f = subst (λ k. RetellsOne contents contexts link line k f) rest b in
-    let both : Some e.step ≡ Some f.step = sym a.step ∙ b.step in
-    let same : e.step ≡ f.step = cc in
+    let both : Some e.step ≡ Some f.step = sym a.step ∙ b.step in let same : e.step ≡ f.step = cc in
     ap (λ x. x ∷ g) (one_event one contents contexts link g e f same a.came b.came a.answer then.answer) ∙ ap (λ k. f ∷ k) (sym rest)
 retold_once one contents contexts link [] (e ∷ g) h a b = absurd a
 retold_once one contents contexts link (line ∷ lines) [] h a b = absurd a

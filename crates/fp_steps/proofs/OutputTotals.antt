@@ -1,15 +1,5 @@
 -- Totals, and what each output adds to them.
-use Rattle.std.proofs.Common.{◌≡◌, ℕ, ◌<◌, ◌≤◌, ◌+◌, ◌^◌, Bool, cond, Option, None, List, [], ◌∷◌, ◌++◌, length, take, slice_index_or, refl, sym, ◌∙◌, ap, subst, arith}
-use Rattle.std.specs.Prelude.{map as map_list, option_map, reverse}
-use Rattle.std.proofs.lemmas.Grind.{reverse_onto}
-use Rattle.std.proofs.lemmas.List.{reverse-append, reverse-reverse, take_all, take_more}
-use Rattle.std.proofs.lemmas.List.Sums.{sum_by_push}
-use Rattle.fp_book.specs.Shelf.{no_totals}
-use Rattle.fp_book.specs.declared.totals.Totals.{Totals}
-use Rattle.fp_steps.specs.History.{Event, outputs_of}
-use Rattle.fp_steps.specs.Sending.{Handed, out, out_after}
-use Rattle.fp_steps.specs.Totals.{AreFew, added_by, capped, capped_totals, components_of, frames_sent, is_gave, local_after, local_out, plus, totals_of}
-use Rattle.fp_steps.specs.declared.output.Output.{Output}
+use Rattle.fp_steps.proofs.Names.{AreFew, Bool, Event, Handed, List, None, Option, Output, Totals, [], added_by, ap, arith, capped, capped_totals, components_of, cond, frames_sent, is_gave, length, local_after, local_out, map_list, no_totals, option_map, out, out_after, outputs_of, plus, refl, reverse, reverse-append, reverse-reverse, reverse_onto, slice_index_or, subst, sum_by_push, sym, take, take_all, take_more, totals_of, ℕ, ◌++◌, ◌+◌, ◌<◌, ◌^◌, ◌∙◌, ◌∷◌, ◌≡◌, ◌≤◌}
 
 abbrev pub one_if : Bool → ℕ
 one_if b = cond {A = ℕ} b 1 0
@@ -19,8 +9,7 @@ make accepted served sent = record { accepted = accepted; served = served; sent 
 
 -- totals of the same numbers are the same
 pub same : (a b : Totals) → a.accepted ≡ b.accepted → a.served ≡ b.served → a.sent ≡ b.sent → a ≡ b
-same a b accepted served sent =
-    λ i. make (accepted i) (served i) (sent i)
+same a b accepted served sent = λ i. make (accepted i) (served i) (sent i)
 
 pub none_more : (n : ℕ) → n ≡ n + 0
 none_more n = omega arith
@@ -66,8 +55,7 @@ abbrev pub added : List Event → Event → Totals
 added h e = added_by e.output (local_in (out h))
 
 pub totals_next : (h : List Event) (e : Event) → totals_of (outputs_of (e ∷ h)) ≡ plus (totals_of (outputs_of h)) (added h e)
-totals_next h e =
-    ap totals_of (outputs_more h e) ∙ totals_more (outputs_of h) e.output
+totals_next h e = ap totals_of (outputs_more h e) ∙ totals_more (outputs_of h) e.output
     ∙ ap (λ o. plus (totals_of (outputs_of h)) (added_by e.output o)) (ap local_out (reverse-reverse (map_list (λ (e : Event). e.output) h)) ∙ locals h)
 
 -- THE LOOP OVER OUTPUTS
@@ -76,8 +64,7 @@ capped_more : (s c : ℕ) → capped (capped s + c) ≡ capped (s + c)
 capped_more s c = omega arith
 
 capped_plus : (a b : Totals) → capped_totals (plus (capped_totals a) b) ≡ capped_totals (plus a b)
-capped_plus a b =
-    same (capped_totals (plus (capped_totals a) b)) (capped_totals (plus a b))
+capped_plus a b = same (capped_totals (plus (capped_totals a) b)) (capped_totals (plus a b))
     (capped_more a.accepted b.accepted) (capped_more a.served b.served) (capped_more a.sent b.sent)
 
 -- what was counted so far
@@ -88,21 +75,21 @@ pub record CountedSoFar (list : List Output) (totals : Totals) (out : Option ℕ
 pub so_far_none : CountedSoFar [] no_totals None
 so_far_none = record { totals_are = refl; out_is = refl }
 
-so_far_more : (list : List Output) (output : Output) (old new : Totals) (before after : Option ℕ) → CountedSoFar list old before → new ≡ capped_totals (plus old (added_by output before)) → after ≡ local_after output before → CountedSoFar (list ++ output ∷ []) new after
-so_far_more list output old new before after k new_is after_is = record {
+so_far_more : {list : List Output} (output : Output) {old : Totals} (new : Totals) {before : Option ℕ} (after : Option ℕ) → CountedSoFar list old before → new ≡ capped_totals (plus old (added_by output before)) → after ≡ local_after output before → CountedSoFar (list ++ output ∷ []) new after
+so_far_more {list} output new {before} after k new_is after_is = record {
   totals_are = new_is ∙ ap (λ t. capped_totals (plus t (added_by output before))) k.totals_are ∙ capped_plus (totals_of list) (added_by output before)
       ∙ ap (λ o. capped_totals (plus (totals_of list) (added_by output o))) k.out_is ∙ ap capped_totals (sym (totals_more list output));
   out_is = after_is ∙ ap (local_after output) k.out_is ∙ ap local_out (sym (newest list output));
 }
 
-pub so_far_next : (list : List Output) (i : ℕ) (output : Output) (old new : Totals) (before after : Option ℕ) → CountedSoFar (take i list) old before → i < length list → output ≡ slice_index_or list i output
+pub so_far_next : (list : List Output) (i : ℕ) (output : Output) {old : Totals} (new : Totals) {before : Option ℕ} (after : Option ℕ) → CountedSoFar (take i list) old before → i < length list → output ≡ slice_index_or list i output
     → new ≡ capped_totals (plus old (added_by output before)) → after ≡ local_after output before → CountedSoFar (take (i + 1) list) new after
-so_far_next list i output old new before after k within at new_is after_is =
+so_far_next list i output new after k within at new_is after_is =
     subst (λ xs. CountedSoFar xs new after) (sym (take_more list i output within ∙ ap (λ o. take i list ++ o ∷ []) (sym at)))
-    (so_far_more (take i list) output old new before after k new_is after_is)
+    (so_far_more output new after k new_is after_is)
 
-pub so_far_all : (list : List Output) (i : ℕ) (totals : Totals) (out : Option ℕ) → CountedSoFar (take i list) totals out → length list ≤ i → totals ≡ capped_totals (totals_of list)
-so_far_all list i totals out k end = k.totals_are ∙ ap (λ xs. capped_totals (totals_of xs)) (take_all i list end)
+pub so_far_all : (list : List Output) (i : ℕ) {totals : Totals} {out : Option ℕ} → CountedSoFar (take i list) totals out → length list ≤ i → totals ≡ capped_totals (totals_of list)
+so_far_all list i k end = k.totals_are ∙ ap (λ xs. capped_totals (totals_of xs)) (take_all i list end)
 
 -- 64 bits hold the totals of a run
 fits : (n : ℕ) → n ≤ 2 ^ 63 + 8192 → capped n ≡ n

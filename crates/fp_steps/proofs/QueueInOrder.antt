@@ -1,72 +1,44 @@
 -- The queue of a book is in the order in which its dialogues became ready; and what each call makes of it.
-use Rattle.std.proofs.Common.{Bool, List, None, Option, Some, [], ap, append-nil, arith, cond, eqb, false, inl, inr, not, refl, subst, suc, sym, true, zero, ℕ, ⊎_elim, ◌&&◌, ◌++◌, ◌<◌, ◌∙◌, ◌∷◌, ◌≡◌, ◌≤◌, ◌⊎◌}
-use Rattle.std.specs.List.{AllByRecursion}
-use Rattle.std.proofs.lemmas.Bool.{and_right, cases_Bool, cond_both, eq-eqb, eqb-true, false≢true, true_from_ne_false}
-use Rattle.std.specs.FinMap as map
-use Rattle.std.proofs.lemmas.Option.{same_Some}
-use Rattle.std.specs.Prelude.{filter}
-use Rattle.std.proofs.lemmas.List.Elements.{All-filter, All-from_recursion, recursion_from_All}
-use Rattle.fp_book.proofs.Changes.{by_local, count, count_is, left_by, ready}
-use Rattle.fp_book.proofs.Queue.{count-append, count-cons, count_without_other, count_without_own}
-use Rattle.fp_book.proofs.Sums.{OneChanges, amount, left_of}
-use Rattle.fp_book.specs.Calls.{ClocksAt, ClosesAt, ComesFirst, Due, GoesDown, Ticks, joins, without}
-use Rattle.fp_book.specs.Sending.{is_frame_of}
-use Rattle.fp_book.specs.Shelf.{Shelf, Sound, one_if}
-use Rattle.fp_book.specs.declared.line.LoggedStep.{LoggedStep}
-use Rattle.fp_book.specs.declared.parcel.Content.{Content}
-use Rattle.fp_row.specs.Row.{is_held, is_ready as row_is_ready, waits as row_waits}
-use Rattle.fp_row.specs.declared.row.Row.{Row}
-use Rattle.fp_service.specs.Dialogue.{next_due}
-use Rattle.fp_steps.specs.Births.{births, local_of, named}
-use Rattle.fp_steps.specs.History.{Event}
-use Rattle.fp_steps.specs.Lined.{ByAge, Sorted}
-use Rattle.fp_steps.specs.Tied.{Tied, TiedAt, story}
-use Rattle.fp_steps.specs.Turns.{IsReadyBefore, due_of, is_ready, ready_for, turn_out, waits}
-use Rattle.fp_steps.proofs.HeldDialogues.{Held, core_tied, held_at, held_of, waits_tied}
+use Rattle.fp_steps.proofs.Names.{All-filter, All-from_recursion, AllByRecursion, Bool, ByAge, ClocksAt, ClosesAt, ComesFirst, Content, Due, Event, GoesDown, IsReadyBefore, List, LoggedStep, None, OneChanges, Option, Row, Rows, Shelf, Some, Sorted, Sound, Ticks, Tied, TiedAt, [], amount, and_parts, and_right, ap, append-nil, arith, births, by_local, cases_Bool, cases_lt, cond, cond_both, count, count-append, count-cons, count_is, count_without_other, count_without_own, due_of, eq-eqb, eqb, eqb-true, false, false≢true, filter, get, inl, inr, insert, inserted, is_frame_of, is_held, is_ready, joins, keep, kept, left_by, left_of, local_of, named, nat_tests, next_due, not, not-true, one_if, ready, ready_for, recursion_from_All, refl, row_is_ready, row_waits, same_Some, story, subst, suc, sym, true, true_from_ne_false, turn_out, without, ℕ, ⊎_elim, ◌&&◌, ◌++◌, ◌<◌, ◌∙◌, ◌∷◌, ◌≡◌, ◌≤◌, ◌⊎◌}
+use Rattle.fp_steps.proofs.HeldDialogues.{Held, core_tied, held_at, held_of, waits_tied, by_option}
 use Rattle.fp_steps.proofs.TieAtTicks.{among}
 use Rattle.fp_steps.proofs.OpenedDialogues.{births_grow, place_stays}
 
 -- lists
 
+-- who is first in a list is in it
+pub first_in : (x : ℕ) (xs : List ℕ) → 0 < count x (x ∷ xs)
+first_in x xs = let own : one_if (eqb x x) ≡ 1 = ap one_if (eq-eqb x x refl) in omega (arith, count-cons x x xs, own)
+
 pub all_in : (P : ℕ → Type 0) (xs : List ℕ) → ((y : ℕ) → 0 < count y xs → P y) → AllByRecursion P xs
 all_in P [] f = tt
-all_in P (x ∷ xs) f =
-    (f x (let own : one_if (eqb x x) ≡ 1 = ap one_if (eq-eqb x x refl) in omega (arith, count-cons x x xs, own)), all_in P xs (λ y h. f y (omega (arith, count-cons y x xs, h))))
+all_in P (x ∷ xs) f = (f x (first_in x xs), all_in P xs (λ y h. f y (omega (arith, count-cons y x xs, h))))
 
 pub all_at : (P : ℕ → Type 0) (xs : List ℕ) (y : ℕ) → AllByRecursion P xs → 0 < count y xs → P y
 all_at P [] y e h = absurd (omega (arith, h))
-all_at P (x ∷ xs) y e h =
-    ⊎_elim (λ s. subst P (eqb-true x y s) e.0)
+all_at P (x ∷ xs) y e h = ⊎_elim (λ s. subst P (eqb-true x y s) e.0)
     (λ n. all_at P xs y e.1 (let none : one_if (eqb x y) ≡ 0 = ap one_if n in omega (arith, count-cons y x xs, none, h)))
     (cases_Bool (eqb x y))
 
 in_either : (y : ℕ) (xs ys : List ℕ) → 0 < count y (xs ++ ys) → (0 < count y xs) ⊎ (0 < count y ys)
-in_either y [] ys h = inr h
-in_either y (x ∷ xs) ys h =
-    ⊎_elim (λ e. inl (let own : one_if (eqb x y) ≡ 1 = ap one_if e in omega (arith, count-cons y x xs, own)))
-    (λ n.
-    let none : one_if (eqb x y) ≡ 0 = ap one_if n in
-    ⊎_elim (λ a. inl (omega (arith, count-cons y x xs, a))) (λ b. inr b) (in_either y xs ys (omega (arith, count-cons y x (xs ++ ys), none, h))))
-    (cases_Bool (eqb x y))
+in_either y xs ys h =
+    ⊎_elim (λ some. inl some) (λ none. inr (let le : count y xs ≤ 0 = none in omega (arith, count-append y xs ys, le, h))) (cases_lt 0 (count y xs))
 
 -- an order is kept by those that stay in it
 pub sorted_same : (R Q : ℕ → ℕ → Type 0) (xs : List ℕ) → ((x y : ℕ) → 0 < count x xs → 0 < count y xs → R x y → Q x y) → Sorted R xs → Sorted Q xs
 sorted_same R Q [] f s = tt
-sorted_same R Q (x ∷ xs) f s =
-    let here : 0 < count x (x ∷ xs) = let own : one_if (eqb x x) ≡ 1 = ap one_if (eq-eqb x x refl) in omega (arith, count-cons x x xs, own) in (
-      all_in (Q x) xs (λ y h. f x y here (omega (arith, count-cons y x xs, h)) (all_at (R x) xs y s.0 h)),
-      sorted_same R Q xs (λ a b ha hb. f a b (omega (arith, count-cons a x xs, ha)) (omega (arith, count-cons b x xs, hb))) s.1,
-    )
+sorted_same R Q (x ∷ xs) f s = (
+  all_in (Q x) xs (λ y h. f x y (first_in x xs) (omega (arith, count-cons y x xs, h)) (all_at (R x) xs y s.0 h)),
+  sorted_same R Q xs (λ a b ha hb. f a b (omega (arith, count-cons a x xs, ha)) (omega (arith, count-cons b x xs, hb))) s.1,
+)
 
 -- one list stands behind another
 pub sorted_append : (R : ℕ → ℕ → Type 0) (xs ys : List ℕ) → Sorted R xs → Sorted R ys → ((x y : ℕ) → 0 < count x xs → 0 < count y ys → R x y) → Sorted R (xs ++ ys)
 sorted_append R [] ys s t f = t
-sorted_append R (x ∷ xs) ys s t f =
-    let here : 0 < count x (x ∷ xs) = let own : one_if (eqb x x) ≡ 1 = ap one_if (eq-eqb x x refl) in omega (arith, count-cons x x xs, own) in (
-      all_in (R x) (xs ++ ys) (λ y h.
-          ⊎_elim (λ a. all_at (R x) xs y s.0 a) (λ b. f x y here b) (in_either y xs ys h)),
-      sorted_append R xs ys s.1 t (λ a b ha hb. f a b (omega (arith, count-cons a x xs, ha)) hb),
-    )
+sorted_append R (x ∷ xs) ys s t f = (
+  all_in (R x) (xs ++ ys) (λ y h. ⊎_elim (λ a. all_at (R x) xs y s.0 a) (λ b. f x y (first_in x xs) b) (in_either y xs ys h)),
+  sorted_append R xs ys s.1 t (λ a b ha hb. f a b (omega (arith, count-cons a x xs, ha)) hb),
+)
 
 -- who stands in the queue is ready
 
@@ -76,66 +48,51 @@ ready_at (Some row) = row_is_ready row
 
 ready_by : (n d : ℕ) (h : List Event) (o : Option Row) → TiedAt n d (story h d) o → is_ready h d ≡ ready_at o
 ready_by n d h None k = ap (λ b. not (turn_out h d) && b) k.waits ∙ and_right (not (turn_out h d)) false refl
-ready_by n d h (Some row) k = λ i. not (k.outs i) && waits_tied d (story h d) row k i
+ready_by n d h (Some row) k = λ i. not (k.outs i) && waits_tied k i
 
-pub ready_is : (h : List Event) (s : Shelf) (d : ℕ) → Tied h s → is_ready h d ≡ ready_at (map.get s.rows (local_of h d))
-ready_is h s d t = ready_by (births h) d h (map.get s.rows (local_of h d)) (t.rows d)
+pub ready_is : (h : List Event) (s : Shelf) (d : ℕ) → Tied h s → is_ready h d ≡ ready_at (get s.rows (local_of h d))
+ready_is h s d t = ready_by (births h) d h (get s.rows (local_of h d)) (t.rows d)
 
 amount_ready : (o : Option Row) → amount ready o ≡ one_if (ready_at o)
 amount_ready None = refl
 amount_ready (Some row) = refl
 
-pub in_queue : (h : List Event) (s : Shelf) (d : ℕ) → Tied h s → Sound s → count (local_of h d) s.ready ≡ one_if (is_ready h d)
-in_queue h s d t k =
+pub in_queue : {h : List Event} {s : Shelf} (d : ℕ) → Tied h s → Sound s → count (local_of h d) s.ready ≡ one_if (is_ready h d)
+in_queue {h} {s} d t k =
     let l = local_of h d in
-    k.ready l ∙ count_is (map.get s.rows l) ∙ amount_ready (map.get s.rows l) ∙ ap one_if (sym (ready_is h s d t))
+    k.ready l ∙ count_is (get s.rows l) ∙ amount_ready (get s.rows l) ∙ ap one_if (sym (ready_is _ _ d t))
 
 pub stands_not : (b : Bool) (n : ℕ) → n ≡ one_if b → n ≡ 0 → b ≡ false
-stands_not true n e h = absurd (let x : n ≡ 1 = e in omega (arith, h, x))
-stands_not false n e h = refl
+stands_not b n e h = grind (arith, nat_tests)
 
 -- a dialogue that stands in the queue
 pub record InQueue (h : List Event) (s : Shelf) (l : ℕ) : Type 0 where
   pub row : Row
-  pub was : map.get s.rows l ≡ Some row
+  pub was : get s.rows l ≡ Some row
   pub held : Held h l row.birth row
   pub stands : is_ready h row.birth ≡ true
   pub free : row.is_out ≡ false
 
-not_out_by : (out waits : Bool) → (not out && waits) ≡ true → out ≡ false
-not_out_by true waits e = absurd (false≢true e)
-not_out_by false waits e = refl
-
-queued_by : (h : List Event) (s : Shelf) (l : ℕ) (o : Option Row) → Tied h s → Sound s → map.get s.rows l ≡ o → 0 < amount ready o → InQueue h s l
-queued_by h s l None t k was c = absurd (omega (arith, c))
-queued_by h s l (Some row) t k was c =
-    let held : Held h l row.birth row = held_of h s l row t k was in
+pub queued_at : {h : List Event} {s : Shelf} (l : ℕ) → Tied h s → Sound s → 0 < count l s.ready → InQueue h s l
+queued_at {h} {s} l t k stands = by_option (λ o. 0 < amount ready o → InQueue h s l) (get s.rows l) (λ was c. absurd (omega (arith, c)))
+    (λ row was c.
+    let held : Held h l row.birth row = held_of l row t k was in
     let is : row_is_ready row ≡ true = true_from_ne_false (row_is_ready row) (λ e. let none : one_if (row_is_ready row) ≡ 0 = ap one_if e in omega (arith, c, none)) in
-    record { row = row; was = was; held = held; stands = ready_by (births h) row.birth h (Some row) held.tied ∙ is; free = not_out_by row.is_out (row_waits row) is }
-
-pub queued_at : (h : List Event) (s : Shelf) (l : ℕ) → Tied h s → Sound s → 0 < count l s.ready → InQueue h s l
-queued_at h s l t k c = queued_by h s l (map.get s.rows l) t k refl (subst (λ n. 0 < n) (k.ready l ∙ count_is (map.get s.rows l)) c)
-
--- one whose identifier doesn't stand there isn't ready
-not_ready_by : (h : List Event) (s : Shelf) (l d : ℕ) (o : Option Row) → Tied h s → Sound s → map.get s.rows (local_of h d) ≡ o → (0 < d → d ≤ births h → local_of h d ≡ l)
-    → count l s.ready ≡ 0 → is_ready h d ≡ false
-not_ready_by h s l d None t k was place none = ready_is h s d t ∙ ap ready_at was
-not_ready_by h s l d (Some row) t k was place none =
-    let held : Held h (local_of h d) d row = held_at h s d row t k was in
-    stands_not (is_ready h d) (count (local_of h d) s.ready) (in_queue h s d t k) (ap (λ n. count n s.ready) (place held.first held.last) ∙ none)
+    record { row = row; was = was; held = held; stands = ready_by (births h) row.birth h (Some row) held.tied ∙ is; free = not-true row.is_out (and_parts (not row.is_out) (row_waits row) is).0 })
+    (subst (λ n. 0 < n) (k.ready l ∙ count_is (get s.rows l)) stands)
 
 -- who isn't ready hasn't been so at all; who is has been so for a while
 not_at_all : (h : List Event) (d : ℕ) → is_ready h d ≡ false → ready_for h d ≡ 0
 not_at_all [] d r = refl
 not_at_all (e ∷ h) d r = ap (λ b. cond b (suc (ready_for h d)) 0) r
 
-a_while : (h : List Event) (d : ℕ) → is_ready h d ≡ true → ready_for h d ≡ 0 → ⊥
-a_while [] d r z = false≢true r
-a_while (e ∷ h) d r z = let x : ready_for (e ∷ h) d ≡ suc (ready_for h d) = ap (λ b. cond b (suc (ready_for h d)) 0) r in omega (arith, x, z)
+a_while : (h : List Event) (d : ℕ) → is_ready h d ≡ true → 0 < ready_for h d
+a_while [] d r = absurd (false≢true r)
+a_while (e ∷ h) d r = let x : ready_for (e ∷ h) d ≡ suc (ready_for h d) = ap (λ b. cond b (suc (ready_for h d)) 0) r in omega (arith, x)
 
 -- no core changes but that of a dialogue whose turn is out
-abbrev pub CoresStay : Shelf → Shelf → Type 0
-CoresStay old new = (l : ℕ) (before after : Row) → map.get old.rows l ≡ Some before → map.get new.rows l ≡ Some after → before.is_out ≡ false → after.core ≡ before.core
+abbrev pub CoresStay : Rows → Rows → Type 0
+CoresStay rows then = (l : ℕ) (before after : Row) → get rows l ≡ Some before → get then l ≡ Some after → before.is_out ≡ false → after.core ≡ before.core
 
 -- the queue then: those that stay, and those that join it
 pub record Joins (h : List Event) (e : Event) (old new : Shelf) : Type 0 where
@@ -147,7 +104,7 @@ pub record Joins (h : List Event) (e : Event) (old new : Shelf) : Type 0 where
   pub order : Sorted (ByAge h) stay
   pub anew : (y : ℕ) → 0 < count y join → count y old.ready ≡ 0
   pub joined : Sorted (ByAge (e ∷ h)) join
-  pub cores : CoresStay old new
+  pub cores : CoresStay old.rows new.rows
 
 abbrev pub due_by : ℕ → ℕ → Due
 due_by next local = (next, local)
@@ -161,17 +118,16 @@ pub record Same (h : List Event) (e : Event) (y : ℕ) : Type 0 where
   -- what is due next of it is the same
   pub due : due_of (e ∷ h) birth ≡ due_of h birth
 
-pub same_dialogue : (h : List Event) (e : Event) (old new : Shelf) (y : ℕ) (before : Row) → Tied h old → Sound old → Tied (e ∷ h) new → Sound new → new.link ≡ old.link → CoresStay old new
-    → map.get old.rows y ≡ Some before → before.is_out ≡ false → 0 < count y new.ready → Same h e y
-same_dialogue h e old new y before t k u m link cores was free c =
-    let b = before.birth in
-    let a : Held h y b before = held_of h old y before t k was in
-    let q : InQueue (e ∷ h) new y = queued_at (e ∷ h) new y u m c in
+pub same_dialogue : {h : List Event} (e : Event) {old new : Shelf} (y : ℕ) (before : Row) → Tied h old → Sound old → Tied (e ∷ h) new → Sound new → new.link ≡ old.link → CoresStay old.rows new.rows
+    → get old.rows y ≡ Some before → before.is_out ≡ false → 0 < count y new.ready → Same h e y
+same_dialogue {h} e {old} {new} y before t k u m link cores was free c =
+    let b = before.birth in let a : Held h y b before = held_of y before t k was in
+    let q : InQueue (e ∷ h) new y = queued_at y u m c in
     let place : local_of (e ∷ h) b ≡ y = place_stays old.link new.link h e b link t.opened u.opened a.first a.last ∙ sym a.place in
     let named_so : named (e ∷ h) (local_of (e ∷ h) b) ≡ Some b = u.opened.are_named b a.first (births_grow h e b a.last) in
     let same : q.row.birth ≡ b = same_Some q.row.birth b (sym q.held.name ∙ ap (named (e ∷ h)) (sym place) ∙ named_so) in
     let now : Held (e ∷ h) y b q.row = subst (λ d. Held (e ∷ h) y d q.row) same q.held in
-    let core = core_tied b (story (e ∷ h) b) q.row now.tied ∙ cores y before q.row was q.was free ∙ sym (core_tied b (story h b) before a.tied) in
+    let core = core_tied now.tied ∙ cores y before q.row was q.was free ∙ sym (core_tied a.tied) in
     record {
       birth = b;
       was = a.name;
@@ -181,54 +137,46 @@ same_dialogue h e old new y before t k u m link cores was free c =
     }
 
 -- one that stands there for the first time
-pub newly : (h : List Event) (e : Event) (old new : Shelf) (y : ℕ) → Tied h old → Sound old → Tied (e ∷ h) new → Sound new → new.link ≡ old.link → count y old.ready ≡ 0
+pub newly : {h : List Event} (e : Event) {old new : Shelf} {y : ℕ} → Tied h old → Sound old → Tied (e ∷ h) new → Sound new → new.link ≡ old.link → count y old.ready ≡ 0
     → (q : InQueue (e ∷ h) new y) → ready_for h q.row.birth ≡ 0
-newly h e old new y t k u m link none q =
+newly {h} e {old} {new} {y} t k u m link none q =
     let b = q.row.birth in
-    not_at_all h b
-    (not_ready_by h old y b (map.get old.rows (local_of h b)) t k refl (λ first last. sym (place_stays old.link new.link h e b link t.opened u.opened first last) ∙ sym q.held.place) none)
+    not_at_all h b (by_option (λ o. is_ready h b ≡ false) (get old.rows (local_of h b))
+    (λ is. ready_is _ _ b t ∙ ap ready_at is)
+    (λ row is.
+    let held : Held h (local_of h b) b row = held_at b row t k is in
+    let place : local_of h b ≡ y = sym (place_stays old.link new.link h e b link t.opened u.opened held.first held.last) ∙ sym q.held.place in
+    stands_not (is_ready h b) (count (local_of h b) old.ready) (in_queue b t k) (ap (λ n. count n old.ready) place ∙ none)))
 
 -- which of two comes first, by their births
 pub aged : (R : ℕ → ℕ → Type 0) (h : List Event) (x y a b : ℕ) → named h x ≡ Some a → named h y ≡ Some b → R a b → (c d : ℕ) → named h x ≡ Some c → named h y ≡ Some d → R c d
 aged R h x y a b at_x at_y before c d is_c is_d = subst (λ c. R c d) (same_Some a c (sym at_x ∙ is_c)) (subst (R a) (same_Some b d (sym at_y ∙ is_d)) before)
 
 stays_before : (h : List Event) (e : Event) (c d : ℕ) → ready_for (e ∷ h) c ≡ suc (ready_for h c) → ready_for (e ∷ h) d ≡ suc (ready_for h d) → due_of (e ∷ h) c ≡ due_of h c
-    → due_of (e ∷ h) d ≡ due_of h d
-    → IsReadyBefore h c d → IsReadyBefore (e ∷ h) c d
+    → due_of (e ∷ h) d ≡ due_of h d → IsReadyBefore h c d → IsReadyBefore (e ∷ h) c d
 stays_before h e c d goes_c goes_d due_c due_d (inl less) = inl (let l : ready_for h d < ready_for h c = less in omega (arith, l, goes_c, goes_d))
-stays_before h e c d goes_c goes_d due_c due_d (inr same) =
-    inr (
-      (let s : ready_for h c ≡ ready_for h d = same.0 in omega (arith, s, goes_c, goes_d)),
-      subst (λ (x : Due). ComesFirst x (due_of (e ∷ h) d)) (sym due_c) (subst (λ (x : Due). ComesFirst (due_of h c) x) (sym due_d) same.1),
-    )
+stays_before h e c d goes_c goes_d due_c due_d (inr same) = inr (
+  (let s : ready_for h c ≡ ready_for h d = same.0 in omega (arith, s, goes_c, goes_d)),
+  subst (λ (x : Due). ComesFirst x (due_of (e ∷ h) d)) (sym due_c) (subst (λ (x : Due). ComesFirst (due_of h c) x) (sym due_d) same.1),
+)
 
--- it is above nothing
-some_of : (n : ℕ) → (n ≡ 0 → ⊥) → 0 < n
-some_of zero none = absurd (none refl)
-some_of (suc n) none = omega arith
-
-pub Order-next : (h : List Event) (e : Event) (old new : Shelf) → Tied h old → Sound old → Tied (e ∷ h) new → Sound new → Joins h e old new → Sorted (ByAge (e ∷ h)) new.ready
-Order-next h e old new t k u m g =
+pub Order-next : {h : List Event} {e : Event} {old new : Shelf} → Tied h old → Sound old → Tied (e ∷ h) new → Sound new → Joins h e old new → Sorted (ByAge (e ∷ h)) new.ready
+Order-next {h} {e} {old} {new} t k u m g =
     let in_new : (y : ℕ) → 0 < count y g.stay → 0 < count y new.ready = λ y c. omega (arith, ap (count y) g.ready_is, count-append y g.stay g.join, c) in
-    let now : (y : ℕ) → 0 < count y g.join → InQueue (e ∷ h) new y = λ y c. queued_at (e ∷ h) new y u m (omega (arith, ap (count y) g.ready_is, count-append y g.stay g.join, c)) in
-    let was : (y : ℕ) → 0 < count y g.stay → InQueue h old y = λ y c. queued_at h old y t k (g.stayed y c) in
-    let still : (y : ℕ) → 0 < count y g.stay → Same h e y = λ y c. same_dialogue h e old new y (was y c).row t k u m g.link_is g.cores (was y c).was (was y c).free (in_new y c) in
-    let stay : Sorted (ByAge (e ∷ h)) g.stay =
-    sorted_same (ByAge h) (ByAge (e ∷ h)) g.stay
+    let now : (y : ℕ) → 0 < count y g.join → InQueue (e ∷ h) new y = λ y c. queued_at y u m (omega (arith, ap (count y) g.ready_is, count-append y g.stay g.join, c)) in
+    let was : (y : ℕ) → 0 < count y g.stay → InQueue h old y = λ y c. queued_at y t k (g.stayed y c) in
+    let still : (y : ℕ) → 0 < count y g.stay → Same h e y = λ y c. same_dialogue e y (was y c).row t k u m g.link_is g.cores (was y c).was (was y c).free (in_new y c) in
+    let stay : Sorted (ByAge (e ∷ h)) g.stay = sorted_same (ByAge h) (ByAge (e ∷ h)) g.stay
     (λ x y cx cy age.
-    let a = still x cx in
-    let b = still y cy in
+    let a = still x cx in let b = still y cy in
     aged (IsReadyBefore (e ∷ h)) (e ∷ h) x y a.birth b.birth a.is b.is (stays_before h e a.birth b.birth a.goes b.goes a.due b.due (age a.birth b.birth a.was b.was)))
-    g.order
-    in
+    g.order in
     let behind : (x y : ℕ) → 0 < count x g.stay → 0 < count y g.join → ByAge (e ∷ h) x y = λ x y cx cy.
-    let a = still x cx in
-    let q = now y cy in
-    let b = q.row.birth in
+    let a = still x cx in let q = now y cy in let b = q.row.birth in
     let goes_b : ready_for (e ∷ h) b ≡ suc (ready_for h b) = ap (λ r. cond r (suc (ready_for h b)) 0) q.stands in
-    let none : ready_for h b ≡ 0 = newly h e old new y t k u m g.link_is (g.anew y cy) q in
+    let none : ready_for h b ≡ 0 = newly e t k u m g.link_is (g.anew y cy) q in
     let some : 0 < ready_for h a.birth =
-    some_of (ready_for h a.birth) (a_while h a.birth (subst (λ d. is_ready h d ≡ true) (same_Some (was x cx).row.birth a.birth (sym (was x cx).held.name ∙ a.was)) (was x cx).stands))
+    a_while h a.birth (subst (λ d. is_ready h d ≡ true) (same_Some (was x cx).row.birth a.birth (sym (was x cx).held.name ∙ a.was)) (was x cx).stands)
     in
     aged (IsReadyBefore (e ∷ h)) (e ∷ h) x y a.birth b a.is q.held.name (inl (omega (arith, goes_b, none, some, a.goes)))
     in
@@ -237,13 +185,13 @@ Order-next h e old new t k u m g =
 -- EACH CALL
 
 -- the dialogues are the same
-pub cores_same : (old new : Shelf) → new.rows ≡ old.rows → CoresStay old new
-cores_same old new same l before after was is free = ap (λ (r : Row). r.core) (same_Some after before (sym is ∙ ap (λ rows. map.get rows l) same ∙ was))
+pub cores_same : (rows : Rows) → CoresStay rows rows
+cores_same rows l before after was is free = ap (λ (r : Row). r.core) (same_Some after before (sym is ∙ was))
 
 -- one changes
-pub cores_one : (old new : Shelf) (local : ℕ) (row : Row) (left : Option Row) → OneChanges old.rows new.rows local (Some row) left → ((after : Row) → left ≡ Some after → row.is_out ≡ false → after.core ≡ row.core) → CoresStay old new
-cores_one old new local row left one same l before after was is free =
-    by_local l local (λ l. map.get old.rows l ≡ Some before → map.get new.rows l ≡ Some after → after.core ≡ before.core)
+cores_one : {rows then : Rows} {local : ℕ} (row : Row) {left : Option Row} → OneChanges rows then local (Some row) left → ((after : Row) → left ≡ Some after → row.is_out ≡ false → after.core ≡ row.core) → CoresStay rows then
+cores_one {rows} {then} {local} row one same l before after was is free =
+    by_local l local (λ l. get rows l ≡ Some before → get then l ≡ Some after → after.core ≡ before.core)
     (λ w i.
     let b : row ≡ before = same_Some row before (sym one.was ∙ w) in
     same after (sym one.there ∙ i) (ap (λ (r : Row). r.is_out) b ∙ free) ∙ ap (λ (r : Row). r.core) b)
@@ -251,9 +199,10 @@ cores_one old new local row left one same l before after was is free =
     was is
 
 -- one is opened
-pub cores_new : (old new : Shelf) (local : ℕ) (left : Option Row) → OneChanges old.rows new.rows local None left → CoresStay old new
-cores_new old new local left one l before after was is free =
-    by_local l local (λ l. map.get old.rows l ≡ Some before → map.get new.rows l ≡ Some after → after.core ≡ before.core)
+pub cores_new : (rows : Rows) (local : ℕ) (opened : Row) → get rows local ≡ None → CoresStay rows (insert rows local opened)
+cores_new rows local opened none l before after was is free =
+    let one : OneChanges rows (insert rows local opened) local None (Some opened) = inserted rows local None opened none in
+    by_local l local (λ l. get rows l ≡ Some before → get (insert rows local opened) l ≡ Some after → after.core ≡ before.core)
     (λ w i. absurd (let clash : None ≡ Some before = sym one.was ∙ w in cc))
     (λ ne w i. ap (λ (r : Row). r.core) (same_Some after before (sym i ∙ one.others l ne ∙ w)))
     was is
@@ -261,48 +210,52 @@ cores_new old new local left one l before after was is free =
 pub left_core : (g row after : Row) → g.core ≡ row.core → left_of g ≡ Some after → after.core ≡ row.core
 left_core g row after same e = ap (λ (r : Row). r.core) (sym (left_by (is_held g) g after e).1) ∙ same
 
-pub some_core : (g row after : Row) → g.core ≡ row.core → Some g ≡ Some after → after.core ≡ row.core
-some_core g row after same e = ap (λ (r : Row). r.core) (sym (same_Some g after e)) ∙ same
+-- one is put in its place, or what is left of it
+pub cores_put : (rows : Rows) (local : ℕ) (before after : Row) → get rows local ≡ Some before → after.core ≡ before.core → CoresStay rows (insert rows local after)
+cores_put rows local before after was same =
+    cores_one before (inserted rows local (Some before) after was) (λ then e free. ap (λ (r : Row). r.core) (sym (same_Some after then e)) ∙ same)
+
+pub cores_left : (rows : Rows) (local : ℕ) (before after : Row) → get rows local ≡ Some before → (before.is_out ≡ false → after.core ≡ before.core) → CoresStay rows (keep rows local after)
+cores_left rows local before after was same = cores_one before (kept rows local (Some before) after was) (λ then e free. left_core after before then (same free) e)
 
 -- a dialogue stands once in a queue at most
 one_most : (b : Bool) → one_if b ≤ 1
-one_most true = omega arith
-one_most false = omega arith
+one_most b = grind (arith, nat_tests)
 
 amount_most : (o : Option Row) → amount ready o ≤ 1
 amount_most None = omega arith
 amount_most (Some row) = one_most (row_is_ready row)
 
-once : (s : Shelf) (y : ℕ) → Sound s → count y s.ready ≤ 1
-once s y k = let is : count y s.ready ≡ amount ready (map.get s.rows y) = k.ready y ∙ count_is (map.get s.rows y) in omega (arith, is, amount_most (map.get s.rows y))
+once : {s : Shelf} (y : ℕ) → Sound s → count y s.ready ≤ 1
+once {s} y k = let is : count y s.ready ≡ amount ready (get s.rows y) = k.ready y ∙ count_is (get s.rows y) in omega (arith, is, amount_most (get s.rows y))
 
 sorted_joins : (R : ℕ → ℕ → Type 0) (l : ℕ) (b : Bool) → Sorted R (joins l b)
 sorted_joins R l true = (tt, tt)
 sorted_joins R l false = tt
 
 -- who joins wasn't there
-pub anew_by : (old new : Shelf) (join : List ℕ) → Sound new → new.ready ≡ old.ready ++ join → (y : ℕ) → 0 < count y join → count y old.ready ≡ 0
-anew_by old new join m is y c = let few : count y new.ready ≤ 1 = once new y m in omega (arith, few, ap (count y) is, count-append y old.ready join, c)
+pub anew_by : (old : Shelf) {new : Shelf} (join : List ℕ) → Sound new → new.ready ≡ old.ready ++ join → (y : ℕ) → 0 < count y join → count y old.ready ≡ 0
+anew_by old {new} join m is y c = let few : count y new.ready ≤ 1 = once y m in omega (arith, few, ap (count y) is, count-append y old.ready join, c)
 
 -- one joins behind the others, or none
-pub joins_one : (h : List Event) (e : Event) (old new : Shelf) (l : ℕ) (b : Bool) → Sound new → new.link ≡ old.link → new.ready ≡ old.ready ++ joins l b → CoresStay old new
+pub joins_one : {h : List Event} {e : Event} {old new : Shelf} (l : ℕ) (b : Bool) → Sound new → new.link ≡ old.link → new.ready ≡ old.ready ++ joins l b → CoresStay old.rows new.rows
     → Sorted (ByAge h) old.ready → Joins h e old new
-joins_one h e old new l b m link is cores order = record {
+joins_one {h} {e} {old} l b m link is cores order = record {
   link_is = link;
   stay = old.ready;
   join = joins l b;
   ready_is = is;
   stayed = λ y c. c;
   order = order;
-  anew = anew_by old new (joins l b) m is;
+  anew = anew_by old (joins l b) m is;
   joined = sorted_joins (ByAge (e ∷ h)) l b;
   cores = cores;
 }
 
 -- some of those stay
-pub joins_none : (h : List Event) (e : Event) (old new : Shelf) (stay : List ℕ) → new.link ≡ old.link → new.ready ≡ stay → ((y : ℕ) → 0 < count y stay → 0 < count y old.ready)
-    → Sorted (ByAge h) stay → CoresStay old new → Joins h e old new
-joins_none h e old new stay link is stayed order cores = record {
+pub joins_none : {h : List Event} {e : Event} {old new : Shelf} (stay : List ℕ) → new.link ≡ old.link → new.ready ≡ stay → ((y : ℕ) → 0 < count y stay → 0 < count y old.ready)
+    → Sorted (ByAge h) stay → CoresStay old.rows new.rows → Joins h e old new
+joins_none stay link is stayed order cores = record {
   link_is = link;
   stay = stay;
   join = [];
@@ -314,35 +267,29 @@ joins_none h e old new stay link is stayed order cores = record {
   cores = cores;
 }
 
-pub joins_same : (h : List Event) (e : Event) (old new : Shelf) → new.link ≡ old.link → new.ready ≡ old.ready → Sorted (ByAge h) old.ready → CoresStay old new → Joins h e old new
-joins_same h e old new link is order cores = joins_none h e old new old.ready link is (λ y c. c) order cores
+pub joins_same : {h : List Event} {e : Event} {old new : Shelf} → new.link ≡ old.link → new.ready ≡ old.ready → Sorted (ByAge h) old.ready → CoresStay old.rows new.rows → Joins h e old new
+joins_same {old} link is order cores = joins_none old.ready link is (λ y c. c) order cores
 
 -- those that are left of an ordered list are in order
 pub sorted_filter : (R : ℕ → ℕ → Type 0) (p : ℕ → Bool) (xs : List ℕ) → Sorted R xs → Sorted R (filter p xs)
 sorted_filter R p [] s = tt
-sorted_filter R p (x ∷ xs) s =
-    cond_both (p x) (x ∷ filter p xs) (filter p xs) (Sorted R)
+sorted_filter R p (x ∷ xs) s = cond_both (p x) (x ∷ filter p xs) (filter p xs) (Sorted R)
     (λ e. (recursion_from_All (R x) (filter p xs) (All-filter p (R x) xs (All-from_recursion (R x) xs s.0)), sorted_filter R p xs s.1))
     (λ e. sorted_filter R p xs s.1)
 
 -- one leaves
-pub joins_without : (h : List Event) (e : Event) (old new : Shelf) (l : ℕ) → new.link ≡ old.link → new.ready ≡ without l old.ready → Sorted (ByAge h) old.ready → CoresStay old new → Joins h e old new
-joins_without h e old new l link is order cores =
-    joins_none h e old new (without l old.ready) link is
-    (λ y c.
-    ⊎_elim
-    (λ s. absurd (let none : count y (without l old.ready) ≡ 0 = ap (λ n. count n (without l old.ready)) (eqb-true y l s) ∙ count_without_own l old.ready in omega (arith, c, none)))
-    (λ ne. subst (λ n. 0 < n) (count_without_other y l old.ready ne) c)
-    (cases_Bool (eqb y l)))
+pub joins_without : {h : List Event} {e : Event} {old new : Shelf} (l : ℕ) → new.link ≡ old.link → new.ready ≡ without l old.ready → Sorted (ByAge h) old.ready → CoresStay old.rows new.rows → Joins h e old new
+joins_without {h} {old} l link is order cores = joins_none (without l old.ready) link is
+    (λ y c. grind (arith, nat_tests, count_without_own l old.ready, count_without_other y l old.ready))
     (sorted_filter (ByAge h) (λ other. not (eqb other l)) old.ready order) cores
 
 -- the end of a link
 closed_core : (sending : Bool) (before : Row) (left : Option Row) (after : Row) → ClosesAt sending (Some before) left → left ≡ Some after → after.core ≡ before.core
 closed_core sending before left after c is = left_core c.after before after c.ends.core (sym c.left_is ∙ is)
 
-pub cores_closed : (out : Option Content) (old : Shelf) (step : LoggedStep) (new : Shelf) → GoesDown out old step new → CoresStay old new
-cores_closed out old step new g l before after was is free =
-    closed_core (is_frame_of l out) before (map.get new.rows l) after (subst (λ o. ClosesAt (is_frame_of l out) o (map.get new.rows l)) was (g.rows l)) is
+pub cores_closed : {out : Option Content} {old : Shelf} {step : LoggedStep} {new : Shelf} → GoesDown out old step new → CoresStay old.rows new.rows
+cores_closed {out} {new} g l before after was is free =
+    closed_core (is_frame_of l out) before (get new.rows l) after (subst (λ o. ClosesAt (is_frame_of l out) o (get new.rows l)) was (g.rows l)) is
 
 -- a tick
 
@@ -350,6 +297,6 @@ clocked_core : (x : Bool) (moment : ℕ) (before after : Row) → ClocksAt x mom
 clocked_core false moment before after c = ap (λ (r : Row). r.core) (same_Some after before c)
 clocked_core true moment before after c = c.stay.core
 
-pub cores_ticked : (old new : Shelf) (moment added wanting : ℕ) → Ticks old moment added wanting new → CoresStay old new
-cores_ticked old new moment added wanting g l before after was is free =
-    clocked_core (among l g.due) moment before after (subst (λ o. ClocksAt (among l g.due) moment (Some before) o) is (subst (λ o. ClocksAt (among l g.due) moment o (map.get new.rows l)) was (g.rows l)))
+pub cores_ticked : {old new : Shelf} {moment added wanting : ℕ} → Ticks old moment added wanting new → CoresStay old.rows new.rows
+cores_ticked {new} {moment} g l before after was is free =
+    clocked_core (among l g.due) moment before after (subst (λ o. ClocksAt (among l g.due) moment (Some before) o) is (subst (λ o. ClocksAt (among l g.due) moment o (get new.rows l)) was (g.rows l)))

@@ -1,28 +1,5 @@
 -- A step behind a history that leads to the book, and a run so far.
-use Rattle.std.proofs.Common.{rules, List, None, Option, Some, [], ap, length, refl, slice_index_or, subst, sym, take, ℕ, ◌++◌, ◌+◌, ◌<◌, ◌∙◌, ◌∷◌, ◌≡◌}
-use Rattle.std.specs.Prelude.{map, option_to_list}
-use Rattle.std.proofs.lemmas.Grind.{reverse_onto}
-use Rattle.std.proofs.lemmas.List.{take_more}
-use Rattle.fp_book.specs.Lines.{SevenLinesDecide}
-use Rattle.fp_book.specs.Shelf.{Shelf, Sound, empty_shelf}
-use Rattle.fp_book.specs.declared.line.LoggedStep.{LoggedStep}
-use Rattle.fp_entry.specs.declared.prepared.Prepared.{Prepared}
-use Rattle.fp_records.specs.Table.{Contents}
-use Rattle.fp_row.specs.Laws.{RowsKeepTheirOrder}
-use Rattle.fp_steps.specs.After.{Follows, IsAfter, LeadsTo}
-use Rattle.fp_steps.specs.Answers.{AllAnswered, IsAnswer}
-use Rattle.fp_steps.specs.Headline.{Headline, Runs}
-use Rattle.fp_steps.specs.History.{AtEachMoment, Event, IsCame, Tells, outputs_of}
-use Rattle.fp_steps.specs.Idle.{IdleIsDone}
-use Rattle.fp_steps.specs.Laws.{HeadlineHolds}
-use Rattle.fp_steps.specs.Lined.{Lined}
-use Rattle.fp_steps.specs.Makes.{MakesOf, MakesStep}
-use Rattle.fp_steps.specs.Retold.{Retells}
-use Rattle.fp_steps.specs.Tied.{Tied}
-use Rattle.fp_steps.specs.Told.{is_written, lines_told, logged, told, written}
-use Rattle.fp_steps.specs.Totals.{AddUp, totals_of}
-use Rattle.fp_steps.specs.declared.output.Output.{Output}
-use Rattle.fp_steps.specs.declared.step.Step.{Step}
+use Rattle.fp_steps.proofs.Names.{AddUp, AllAnswered, AtEachMoment, Contents, Event, FollowsHistory as Follows, Headline, HeadlineHolds, HistoryTells as Tells, IdleIsDone, IsAfter, IsAnswer, IsCame, LeadsTo, Lined, List, LoggedStep, MakesOf, MakesStep, None, Option, Output, Prepared, Retells, RowsKeepTheirOrder, Runs, SevenLinesDecide, Shelf, Some, Sound, Step, Tied, [], ap, cond_some, empty_shelf, is_written, length, lines_told, logged, map_list as map, option_to_list, outputs_of, refl, reverse_onto, rules, slice_index_or, subst, sym, take, take_more, told, totals_of, written, ℕ, ◌++◌, ◌+◌, ◌<◌, ◌∙◌, ◌∷◌, ◌≡◌}
 use Rattle.fp_steps.specs.declared.stepped.Stepped.{Stepped}
 use Rattle.fp_steps.proofs.DialogueTotals.{add_up_next, none_few}
 use Rattle.fp_steps.proofs.IdleDone.{idle_is_done, idle_none}
@@ -32,7 +9,6 @@ use Rattle.fp_steps.proofs.OutputTotals.{outputs_more}
 use Rattle.fp_steps.proofs.StepAnswers.{answer_made, link_made}
 use Rattle.fp_steps.proofs.TieKept.{Tied-makes, Tied-none, came_anew, headline}
 use Rattle.fp_steps.proofs.WaitingKept.{Lined-makes, Lined-none}
-use Rattle.std.proofs.lemmas.Option.{cond_some}
 
 -- what holds at each moment holds at the last
 pub at_the_end : (h : List Event) → AtEachMoment Headline h → Headline h
@@ -52,25 +28,24 @@ record Made (contents : Contents) (contexts : List (List ℕ)) (step : Step) (ca
   is_came : IsCame contents contexts step came
   makes : MakesOf step came output old new
 
-next : RowsKeepTheirOrder → SevenLinesDecide → (contents : Contents) (contexts : List (List ℕ)) (step : Step) (came : Option Prepared) (output : Output) (old new : Shelf) → Made contents contexts step came output old new
-    → (h : List Event) → LeadsTo contents contexts h old → Next contents contexts h step came output old new
-next law seven contents contexts step came output old new m h f =
+next : RowsKeepTheirOrder → SevenLinesDecide → {contents : Contents} {contexts : List (List ℕ)} {step : Step} {came : Option Prepared} {output : Output} {old new : Shelf} → Made contents contexts step came output old new
+    → {h : List Event} → LeadsTo contents contexts h old → Next contents contexts h step came output old new
+next law seven {contents} {contexts} {step} {came} {output} {old} {new} m {h} f =
     let e : Event = record { step = step; came = came; output = output } in
     let anew = came_anew contents contexts step came m.is_came in
-    let tied : Tied (e ∷ h) new = Tied-makes law h e old new anew f.tied m.sound m.makes in
-    let link : new.link ≡ old.link = link_made step came output old new m.sound m.makes in
+    let tied : Tied (e ∷ h) new = Tied-makes law e new anew f.tied m.sound m.makes in
+    let link : new.link ≡ old.link = link_made step came output new m.sound m.makes in
     let answer : IsAnswer new.link h step came output =
-    subst (λ n. IsAnswer n h step came output) (sym link) (answer_made law h step came output old new f.tied m.sound f.lined (decided seven contents contexts step came m.is_came) m.makes)
+    subst (λ n. IsAnswer n h step came output) (sym link) (answer_made law step came output new f.tied m.sound f.lined (decided seven contents contexts step came m.is_came) m.makes)
     in
-    let first : Headline (e ∷ h) = headline law (e ∷ h) new tied in
-    let lined : Lined (e ∷ h) new = Lined-makes h e old new anew f.tied m.sound f.lined m.makes tied m.then in
+    let first : Headline (e ∷ h) = headline law _ _ tied in
+    let lined : Lined (e ∷ h) new = Lined-makes e anew f.tied m.sound f.lined m.makes tied m.then in
     let sums : AddUp (outputs_of (e ∷ h)) (e ∷ h) × (new.totals ≡ totals_of (outputs_of (e ∷ h))) =
-    add_up_next law h e old new anew f.tied m.sound m.makes m.then (at_the_end h f.moments) first f.adds_up f.counted
+    add_up_next law e anew f.tied m.sound m.makes m.then (at_the_end h f.moments) first f.adds_up f.counted
     in
-    let is : told_on old step output ≡ told h step output = line_is h step came output old new f.tied m.sound m.makes in
+    let is : told_on old step output ≡ told h step output = line_is step came output new f.tied m.sound m.makes in
     let answers : AllAnswered new.link h = subst (λ n. AllAnswered n h) (sym link) f.answers in
-    let idle : IdleIsDone (e ∷ h) = idle_is_done law (e ∷ h) new tied lined m.then first in
-    search rules
+    let idle : IdleIsDone (e ∷ h) = idle_is_done law tied lined m.then first in search rules
 
 -- WHAT IS RETOLD
 
@@ -85,18 +60,18 @@ the_written None line e = absurd (cc)
 the_written (Some step) line e = ap Some (cond_some (is_written step) step line e).1
 
 -- with the line of one step more, if it is written
-retold_by : RowsKeepTheirOrder → SevenLinesDecide → (contents : Contents) (contexts : List (List ℕ)) (step : Step) (came : Option Prepared) (output : Output) (old new : Shelf) → Made contents contexts step came output old new
+retold_by : RowsKeepTheirOrder → SevenLinesDecide → {contents : Contents} {contexts : List (List ℕ)} {step : Step} {came : Option Prepared} {output : Output} {old new : Shelf} → Made contents contexts step came output old new
     → (lines : List LoggedStep) (o : Option LoggedStep) → Retelling contents contexts lines old → written (told_on old step output) ≡ o → Retelling contents contexts (option_to_list o ++ lines) new
-retold_by law seven contents contexts step came output old new m lines None k is = subst (Retelling contents contexts lines) (sym (unwritten_is step came output old new m.makes is)) k
-retold_by law seven contents contexts step came output old new m lines (Some line) k is =
-    let n : Next contents contexts k.retold step came output old new = next law seven contents contexts step came output old new m k.retold k.leads in
+retold_by law seven {contents} {contexts} {step} {came} {output} {old} {new} m lines None k is = subst (Retelling contents contexts lines) (sym (unwritten_is step came output old new m.makes is)) k
+retold_by law seven {contents} {contexts} {step} {came} {output} {old} {new} m lines (Some line) k is =
+    let n : Next contents contexts k.retold step came output old new = next law seven m k.leads in
     let tells : told k.retold step output ≡ Some line = sym n.line_is ∙ the_written (told_on old step output) line is in
     record {
       retold = record { step = step; came = came; output = output } ∷ k.retold;
       leads = n.leads;
       retells = (
         record { step = line_step k.retold step came output old new m.makes line tells; came = m.is_came; answer = n.answer; tells = tells },
-        subst (λ n. Retells contents contexts n lines k.retold) (sym (link_made step came output old new m.sound m.makes)) k.retells,
+        subst (λ n. Retells contents contexts n lines k.retold) (sym (link_made step came output new m.sound m.makes)) k.retells,
       );
     }
 
@@ -109,13 +84,13 @@ emptied contents contexts h s log f =
     record { leads = of h f.leads; retold = f.retold; retold_leads = of f.retold f.retold_leads; retells = f.retells }
 
 -- a step follows the history, and then its line is dropped
-pub followed : RowsKeepTheirOrder → SevenLinesDecide → (contents : Contents) (contexts : List (List ℕ)) (step : Step) (made : Stepped) (old mid new : Shelf) → Sound old → Sound mid → MakesStep contents contexts old step made.output mid
-    → made.line ≡ told_on old step made.output → new ≡ record mid { log = new.log } → (h : List Event) → IsAfter contents contexts h old → Follows contents contexts h step made new
-followed law seven contents contexts step made old mid new sound then (came, is, makes) line dropped h f =
+pub followed : RowsKeepTheirOrder → SevenLinesDecide → {contents : Contents} {contexts : List (List ℕ)} (step : Step) (made : Stepped) {old mid : Shelf} (new : Shelf) → Sound old → Sound mid → MakesStep contents contexts old step made.output mid
+    → made.line ≡ told_on old step made.output → new ≡ record mid { log = new.log } → {h : List Event} → IsAfter contents contexts h old → Follows contents contexts h step made new
+followed law seven {contents} {contexts} step made {old} {mid} new sound then (came, is, makes) line dropped {h} f =
     let m : Made contents contexts step came made.output old mid = record { sound = sound; then = then; is_came = is; makes = makes } in
-    let n : Next contents contexts h step came made.output old mid = next law seven contents contexts step came made.output old mid m h f.leads in
+    let n : Next contents contexts h step came made.output old mid = next law seven m f.leads in
     let r : Retelling contents contexts (option_to_list (logged h step made.output) ++ lines_told h) mid =
-    retold_by law seven contents contexts step came made.output old mid m (lines_told h) (logged h step made.output) (record { retold = f.retold; leads = f.retold_leads; retells = f.retells }) (ap written n.line_is)
+    retold_by law seven m (lines_told h) (logged h step made.output) (record { retold = f.retold; leads = f.retold_leads; retells = f.retells }) (ap written n.line_is)
     in
     subst (Follows contents contexts h step made) (sym dropped) (record {
       came = came;
@@ -126,8 +101,8 @@ followed law seven contents contexts step made old mid new sound then (came, is,
     })
 
 -- on the same link
-pub followed_link : (contents : Contents) (contexts : List (List ℕ)) (step : Step) (output : Output) (old mid new : Shelf) → Sound old → MakesStep contents contexts old step output mid → new ≡ record mid { log = new.log } → new.link ≡ old.link
-followed_link contents contexts step output old mid new sound (came, is, makes) dropped = ap (λ (s : Shelf). s.link) dropped ∙ link_made step came output old mid sound makes
+pub followed_link : (contents : Contents) (contexts : List (List ℕ)) (step : Step) (output : Output) {old : Shelf} (mid new : Shelf) → Sound old → MakesStep contents contexts old step output mid → new ≡ record mid { log = new.log } → new.link ≡ old.link
+followed_link contents contexts step output mid new sound (came, is, makes) dropped = ap (λ (s : Shelf). s.link) dropped ∙ link_made step came output mid sound makes
 
 -- what isn't written changes nothing
 pub followed_unwritten : (contents : Contents) (contexts : List (List ℕ)) (step : Step) (made : Stepped) (old mid new : Shelf) → MakesStep contents contexts old step made.output mid → made.line ≡ told_on old step made.output → new ≡ record mid { log = new.log }
@@ -138,7 +113,7 @@ followed_unwritten contents contexts step made old mid new (came, is, makes) lin
 -- the history of a link on which nothing came yet
 pub after_none : RowsKeepTheirOrder → (contents : Contents) (contexts : List (List ℕ)) (link : ℕ) → IsAfter contents contexts [] (empty_shelf link)
 after_none law contents contexts link =
-    let first : Headline [] = headline law [] (empty_shelf link) (Tied-none link) in
+    let first : Headline [] = headline law _ _ (Tied-none link) in
     let leads : LeadsTo contents contexts [] (empty_shelf link) =
     record {
       messages = tt;
@@ -149,9 +124,7 @@ after_none law contents contexts link =
       counted = refl;
       tied = Tied-none link;
       lined = Lined-none link;
-    }
-    in
-    record { leads = leads; retold = []; retold_leads = leads; retells = tt }
+    } in record { leads = leads; retold = []; retold_leads = leads; retells = tt }
 
 -- RUNS
 
@@ -178,27 +151,27 @@ abbrev pub IsStep : Contents → List (List ℕ) → Shelf → Step → Stepped 
 IsStep contents contexts old step made new = (h : List Event) → IsAfter contents contexts h old → Follows contents contexts h step made new
 
 -- one step more
-SoFar-more : (contents : Contents) (contexts : List (List ℕ)) (steps : List Step) (outputs : List Output) (old new : Shelf) (step : Step) (made : Stepped) → SoFar contents contexts steps outputs old → IsStep contents contexts old step made new
+SoFar-more : {contents : Contents} {contexts : List (List ℕ)} {steps : List Step} {outputs : List Output} {old : Shelf} (new : Shelf) (step : Step) (made : Stepped) → SoFar contents contexts steps outputs old → IsStep contents contexts old step made new
     → SoFar contents contexts (steps ++ step ∷ []) (outputs ++ made.output ∷ []) new
-SoFar-more contents contexts steps outputs old new step made f follows =
+SoFar-more {contents} {contexts} {steps} {outputs} new step made f follows =
     let g : Follows contents contexts f.history step made new = follows f.history f.after in
     let e : Event = record { step = step; came = g.came; output = made.output } in
     record { history = e ∷ f.history; tells = tells_more contents contexts steps outputs f.history e f.tells g.is_came; after = g.after }
 
 -- the loop over the steps
-pub Going-none : (contents : Contents) (contexts : List (List ℕ)) (steps : List Step) (outputs : List Output) (book : Shelf) → IsAfter contents contexts [] book → outputs ≡ [] → SoFar contents contexts (take 0 steps) outputs book
-Going-none contents contexts steps outputs book f none =
+pub Going-none : {contents : Contents} {contexts : List (List ℕ)} (steps : List Step) (outputs : List Output) {book : Shelf} → IsAfter contents contexts [] book → outputs ≡ [] → SoFar contents contexts (take 0 steps) outputs book
+Going-none {contents} {contexts} steps outputs {book} f none =
     subst (λ os. SoFar contents contexts [] os book) (sym none) (record { history = []; tells = record { steps_are = refl; outputs_are = refl; messages = tt }; after = f })
 
-pub Going-more : (contents : Contents) (contexts : List (List ℕ)) (steps : List Step) (i : ℕ) (outputs more : List Output) (old new : Shelf) (step : Step) (made : Stepped) → SoFar contents contexts (take i steps) outputs old → i < length steps → step ≡ slice_index_or steps i step
+pub Going-more : {contents : Contents} {contexts : List (List ℕ)} (steps : List Step) (i : ℕ) {outputs : List Output} (more : List Output) {old : Shelf} (new : Shelf) (step : Step) (made : Stepped) → SoFar contents contexts (take i steps) outputs old → i < length steps → step ≡ slice_index_or steps i step
     → IsStep contents contexts old step made new → more ≡ outputs ++ made.output ∷ [] → SoFar contents contexts (take (i + 1) steps) more new
-Going-more contents contexts steps i outputs more old new step made f within at follows more_is =
-    let longer : SoFar contents contexts (take i steps ++ step ∷ []) (outputs ++ made.output ∷ []) new = SoFar-more contents contexts (take i steps) outputs old new step made f follows in
+Going-more {contents} {contexts} steps i {outputs} more new step made f within at follows more_is =
+    let longer : SoFar contents contexts (take i steps ++ step ∷ []) (outputs ++ made.output ∷ []) new = SoFar-more new step made f follows in
     let taken : take (i + 1) steps ≡ take i steps ++ step ∷ [] = take_more steps i step within ∙ ap (λ s. take i steps ++ s ∷ []) (sym at) in
     subst (λ ss. SoFar contents contexts ss more new) (sym taken) (subst (λ os. SoFar contents contexts (take i steps ++ step ∷ []) os new) (sym more_is) longer)
 
-pub Going-all : (contents : Contents) (contexts : List (List ℕ)) (steps : List Step) (i link : ℕ) (outputs : List Output) (book : Shelf) → SoFar contents contexts (take i steps) outputs book → take i steps ≡ steps → book.link ≡ link → Runs contents contexts link steps outputs
-Going-all contents contexts steps i link outputs book f all same =
+pub Going-all : {contents : Contents} {contexts : List (List ℕ)} (steps : List Step) (i link : ℕ) {outputs : List Output} {book : Shelf} → SoFar contents contexts (take i steps) outputs book → take i steps ≡ steps → book.link ≡ link → Runs contents contexts link steps outputs
+Going-all {contents} {contexts} steps i link {outputs} {book} f all same =
     let g : SoFar contents contexts steps outputs book = subst (λ ss. SoFar contents contexts ss outputs book) all f in
     let k : LeadsTo contents contexts g.history book = g.after.leads in
     let also : LeadsTo contents contexts g.after.retold book = g.after.retold_leads in

@@ -1,51 +1,11 @@
 -- Each step is answered as its history tells, and keeps its link.
-use Rattle.std.proofs.Common.{Bool, List, None, Option, Some, [], ap, arith, cond, eqb, false, is_some, length, not, refl, subst, sym, true, ℕ, ◌+◌, ◌<◌, ◌||◌, ◌∙◌, ◌∷◌, ◌≡◌, ◌≢◌}
-use Rattle.std.specs.Prelude.{map as map_list, option_map, slice_get}
-use Rattle.std.specs.Option.{option_and_then, option_map_or}
-use Rattle.std.specs.FinMap as map
-use Rattle.std.proofs.lemmas.List.{length-map}
-use Rattle.fp_book.proofs.Changes.{count}
-use Rattle.fp_book.proofs.Queue.{count-cons, count_first, eqb_swap}
-use Rattle.fp_book.proofs.Sums.{amount}
-use Rattle.fp_book.specs.Calls.{GivesDone, PicksParcel, PutsTurnBack, Sends, TakesTurn, Ticks, due_at, given_of, turn_of}
-use Rattle.fp_book.specs.Outbox.{Outbox, places_out}
-use Rattle.fp_book.specs.Parcel.{local_of as parcel_local, octets_of as parcel_octets}
-use Rattle.fp_book.specs.Shelf.{Shelf, Sound, one_if, places_held, turns_of}
-use Rattle.fp_book.specs.Totals.{sum_of}
-use Rattle.fp_book.specs.declared.answers.Given.{Given}
-use Rattle.fp_book.specs.declared.parcel.Content.{Content}
-use Rattle.fp_book.specs.declared.parcel.Waiting.{Waiting}
-use Rattle.fp_entry.specs.declared.prepared.Prepared.{Prepared}
-use Rattle.fp_q773.specs.Tid.{octets_of}
-use Rattle.fp_reply.specs.ProviderAbort.{frame_octets}
-use Rattle.fp_reply.specs.Reply.{frame_of}
-use Rattle.fp_row.specs.Calls.{requested_of}
-use Rattle.fp_row.specs.Laws.{KeepsOrder, RowsKeepTheirOrder}
-use Rattle.fp_row.specs.Row.{turn_out as row_turn}
-use Rattle.fp_row.specs.declared.done.Done.{Done}
-use Rattle.fp_row.specs.declared.ending.Ending.{Ending}
-use Rattle.fp_row.specs.declared.row.Row.{Row}
-use Rattle.fp_row.specs.declared.turn.Turn.{Turn}
-use Rattle.fp_service.specs.Serve.{request_of}
-use Rattle.fp_service.specs.declared.request.Request.{Request}
-use Rattle.fp_steps.specs.Accepted.{accepted, core_of, ending, is_due, positions}
-use Rattle.fp_steps.specs.Answers.{IsAnswer, IsLongestReady, IsNext, IsPosted, gave, given_for, if_out, next_request, put_back, ticked}
-use Rattle.fp_steps.specs.Births.{births, local_of, named}
-use Rattle.fp_steps.specs.History.{Event}
-use Rattle.fp_steps.specs.Lined.{ByAge, Lined, Sorted, as_waiting}
-use Rattle.fp_steps.specs.Makes.{MakesOf}
-use Rattle.fp_steps.specs.Sending.{Handed, out}
-use Rattle.fp_steps.specs.Tied.{IsTied, Tied, TiedAt, handed, story}
-use Rattle.fp_steps.specs.Turns.{is_ready, turn_out}
-use Rattle.fp_steps.specs.Waiting.{QueuedFrame, aborts_waiting, how_many, is_sending, places, waiting}
-use Rattle.fp_steps.specs.declared.output.Output.{Output}
-use Rattle.fp_steps.specs.declared.step.Step.{Step}
+use Rattle.fp_steps.proofs.Names.{Bool, ByAge, Content, Done, Ending, Event, Given, GivesDone, Handed, IsAnswer, IsLongestReady, IsNext, IsPosted, IsTied, KeepsOrder, Lined, List, MakesOf, None, Option, Outbox, Output, PicksParcel, Prepared, PutsTurnBack, QueuedFrame, Request, Row, RowsKeepTheirOrder, Sends, Shelf, Some, Sorted, Sound, Step, TakesTurn, Ticks, Tied, TiedAt, Turn, Waiting, [], aborts_waiting, accepted, amount, ap, arith, as_waiting, births, cond, core_of, count, count-cons, due_at, ending, eqb, false, frame_octets, frame_of, gave, get, given_for, given_of, handed, how_many, if_out, is_due, is_ready, is_sending, is_some, length, length-map, local_of, map_list, named, nat_tests, next_request, not, octets_of, one_if, option_and_then, option_map, option_map_or, out, parcel_local, parcel_octets, places, places_held, places_out, positions, put_back, refl, request_of, requested_of, row_turn, slice_get, story, subst, sum_of, sym, ticked, true, turn_of, turn_out, turns_of, waiting, ℕ, ◌<◌, ◌||◌, ◌∙◌, ◌∷◌, ◌≡◌, ◌≢◌}
 use Rattle.fp_steps.proofs.Cases.{Cases, IsPost, by_made}
-use Rattle.fp_steps.proofs.HeldDialogues.{Held, apart, core_tied, count_tied, held_at, held_of, not_abort}
+use Rattle.fp_steps.proofs.HeldDialogues.{Held, apart, core_tied, count_tied, held_at, held_of, not_abort, by_option, eqb_swap}
 use Rattle.fp_steps.proofs.MessageAnswers.{Decided, posted_is}
-use Rattle.fp_steps.proofs.QueueInOrder.{InQueue, all_at, in_queue, queued_at, ready_at, ready_is, stands_not}
+use Rattle.fp_steps.proofs.QueueInOrder.{InQueue, all_at, in_queue, queued_at, ready_at, ready_is, stands_not, first_in}
 use Rattle.fp_steps.proofs.SumsOverBirths.{many_is}
-use Rattle.fp_steps.proofs.TieAtParcels.{none_at}
+use Rattle.fp_steps.proofs.TieAtParcels.{out_there}
 use Rattle.fp_steps.proofs.TieAtTicks.{due_at_is}
 use Rattle.fp_steps.proofs.TieAtTurns.{IsTurn, out_by, turn_is}
 use Rattle.fp_steps.proofs.TokensKept.{follows_untouched}
@@ -56,20 +16,16 @@ no_turn : RowsKeepTheirOrder → (row : Row) (b : Bool) → row.is_out ≡ b →
 no_turn law row true out none = let k : KeepsOrder row = law row in absurd (k.next out none)
 no_turn law row false out none = refl
 
-none_out_at : RowsKeepTheirOrder → (n d : ℕ) (h : List Event) (o : Option Row) → TiedAt n d (story h d) o → turn_of o ≡ None → turn_out h d ≡ false
-none_out_at law n d h None k none = k.outs
-none_out_at law n d h (Some row) k none = k.outs ∙ no_turn law row row.is_out refl none
-
-none_out : RowsKeepTheirOrder → (h : List Event) (s : Shelf) (local d : ℕ) → Tied h s → named h local ≡ Some d → turn_of (map.get s.rows local) ≡ None → turn_out h d ≡ false
-none_out law h s local d t name none =
-    none_out_at law (births h) d h (map.get s.rows (local_of h d)) (t.rows d) (ap (λ l. turn_of (map.get s.rows l)) (sym (t.opened.names local d name).0) ∙ none)
+none_out : RowsKeepTheirOrder → {h : List Event} {s : Shelf} (local d : ℕ) → Tied h s → named h local ≡ Some d → turn_of (get s.rows local) ≡ None → turn_out h d ≡ false
+none_out law {h} {s} local d t name none = by_option (λ o. TiedAt (births h) d (story h d) o → turn_of o ≡ None → turn_out h d ≡ false) (get s.rows (local_of h d))
+    (λ was tied no. tied.outs) (λ row was tied no. tied.outs ∙ no_turn law row row.is_out refl no)
+    (t.rows d) (ap (λ l. turn_of (get s.rows l)) (sym (t.opened.names local d name).0) ∙ none)
 
 -- GIVE
 
-pub gave_none : RowsKeepTheirOrder → (h : List Event) (s : Shelf) (local : ℕ) (o : Option ℕ) → Tied h s → named h local ≡ o → turn_of (map.get s.rows local) ≡ None → Output.Nothing ≡ gave h local o
-gave_none law h s local None t name none = refl
-gave_none law h s local (Some d) t name none =
-    sym (ap (λ b. cond b (Output.Gave local (length (positions h d)) (given_for (is_sending h d) (next_request h d))) Output.Nothing) (none_out law h s local d t name none))
+pub gave_none : RowsKeepTheirOrder → {h : List Event} {s : Shelf} (local : ℕ) → Tied h s → turn_of (get s.rows local) ≡ None → Output.Nothing ≡ gave h local (named h local)
+gave_none law {h} local t none = by_option (λ o. Output.Nothing ≡ gave h local o) (named h local) (λ name. refl) (λ d name.
+    sym (ap (λ b. cond b (Output.Gave local (length (positions h d)) (given_for (is_sending h d) (next_request h d))) Output.Nothing) (none_out law local d t name none)))
 
 given_by : (ended : Option Ending) (request : Option Request) (frame : Request → List ℕ) → given_of (requested_of ended (option_map frame request)) ≡ given_for (not (is_some ended)) request
 given_by None None frame = refl
@@ -78,48 +34,44 @@ given_by (Some ending) None frame = refl
 given_by (Some ending) (Some request) frame = refl
 
 -- what is requested at the entry of the turn that is out
-requested_at : (h : List Event) (row : Row) (turn : Turn) (d : ℕ) → IsTied d (story h d) row → IsTurn row turn → next_request h d ≡ request_of turn.before turn.entry
-requested_at h row turn d k is =
-    let place : length (positions h d) ≡ row.served = count_tied d (story h d) row k in
+requested_at : (h : List Event) {row : Row} {turn : Turn} {d : ℕ} → IsTied d (story h d) row → IsTurn row turn → next_request h d ≡ request_of turn.before turn.entry
+requested_at h {row} {turn} {d} k is =
+    let place : length (positions h d) ≡ row.served = count_tied k in
     let at : slice_get (accepted h d) (length (positions h d)) ≡ Some turn.entry =
-    (λ i. slice_get (k.accepts i) (place i)) ∙ is.entry_is
-    in
-    ap (option_and_then (request_of (core_of h d))) at ∙ ap (λ c. request_of c turn.entry) (core_tied d (story h d) row k ∙ is.core_is)
+    (λ i. slice_get (k.accepts i) (place i)) ∙ is.entry_is in
+    ap (option_and_then (request_of (core_of h d))) at ∙ ap (λ c. request_of c turn.entry) (core_tied k ∙ is.core_is)
 
 -- the end of the link closes all dialogues
 sends_by : (down : Bool) (ended : Option Ending) → (down ≡ true → ended ≡ Some Ending.Closed) → not (down || is_some ended) ≡ not (is_some ended)
-sends_by true ended closed = sym (ap (λ o. not (is_some o)) (closed refl))
-sends_by false ended closed = refl
+sends_by down ended closed = grind (arith, nat_tests)
 
-pub gave_done : (h : List Event) (old new : Shelf) (done : Done) (given : Given) → Tied h old → Sound old → Lined h old → GivesDone old done given new
+pub gave_done : {h : List Event} {old new : Shelf} {done : Done} {given : Given} → Tied h old → Sound old → Lined h old → GivesDone old done given new
     → Output.Gave done.turn.local done.turn.position given ≡ gave h done.turn.local (named h done.turn.local)
-gave_done h old new done given t k line g =
-    let l = done.turn.local in
-    let b = g.before.birth in
-    let held : Held h l b g.before = held_of h old l g.before t k g.was in
+gave_done {h} {old} {done} {given} t k line g =
+    let l = done.turn.local in let b = g.before.birth in
+    let held : Held h l b g.before = held_of l g.before t k g.was in
     let is : IsTurn g.before done.turn = turn_is g.before done.turn g.gives.was_out in
-    let place : length (positions h b) ≡ done.turn.position = count_tied b (story h b) g.before held.tied ∙ is.position_is in
+    let place : length (positions h b) ≡ done.turn.position = count_tied held.tied ∙ is.position_is in
     let frame : Request → List ℕ = λ request. frame_of request l (octets_of done.turn.peer) in
     let given_is : given_for (is_sending h b) (next_request h b) ≡ given =
-    (λ i. given_for (not (line.down i || is_some (held.tied.ends i))) (requested_at h g.before done.turn b held.tied is i))
+    (λ i. given_for (not (line.down i || is_some (held.tied.ends i))) (requested_at h held.tied is i))
     ∙ ap (λ x. given_for x (request_of done.turn.before done.turn.entry)) (sends_by old.is_down g.before.ended (k.own l g.before g.was).closed)
     ∙ sym (given_by g.before.ended (request_of done.turn.before done.turn.entry) frame)
     ∙ ap (λ f. given_of (requested_of g.before.ended f)) (sym done.frame_is)
-    ∙ sym (g.given_is ∙ ap given_of g.gives.requested_is)
-    in
+    ∙ sym (g.given_is ∙ ap given_of g.gives.requested_is) in
     let there : turn_out h b ≡ true = held.tied.outs ∙ out_by g.before.is_out _ done.turn g.gives.was_out in
     sym (ap (gave h l) held.name
     ∙ (λ i. cond (there i) (Output.Gave l (place i) (given_is i)) Output.Nothing))
 
 -- PUT BACK
 
-pub back_none : RowsKeepTheirOrder → (h : List Event) (s : Shelf) (local : ℕ) (o : Option ℕ) → Tied h s → named h local ≡ o → turn_of (map.get s.rows local) ≡ None → Output.Nothing ≡ put_back h o
-back_none law h s local None t name none = refl
-back_none law h s local (Some d) t name none = sym (ap (λ b. cond b Output.WentBack Output.Nothing) (none_out law h s local d t name none))
+pub back_none : RowsKeepTheirOrder → {h : List Event} {s : Shelf} (local : ℕ) → Tied h s → turn_of (get s.rows local) ≡ None → Output.Nothing ≡ put_back h (named h local)
+back_none law {h} local t none = by_option (λ o. Output.Nothing ≡ put_back h o) (named h local) (λ name. refl)
+    (λ d name. sym (ap (λ b. cond b Output.WentBack Output.Nothing) (none_out law local d t name none)))
 
-pub back_done : (h : List Event) (old new : Shelf) (turn : Turn) → Tied h old → Sound old → PutsTurnBack old turn new → Output.WentBack ≡ put_back h (named h turn.local)
-back_done h old new turn t k g =
-    let held : Held h turn.local g.before.birth g.before = held_of h old turn.local g.before t k g.was in
+pub back_done : {h : List Event} {old new : Shelf} {turn : Turn} → Tied h old → Sound old → PutsTurnBack old turn new → Output.WentBack ≡ put_back h (named h turn.local)
+back_done {h} {turn} t k g =
+    let held : Held h turn.local g.before.birth g.before = held_of turn.local g.before t k g.was in
     sym (ap (put_back h) held.name ∙ ap (λ x. cond x Output.WentBack Output.Nothing) (held.tied.outs ∙ out_by g.before.is_out _ turn g.puts.was_out))
 
 -- SENT, UNSENT
@@ -128,18 +80,15 @@ pub sent_out : (old : Shelf) (content : Content) (new : Shelf) → Sends old con
 sent_out old (Content.Abort frame) new g = g.was_out
 sent_out old (Content.Frame w) new g = g.was_out
 
-pub if_there : (h : List Event) (s : Shelf) (content : Content) (output : Output) → Tied h s → s.outbox.out ≡ Some content → output ≡ if_out (out h) output
-if_there h s content output t was = sym (ap (λ o. if_out o output) (t.is_out ∙ ap (option_map (handed h)) was))
-
-pub if_none : (h : List Event) (s : Shelf) (output : Output) → Tied h s → s.outbox.out ≡ None → Output.Nothing ≡ if_out (out h) output
-if_none h s output t was = sym (ap (λ o. if_out o output) (t.is_out ∙ ap (option_map (handed h)) was))
+pub if_is : {h : List Event} {s : Shelf} {o : Option Content} (output : Output) → Tied h s → s.outbox.out ≡ o → if_out (option_map (handed h) o) output ≡ if_out (out h) output
+if_is {h} output t was = sym (ap (λ o. if_out o output) (t.is_out ∙ ap (option_map (handed h)) was))
 
 -- TICK
 
-pub ticked_is : (h : List Event) (old new : Shelf) (moment added wanting : ℕ) → Tied h old → Sound old → wanting ≡ 0 → Ticks old moment added wanting new → Output.Ticked added wanting ≡ ticked h moment
-ticked_is h old new moment added wanting t k none g =
+pub ticked_is : {h : List Event} {old new : Shelf} {moment added wanting : ℕ} → Tied h old → Sound old → wanting ≡ 0 → Ticks old moment added wanting new → Output.Ticked added wanting ≡ ticked h moment
+ticked_is {h} {old} {moment} {added} t k none g =
     let due : how_many (births h) (is_due h moment) ≡ sum_of (λ row. cond {A = ℕ} (due_at old moment row) 1 0) old.rows =
-    many_is (λ row. cond {A = ℕ} (due_at old moment row) 1 0) (is_due h moment) h old t k (λ d first last. due_at_is h old moment d (map.get old.rows (local_of h d)) t k refl (t.rows d))
+    many_is (λ row. cond {A = ℕ} (due_at old moment row) 1 0) (is_due h moment) t k (λ d first last. due_at_is moment d (get old.rows (local_of h d)) t k refl (t.rows d))
     in
     let is : added ≡ how_many (births h) (is_due h moment) = omega (arith, g.wanting_is, none, due) in
     λ i. Output.Ticked (is i) (none i)
@@ -149,53 +98,51 @@ ticked_is h old new moment added wanting t k none g =
 abbrev place_of : Option Handed → ℕ
 place_of o = option_map_or (λ (handed : Handed). cond {A = ℕ} (eqb handed.local 0) 0 1) o 0
 
-out_place : (h : List Event) (s : Shelf) (o : Option Content) → Tied h s → Sound s → s.outbox.out ≡ o → place_of (option_map (handed h) o) ≡ places_out o
-out_place h s None t k is = refl
-out_place h s (Some (Content.Abort frame)) t k is = refl
-out_place h s (Some (Content.Frame w)) t k is =
-    let row = none_at s w (map.get s.rows w.local) k is refl in
-    ap (λ b. cond {A = ℕ} b 0 1) (not_abort h s w.local row.0 t k row.1)
+out_place : {h : List Event} {s : Shelf} (o : Option Content) → Tied h s → Sound s → s.outbox.out ≡ o → place_of (option_map (handed h) o) ≡ places_out o
+out_place None t k is = refl
+out_place (Some (Content.Abort frame)) t k is = refl
+out_place (Some (Content.Frame w)) t k is =
+    let row = out_there w k is in ap (λ b. cond {A = ℕ} b 0 1) (not_abort w.local row.0 t k row.1)
 
 turn_place : (n d : ℕ) (h : List Event) (o : Option Row) → TiedAt n d (story h d) o → amount turns_of o ≡ cond {A = ℕ} (turn_out h d) 1 0
 turn_place n d h None k = ap (λ b. cond {A = ℕ} b 1 0) (sym k.outs)
 turn_place n d h (Some row) k = ap (λ b. cond {A = ℕ} b 1 0) (sym k.outs)
 
-pub places_are : (h : List Event) (s : Shelf) → Tied h s → Sound s → Lined h s → places h ≡ places_held s
-places_are h s t k l =
+pub places_are : {h : List Event} {s : Shelf} → Tied h s → Sound s → Lined h s → places h ≡ places_held s
+places_are {h} {s} t k l =
     let fs : length (waiting h) ≡ length s.outbox.frames = sym (length-map (waiting h) (as_waiting h)) ∙ ap length l.frames in
-    let o : place_of (out h) ≡ places_out s.outbox.out = ap place_of t.is_out ∙ out_place h s s.outbox.out t k refl in
-    omega (arith, fs, o, many_is turns_of (turn_out h) h s t k (λ d first last. turn_place (births h) d h (map.get s.rows (local_of h d)) (t.rows d)))
+    let o : place_of (out h) ≡ places_out s.outbox.out = ap place_of t.is_out ∙ out_place s.outbox.out t k refl in
+    omega (arith, fs, o, many_is turns_of (turn_out h) t k (λ d first last. turn_place (births h) d h (get s.rows (local_of h d)) (t.rows d)))
 
 -- TAKE
 
-pub longest_is : (h : List Event) (old new : Shelf) (turn : Turn) → Tied h old → Sound old → Lined h old → TakesTurn old turn new → IsLongestReady h turn.local turn.position
-longest_is h old new turn t k l g =
-    let lo = turn.local in
-    let b = g.before.birth in
-    let held : Held h lo b g.before = held_of h old lo g.before t k g.was in
+pub longest_is : {h : List Event} {old new : Shelf} {turn : Turn} → Tied h old → Sound old → Lined h old → TakesTurn old turn new → IsLongestReady h turn.local turn.position
+longest_is {h} {old} {turn} t k l g =
+    let lo = turn.local in let b = g.before.birth in
+    let held : Held h lo b g.before = held_of lo g.before t k g.was in
     let is : IsTurn g.after turn = turn_is g.after turn g.takes.turn_is in
     let order : Sorted (ByAge h) (lo ∷ g.rest) = subst (Sorted (ByAge h)) g.first l.order in
     record {
       dialogue = b;
       local_is = held.place;
-      stands = ready_is h old b t ∙ ap (λ n. ready_at (map.get old.rows n)) (sym held.place) ∙ ap ready_at g.was ∙ g.takes.was_ready;
+      stands = ready_is _ _ b t ∙ ap (λ n. ready_at (get old.rows n)) (sym held.place) ∙ ap ready_at g.was ∙ g.takes.was_ready;
       longest = λ c r ne.
           let n = local_of h c in
-          let there : count n old.ready ≡ 1 = in_queue h old c t k ∙ ap one_if r in
-          let q : InQueue h old n = queued_at h old n t k (omega (arith, there)) in
+          let there : count n old.ready ≡ 1 = in_queue c t k ∙ ap one_if r in
+          let q : InQueue h old n = queued_at n t k (omega (arith, there)) in
           let none : one_if (eqb lo n) ≡ 0 = ap one_if (eqb_swap n lo (ap (eqb n) held.place ∙ apart old.link h c b t.opened held.first held.last ne)) in
-          all_at (ByAge h lo) g.rest n order.0 (omega (arith, there, ap (count n) g.first, count-cons n lo g.rest, none)) b c held.name (held_at h old c q.row t k q.was).name;
-      next = sym is.position_is ∙ g.takes.stay.served ∙ sym (count_tied b (story h b) g.before held.tied);
+          all_at (ByAge h lo) g.rest n order.0 (omega (arith, there, ap (count n) g.first, count-cons n lo g.rest, none)) b c held.name (held_at c q.row t k q.was).name;
+      next = sym is.position_is ∙ g.takes.stay.served ∙ sym (count_tied held.tied);
     }
 
-pub some_ready : (h : List Event) (s : Shelf) (xs : List ℕ) → Tied h s → Sound s → s.ready ≡ xs → s.ready ≢ [] → (d : ℕ) × (is_ready h d ≡ true)
-some_ready h s [] t k is some = absurd (some is)
-some_ready h s (x ∷ xs) t k is some =
-    let q : InQueue h s x = queued_at h s x t k (let one : count x s.ready ≡ 1 + count x xs = ap (count x) is ∙ count_first x xs in omega (arith, one)) in
+pub some_ready : {h : List Event} {s : Shelf} (xs : List ℕ) → Tied h s → Sound s → s.ready ≡ xs → s.ready ≢ [] → (d : ℕ) × (is_ready h d ≡ true)
+some_ready [] t k is some = absurd (some is)
+some_ready {h} {s} (x ∷ xs) t k is some =
+    let q : InQueue h s x = queued_at x t k (subst (λ ys. 0 < count x ys) (sym is) (first_in x xs)) in
     (q.row.birth, q.stands)
 
-pub none_ready : (h : List Event) (s : Shelf) → Tied h s → Sound s → s.ready ≡ [] → (d : ℕ) → is_ready h d ≡ false
-none_ready h s t k is d = stands_not (is_ready h d) (count (local_of h d) s.ready) (in_queue h s d t k) (ap (count (local_of h d)) is)
+pub none_ready : {h : List Event} {s : Shelf} → Tied h s → Sound s → s.ready ≡ [] → (d : ℕ) → is_ready h d ≡ false
+none_ready {h} {s} t k is d = stands_not (is_ready h d) (count (local_of h d) s.ready) (in_queue d t k) (ap (count (local_of h d)) is)
 
 -- PICK
 
@@ -203,13 +150,13 @@ pub none_waits : (h : List Event) (xs : List QueuedFrame) → map_list (as_waiti
 none_waits h [] e = refl
 none_waits h (x ∷ xs) e = absurd (let clash : as_waiting h x ∷ map_list (as_waiting h) xs ≡ [] = e in cc)
 
-pub next_is : (h : List Event) (old new : Shelf) (content : Content) → Tied h old → Sound old → Lined h old → PicksParcel old content new
+pub next_is : {h : List Event} {old new : Shelf} (content : Content) → Tied h old → Sound old → Lined h old → PicksParcel old content new
     → IsNext h (aborts_waiting h) (waiting h) (parcel_local content) (parcel_octets content)
-next_is h old new (Content.Abort frame) t k l g =
-    subst (λ xs. IsNext h xs (waiting h) 0 (frame_octets frame)) (sym (aborts_wait h old t k l ∙ ap (map_list frame_octets) g.next.0)) (refl, refl)
-next_is h old new (Content.Frame w) t k l g =
+next_is {h} (Content.Abort frame) t k l g =
+    subst (λ xs. IsNext h xs (waiting h) 0 (frame_octets frame)) (sym (aborts_wait t k l ∙ ap (map_list frame_octets) g.next.0)) (refl, refl)
+next_is {h} (Content.Frame w) t k l g =
     let f : First h (waiting h) w g.rest.frames = first_of h (waiting h) w g.rest.frames (l.frames ∙ g.next.2) in
-    subst (λ xs. IsNext h xs (waiting h) w.local w.frame) (sym (aborts_wait h old t k l ∙ ap (map_list frame_octets) g.next.0))
+    subst (λ xs. IsNext h xs (waiting h) w.local w.frame) (sym (aborts_wait t k l ∙ ap (map_list frame_octets) g.next.0))
     (subst (λ xs. IsNext h [] xs w.local w.frame) (sym f.is) (ap (λ (w : Waiting). w.local) (sym f.first_is), ap (λ (w : Waiting). w.frame) (sym f.first_is)))
 
 pub some_handed : (h : List Event) (o : Option Content) → is_some o ≡ true → is_some (option_map (handed h) o) ≡ true
@@ -223,33 +170,33 @@ posted_answer link h (Step.Post frame moment) came output posting is = is
 posted_answer link h (Step.Lost frame moment) came output posting is = is
 posted_answer link h step came output posting is = absurd posting
 
-answers : RowsKeepTheirOrder → (h : List Event) (came : Option Prepared) (old new : Shelf) → Tied h old → Sound old → Lined h old → Decided came
+answers : RowsKeepTheirOrder → {h : List Event} (came : Option Prepared) {old : Shelf} (new : Shelf) → Tied h old → Sound old → Lined h old → Decided came
     → Cases (λ step output. IsAnswer old.link h step came output) came old new
-answers law h came old new t k l d = record {
+answers law {h} came {old} new t k l d = record {
   posted = λ step posting p answer components is count g totals.
       posted_answer old.link h step came (Output.Posted answer components) posting
-      (subst (λ c. IsPosted old.link h c (Output.Posted answer components)) (sym is) (posted_is law h old new p answer components t k l (d old p is) count g));
-  ticked = λ moment added wanting none g. ticked_is h old new moment added wanting t k none g;
-  took = λ turn g. (longest_is h old new turn t k l g, (let room : places_held old < 8192 = g.room in omega (arith, room, places_are h old t k l)));
-  no_room = λ some full same. (some_ready h old old.ready t k refl some, omega (arith, full, places_are h old t k l));
-  none_taken = λ none same. none_ready h old t k none;
-  gave = λ done given g. gave_done h old new done given t k l g;
-  none_given = λ local out same. gave_none law h old local (named h local) t refl out;
-  went_back = λ turn g. back_done h old new turn t k g;
-  none_back = λ local out same. back_none law h old local (named h local) t refl out;
-  picked = λ content frame is g. (t.is_out ∙ ap (option_map (handed h)) g.none_out, subst (IsNext h (aborts_waiting h) (waiting h) (parcel_local content)) is (next_is h old new content t k l g));
+      (subst (λ c. IsPosted old.link h c (Output.Posted answer components)) (sym is) (posted_is law new p answer components t k l (d old p is) count g));
+  ticked = λ moment added wanting none g. ticked_is t k none g;
+  took = λ turn g. (longest_is t k l g, (let room : places_held old < 8192 = g.room in omega (arith, room, places_are t k l)));
+  no_room = λ some full same. (some_ready old.ready t k refl some, omega (arith, full, places_are t k l));
+  none_taken = λ none same. none_ready t k none;
+  gave = λ done given g. gave_done t k l g;
+  none_given = λ local out same. gave_none law local t out;
+  went_back = λ turn g. back_done t k g;
+  none_back = λ local out same. back_none law local t out;
+  picked = λ content frame is g. (t.is_out ∙ ap (option_map (handed h)) g.none_out, subst (IsNext h (aborts_waiting h) (waiting h) (parcel_local content)) is (next_is _ t k l g));
   busy = λ some same. ap is_some t.is_out ∙ some_handed h old.outbox.out some;
   none_picked = λ none same.
-      (t.is_out ∙ ap (λ (o : Outbox). option_map (handed h) o.out) none, aborts_wait h old t k l ∙ ap (λ (o : Outbox). map_list frame_octets o.aborts) none, none_waits h (waiting h) (l.frames ∙ ap (λ (o : Outbox). o.frames) none));
-  sent = λ content g. if_there h old content Output.Sent t (sent_out old content new g);
-  none_sent = λ none same. if_none h old Output.Sent t none;
-  unsent = λ parcel g. if_there h old parcel.content Output.Unsent t g.was_out;
-  none_unsent = λ none same. if_none h old Output.Unsent t none;
+      (t.is_out ∙ ap (λ (o : Outbox). option_map (handed h) o.out) none, aborts_wait t k l ∙ ap (λ (o : Outbox). map_list frame_octets o.aborts) none, none_waits h (waiting h) (l.frames ∙ ap (λ (o : Outbox). o.frames) none));
+  sent = λ content g. if_is Output.Sent t (sent_out old content new g);
+  none_sent = λ none same. if_is Output.Sent t none;
+  unsent = λ parcel g. if_is Output.Unsent t g.was_out;
+  none_unsent = λ none same. if_is Output.Unsent t none;
   down = λ g. refl;
 }
 
-pub answer_made : RowsKeepTheirOrder → (h : List Event) (step : Step) (came : Option Prepared) (output : Output) (old new : Shelf) → Tied h old → Sound old → Lined h old → Decided came → MakesOf step came output old new → IsAnswer old.link h step came output
-answer_made law h step came output old new t k l d g = by_made (λ step output. IsAnswer old.link h step came output) step came output old new (answers law h came old new t k l d) g
+pub answer_made : RowsKeepTheirOrder → {h : List Event} (step : Step) (came : Option Prepared) (output : Output) {old : Shelf} (new : Shelf) → Tied h old → Sound old → Lined h old → Decided came → MakesOf step came output old new → IsAnswer old.link h step came output
+answer_made law {h} step came output {old} new t k l d g = by_made (λ step output. IsAnswer old.link h step came output) step output (answers law came new t k l d) g
 
 -- the link is the same
 
@@ -257,8 +204,8 @@ sent_link : (old : Shelf) (content : Content) (new : Shelf) → Sends old conten
 sent_link old (Content.Abort frame) new g = ap (λ (s : Shelf). s.link) g.new_is
 sent_link old (Content.Frame w) new g = ap (λ (s : Shelf). s.link) g.new_is
 
-link_cases : (came : Option Prepared) (old new : Shelf) → Sound old → Cases (λ step output. new.link ≡ old.link) came old new
-link_cases came old new k = grind (arith, follows_untouched, sent_link)
+link_cases : (came : Option Prepared) {old : Shelf} (new : Shelf) → Sound old → Cases (λ step output. new.link ≡ old.link) came old new
+link_cases came new k = grind (arith, follows_untouched, sent_link)
 
-pub link_made : (step : Step) (came : Option Prepared) (output : Output) (old new : Shelf) → Sound old → MakesOf step came output old new → new.link ≡ old.link
-link_made step came output old new k g = by_made (λ step output. new.link ≡ old.link) step came output old new (link_cases came old new k) g
+pub link_made : (step : Step) (came : Option Prepared) (output : Output) {old : Shelf} (new : Shelf) → Sound old → MakesOf step came output old new → new.link ≡ old.link
+link_made step came output {old} new k g = by_made (λ step output. new.link ≡ old.link) step output (link_cases came new k) g

@@ -1,25 +1,11 @@
 -- Sums over the dialogues that a book holds, by their births.
-use Rattle.std.proofs.Common.{◌≡◌, ℕ, ◌<◌, ◌≤◌, ◌+◌, Bool, false, cond, eqb, Option, Some, None, refl, sym, ◌∙◌, ap, arith, zero, suc, ⊎_elim, List}
-use Rattle.std.proofs.lemmas.Bool.{cases_Bool, cases_lt, eqb-false, ne_eqb}
-use Rattle.std.specs.FinMap as map
-use Rattle.std.proofs.lemmas.Option.{none-some}
-use Rattle.fp_book.proofs.Sums.{Rows, amount, get-removed, sum-none, sum-remove}
-use Rattle.fp_book.specs.Shelf.{Shelf, Sound}
-use Rattle.fp_book.specs.Totals.{sum_of}
-use Rattle.fp_row.specs.declared.row.Row.{Row}
-use Rattle.fp_steps.specs.Births.{births, local_of}
-use Rattle.fp_steps.specs.History.{Event}
-use Rattle.fp_steps.specs.Tied.{Tied}
-use Rattle.fp_steps.specs.Totals.{sum_to}
-use Rattle.fp_steps.specs.Waiting.{how_many}
+use Rattle.fp_steps.proofs.Names.{Bool, Event, List, None, Option, Row, Rows, Shelf, Some, Sound, Tied, amount, ap, arith, births, cases_Bool, cases_lt, cond, eqb, eqb-false, false, get, get-removed, how_many, local_of, ne_eqb, none-some, refl, remove, suc, sum-none, sum-remove, sum_of, sum_to, sym, zero, ℕ, ⊎_elim, ◌+◌, ◌<◌, ◌∙◌, ◌≡◌, ◌≤◌}
 use Rattle.fp_steps.proofs.HeldDialogues.{Held, apart, held_of}
 
 pub sum_to_same : (n : ℕ) (f g : ℕ → ℕ) → ((d : ℕ) → 0 < d → d ≤ n → f d ≡ g d) → sum_to n f ≡ sum_to n g
 sum_to_same zero f g same = refl
 sum_to_same (suc n) f g same =
-    let rest : sum_to n f ≡ sum_to n g = sum_to_same n f g (λ d first last. same d first (omega (arith, last))) in
-    let here : f (suc n) ≡ g (suc n) = same (suc n) (omega arith) (omega arith) in
-    omega (arith, rest, here)
+    omega (arith, sum_to_same n f g (λ d first last. same d first (omega (arith, last))), same (suc n) (omega arith) (omega arith))
 
 pub how_many_is : (n : ℕ) (is : ℕ → Bool) → how_many n is ≡ sum_to n (λ d. cond {A = ℕ} (is d) 1 0)
 how_many_is zero is = refl
@@ -27,48 +13,44 @@ how_many_is (suc n) is = ap (λ m. m + cond {A = ℕ} (is (suc n)) 1 0) (how_man
 
 -- each dialogue has one of these births, under the identifier that it has
 abbrev pub AreBorn : (ℕ → ℕ) → ℕ → Rows → Type 0
-AreBorn place n rows = (l : ℕ) (row : Row) → map.get rows l ≡ Some row → (b : ℕ) × (0 < b) × (b ≤ n) × (l ≡ place b)
+AreBorn place n rows = (l : ℕ) (row : Row) → get rows l ≡ Some row → (b : ℕ) × (0 < b) × (b ≤ n) × (l ≡ place b)
 
-none_at : (place : ℕ → ℕ) (rows : Rows) → AreBorn place 0 rows → (l : ℕ) (o : Option Row) → map.get rows l ≡ o → o ≡ None
+none_at : (place : ℕ → ℕ) (rows : Rows) → AreBorn place 0 rows → (l : ℕ) (o : Option Row) → get rows l ≡ o → o ≡ None
 none_at place rows born l None was = refl
 none_at place rows born l (Some row) was =
     let b = born l row was in
     absurd (let first : 0 < b.0 = b.1 in let last : b.0 ≤ 0 = b.2 in omega (arith, first, last))
 
-removed_at : (rows : Rows) (l k : ℕ) → eqb k l ≡ false → map.get (map.remove rows l) k ≡ map.get rows k
-removed_at rows l k ne = get-removed rows l k ∙ ap (λ b. cond b None (map.get rows k)) ne
+removed_at : (rows : Rows) (l k : ℕ) → eqb k l ≡ false → get (remove rows l) k ≡ get rows k
+removed_at rows l k ne = get-removed rows l k ∙ ap (λ b. cond b None (get rows k)) ne
 
-others_born : (place : ℕ → ℕ) (n : ℕ) (rows : Rows) → AreBorn place (suc n) rows → AreBorn place n (map.remove rows (place (suc n)))
+others_born : (place : ℕ → ℕ) (n : ℕ) (rows : Rows) → AreBorn place (suc n) rows → AreBorn place n (remove rows (place (suc n)))
 others_born place n rows born l row was =
     let top = place (suc n) in
     ⊎_elim
-    (λ e. absurd (none-some row (sym (get-removed rows top l ∙ ap (λ b. cond b None (map.get rows l)) e) ∙ was)))
+    (λ e. absurd (none-some row (sym (get-removed rows top l ∙ ap (λ b. cond b None (get rows l)) e) ∙ was)))
     (λ ne.
-    let b = born l row (sym (removed_at rows top l ne) ∙ was) in
-    let last : b.0 ≤ suc n = b.2 in
+    let b = born l row (sym (removed_at rows top l ne) ∙ was) in let last : b.0 ≤ suc n = b.2 in
     (b.0, b.1, ⊎_elim (λ lt. absurd (let same : b.0 ≡ suc n = omega (arith, last, lt) in eqb-false l top ne (b.3 ∙ ap place same))) (λ le. le) (cases_lt n b.0), b.3))
     (cases_Bool (eqb l top))
 
 pub sum_births : (f : Row → ℕ) (place : ℕ → ℕ) (n : ℕ) (rows : Rows) → ((c d : ℕ) → 0 < d → d ≤ n → eqb c d ≡ false → eqb (place c) (place d) ≡ false) → AreBorn place n rows
-    → sum_of f rows ≡ sum_to n (λ d. amount f (map.get rows (place d)))
-sum_births f place zero rows apart born = sum-none f rows (λ l. none_at place rows born l (map.get rows l) refl)
+    → sum_of f rows ≡ sum_to n (λ d. amount f (get rows (place d)))
+sum_births f place zero rows apart born = sum-none f rows (λ l. none_at place rows born l (get rows l) refl)
 sum_births f place (suc n) rows apart born =
-    let top = place (suc n) in
-    let then = map.remove rows top in
-    let rest : sum_of f then ≡ sum_to n (λ d. amount f (map.get then (place d))) =
+    let top = place (suc n) in let then = remove rows top in
+    let rest : sum_of f then ≡ sum_to n (λ d. amount f (get then (place d))) =
     sum_births f place n then (λ c d first last. apart c d first (omega (arith, last))) (others_born place n rows born)
     in
-    let same : sum_to n (λ d. amount f (map.get then (place d))) ≡ sum_to n (λ d. amount f (map.get rows (place d))) =
-    sum_to_same n (λ d. amount f (map.get then (place d))) (λ d. amount f (map.get rows (place d)))
+    let same : sum_to n (λ d. amount f (get then (place d))) ≡ sum_to n (λ d. amount f (get rows (place d))) =
+    sum_to_same n (λ d. amount f (get then (place d))) (λ d. amount f (get rows (place d)))
     (λ d first last. ap (amount f) (removed_at rows top (place d) (apart d (suc n) (omega arith) (omega arith) (ne_eqb d (suc n) (λ e. omega (arith, last, e))))))
-    in
-    omega (arith, rest, same, sum-remove f rows top)
+    in omega (arith, rest, same, sum-remove f rows top)
 
 -- how many dialogues of a history are such, by those that its book holds
-pub many_is : (f : Row → ℕ) (is : ℕ → Bool) (h : List Event) (s : Shelf) → Tied h s → Sound s
-    → ((d : ℕ) → 0 < d → d ≤ births h → amount f (map.get s.rows (local_of h d)) ≡ cond {A = ℕ} (is d) 1 0) → how_many (births h) is ≡ sum_of f s.rows
-many_is f is h s t k same =
-    how_many_is (births h) is
+pub many_is : (f : Row → ℕ) (is : ℕ → Bool) {h : List Event} {s : Shelf} → Tied h s → Sound s
+    → ((d : ℕ) → 0 < d → d ≤ births h → amount f (get s.rows (local_of h d)) ≡ cond {A = ℕ} (is d) 1 0) → how_many (births h) is ≡ sum_of f s.rows
+many_is f is {h} {s} t k same = how_many_is (births h) is
     ∙ sym (sum_births f (local_of h) (births h) s.rows (λ c d first last ne. apart s.link h c d t.opened first last ne)
-    (λ l row was. let b : Held h l row.birth row = held_of h s l row t k was in (row.birth, b.first, b.last, b.place))
-    ∙ sum_to_same (births h) (λ d. amount f (map.get s.rows (local_of h d))) (λ d. cond {A = ℕ} (is d) 1 0) same)
+    (λ l row was. let b : Held h l row.birth row = held_of l row t k was in (row.birth, b.first, b.last, b.place))
+    ∙ sum_to_same (births h) (λ d. amount f (get s.rows (local_of h d))) (λ d. cond {A = ℕ} (is d) 1 0) same)

@@ -1,52 +1,12 @@
 -- A message keeps the tie between a book and its history.
-use Rattle.std.proofs.Common.{rules, Bool, List, None, Option, Some, [], add-zero, ap, append-nil, append_assoc, arith, cond, eqb, false, is_some, length, not, refl, subst, sym, take, true, ℕ, ⊎_elim, ◌&&◌, ◌++◌, ◌+◌, ◌∙◌, ◌∷◌, ◌≡◌}
-use Rattle.std.specs.Prelude.{map as map_list, nat_le, nat_lt}
-use Rattle.std.specs.Option.{option_and_then, option_map_or}
-use Rattle.std.proofs.lemmas.List.{map-append}
-use Rattle.std.specs.FinMap as map
-use Rattle.std.proofs.lemmas.Bool.{cases_lt, eq-eqb, eqb-false, le-leb, lt-leb, ne_eqb}
+use Rattle.fp_steps.proofs.Names.{AbortCause, AbortFrame, AbortsTied, Answers, Beginning, Bool, ClosesOne, Content, Discards, Ending, EndsDialogue, Entry, Event, Extends, ExtendsDialogue, IsTied, List, LoggedStep, None, OneChanges, Opened as OpenedAs, OpensDialogue, Option, Output, Posted, Prepared, Refuses, Row, RowsKeepTheirOrder, Shelf, Some, Sound, Step, Story, Tid, Tied, TiedAt, [], abort_for, abort_out, aborts, aborts_sent, accepted, add-zero, admits, admitted as admitted_in, and_right, ap, append-nil, append_assoc, arith, arrival_of, began_with, beginning, births, book_logged as logged, by_local, cases_Bool, cond, cond_some, core_in, core_of, destination, ended_by, ending, ending_at, ending_by, entries_in, entry_count, eq-eqb, eqb, false, for_one, frame_octets, frames_of, get, identifier, insert, inserted, is_admitted, is_ending, is_one, is_over, is_some, length, local_of, map-append, map_list, named, named_in, names_by, nat_le, nat_lt, nat_tests, ne_eqb, not, number_of, numbers, octets_of, opened_in, option_and_then, option_map_or, out, parcel_local, positions, posted_line, queued, refl, rules, sender_of, sent, story, subst, sym, take, true, turn_out, unnamed_by, untold, ℕ, ⊎_elim, ◌&&◌, ◌++◌, ◌+◌, ◌∙◌, ◌∷◌, ◌≡◌}
 use Rattle.fp_ber.specs.Canon.{canon}
-use Rattle.fp_book.proofs.Changes.{by_local}
-use Rattle.fp_book.proofs.Sums.{OneChanges, inserted, kept, left_of}
-use Rattle.fp_book.proofs.Tells.{names_by, unnamed_by}
-use Rattle.fp_book.specs.Calls.{Answers, ClosesOne, Discards, EndsDialogue, ExtendsDialogue, OpensDialogue, Refuses, abort_for, entries_in, posted_line}
-use Rattle.fp_book.specs.Log.{logged}
-use Rattle.fp_book.specs.Parcel.{local_of as parcel_local}
-use Rattle.fp_book.specs.Sending.{is_frame_of}
-use Rattle.fp_book.specs.Shelf.{Shelf, Sound}
-use Rattle.fp_book.specs.Lines.{admitted as admitted_in, named as named_in, number_of}
-use Rattle.fp_book.specs.declared.answers.Posted.{Posted}
-use Rattle.fp_book.specs.declared.line.LoggedStep.{LoggedStep}
-use Rattle.fp_book.specs.declared.parcel.Content.{Content}
-use Rattle.fp_entry.specs.Prepared.{arrival_of}
-use Rattle.fp_entry.specs.declared.entry.Entry.{Entry}
-use Rattle.fp_entry.specs.declared.prepared.Prepared.{Prepared}
 use Rattle.fp_frames.specs.Frame.{framed}
 use Rattle.fp_q773.specs.ProviderAbort.{cause_code, provider_abort}
-use Rattle.fp_q773.specs.Tid.{octets_of, Tid}
-use Rattle.fp_q773.specs.declared.provider_abort.AbortCause.{AbortCause}
-use Rattle.fp_reply.specs.ProviderAbort.{frame_octets, AbortFrame}
-use Rattle.fp_row.specs.Calls.{Extends, ended_by}
-use Rattle.fp_row.specs.Laws.{RowsKeepTheirOrder}
-use Rattle.fp_row.specs.Row.{frames_of, is_admitted}
-use Rattle.fp_row.specs.declared.ending.Ending.{Ending}
-use Rattle.fp_row.specs.declared.row.Row.{Row}
-use Rattle.fp_service.specs.Dialogue.{is_over}
-use Rattle.fp_tids.specs.Identifiers.{identifier}
-use Rattle.fp_steps.specs.Accepted.{accepted, admits, core_of, ending, ending_at, ending_by, entry_count, is_ending, positions}
-use Rattle.fp_steps.specs.Births.{Beginning, beginning, births, destination, for_one, is_one, local_of, named, opened_in, sender_of}
-use Rattle.fp_steps.specs.Headline.{numbers}
-use Rattle.fp_steps.specs.History.{Event}
-use Rattle.fp_steps.specs.Sending.{abort_out, aborts, aborts_sent, out, queued, sent}
-use Rattle.fp_steps.specs.Tied.{AbortsTied, IsTied, Opened as OpenedAs, Story, Tied, TiedAt, began_with, core_in, story, untold}
-use Rattle.fp_steps.specs.Turns.{turn_out}
-use Rattle.fp_steps.specs.declared.output.Output.TheVariants as outputs
-use Rattle.fp_steps.specs.declared.step.Step.{Step}
-use Rattle.fp_steps.proofs.HeldDialogues.{Held, apart, becomes, born_at, for_other, for_own, held_at, held_of, is_other, is_own, left_tied, live_tied, same_beginning, same_story, stays}
+use Rattle.fp_steps.proofs.HeldDialogues.{Held, apart, becomes, born_at, for_other, for_own, held_at, held_of, is_other, is_own, live_tied, same_beginning, same_story, stays, by_option}
 use Rattle.fp_steps.proofs.OpenedDialogues.{opened_after, the_one}
-use Rattle.fp_steps.proofs.TieAtParcels.{closed_by, closed_if, no_end, none_at, tied_ends}
-use Rattle.fp_steps.proofs.TieNext.{Tied-one, Tied-quiet, aborts_stay, handed_still, quiet}
-use Rattle.std.proofs.lemmas.Option.{cond_some}
+use Rattle.fp_steps.proofs.TieAtParcels.{closed_by, closed_if, no_end, out_there, tied_ends}
+use Rattle.fp_steps.proofs.TieNext.{Tied-quiet, aborts_stay, handed_still, quiet, Tied-left, Tied-put}
 
 -- REFUSED OR DISCARDED
 
@@ -59,96 +19,87 @@ dest_by : (h : List Event) (o : Option ℕ) (d : ℕ) → option_and_then (named
 dest_by h None d e = absurd (cc)
 dest_by h (Some local) d e = (local, (refl, e))
 
+-- a dialogue that takes messages isn't ended
 none_by : (ended : Option Ending) (over : Bool) → (not (is_some ended) && not over) ≡ true → ended ≡ None
 none_by None over is = refl
 none_by (Some ending) over is = absurd (cc)
 
 -- whether it takes messages, as the book has it
-admits_at : (h : List Event) (s : Shelf) (d : ℕ) (o : Option Row) → Tied h s → Sound s → map.get s.rows (local_of h d) ≡ o → TiedAt (births h) d (story h d) o
-    → admits h d ≡ option_map_or is_admitted o false
-admits_at h s d None t k was g = g.admitted
-admits_at h s d (Some row) t k was g =
-    let held : Held h (local_of h d) d row = held_at h s d row t k was in
-    ap (λ b. b && (not (is_some (ending h d)) && not (is_over (core_of h d)))) (born_at d (births h) held.first held.last) ∙ live_tied d (story h d) row g
-
-pub admits_is : (h : List Event) (s : Shelf) (d : ℕ) → Tied h s → Sound s → admits h d ≡ option_map_or is_admitted (map.get s.rows (local_of h d)) false
-admits_is h s d t k = admits_at h s d (map.get s.rows (local_of h d)) t k refl (t.rows d)
+pub admits_is : {h : List Event} {s : Shelf} (d : ℕ) → Tied h s → Sound s → admits h d ≡ option_map_or is_admitted (get s.rows (local_of h d)) false
+admits_is {h} {s} d t k = by_option (λ o. TiedAt (births h) d (story h d) o → admits h d ≡ option_map_or is_admitted o false) (get s.rows (local_of h d)) (λ was g. g.admitted)
+    (λ row was g.
+    let held : Held h (local_of h d) d row = held_at d row t k was in
+    ap (λ b. b && (not (is_some (ending h d)) && not (is_over (core_of h d)))) (born_at d (births h) held.first held.last) ∙ live_tied g)
+    (t.rows d)
 
 -- whether a message names a dialogue that takes messages
 abbrev pub names_taker : List Event → Prepared → ℕ → Bool
 names_taker h came d = is_one (destination h (Some came)) d && admits h d
 
 -- none that takes messages is named
-unnamed : (h : List Event) (s : Shelf) (came : Prepared) (d : ℕ) (b : Bool) → Tied h s → Sound s → named_in s (arrival_of came).ids ≡ None → is_one (destination h (Some came)) d ≡ b → (b && admits h d) ≡ false
-unnamed h s came d false t k none is = refl
-unnamed h s came d true t k none is =
+pub none_named_takes : {h : List Event} {s : Shelf} (came : Prepared) (d : ℕ) → Tied h s → Sound s → named_in s (arrival_of came).ids ≡ None → names_taker h came d ≡ false
+none_named_takes {h} {s} came d t k none =
+    ⊎_elim
+    (λ is.
     let found = dest_by h (number_in came) d (the_one (destination h (Some came)) d is) in
-    let place : found.0 ≡ local_of h d = (t.opened.names found.0 d found.1.1).0 in
-    let refuses : option_map_or is_admitted (map.get s.rows found.0) false ≡ false = unnamed_by s (number_in came) found.0 none found.1.0 in
-    admits_is h s d t k ∙ ap (λ l. option_map_or is_admitted (map.get s.rows l) false) (sym place) ∙ refuses
+    and_right (is_one (destination h (Some came)) d) (admits h d)
+    (admits_is d t k ∙ ap (λ l. option_map_or is_admitted (get s.rows l) false) (sym (t.opened.names found.0 d found.1.1).0) ∙ unnamed_by s (number_in came) found.0 none found.1.0))
+    (λ not_one. ap (λ b. b && admits h d) not_one)
+    (cases_Bool (is_one (destination h (Some came)) d))
 
-pub none_named_takes : (h : List Event) (s : Shelf) (came : Prepared) (d : ℕ) → Tied h s → Sound s → named_in s (arrival_of came).ids ≡ None → names_taker h came d ≡ false
-none_named_takes h s came d t k none = unnamed h s came d (is_one (destination h (Some came)) d) t k none refl
-
-pub dest_of : (h : List Event) (old : Shelf) (came : Prepared) (local : ℕ) (before : Row) → Tied h old → Sound old → named_in old (arrival_of came).ids ≡ Some local → map.get old.rows local ≡ Some before
+pub dest_of : {h : List Event} {old : Shelf} (came : Prepared) (local : ℕ) (before : Row) → Tied h old → Sound old → named_in old (arrival_of came).ids ≡ Some local → get old.rows local ≡ Some before
     → destination h (Some came) ≡ Some before.birth
-dest_of h old came local before t k names was = ap (option_and_then (named h)) (names_by old (number_in came) local names).number ∙ (held_of h old local before t k was).name
+dest_of {h} {old} came local before t k names was = ap (option_and_then (named h)) (names_by old (number_in came) local names).number ∙ (held_of local before t k was).name
 
 -- the one that is named takes messages, and no other
-pub names_only : (h : List Event) (s : Shelf) (came : Prepared) (local : ℕ) (row : Row) (c : ℕ) → Tied h s → Sound s → named_in s (arrival_of came).ids ≡ Some local
-    → map.get s.rows local ≡ Some row → names_taker h came c ≡ eqb c row.birth
-names_only h s came local row c t k names was =
+pub names_only : {h : List Event} {s : Shelf} (came : Prepared) (local : ℕ) (row : Row) (c : ℕ) → Tied h s → Sound s → named_in s (arrival_of came).ids ≡ Some local
+    → get s.rows local ≡ Some row → names_taker h came c ≡ eqb c row.birth
+names_only {h} {s} came local row c t k names was =
     let b = row.birth in
-    let dest : destination h (Some came) ≡ Some b = dest_of h s came local row t k names was in
+    let dest : destination h (Some came) ≡ Some b = dest_of came local row t k names was in
     by_local c b (λ c. names_taker h came c ≡ eqb c b)
     (ap (λ x. x && admits h b) (is_own (destination h (Some came)) b dest)
-    ∙ admits_is h s b t k ∙ ap (λ l. option_map_or is_admitted (map.get s.rows l) false) (sym (held_of h s local row t k was).place)
+    ∙ admits_is b t k ∙ ap (λ l. option_map_or is_admitted (get s.rows l) false) (sym (held_of local row t k was).place)
     ∙ (names_by s (number_in came) local names).takes ∙ sym (eq-eqb b b refl))
     (λ ne. ap (λ x. x && admits h c) (is_other (destination h (Some came)) c b dest ne) ∙ sym ne)
 
--- the dialogue that it ends was held
-pub takes_by : (row : Row) → is_admitted row ≡ true → row.ended ≡ None
-takes_by row is = none_by row.ended (is_over row.core) is
-
 -- the event of a message
 abbrev pub posts : Step → Prepared → Posted → ℕ → Event
-posts step came answer components = record { step = step; came = Some came; output = outputs.Posted answer components }
+posts step came answer components = record { step = step; came = Some came; output = Output.Posted answer components }
 
 -- nothing is done with it
-tied_discarded : (h : List Event) (step : Step) (came : Prepared) (components : ℕ) (old : Shelf) (log : List LoggedStep) → Tied h old → Tied (posts step came Posted.Discarded components ∷ h) (record old { log = log })
-tied_discarded h step came components old log t =
+tied_discarded : {h : List Event} (step : Step) (came : Prepared) (components : ℕ) {old : Shelf} (log : List LoggedStep) → Tied h old → Tied (posts step came Posted.Discarded components ∷ h) (record old { log = log })
+tied_discarded {h} step came components log t =
     let e = posts step came Posted.Discarded components in
-    Tied-quiet h e old _ t (quiet h e old _ t refl (add-zero (entry_count h) ∙ t.entries_are) refl refl refl refl refl refl refl refl) (λ d. stays e h d refl refl refl refl refl refl refl) refl
+    Tied-quiet _ t (quiet e _ t refl (add-zero (entry_count h) ∙ t.entries_are) refl refl refl refl refl refl refl refl) (λ d. stays e h d refl refl refl refl refl refl refl) refl
 
-pub Tied-discards : (h : List Event) (step : Step) (came : Prepared) (answer : Posted) (components : ℕ) (old new : Shelf) → Tied h old → Discards old came answer new → Tied (posts step came answer components ∷ h) new
-Tied-discards h step came answer components old new t g =
+pub Tied-discards : {h : List Event} (step : Step) {came : Prepared} {answer : Posted} (components : ℕ) {old new : Shelf} → Tied h old → Discards old came answer new → Tied (posts step came answer components ∷ h) new
+Tied-discards {h} step {came} {answer} components {old} {new} t g =
     subst (λ a. Tied (posts step came a components ∷ h) new) (sym g.answer_is)
-    (subst (Tied (posts step came Posted.Discarded components ∷ h)) (sym g.new_is) (tied_discarded h step came components old (logged old.log (posted_line came answer)) t))
+    (subst (Tied (posts step came Posted.Discarded components ∷ h)) (sym g.new_is) (tied_discarded step came components (logged old.log (posted_line came answer)) t))
 
 -- it closes the dialogue that it names, if that takes messages
-closes_tied : RowsKeepTheirOrder → (h : List Event) (e : Event) (old closed : Shelf) (came : Prepared) (closes : Option ℕ) (waiting : List AbortFrame) (log : List LoggedStep)
+closes_tied : RowsKeepTheirOrder → {h : List Event} (e : Event) {old : Shelf} (closed : Shelf) (came : Prepared) (closes : Option ℕ) (waiting : List AbortFrame) (log : List LoggedStep)
     → Tied h old → Sound old → named_in old (arrival_of came).ids ≡ closes
     → ((d : ℕ) → story (e ∷ h) d ≡ record (story h d) { ended = closed_if (names_taker h came d) (ending h d) }) → opened_in e.output ≡ None
     → entry_count (e ∷ h) ≡ entry_count h + 0 → out (e ∷ h) ≡ out h
     → ((s : Shelf) → s.is_down ≡ old.is_down → s.outbox.aborts ≡ waiting → AbortsTied (e ∷ h) s) → ClosesOne old closes closed
     → Tied (e ∷ h) (record closed { outbox = record closed.outbox { aborts = waiting }; log = log })
-closes_tied law h e old closed came None waiting log t k names told none entries out_stays aborts_are c =
+closes_tied law {h} e closed came None waiting log t k names told none entries out_stays aborts_are c =
     subst (λ (s : Shelf). Tied (e ∷ h) (record s { outbox = record s.outbox { aborts = waiting }; log = log })) (sym c)
-    (Tied-quiet h e old _ t (record { link_is = refl; opens_none = none; born = refl; entries = entries ∙ add-zero (entry_count h) ∙ t.entries_are; is_out = out_stays ∙ t.is_out; aborts = aborts_are _ refl refl })
-    (λ d. told d ∙ no_end (story h d) (names_taker h came d) (none_named_takes h old came d t k names)) refl)
-closes_tied law h e old closed came (Some local) waiting log t k names told none entries out_stays aborts_are c =
+    (Tied-quiet e t (record { link_is = refl; opens_none = none; born = refl; entries = entries ∙ add-zero (entry_count h) ∙ t.entries_are; is_out = out_stays ∙ t.is_out; aborts = aborts_are _ refl refl })
+    (λ d. told d ∙ no_end (story h d) (names_taker h came d) (none_named_takes came d t k names)) refl)
+closes_tied law {h} e closed came (Some local) waiting log t k names told none entries out_stays aborts_are c =
     let b = c.before.birth in
-    let only : (d : ℕ) → names_taker h came d ≡ eqb d b = λ d. names_only h old came local c.before d t k names c.was in
+    let only : (d : ℕ) → names_taker h came d ≡ eqb d b = λ d. names_only came local c.before d t k names c.was in
     let x = closed_if (names_taker h came b) (ending h b) in
     let is : x ≡ ended_by Ending.Closed c.before.ended = ap (λ y. closed_if y (ending h b)) (only b ∙ eq-eqb b b refl) ∙ sym (closed_by c.before.ended) in
     let tied : IsTied b (record (story h b) { ended = x }) c.after =
-    tied_ends b (story h b) Ending.Closed (is_frame_of local old.outbox.out) c.before c.after x (held_of h old local c.before t k c.was).tied c.ends is
-    in
+    tied_ends x (held_of local c.before t k c.was).tied c.ends is in
     subst (λ (s : Shelf). Tied (e ∷ h) (record s { outbox = record s.outbox { aborts = waiting }; log = log })) (sym c.new_is)
-    (Tied-one h e old _ local c.before (left_of c.after) t k
+    (Tied-left law {e = e} local c.before t k
     (record { link_is = refl; opens_none = none; born = refl; entries = entries ∙ add-zero (entry_count h) ∙ t.entries_are; is_out = out_stays ∙ t.is_out; aborts = aborts_are _ refl refl })
-    (kept old.rows local (Some c.before) c.after c.was)
-    (subst (λ t. TiedAt (births h) b t (left_of c.after)) (sym (told b)) (left_tied law (births h) b (record (story h b) { ended = x }) c.after tied))
+    c.was refl (subst (λ t. IsTied b t c.after) (sym (told b)) tied)
     (λ d ne. told d ∙ no_end (story h d) (names_taker h came d) (only d ∙ ne)))
 
 closed_aborts : (old : Shelf) (closes : Option ℕ) (closed : Shelf) → ClosesOne old closes closed → closed.outbox.aborts ≡ old.outbox.aborts
@@ -161,30 +112,28 @@ sent_to waiting None orig peer named e = absurd (cc)
 sent_to waiting (Some cause) None peer named e = absurd (cc)
 sent_to waiting (Some cause) (Some tid) peer named e = ap (λ (p : Tid × AbortCause). Some p.0) (cond_some {A = Tid × AbortCause} (nat_lt waiting 64) (tid, cause) (peer, named) e).1
 
-tied_refused : RowsKeepTheirOrder → (h : List Event) (step : Step) (came : Prepared) (answer : Posted) (components : ℕ) (old mid answered : Shelf) (closes : Option ℕ) (log : List LoggedStep) (abort : Option (Tid × AbortCause))
+tied_refused : RowsKeepTheirOrder → {h : List Event} (step : Step) (came : Prepared) (answer : Posted) (components : ℕ) {old : Shelf} (mid answered : Shelf) (closes : Option ℕ) (log : List LoggedStep) (abort : Option (Tid × AbortCause))
     → Tied h old → Sound old → named_in old (arrival_of came).ids ≡ closes → ClosesOne old closes mid → ((peer : Tid) (cause : AbortCause) → abort ≡ Some (peer, cause) → (arrival_of came).ids.orig ≡ Some peer)
     → Answers mid closes abort answer answered → Tied (posts step came answer components ∷ h) (record answered { log = log })
-tied_refused law h step came answer components old mid answered None log None t k names c from (answer_is, same) =
+tied_refused law {h} step came answer components mid answered None log None t k names c from (answer_is, same) =
     subst (λ a. Tied (posts step came a components ∷ h) (record answered { log = log })) (sym answer_is)
-    (subst (λ (s : Shelf). Tied (posts step came Posted.Discarded components ∷ h) (record s { log = log })) (sym (same ∙ c)) (tied_discarded h step came components old log t))
-tied_refused law h step came answer components old mid answered (Some local) log None t k names c from (answer_is, same) =
+    (subst (λ (s : Shelf). Tied (posts step came Posted.Discarded components ∷ h) (record s { log = log })) (sym (same ∙ c)) (tied_discarded step came components log t))
+tied_refused law {h} step came answer components {old} mid answered (Some local) log None t k names c from (answer_is, same) =
     let e = posts step came Posted.Ended components in
     subst (λ a. Tied (posts step came a components ∷ h) (record answered { log = log })) (sym answer_is)
     (subst (λ (s : Shelf). Tied (e ∷ h) (record s { log = log })) (sym same)
-    (closes_tied law h e old mid came (Some local) mid.outbox.aborts log t k names (λ d. becomes e h d _ (turn_out h d) refl refl refl refl refl refl refl) refl refl refl
-    (λ s down waits. aborts_stay h e old s t.aborts_are refl refl refl down (waits ∙ closed_aborts old (Some local) mid c)) c))
-tied_refused law h step came answer components old mid answered closes log (Some (peer, cause)) t k names c from (answer_is, queues) =
+    (closes_tied law e mid came (Some local) mid.outbox.aborts log t k names (λ d. becomes e h d _ (turn_out h d) refl refl refl refl refl refl refl) refl refl refl
+    (λ s down waits. aborts_stay e s t.aborts_are refl refl refl down (waits ∙ closed_aborts old (Some local) mid c)) c))
+tied_refused law {h} step came answer components {old} mid answered closes log (Some (peer, cause)) t k names c from (answer_is, queues) =
     let e = posts step came (Posted.Aborted cause) components in
-    let a : AbortsTied h old = t.aborts_are in
-    let frame = queues.frame in
+    let a : AbortsTied h old = t.aborts_are in let frame = queues.frame in
     let x = frame_octets frame in
     let sender : octets_of peer ≡ sender_of came = sym (ap (λ o. option_map_or octets_of o []) (from peer cause refl)) in
     let frame_is : x ≡ framed (canon (provider_abort (sender_of came) (cause_code cause))) = queues.frame_is ∙ ap (λ o. framed (canon (provider_abort o (cause_code cause)))) sender in
     subst (λ a. Tied (posts step came a components ∷ h) (record answered { log = log })) (sym answer_is)
     (subst (λ (s : Shelf). Tied (e ∷ h) (record s { log = log })) (sym queues.new_is)
-    (closes_tied law h e old mid came closes (mid.outbox.aborts ++ frame ∷ []) log t k names (λ d. becomes e h d _ (turn_out h d) refl refl refl refl refl refl refl) refl refl refl
-    (λ s down waits.
-    record {
+    (closes_tied law e mid came closes (mid.outbox.aborts ++ frame ∷ []) log t k names (λ d. becomes e h d _ (turn_out h d) refl refl refl refl refl refl refl) refl refl refl
+    (λ s down waits. record {
       rest = a.rest ++ x ∷ [];
       all = ap (λ xs. xs ++ (abort_out (out h) ++ (a.rest ++ x ∷ []))) (append-nil (aborts_sent h))
           ∙ ap (λ xs. aborts_sent h ++ xs) (sym (append_assoc (abort_out (out h)) a.rest (x ∷ [])))
@@ -196,18 +145,18 @@ tied_refused law h step came answer components old mid answered closes log (Some
     }) c))
 
 -- a message is refused
-pub Tied-refuses : RowsKeepTheirOrder → (h : List Event) (step : Step) (came : Prepared) (answer : Posted) (components : ℕ) (old new : Shelf) (cause : Option AbortCause) (closes : Option ℕ)
+pub Tied-refuses : RowsKeepTheirOrder → {h : List Event} (step : Step) {came : Prepared} {answer : Posted} (components : ℕ) {old new : Shelf} {cause : Option AbortCause} {closes : Option ℕ}
     → Tied h old → Sound old → closes ≡ named_in old (arrival_of came).ids → Refuses old cause closes came answer new → Tied (posts step came answer components ∷ h) new
-Tied-refuses law h step came answer components old new cause closes t k names g =
+Tied-refuses law {h} step {came} {answer} components {old} {cause} {closes} t k names g =
     subst (Tied (posts step came answer components ∷ h)) (sym g.new_is)
-    (tied_refused law h step came answer components old g.closed g.answered closes (logged g.answered.log (posted_line came answer)) (abort_for (length old.outbox.aborts) cause (arrival_of came).ids.orig) t k (sym names) g.closing
+    (tied_refused law step came answer components g.closed g.answered closes (logged g.answered.log (posted_line came answer)) (abort_for (length old.outbox.aborts) cause (arrival_of came).ids.orig) t k (sym names) g.closing
     (λ peer named is. sent_to (length old.outbox.aborts) cause (arrival_of came).ids.orig peer named is) g.answering)
 
 -- ACCEPTED
 
 -- more entries of a dialogue
-pub tied_extends : (d : ℕ) (t : Story) (before after : Row) (entries : List Entry) → IsTied d t before → Extends before entries after → IsTied d (record t { accepts = t.accepts ++ entries }) after
-tied_extends d t before after entries k e = let begins = k.begins ∙ ap Some (sym (same_beginning before after e.same)) in grind arith
+pub tied_extends : {d : ℕ} {t : Story} {before after : Row} {entries : List Entry} → IsTied d t before → Extends before entries after → IsTied d (record t { accepts = t.accepts ++ entries }) after
+tied_extends k e = let begins = k.begins ∙ ap Some (sym (same_beginning e.same)) in grind arith
 
 -- a message doesn't end a dialogue that it doesn't name, or that takes none
 pub unended : (by : Option Ending) (takes : Bool) (before : Option Ending) → takes ≡ false → ending_at by takes before ≡ before
@@ -221,8 +170,7 @@ own_told : (h : List Event) (step : Step) (came : Prepared) (count components b 
 own_told h step came count components b x dest ends_so =
     same_story (story (posts step came (Posted.Accepted count) components ∷ h) b) (record (story h b) { accepts = accepted h b ++ entries_in came; ended = x }) refl
     (ap (λ xs. accepted h b ++ xs) (for_own (destination h (Some came)) b (entries_in came) dest))
-    (append-nil (positions h b)) (append-nil (queued h b)) (append-nil (sent h b))
-    ends_so refl
+    (append-nil (positions h b)) (append-nil (queued h b)) (append-nil (sent h b)) ends_so refl
 
 others_told : (h : List Event) (step : Step) (came : Prepared) (count components b : ℕ) → destination h (Some came) ≡ Some b
     → (d : ℕ) → eqb d b ≡ false → story (posts step came (Posted.Accepted count) components ∷ h) d ≡ story h d
@@ -232,94 +180,82 @@ others_told h step came count components b dest d ne =
     refl
 
 -- a dialogue accepts a message
-pub Tied-extends : (h : List Event) (step : Step) (came : Prepared) (answer : Posted) (components : ℕ) (old new : Shelf) (local : ℕ) → Tied h old → Sound old
+pub Tied-extends : {h : List Event} (step : Step) {came : Prepared} {answer : Posted} (components : ℕ) {old new : Shelf} {local : ℕ} → Tied h old → Sound old
     → named_in old (arrival_of came).ids ≡ Some local → is_ending (arrival_of came).ids.kind ≡ false → ExtendsDialogue old local came answer new → Tied (posts step came answer components ∷ h) new
-Tied-extends h step came answer components old new local t k names no_end g =
+Tied-extends {h} step {came} components {new} {local} t k names no_end g =
     let count = length (entries_in came) in
-    let e = posts step came (Posted.Accepted count) components in
-    let b = g.before.birth in
-    let dest : destination h (Some came) ≡ Some b = dest_of h old came local g.before t k names g.was in
+    let e = posts step came (Posted.Accepted count) components in let b = g.before.birth in
+    let dest : destination h (Some came) ≡ Some b = dest_of came local g.before t k names g.was in
     let told : story (e ∷ h) b ≡ record (story h b) { accepts = accepted h b ++ entries_in came } =
     own_told h step came count components b (ending h b) dest (ap (λ x. ending_at (cond x (Some Ending.ByPeer) None) (names_taker h came b) (ending h b)) no_end)
     in
     subst (λ a. Tied (posts step came a components ∷ h) new) (sym g.answer_is)
     (subst (Tied (e ∷ h)) (sym g.new_is)
-    (Tied-one h e old _ local g.before (Some g.after) t k (quiet h e old _ t refl (ap (λ n. n + count) t.entries_are) refl refl refl refl refl refl refl refl)
-    (inserted old.rows local (Some g.before) g.after g.was)
-    (subst (λ s. IsTied b s g.after) (sym told) (tied_extends b (story h b) g.before g.after (entries_in came) (held_of h old local g.before t k g.was).tied g.extends))
+    (Tied-put local g.before t k (quiet e _ t refl (ap (λ n. n + count) t.entries_are) refl refl refl refl refl refl refl refl) g.was refl
+    (subst (λ s. IsTied b s g.after) (sym told) (tied_extends (held_of local g.before t k g.was).tied g.extends))
     (others_told h step came count components b dest)))
 
 -- the dialogue that is named takes messages
-names_takes : (s : Shelf) (o : Option ℕ) (local : ℕ) (row : Row) → option_and_then (admitted_in s.rows) o ≡ Some local → map.get s.rows local ≡ Some row → is_admitted row ≡ true
+names_takes : (s : Shelf) (o : Option ℕ) (local : ℕ) (row : Row) → option_and_then (admitted_in s.rows) o ≡ Some local → get s.rows local ≡ Some row → is_admitted row ≡ true
 names_takes s o local row names was = sym (ap (λ r. option_map_or is_admitted r false) was) ∙ (names_by s o local names).takes
 
 -- a dialogue accepts its peer's end
-pub Tied-ends : RowsKeepTheirOrder → (h : List Event) (step : Step) (came : Prepared) (answer : Posted) (components : ℕ) (old new : Shelf) (local : ℕ) → Tied h old → Sound old
+pub Tied-ends : RowsKeepTheirOrder → {h : List Event} (step : Step) {came : Prepared} {answer : Posted} (components : ℕ) {old new : Shelf} {local : ℕ} → Tied h old → Sound old
     → named_in old (arrival_of came).ids ≡ Some local → is_ending (arrival_of came).ids.kind ≡ true → EndsDialogue old local came answer new → Tied (posts step came answer components ∷ h) new
-Tied-ends law h step came answer components old new local t k names is_end g =
+Tied-ends law {h} step {came} components {old} {new} {local} t k names is_end g =
     let count = length (entries_in came) in
-    let e = posts step came (Posted.Accepted count) components in
-    let b = g.before.birth in
-    let dest : destination h (Some came) ≡ Some b = dest_of h old came local g.before t k names g.was in
-    let takes : names_taker h came b ≡ true = names_only h old came local g.before b t k names g.was ∙ eq-eqb b b refl in
+    let e = posts step came (Posted.Accepted count) components in let b = g.before.birth in
+    let dest : destination h (Some came) ≡ Some b = dest_of came local g.before t k names g.was in
+    let takes : names_taker h came b ≡ true = names_only came local g.before b t k names g.was ∙ eq-eqb b b refl in
     let told : story (e ∷ h) b ≡ record (story h b) { accepts = accepted h b ++ entries_in came; ended = Some Ending.ByPeer } =
     own_told h step came count components b (Some Ending.ByPeer) dest
     (ap (λ x. ending_at (cond x (Some Ending.ByPeer) None) (names_taker h came b) (ending h b)) is_end ∙ ap (λ x. cond x (Some Ending.ByPeer) (ending h b)) takes)
     in
     let more : Story = record (story h b) { accepts = accepted h b ++ entries_in came } in
-    let extended : IsTied b more g.extended = tied_extends b (story h b) g.before g.extended (entries_in came) (held_of h old local g.before t k g.was).tied g.extends in
-    let was_none : g.extended.ended ≡ None = g.extends.ended ∙ takes_by g.before (names_takes old (number_in came) local g.before names g.was) in
+    let extended : IsTied b more g.extended = tied_extends (held_of local g.before t k g.was).tied g.extends in
+    let was_none : g.extended.ended ≡ None = g.extends.ended ∙ none_by g.before.ended (is_over g.before.core) (names_takes old (number_in came) local g.before names g.was) in
     let tied : IsTied b (record more { ended = Some Ending.ByPeer }) g.after =
-    tied_ends b more Ending.ByPeer (is_frame_of local old.outbox.out) g.extended g.after (Some Ending.ByPeer) extended g.ends (ap (ended_by Ending.ByPeer) (sym was_none))
-    in
+    tied_ends (Some Ending.ByPeer) extended g.ends (ap (ended_by Ending.ByPeer) (sym was_none)) in
     subst (λ a. Tied (posts step came a components ∷ h) new) (sym g.answer_is)
     (subst (Tied (e ∷ h)) (sym g.new_is)
-    (Tied-one h e old _ local g.before (left_of g.after) t k (quiet h e old _ t refl (ap (λ n. n + count) t.entries_are) refl refl refl refl refl refl refl refl)
-    (kept old.rows local (Some g.before) g.after g.was)
-    (subst (λ s. TiedAt (births h) b s (left_of g.after)) (sym told) (left_tied law (births h) b (record more { ended = Some Ending.ByPeer }) g.after tied))
+    (Tied-left law local g.before t k (quiet e _ t refl (ap (λ n. n + count) t.entries_are) refl refl refl refl refl refl refl refl) g.was refl
+    (subst (λ s. IsTied b s g.after) (sym told) tied)
     (others_told h step came count components b dest)))
 
 -- what is gone, or isn't opened yet, isn't the one that is opened
 le_more : (d n : ℕ) → eqb d (n + 1) ≡ false → nat_le d (n + 1) ≡ nat_le d n
-le_more d n ne =
-    ⊎_elim (λ past. lt-leb d (n + 1) (omega (arith, past, eqb-false d (n + 1) ne)) ∙ sym (lt-leb d n past)) (λ le. le-leb d (n + 1) (omega (arith, le)) ∙ sym (le-leb d n le)) (cases_lt n d)
+le_more d n ne = grind (arith, nat_tests)
 
 at_more : (d n : ℕ) (t : Story) (o : Option Row) → eqb d (n + 1) ≡ false → TiedAt n d t o → TiedAt (n + 1) d t o
 at_more d n t (Some row) ne k = k
 at_more d n t None ne k = let admitted = ap (λ b. (nat_lt 0 d && b) && (not (is_some t.ended) && not (is_over (core_in d t)))) (le_more d n ne) ∙ k.admitted in search rules
 
 -- what is out isn't of the dialogue that is opened
-none_of_new : (h : List Event) (s : Shelf) (l : ℕ) (content : Content) → Tied h s → Sound s → l ≡ identifier s.link (births h + 1) → s.outbox.out ≡ Some content → eqb (parcel_local content) l ≡ false
-none_of_new h s l (Content.Abort frame) t k place is = ne_eqb 0 l (λ same. omega (arith, same, place))
-none_of_new h s l (Content.Frame w) t k place is =
-    let row = none_at s w (map.get s.rows w.local) k is refl in
-    let b : Held h w.local row.0.birth row.0 = held_of h s w.local row.0 t k row.1 in
+none_of_new : {h : List Event} {s : Shelf} (l : ℕ) (content : Content) → Tied h s → Sound s → l ≡ identifier s.link (births h + 1) → s.outbox.out ≡ Some content → eqb (parcel_local content) l ≡ false
+none_of_new l (Content.Abort frame) t k place is = ne_eqb 0 l (λ same. omega (arith, same, place))
+none_of_new {h} l (Content.Frame w) t k place is =
+    let row = out_there w k is in
+    let b : Held h w.local row.0.birth row.0 = held_of w.local row.0 t k row.1 in
     ne_eqb w.local l (λ same. omega (arith, same, place, b.place, b.last, t.opened.locals row.0.birth b.first b.last))
 
 -- a dialogue is opened
-pub Tied-opens : (h : List Event) (step : Step) (came : Prepared) (answer : Posted) (components : ℕ) (old new : Shelf) (peer : Tid) → Tied h old → Sound old
+pub Tied-opens : {h : List Event} (step : Step) {came : Prepared} {answer : Posted} (components : ℕ) {old new : Shelf} {peer : Tid} → Tied h old → Sound old
     → (arrival_of came).ids.orig ≡ Some peer → OpensDialogue old peer came answer new → Tied (posts step came answer components ∷ h) new
-Tied-opens h step came answer components old new peer t k orig g =
-    let n = births h in
-    let b = n + 1 in
-    let l = identifier old.link (old.given + 1) in
-    let e = posts step came (Posted.Opened l) components in
-    let rows = map.insert old.rows l g.after in
+Tied-opens {h} step {came} components {old} {new} {peer} t k orig g =
+    let n = births h in let b = n + 1 in let l = identifier old.link (old.given + 1) in
+    let e = posts step came (Posted.Opened l) components in let rows = insert old.rows l g.after in
     let all : n ≡ old.births = t.births_are in
     let place : l ≡ identifier old.link b = ap (λ m. identifier old.link (m + 1)) (sym (all ∙ k.births)) in
     let untold_yet : story h b ≡ untold = t.later b (omega arith) in
     let start : Beginning = record { local = l; peer = sender_of came; moment = (arrival_of came).moment } in
     let fresh_one : Story = record { began = Some start; accepts = entries_in came; places = []; queues = []; sends = []; ended = None; out = false } in
-    let told : story (e ∷ h) b ≡ fresh_one =
-    same_story (story (e ∷ h) b) fresh_one
+    let told : story (e ∷ h) b ≡ fresh_one = same_story (story (e ∷ h) b) fresh_one
     (ap (λ y. cond y (Some start) (beginning h b)) (eq-eqb b b refl))
     (ap (λ (s : Story). s.accepts ++ for_one (Some b) b (entries_in came)) untold_yet ∙ for_own (Some b) b (entries_in came) refl)
     (append-nil (positions h b) ∙ ap (λ (s : Story). s.places) untold_yet)
     (append-nil (queued h b) ∙ ap (λ (s : Story). s.queues) untold_yet)
     (append-nil (sent h b) ∙ ap (λ (s : Story). s.sends) untold_yet)
-    (ap (λ (s : Story). s.ended) untold_yet)
-    (ap (λ (s : Story). s.out) untold_yet)
-    in
+    (ap (λ (s : Story). s.ended) untold_yet) (ap (λ (s : Story). s.out) untold_yet) in
     let others : (d : ℕ) → eqb d b ≡ false → story (e ∷ h) d ≡ story h d = λ d ne.
     stays e h d (ap (λ y. cond y (Some start) (beginning h d)) ne) (for_other (Some b) d b (entries_in came) refl ne) refl refl refl refl refl
     in
@@ -335,26 +271,23 @@ Tied-opens h step came answer components old new peer t k orig g =
       sends = sym (g.extends.stay.sent_frames ∙ ap (λ n. take n (frames_of g.opened)) g.opens.sent);
       ends = sym (g.extends.ended ∙ g.opens.ended);
       outs = sym (g.extends.is_out ∙ g.opens.is_out);
-    }
-    in
-    let one : OneChanges old.rows rows l (map.get old.rows l) (Some g.after) = inserted old.rows l (map.get old.rows l) g.after refl in
-    let opened : OpenedAs old.link (e ∷ h) = opened_after old.link n (named h) (beginning h) (Some l) (Some came) t.opened place in
+    } in
+    let one : OneChanges old.rows rows l (get old.rows l) (Some g.after) = inserted old.rows l (get old.rows l) g.after refl in
+    let opened : OpenedAs old.link (e ∷ h) = opened_after (Some l) (Some came) t.opened place in
     let here : local_of (e ∷ h) b ≡ l = ap (λ y. began_with (cond y (Some start) (beginning h b))) (eq-eqb b b refl) in
     subst (λ a. Tied (posts step came a components ∷ h) new) (sym g.answer_is)
-    (subst (Tied (e ∷ h)) (sym g.new_is)
-    (record {
+    (subst (Tied (e ∷ h)) (sym g.new_is) (record {
       births_are = ap (λ m. m + 1) all;
       entries_are = ap (λ m. m + length (entries_in came)) t.entries_are;
       opened = opened;
-      rows = λ d.
-          by_local d b (λ d. TiedAt b d (story (e ∷ h) d) (map.get rows (local_of (e ∷ h) d)))
-          (subst (TiedAt b b (story (e ∷ h) b)) (sym one.there ∙ ap (map.get rows) (sym here)) (subst (λ s. IsTied b s g.after) (sym told) tied))
+      rows = λ d. by_local d b (λ d. TiedAt b d (story (e ∷ h) d) (get rows (local_of (e ∷ h) d)))
+          (subst (TiedAt b b (story (e ∷ h) b)) (sym one.there ∙ ap (get rows) (sym here)) (subst (λ s. IsTied b s g.after) (sym told) tied))
           (λ ne.
           let same : local_of (e ∷ h) d ≡ local_of h d = ap (λ y. began_with (cond y (Some start) (beginning h d))) ne in
           let other : eqb (local_of h d) l ≡ false = ap (λ x. eqb x l) (sym same) ∙ ap (eqb (local_of (e ∷ h) d)) (sym here) ∙ apart old.link (e ∷ h) d b opened (omega arith) (omega arith) ne in
-          subst (λ s. TiedAt b d s (map.get rows (local_of (e ∷ h) d))) (sym (others d ne))
-          (subst (TiedAt b d (story h d)) (sym (ap (map.get rows) same ∙ one.others (local_of h d) other)) (at_more d n (story h d) (map.get old.rows (local_of h d)) ne (t.rows d))));
+          subst (λ s. TiedAt b d s (get rows (local_of (e ∷ h) d))) (sym (others d ne))
+          (subst (TiedAt b d (story h d)) (sym (ap (get rows) same ∙ one.others (local_of h d) other)) (at_more d n (story h d) (get old.rows (local_of h d)) ne (t.rows d))));
       later = λ d past. others d (ne_eqb d b (λ same. omega (arith, past, same))) ∙ t.later d (omega (arith, past));
-      is_out = t.is_out ∙ handed_still h e old.outbox.out (λ content is. ap (λ y. cond y (Some b) (named h (parcel_local content))) (none_of_new h old l content t k place is));
-      aborts_are = aborts_stay h e old _ t.aborts_are refl refl refl refl refl;
+      is_out = t.is_out ∙ handed_still h e old.outbox.out (λ content is. ap (λ y. cond y (Some b) (named h (parcel_local content))) (none_of_new l content t k place is));
+      aborts_are = aborts_stay e _ t.aborts_are refl refl refl refl refl;
     }))

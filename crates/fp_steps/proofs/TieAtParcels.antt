@@ -1,73 +1,39 @@
 -- Steps of parcels, and the end of a link, keep the tie between a book and its history.
-use Rattle.std.proofs.Common.{arith, Bool, List, None, Option, Some, [], add-zero, ap, append-nil, append_assoc, cond, false, refl, subst, sym, true, ℕ, ⊎_elim, ◌&&◌, ◌++◌, ◌∙◌, ◌∷◌, ◌≡◌}
-use Rattle.std.specs.Prelude.{map as map_list, nat_le, nat_lt, option_map}
-use Rattle.std.proofs.lemmas.Bool.{and_right, cases_Bool, le-leb, lt-leb, true≢false}
-use Rattle.std.specs.FinMap as map
-use Rattle.fp_book.proofs.Sums.{kept, left_of}
-use Rattle.fp_book.proofs.Turns.{frames_at}
+use Rattle.fp_steps.proofs.Names.{AbortFrame, AbortsTied, BookNext as IsNext, Bool, ClosesAt, Content, Ending, Ends, Event, GoesDown, IsGone, IsStraight, IsTied, List, LoggedStep, None, Option, Outbox, Output, Parcel, PicksParcel, Prepared, Row, RowsKeepTheirOrder, Sends, Shelf, Some, Sound, Step, Story, Tied, TiedAt, Unsends, Waiting, [], abort_out, aborts, aborts_sent, accepted, add-zero, and_right, ap, append-nil, append_assoc, arith, births, cases_Bool, cond, ended_by, ending, entry_count, false, for_one, frame_for, frame_octets, frame_out, frames_at, frames_for, get, handed, is_frame_of, kept_of, le-leb, local_of, lt-leb, map_list, named, nat_le, nat_lt, numbers, opened_in, option_map, out, parcel_local, parcel_octets as octets_of, positions, queued, refl, sent, sent_of, story, subst, sym, true, true≢false, turn_out, ℕ, ⊎_elim, ◌&&◌, ◌++◌, ◌+◌, ◌∙◌, ◌∷◌, ◌≡◌}
 use Rattle.fp_book.proofs.Unsent.{first_own}
-use Rattle.fp_book.specs.Calls.{ClosesAt, GoesDown, PicksParcel, Sends, Unsends}
-use Rattle.fp_book.specs.Outbox.{IsNext, Outbox}
-use Rattle.fp_book.specs.Parcel.{local_of as parcel_local, octets_of}
-use Rattle.fp_book.specs.Sending.{is_frame_of}
-use Rattle.fp_book.specs.Shelf.{Shelf, Sound, frame_out, frames_for}
-use Rattle.fp_book.specs.declared.line.LoggedStep.{LoggedStep}
-use Rattle.fp_book.specs.declared.parcel.Content.{Content}
-use Rattle.fp_book.specs.declared.parcel.Parcel.{Parcel}
-use Rattle.fp_book.specs.declared.parcel.Waiting.{Waiting}
-use Rattle.fp_entry.specs.declared.prepared.Prepared.{Prepared}
-use Rattle.fp_reply.specs.ProviderAbort.{frame_octets, AbortFrame}
-use Rattle.fp_row.specs.Calls.{Ends, ended_by}
-use Rattle.fp_row.specs.Laws.{RowsKeepTheirOrder}
-use Rattle.fp_row.specs.Row.{kept_of, sent_of}
-use Rattle.fp_row.specs.declared.ending.Ending.{Ending}
-use Rattle.fp_row.specs.declared.row.Row.{Row}
-use Rattle.fp_steps.specs.Accepted.{accepted, ending, entry_count, positions}
-use Rattle.fp_steps.specs.Births.{births, for_one, local_of, named}
-use Rattle.fp_steps.specs.Headline.{numbers}
-use Rattle.fp_steps.specs.History.{Event}
-use Rattle.fp_steps.specs.Sending.{abort_out, aborts, aborts_sent, frame_for, out, queued, sent}
-use Rattle.fp_steps.specs.Tied.{AbortsTied, IsGone, IsStraight, IsTied, Story, Tied, TiedAt, handed, story}
-use Rattle.fp_steps.specs.Turns.{turn_out}
-use Rattle.fp_steps.specs.declared.output.Output.TheVariants as outputs
-use Rattle.fp_steps.specs.declared.step.Step.TheVariants as steps
-use Rattle.fp_steps.proofs.HeldDialogues.{Held, becomes, event, for_other, for_own, held_at, held_of, left_tied, none_named, not_abort, same_beginning, stays}
-use Rattle.fp_steps.proofs.TieNext.{Next, Tied-next, Tied-one, Tied-quiet}
+use Rattle.fp_steps.proofs.HeldDialogues.{Held, becomes, event, for_other, for_own, held_at, held_of, left_tied, none_named, not_abort, same_beginning, stays, by_option}
+use Rattle.fp_steps.proofs.TieNext.{Next, Tied-next, Tied-quiet, Tied-left}
 
 -- a frame that waits is of a dialogue that is held
 pub none_here : (xs ys : List (List ℕ)) (y : List ℕ) → xs ++ y ∷ ys ≡ [] → ⊥
 none_here [] ys y e = cc
 none_here (x ∷ xs) ys y e = cc
 
-held_by : (s : Shelf) (w : Waiting) (rest : List Waiting) → Sound s → s.outbox.frames ≡ w ∷ rest → (o : Option Row) → map.get s.rows w.local ≡ o → (row : Row) × (map.get s.rows w.local ≡ Some row)
-held_by s w rest k first (Some row) was = (row, was)
-held_by s w rest k first None was =
-    let here : frames_for w.local s.outbox.frames ≡ w.frame ∷ frames_for w.local rest = ap (frames_for w.local) first ∙ first_own w.local w rest refl in
-    absurd (none_here (frame_out w.local s.outbox.out) (frames_for w.local rest) w.frame
-    (ap (λ r. frame_out w.local s.outbox.out ++ r) (sym here) ∙ frames_at s w.local None k was))
-
-pub held : (s : Shelf) (w : Waiting) (rest : List Waiting) → Sound s → s.outbox.frames ≡ w ∷ rest → (row : Row) × (map.get s.rows w.local ≡ Some row)
-held s w rest k first = held_by s w rest k first (map.get s.rows w.local) refl
+pub held : {s : Shelf} (w : Waiting) (rest : List Waiting) → Sound s → s.outbox.frames ≡ w ∷ rest → (row : Row) × (get s.rows w.local ≡ Some row)
+held {s} w rest k first = by_option (λ o. (row : Row) × (o ≡ Some row)) (get s.rows w.local)
+    (λ was. absurd (none_here (frame_out w.local s.outbox.out) (frames_for w.local rest) w.frame
+    (ap (λ r. frame_out w.local s.outbox.out ++ r) (sym (ap (frames_for w.local) first ∙ first_own w.local w rest refl)) ∙ frames_at _ w.local None k was)))
+    (λ row was. (row, refl))
 
 -- and so is one that is out
-pub none_at : (s : Shelf) (w : Waiting) (o : Option Row) → Sound s → s.outbox.out ≡ Some (Content.Frame w) → map.get s.rows w.local ≡ o → (row : Row) × (map.get s.rows w.local ≡ Some row)
-none_at s w (Some row) k is was = (row, was)
-none_at s w None k is was =
-    let here : frame_out w.local s.outbox.out ≡ w.frame ∷ [] = ap (frame_out w.local) is ∙ first_own w.local w [] refl in
-    absurd (none_here [] (frames_for w.local s.outbox.frames) w.frame (ap (λ r. r ++ frames_for w.local s.outbox.frames) (sym here) ∙ frames_at s w.local None k was))
+pub out_there : {s : Shelf} (w : Waiting) → Sound s → s.outbox.out ≡ Some (Content.Frame w) → (row : Row) × (get s.rows w.local ≡ Some row)
+out_there {s} w k is = by_option (λ o. (row : Row) × (o ≡ Some row)) (get s.rows w.local)
+    (λ was. absurd (none_here [] (frames_for w.local s.outbox.frames) w.frame
+    (ap (λ r. r ++ frames_for w.local s.outbox.frames) (sym (ap (frame_out w.local) is ∙ first_own w.local w [] refl)) ∙ frames_at _ w.local None k was)))
+    (λ row was. (row, refl))
 
 -- an Abort waits only where the link is up
-up_by : (s : Shelf) (frame : AbortFrame) (rest : List AbortFrame) → Sound s → s.outbox.aborts ≡ frame ∷ rest → s.is_down ≡ false
-up_by s frame rest k first =
+up_by : {s : Shelf} (frame : AbortFrame) (rest : List AbortFrame) → Sound s → s.outbox.aborts ≡ frame ∷ rest → s.is_down ≡ false
+up_by {s} frame rest k first =
     ⊎_elim (λ e. absurd (let clash : frame ∷ rest ≡ [] = sym first ∙ (k.quiet e).0 in cc)) (λ e. e) (cases_Bool s.is_down)
 
 -- the Aborts of the provider, where the next parcel is handed out
-aborts_picked : (h : List Event) (e : Event) (old : Shelf) (content : Content) (rest : Outbox) → Tied h old → Sound old → old.outbox.out ≡ None → IsNext old.outbox content rest
+aborts_picked : {h : List Event} (e : Event) {old : Shelf} (content : Content) (rest : Outbox) → Tied h old → Sound old → old.outbox.out ≡ None → IsNext old.outbox content rest
     → aborts (e ∷ h) ≡ aborts h ++ [] → aborts_sent (e ∷ h) ≡ aborts_sent h ++ [] → out (e ∷ h) ≡ Some (handed h content)
     → (new : Shelf) → new.is_down ≡ old.is_down → new.outbox.aborts ≡ rest.aborts → AbortsTied (e ∷ h) new
-aborts_picked h e old (Content.Abort frame) rest t k none next all sent_all is new down waits =
+aborts_picked {h} e {old} (Content.Abort frame) rest t k none next all sent_all is new down waits =
     let a : AbortsTied h old = t.aborts_are in
-    let left : a.rest ≡ frame_octets frame ∷ map_list frame_octets rest.aborts = a.waiting (up_by old frame rest.aborts k next.0) ∙ ap (map_list frame_octets) next.0 in
+    let left : a.rest ≡ frame_octets frame ∷ map_list frame_octets rest.aborts = a.waiting (up_by frame rest.aborts k next.0) ∙ ap (map_list frame_octets) next.0 in
     let was : out h ≡ None = t.is_out ∙ ap (option_map (handed h)) none in
     record {
       rest = map_list frame_octets rest.aborts;
@@ -75,34 +41,32 @@ aborts_picked h e old (Content.Abort frame) rest t k none next all sent_all is n
           ∙ (λ i. aborts_sent h ++ (abort_out (sym was i) ++ sym left i)) ∙ a.all ∙ sym (append-nil (aborts h)) ∙ sym all;
       waiting = λ up. ap (map_list frame_octets) (sym waits);
     }
-aborts_picked h e old (Content.Frame w) rest t k none next all sent_all is new down waits =
-    let a : AbortsTied h old = t.aborts_are in
-    let here = held old w rest.frames k next.2 in
+aborts_picked {h} e {old} (Content.Frame w) rest t k none next all sent_all is new down waits =
+    let a : AbortsTied h old = t.aborts_are in let here = held w rest.frames k next.2 in
     let was : out h ≡ None = t.is_out ∙ ap (option_map (handed h)) none in
     record {
       rest = a.rest;
       all = (λ i. (sent_all ∙ append-nil (aborts_sent h)) i ++ (abort_out (is i) ++ a.rest))
-          ∙ (λ i. aborts_sent h ++ (cond (not_abort h old w.local here.0 t k here.1 i) (w.frame ∷ []) [] ++ a.rest)) ∙ ap (λ o. aborts_sent h ++ (abort_out o ++ a.rest)) (sym was)
+          ∙ (λ i. aborts_sent h ++ (cond (not_abort w.local here.0 t k here.1 i) (w.frame ∷ []) [] ++ a.rest)) ∙ ap (λ o. aborts_sent h ++ (abort_out o ++ a.rest)) (sym was)
           ∙ a.all ∙ sym (append-nil (aborts h)) ∙ sym all;
       waiting = λ up. a.waiting (sym down ∙ up) ∙ ap (map_list frame_octets) (next.0 ∙ sym next.1 ∙ sym waits);
     }
 
 -- what is sent next is handed out
-pub Tied-picks : (h : List Event) (came : Option Prepared) (old new : Shelf) (content : Content) (frame : List ℕ) → Tied h old → Sound old → octets_of content ≡ frame → PicksParcel old content new
-    → Tied (event steps.Pick came (outputs.Picked (parcel_local content) frame) ∷ h) new
-Tied-picks h came old new content frame t k octets_are g =
-    let e = event steps.Pick came (outputs.Picked (parcel_local content) frame) in
+pub Tied-picks : {h : List Event} (came : Option Prepared) {old new : Shelf} {content : Content} (frame : List ℕ) → Tied h old → Sound old → octets_of content ≡ frame → PicksParcel old content new
+    → Tied (event Step.Pick came (Output.Picked (parcel_local content) frame) ∷ h) new
+Tied-picks {h} came {content} frame t k octets_are g =
+    let e = event Step.Pick came (Output.Picked (parcel_local content) frame) in
     let is : out (e ∷ h) ≡ Some (handed h content) = ap (λ xs. Some (record { local = parcel_local content; dialogue = named h (parcel_local content); octets = xs })) (sym octets_are) in
-    subst (Tied (e ∷ h)) (sym g.new_is)
-    (Tied-quiet h e old _ t
-    (record { link_is = refl; opens_none = refl; born = refl; entries = add-zero (entry_count h) ∙ t.entries_are; is_out = is; aborts = aborts_picked h e old content g.rest t k g.none_out g.next refl refl is _ refl refl })
+    subst (Tied (e ∷ h)) (sym g.new_is) (Tied-quiet e t
+    (record { link_is = refl; opens_none = refl; born = refl; entries = add-zero (entry_count h) ∙ t.entries_are; is_out = is; aborts = aborts_picked e content g.rest t k g.none_out g.next refl refl is _ refl refl })
     (λ d. stays e h d refl refl refl refl refl refl refl) refl)
 
 -- one that was out was sent
-sent_rest : (h : List Event) (came : Option Prepared) (old new : Shelf) → Tied h old → new.link ≡ old.link → new.births ≡ old.births → new.entries ≡ old.entries
+sent_rest : {h : List Event} (came : Option Prepared) {old : Shelf} (new : Shelf) → Tied h old → new.link ≡ old.link → new.births ≡ old.births → new.entries ≡ old.entries
     → new.outbox.out ≡ None → new.is_down ≡ old.is_down → new.outbox.aborts ≡ old.outbox.aborts
-    → Next h (event steps.Sent came outputs.Sent) old new
-sent_rest h came old new t link born entries none down waits =
+    → Next h (event Step.Sent came Output.Sent) old new
+sent_rest {h} came {old} new t link born entries none down waits =
     let a : AbortsTied h old = t.aborts_are in
     record {
       link_is = link;
@@ -117,28 +81,26 @@ sent_rest h came old new t link born entries none down waits =
       };
     }
 
-pub Tied-sends : RowsKeepTheirOrder → (h : List Event) (came : Option Prepared) (old new : Shelf) (content : Content) → Tied h old → Sound old → Sends old content new
-    → Tied (event steps.Sent came outputs.Sent ∷ h) new
-Tied-sends law h came old new (Content.Abort frame) t k g =
-    let e = event steps.Sent came outputs.Sent in
+pub Tied-sends : RowsKeepTheirOrder → {h : List Event} (came : Option Prepared) {old : Shelf} (new : Shelf) (content : Content) → Tied h old → Sound old → Sends old content new
+    → Tied (event Step.Sent came Output.Sent ∷ h) new
+Tied-sends law {h} came {old} new (Content.Abort frame) t k g =
+    let e = event Step.Sent came Output.Sent in
     let was : out h ≡ Some (handed h (Content.Abort frame)) = t.is_out ∙ ap (option_map (handed h)) g.was_out in
     subst (Tied (e ∷ h)) (sym g.new_is)
-    (Tied-quiet h e old _ t (sent_rest h came old _ t refl refl refl refl refl refl)
-    (λ d. stays e h d refl refl refl refl (ap (λ o. frame_for o d) was ∙ ap (λ o. for_one o d (frame_octets frame ∷ [])) (none_named old.link h (named h 0) t.opened refl)) refl refl) refl)
-Tied-sends law h came old new (Content.Frame w) t k g =
-    let e = event steps.Sent came outputs.Sent in
-    let l = w.local in
-    let b = g.before.birth in
+    (Tied-quiet _ t (sent_rest came _ t refl refl refl refl refl refl)
+    (λ d. stays e h d refl refl refl refl (ap (λ o. frame_for o d) was ∙ ap (λ o. for_one o d (frame_octets frame ∷ [])) (none_named old.link h t.opened)) refl refl) refl)
+Tied-sends law {h} came {old} new (Content.Frame w) t k g =
+    let e = event Step.Sent came Output.Sent in let l = w.local in let b = g.before.birth in
     let was : out h ≡ Some (handed h (Content.Frame w)) = t.is_out ∙ ap (option_map (handed h)) g.was_out in
-    let held : Held h l b g.before = held_of h old l g.before t k g.was in
+    let held : Held h l b g.before = held_of l g.before t k g.was in
     let before : IsTied b (story h b) g.before = held.tied in
     let waits_for = frames_for l old.outbox.frames in
     let all : sent_of g.before ++ w.frame ∷ waits_for ≡ kept_of g.before =
-    ap (λ r. sent_of g.before ++ (r ++ waits_for)) (sym (first_own l w [] refl) ∙ ap (frame_out l) (sym g.was_out)) ∙ frames_at old l (Some g.before) k g.was in
+    ap (λ r. sent_of g.before ++ (r ++ waits_for)) (sym (first_own l w [] refl) ∙ ap (frame_out l) (sym g.was_out)) ∙ frames_at _ l (Some g.before) k g.was in
     let tied : IsTied b (story (e ∷ h) b) g.after =
     record {
       birth = g.sends.same.birth;
-      begins = before.begins ∙ ap Some (sym (same_beginning g.before g.after g.sends.same));
+      begins = before.begins ∙ ap Some (sym (same_beginning g.sends.same));
       accepts = append-nil (accepted h b) ∙ before.accepts ∙ sym g.sends.accepted;
       serves = append-nil (positions h b) ∙ before.serves ∙ ap numbers (sym g.sends.served);
       queues = append-nil (queued h b) ∙ before.queues ∙ sym g.sends.queued_frames;
@@ -146,11 +108,8 @@ Tied-sends law h came old new (Content.Frame w) t k g =
           ∙ ap (λ xs. xs ++ w.frame ∷ []) before.sends ∙ sym (g.sends.one_more w.frame waits_for all);
       ends = before.ends ∙ sym g.sends.ended;
       outs = before.outs ∙ sym g.sends.is_out;
-    }
-    in
-    subst (Tied (e ∷ h)) (sym g.new_is)
-    (Tied-one h e old _ l g.before (left_of g.after) t k (sent_rest h came old _ t refl refl refl refl refl refl)
-    (kept old.rows l (Some g.before) g.after g.was) (left_tied law (births h) b (story (e ∷ h) b) g.after tied)
+    } in subst (Tied (e ∷ h)) (sym g.new_is)
+    (Tied-left law l g.before t k (sent_rest came _ t refl refl refl refl refl refl) g.was refl tied
     (λ d ne. stays e h d refl refl refl refl (ap (λ o. frame_for o d) was ∙ for_other (named h l) d b (w.frame ∷ []) held.name ne) refl refl))
 
 -- THE END OF THE LINK
@@ -164,15 +123,15 @@ pub no_end : (t : Story) (b : Bool) → b ≡ false → record t { ended = close
 no_end t b none = ap (λ b. record t { ended = closed_if b t.ended }) none
 
 -- what is gone stays so
-gone_ended : (n d : ℕ) (t : Story) (b : Bool) → IsGone n d t → IsGone n d (record t { ended = closed_if b t.ended })
-gone_ended n d t true g = record {
+gone_ended : {n d : ℕ} {t : Story} (b : Bool) → IsGone n d t → IsGone n d (record t { ended = closed_if b t.ended })
+gone_ended {n} {d} {t} true g = record {
   straight = let s : IsStraight d t = g.straight in record { served_first = s.served_first; sent_first = s.sent_first; each_once = s.each_once; each_there = s.each_there; sent_queued = s.sent_queued; queued_first = s.queued_first };
   admitted = and_right (nat_lt 0 d && nat_le d n) false refl;
   waits = refl;
   outs = g.outs;
   all_sent = λ live. absurd (cc);
 }
-gone_ended n d t false g = g
+gone_ended false g = g
 
 -- who is closed stays so
 pub closed_by : (was : Option Ending) → ended_by Ending.Closed was ≡ Some Ending.Closed
@@ -181,70 +140,53 @@ closed_by (Some Ending.ByPeer) = refl
 closed_by (Some Ending.Closed) = refl
 
 -- a dialogue that was ended from outside
-pub tied_ends : (d : ℕ) (t : Story) (ending : Ending) (sending : Bool) (before after : Row) (x : Option Ending) → IsTied d t before → Ends ending sending before after
+pub tied_ends : {d : ℕ} {t : Story} {ending : Ending} {sending : Bool} {before after : Row} (x : Option Ending) → IsTied d t before → Ends ending sending before after
     → x ≡ ended_by ending before.ended → IsTied d (record t { ended = x }) after
-tied_ends d t ending sending before after x k e is = let begins = k.begins ∙ ap Some (sym (same_beginning before after e.same)) in grind arith
+tied_ends x k e is = let begins = k.begins ∙ ap Some (sym (same_beginning e.same)) in grind arith
 
 -- all dialogues are closed
 closed_at : RowsKeepTheirOrder → (n d : ℕ) (t : Story) (sending : Bool) (o left : Option Row) (b : Bool) → TiedAt n d t o → ClosesAt sending o left → ((row : Row) → o ≡ Some row → b ≡ true)
     → TiedAt n d (record t { ended = closed_if b t.ended }) left
-closed_at law n d t sending None left b k c is = subst (TiedAt n d (record t { ended = closed_if b t.ended })) (sym c) (gone_ended n d t b k)
+closed_at law n d t sending None left b k c is = subst (TiedAt n d (record t { ended = closed_if b t.ended })) (sym c) (gone_ended b k)
 closed_at law n d t sending (Some row) left b k c is =
     let x = closed_if b t.ended in
     let closed : x ≡ ended_by Ending.Closed row.ended = ap (λ b. closed_if b t.ended) (is row refl) ∙ sym (closed_by row.ended) in
-    subst (TiedAt n d (record t { ended = x })) (sym c.left_is) (left_tied law n d (record t { ended = x }) c.after (tied_ends d t Ending.Closed sending row c.after x k c.ends closed))
+    subst (TiedAt n d (record t { ended = x })) (sym c.left_is) (left_tied law n (tied_ends x k c.ends closed))
 
 -- the link goes down: all dialogues that were opened are closed
-closes_all : RowsKeepTheirOrder → (h : List Event) (e : Event) (old new : Shelf) (out_then : Option Content) (step : LoggedStep) → Tied h old → Sound old
-    → GoesDown out_then old step new → Next h e old new
+closes_all : RowsKeepTheirOrder → {h : List Event} (e : Event) {old new : Shelf} {out_then : Option Content} {step : LoggedStep} → Tied h old → Sound old → GoesDown out_then old step new
+    → opened_in e.output ≡ None → entry_count (e ∷ h) ≡ entry_count h + 0 → out (e ∷ h) ≡ option_map (handed h) new.outbox.out
+    → (rest : List (List ℕ)) → aborts_sent (e ∷ h) ++ (abort_out (out (e ∷ h)) ++ rest) ≡ aborts (e ∷ h)
     → ((d : ℕ) → story (e ∷ h) d ≡ record (story h d) { ended = closed_if (nat_le d (births h)) (ending h d) }) → Tied (e ∷ h) new
-closes_all law h e old new out_then step t k g next told =
-    Tied-next h e old new t next
+closes_all law {h} e {old} {new} {out_then} t k g opens entries is_out rest all told = Tied-next t
+    (record {
+      link_is = λ i. (g.new_is i).link;
+      opens_none = opens;
+      born = λ i. (g.new_is i).births;
+      entries = entries ∙ add-zero (entry_count h) ∙ t.entries_are ∙ sym (ap (λ (s : Shelf). s.entries) g.new_is);
+      is_out = is_out;
+      aborts = record { rest = rest; all = all; waiting = λ up. absurd (true≢false (ap (λ (s : Shelf). s.is_down) (sym g.new_is) ∙ up)) };
+    })
     (λ d.
     let l = local_of h d in
-    subst (λ t. TiedAt (births h) d t (map.get new.rows l)) (sym (told d))
-    (closed_at law (births h) d (story h d) (is_frame_of l out_then) (map.get old.rows l) (map.get new.rows l) (nat_le d (births h)) (t.rows d) (g.rows l)
-    (λ row was. le-leb d (births h) (held_at h old d row t k was).last)))
+    subst (λ t. TiedAt (births h) d t (get new.rows l)) (sym (told d))
+    (closed_at law (births h) d (story h d) (is_frame_of l out_then) (get old.rows l) (get new.rows l) (nat_le d (births h)) (t.rows d) (g.rows l)
+    (λ row was. le-leb d (births h) (held_at d row t k was).last)))
     (λ d past. told d ∙ no_end (story h d) (nat_le d (births h)) (lt-leb d (births h) past))
 
-pub Tied-down : RowsKeepTheirOrder → (h : List Event) (came : Option Prepared) (old new : Shelf) → Tied h old → Sound old → GoesDown old.outbox.out old LoggedStep.Down new
-    → Tied (event steps.Down came outputs.Down ∷ h) new
-Tied-down law h came old new t k g =
-    let e = event steps.Down came outputs.Down in
-    let a : AbortsTied h old = t.aborts_are in
-    closes_all law h e old new old.outbox.out LoggedStep.Down t k g
-    (record {
-      link_is = ap (λ (s : Shelf). s.link) g.new_is;
-      opens_none = refl;
-      born = ap (λ (s : Shelf). s.births) g.new_is;
-      entries = add-zero (entry_count h) ∙ t.entries_are ∙ sym (ap (λ (s : Shelf). s.entries) g.new_is);
-      is_out = t.is_out ∙ ap (λ (s : Shelf). option_map (handed h) s.outbox.out) (sym g.new_is);
-      aborts = record {
-        rest = a.rest;
-        all = ap (λ xs. xs ++ (abort_out (out h) ++ a.rest)) (append-nil (aborts_sent h)) ∙ a.all ∙ sym (append-nil (aborts h));
-        waiting = λ up. absurd (true≢false (ap (λ (s : Shelf). s.is_down) (sym g.new_is) ∙ up));
-      };
-    })
+pub Tied-down : RowsKeepTheirOrder → {h : List Event} (came : Option Prepared) {old new : Shelf} → Tied h old → Sound old → GoesDown old.outbox.out old LoggedStep.Down new
+    → Tied (event Step.Down came Output.Down ∷ h) new
+Tied-down law {h} came {old} t k g =
+    let e = event Step.Down came Output.Down in let a : AbortsTied h old = t.aborts_are in
+    closes_all law e t k g refl refl (t.is_out ∙ ap (λ (s : Shelf). option_map (handed h) s.outbox.out) (sym g.new_is)) a.rest
+    (ap (λ xs. xs ++ (abort_out (out h) ++ a.rest)) (append-nil (aborts_sent h)) ∙ a.all ∙ sym (append-nil (aborts h)))
     (λ d. becomes e h d _ (turn_out h d) refl refl refl refl refl refl refl)
 
 -- what was being sent wasn't
-pub Tied-unsends : RowsKeepTheirOrder → (h : List Event) (came : Option Prepared) (old new : Shelf) (parcel : Parcel) → Tied h old → Sound old → Unsends old parcel new
-    → Tied (event steps.Unsent came outputs.Unsent ∷ h) new
-Tied-unsends law h came old new parcel t k u =
-    let e = event steps.Unsent came outputs.Unsent in
-    let g = u.down in
-    let a : AbortsTied h old = t.aborts_are in
-    closes_all law h e old new None (LoggedStep.Unsent (parcel_local parcel.content)) t k g
-    (record {
-      link_is = ap (λ (s : Shelf). s.link) g.new_is;
-      opens_none = refl;
-      born = ap (λ (s : Shelf). s.births) g.new_is;
-      entries = add-zero (entry_count h) ∙ t.entries_are ∙ sym (ap (λ (s : Shelf). s.entries) g.new_is);
-      is_out = ap (λ (s : Shelf). option_map (handed h) s.outbox.out) (sym g.new_is);
-      aborts = record {
-        rest = abort_out (out h) ++ a.rest;
-        all = ap (λ xs. xs ++ (abort_out (out h) ++ a.rest)) (append-nil (aborts_sent h)) ∙ a.all ∙ sym (append-nil (aborts h));
-        waiting = λ up. absurd (true≢false (ap (λ (s : Shelf). s.is_down) (sym g.new_is) ∙ up));
-      };
-    })
+pub Tied-unsends : RowsKeepTheirOrder → {h : List Event} (came : Option Prepared) {old new : Shelf} {parcel : Parcel} → Tied h old → Sound old → Unsends old parcel new
+    → Tied (event Step.Unsent came Output.Unsent ∷ h) new
+Tied-unsends law {h} came {old} t k u =
+    let e = event Step.Unsent came Output.Unsent in let a : AbortsTied h old = t.aborts_are in
+    closes_all law e t k u.down refl refl (ap (λ (s : Shelf). option_map (handed h) s.outbox.out) (sym u.down.new_is)) (abort_out (out h) ++ a.rest)
+    (ap (λ xs. xs ++ (abort_out (out h) ++ a.rest)) (append-nil (aborts_sent h)) ∙ a.all ∙ sym (append-nil (aborts h)))
     (λ d. becomes e h d _ (turn_out h d) refl refl refl refl refl refl refl)

@@ -1,33 +1,7 @@
 -- A tick keeps the tie between a book and its history: those that are given a Clock are all that are due.
-use Rattle.std.proofs.Common.{◌≡◌, ℕ, ◌<◌, ◌≤◌, ◌+◌, ◌^◌, Bool, true, false, cond, eqb, not, ◌&&◌, ◌||◌, nat_lt, nat_le, Option, Some, None, List, [], ◌∷◌, ◌++◌, length, drop, count_by, is_some, slice_index_or, refl, sym, ◌∙◌, ap, subst, arith, append-nil, ⊎_elim}
-use Rattle.std.specs.List.{AllByRecursion, list_any}
-use Rattle.std.specs.Option.{option_map_or}
-use Rattle.std.proofs.lemmas.Bool.{and_left, and_right, cases_Bool, eqb-true, or_parts}
-use Rattle.std.proofs.lemmas.List.Elements.{recursion_from_All}
-use Rattle.std.specs.FinMap as map
-use Rattle.std.proofs.lemmas.Option.{same_Some}
+use Rattle.fp_steps.proofs.Names.{AllByRecursion, Bool, Clock, ClocksAt, Due, Entry, Event, IsDue, IsTied, List, None, OneChanges, Option, Output, Prepared, Row, Rows, Shelf, Some, Sound, Step, Ticks, Tied, TiedAt, [], accepted, admits_on, amount, ap, append-nil, arith, births, book_is_full, cases_Bool, cond, core_in, core_on, count_by, course, drop, due_at, ending, entry_at, eqb, eqb-true, false, get, has_clock, has_clock_on, is_admitted, is_clock, is_full, is_over, is_some, length, list_any, local_of, nat_le, nat_lt, nat_tests, next_due, not, option_map_or, or_parts, positions, queued, recursion_from_All, refl, remove, removed, row_is_due, same_Some, sent, slice_index_or, story, subst, sum_of, sym, true, ℕ, ⊎_elim, ◌&&◌, ◌++◌, ◌+◌, ◌<◌, ◌^◌, ◌||◌, ◌∙◌, ◌∷◌, ◌≡◌, ◌≤◌}
 use Rattle.fp_book.proofs.Clocks.{Apart, apart}
-use Rattle.fp_book.proofs.Queue.{eqb_swap}
-use Rattle.fp_book.proofs.Sums.{OneChanges, Rows, amount, removed}
-use Rattle.fp_book.specs.Calls.{ClocksAt, Due, IsDue, Ticks, due_at}
-use Rattle.fp_book.specs.Shelf.{Shelf, Sound}
-use Rattle.fp_book.specs.Totals.{sum_of}
-use Rattle.fp_book.specs.Lines.{is_full as book_is_full}
-use Rattle.fp_entry.specs.Entries.{entry_at, is_clock}
-use Rattle.fp_entry.specs.declared.entry.Entry.{Entry}
-use Rattle.fp_entry.specs.declared.entry.EntryKind.TheVariants.{Clock}
-use Rattle.fp_entry.specs.declared.prepared.Prepared.{Prepared}
-use Rattle.fp_row.specs.Row.{has_clock, is_admitted, is_due as row_is_due}
-use Rattle.fp_row.specs.declared.row.Row.{Row}
-use Rattle.fp_service.specs.Dialogue.{is_over, next_due}
-use Rattle.fp_steps.specs.Accepted.{accepted, admits_on, core_on, course, ending, has_clock_on, is_full, positions}
-use Rattle.fp_steps.specs.Births.{births, local_of}
-use Rattle.fp_steps.specs.History.{Event}
-use Rattle.fp_steps.specs.Sending.{queued, sent}
-use Rattle.fp_steps.specs.Tied.{IsTied, Tied, TiedAt, core_in, story}
-use Rattle.fp_steps.specs.declared.output.Output.TheVariants as outputs
-use Rattle.fp_steps.specs.declared.step.Step.TheVariants as steps
-use Rattle.fp_steps.proofs.HeldDialogues.{count_tied, Held, born_at, core_tied, event, held_at, live_tied, not_born, same_story, stays}
+use Rattle.fp_steps.proofs.HeldDialogues.{count_tied, Held, born_at, core_tied, event, held_at, live_tied, not_born, same_story, stays, eqb_swap}
 use Rattle.fp_steps.proofs.TieAtMessages.{tied_extends}
 use Rattle.fp_steps.proofs.TieNext.{Tied-next, quiet}
 
@@ -38,11 +12,11 @@ among q due = list_any (λ (d : Due). eqb d.1 q) due
 -- each of these adds one to a sum
 record Adds (f : Row → ℕ) (rows : Rows) (d : Due) : Type 0 where
   row : Row
-  was : map.get rows d.1 ≡ Some row
+  was : get rows d.1 ≡ Some row
   one : f row ≡ 1
 
 -- so it does where another dialogue is taken off
-others_add : (f : Row → ℕ) (rows then : Rows) (l : ℕ) (due : List Due) → ((q : ℕ) → eqb q l ≡ false → map.get then q ≡ map.get rows q) → AllByRecursion (λ (e : Due). eqb l e.1 ≡ false) due
+others_add : (f : Row → ℕ) (rows then : Rows) (l : ℕ) (due : List Due) → ((q : ℕ) → eqb q l ≡ false → get then q ≡ get rows q) → AllByRecursion (λ (e : Due). eqb l e.1 ≡ false) due
     → AllByRecursion (Adds f rows) due → AllByRecursion (Adds f then) due
 others_add f rows then l [] same none adds = tt
 others_add f rows then l (d ∷ due) same none adds =
@@ -54,10 +28,10 @@ few : (f : Row → ℕ) (due : List Due) (rows : Rows) → Apart due → AllByRe
 few f [] rows two adds = omega arith
 few f (d ∷ due) rows two adds =
     let first : Adds f rows d = adds.0 in
-    let off : OneChanges rows (map.remove rows d.1) d.1 (Some first.row) None = removed rows d.1 (Some first.row) first.was in
-    let rest : length due ≤ sum_of f (map.remove rows d.1) = few f due (map.remove rows d.1) two.1 (others_add f rows (map.remove rows d.1) d.1 due off.others two.0 adds.1) in
+    let off : OneChanges rows (remove rows d.1) d.1 (Some first.row) None = removed rows d.1 (Some first.row) first.was in
+    let rest : length due ≤ sum_of f (remove rows d.1) = few f due (remove rows d.1) two.1 (others_add f rows (remove rows d.1) d.1 due off.others two.0 adds.1) in
     let one : f first.row ≡ 1 = first.one in
-    let sums : sum_of f (map.remove rows d.1) + f first.row ≡ sum_of f rows + 0 = off.sums f in
+    let sums : sum_of f (remove rows d.1) + f first.row ≡ sum_of f rows + 0 = off.sums f in
     omega (arith, rest, one, sums)
 
 none_of : (l : ℕ) (due : List Due) → among l due ≡ false → AllByRecursion (λ (e : Due). eqb l e.1 ≡ false) due
@@ -67,20 +41,20 @@ none_of l (d ∷ due) none =
     (eqb_swap d.1 l parts.0, none_of l due parts.1)
 
 -- where they are as many as the sum, one that isn't among them adds nothing
-adds_none : (f : Row → ℕ) (rows : Rows) (due : List Due) → Apart due → AllByRecursion (Adds f rows) due → length due ≡ sum_of f rows → (l : ℕ) (row : Row) → map.get rows l ≡ Some row → among l due ≡ false → f row ≡ 0
+adds_none : (f : Row → ℕ) (rows : Rows) (due : List Due) → Apart due → AllByRecursion (Adds f rows) due → length due ≡ sum_of f rows → (l : ℕ) (row : Row) → get rows l ≡ Some row → among l due ≡ false → f row ≡ 0
 adds_none f rows due two adds all l row was none =
-    let off : OneChanges rows (map.remove rows l) l (Some row) None = removed rows l (Some row) was in
-    let rest : length due ≤ sum_of f (map.remove rows l) = few f due (map.remove rows l) two (others_add f rows (map.remove rows l) l due off.others (none_of l due none) adds) in
-    let sums : sum_of f (map.remove rows l) + f row ≡ sum_of f rows + 0 = off.sums f in
+    let off : OneChanges rows (remove rows l) l (Some row) None = removed rows l (Some row) was in
+    let rest : length due ≤ sum_of f (remove rows l) = few f due (remove rows l) two (others_add f rows (remove rows l) l due off.others (none_of l due none) adds) in
+    let sums : sum_of f (remove rows l) + f row ≡ sum_of f rows + 0 = off.sums f in
     omega (arith, rest, sums, all)
 
 -- and one that is adds one
-adds_one : (f : Row → ℕ) (rows : Rows) (due : List Due) → AllByRecursion (Adds f rows) due → (l : ℕ) (row : Row) → map.get rows l ≡ Some row → among l due ≡ true → f row ≡ 1
+adds_one : (f : Row → ℕ) (rows : Rows) (due : List Due) → AllByRecursion (Adds f rows) due → (l : ℕ) (row : Row) → get rows l ≡ Some row → among l due ≡ true → f row ≡ 1
 adds_one f rows [] adds l row was is = absurd (cc)
 adds_one f rows (d ∷ due) adds l row was is =
     let first : Adds f rows d = adds.0 in
     ⊎_elim
-    (λ here. ap f (same_Some row first.row (sym was ∙ ap (map.get rows) (sym (eqb-true d.1 l here)) ∙ first.was)) ∙ first.one)
+    (λ here. ap f (same_Some row first.row (sym was ∙ ap (get rows) (sym (eqb-true d.1 l here)) ∙ first.was)) ∙ first.one)
     (λ other. adds_one f rows due adds.1 l row was (ap (λ b. b || among l due) (sym other) ∙ is))
     (cases_Bool (eqb d.1 l))
 
@@ -88,20 +62,15 @@ abbrev due_now : Shelf → ℕ → Row → ℕ
 due_now s moment row = cond (due_at s moment row) 1 0
 
 due_by : (x b : Bool) → (x ≡ true → cond {A = ℕ} b 1 0 ≡ 1) → (x ≡ false → cond {A = ℕ} b 1 0 ≡ 0) → x ≡ b
-due_by true true has lacks = refl
-due_by false false has lacks = refl
-due_by true false has lacks = absurd (let none : 0 ≡ 1 = has refl in omega (arith, none))
-due_by false true has lacks = absurd (let one : 1 ≡ 0 = lacks refl in omega (arith, one))
+due_by x b has lacks = grind (arith, nat_tests)
 
 -- all that are due are among those that are given a Clock
-all_due : (old new : Shelf) (moment added wanting : ℕ) → wanting ≡ 0 → (g : Ticks old moment added wanting new) → (l : ℕ) (row : Row) → map.get old.rows l ≡ Some row → among l g.due ≡ due_at old moment row
-all_due old new moment added wanting none g l row was =
-    let f : Row → ℕ = due_now old moment in
-    let adds : AllByRecursion (Adds f old.rows) g.due =
+all_due : {old new : Shelf} {moment added wanting : ℕ} → wanting ≡ 0 → (g : Ticks old moment added wanting new) → (l : ℕ) (row : Row) → get old.rows l ≡ Some row → among l g.due ≡ due_at old moment row
+all_due {old} {moment} {added} {wanting} none g l row was =
+    let f : Row → ℕ = due_now old moment in let adds : AllByRecursion (Adds f old.rows) g.due =
     recursion_from_All (Adds f old.rows) g.due (λ k x within.
     let is : IsDue old moment (slice_index_or g.due k x) = g.are_due k x within in
-    record { row = is.row; was = is.was; one = ap (λ b. cond {A = ℕ} b 1 0) is.now })
-    in
+    record { row = is.row; was = is.was; one = ap (λ b. cond {A = ℕ} b 1 0) is.now }) in
     let two : Apart g.due = apart old moment g.due g.in_order g.are_due in
     let count : added + wanting ≡ sum_of f old.rows = g.wanting_is in
     let all : length g.due ≡ sum_of f old.rows = let a : added ≡ length g.due = g.added_is in omega (arith, a, count, none) in
@@ -110,86 +79,82 @@ all_due old new moment added wanting none g l row was =
 -- the same, by the story
 
 due_of : (a b : Bool) (n moment : ℕ) → option_map_or (λ deadline. nat_le deadline moment) (cond (a && b) (Some n) None) false ≡ ((a && b) && nat_le n moment)
-due_of true true n moment = refl
-due_of true false n moment = refl
-due_of false b n moment = refl
+due_of a b n moment = grind (arith, nat_tests)
 
 -- where the link isn't full
 abbrev is_next : List Event → ℕ → ℕ → Bool
 is_next h moment d = (admits_on h d (course h d) && not (has_clock_on h d (accepted h d))) && nat_le (next_due (core_on h d (accepted h d))) moment
 
-due_tied : (h : List Event) (moment d : ℕ) (row : Row) → 0 < d → d ≤ births h → IsTied d (story h d) row → is_next h moment d ≡ row_is_due row moment
-due_tied h moment d row first last k =
-    let admits : admits_on h d (course h d) ≡ is_admitted row = ap (λ b. b && (not (is_some (ending h d)) && not (is_over (core_in d (story h d))))) (born_at d (births h) first last) ∙ live_tied d (story h d) row k in
+due_tied : (h : List Event) (moment : ℕ) {d : ℕ} {row : Row} → 0 < d → d ≤ births h → IsTied d (story h d) row → is_next h moment d ≡ row_is_due row moment
+due_tied h moment {d} {row} first last k =
+    let admits : admits_on h d (course h d) ≡ is_admitted row = ap (λ b. b && (not (is_some (ending h d)) && not (is_over (core_in d (story h d))))) (born_at d (births h) first last) ∙ live_tied k in
     let clock : has_clock_on h d (accepted h d) ≡ has_clock row =
-    λ i. nat_lt 0 (count_by (λ (entry : Entry). is_clock entry.kind) (drop (count_tied d (story h d) row k i) (k.accepts i)))
+    λ i. nat_lt 0 (count_by (λ (entry : Entry). is_clock entry.kind) (drop (count_tied k i) (k.accepts i)))
     in
-    (λ i. (admits i && not (clock i)) && nat_le (next_due (core_tied d (story h d) row k i)) moment) ∙ sym (due_of (is_admitted row) (not (has_clock row)) (next_due row.core) moment)
+    (λ i. (admits i && not (clock i)) && nat_le (next_due (core_tied k i)) moment) ∙ sym (due_of (is_admitted row) (not (has_clock row)) (next_due row.core) moment)
 
 -- the story of a dialogue at a tick
 abbrev pub clock_in : List Event → ℕ → ℕ → Bool
 clock_in h moment d = not (is_full h) && is_next h moment d
 
 -- that is so where the book gives it one
-clock_is : (h : List Event) (s : Shelf) (moment d : ℕ) (row : Row) → Tied h s → Sound s → map.get s.rows (local_of h d) ≡ Some row → clock_in h moment d ≡ due_at s moment row
-clock_is h s moment d row t k was =
-    let held : Held h (local_of h d) d row = held_at h s d row t k was in
-    ap (λ n. not (nat_le (2 ^ 63) n) && is_next h moment d) t.entries_are ∙ ap (λ b. not (book_is_full s) && b) (due_tied h moment d row held.first held.last held.tied)
+clock_is : {h : List Event} {s : Shelf} (moment d : ℕ) (row : Row) → Tied h s → Sound s → get s.rows (local_of h d) ≡ Some row → clock_in h moment d ≡ due_at s moment row
+clock_is {h} {s} moment d row t k was =
+    let held : Held h (local_of h d) d row = held_at d row t k was in
+    ap (λ n. not (nat_le (2 ^ 63) n) && is_next h moment d) t.entries_are ∙ ap (λ b. not (book_is_full s) && b) (due_tied h moment held.first held.last held.tied)
 
 gone_due : (h : List Event) (moment d : ℕ) → admits_on h d (course h d) ≡ false → clock_in h moment d ≡ false
-gone_due h moment d none =
-    let a : (admits_on h d (course h d) && not (has_clock_on h d (accepted h d))) ≡ false = and_left _ _ none in
-    and_right (not (is_full h)) (is_next h moment d) (and_left _ _ a)
+gone_due h moment d none = grind (arith, nat_tests)
 
 abbrev ticks : Option Prepared → ℕ → ℕ → ℕ → Event
-ticks came moment added wanting = event (steps.Tick moment) came (outputs.Ticked added wanting)
+ticks came moment added wanting = event (Step.Tick moment) came (Output.Ticked added wanting)
 
 tick_stays : (h : List Event) (came : Option Prepared) (moment added wanting d : ℕ) → clock_in h moment d ≡ false → story (ticks came moment added wanting ∷ h) d ≡ story h d
 tick_stays h came moment added wanting d none = stays (ticks came moment added wanting) h d refl (ap (λ b. cond b (entry_at moment Clock ∷ []) []) none) refl refl refl refl refl
 
 -- one that was given a Clock is tied, and so is one that wasn't
-clocked_at : (h : List Event) (came : Option Prepared) (moment added wanting d : ℕ) (x : Bool) (row : Row) (left : Option Row) → clock_in h moment d ≡ x
+clocked_at : (h : List Event) (came : Option Prepared) (moment added wanting : ℕ) {d : ℕ} (x : Bool) {row : Row} (left : Option Row) → clock_in h moment d ≡ x
     → IsTied d (story h d) row → ClocksAt x moment (Some row) left
     → TiedAt (births h) d (story (ticks came moment added wanting ∷ h) d) left
-clocked_at h came moment added wanting d false row left is k c =
+clocked_at h came moment added wanting {d} false {row} left is k c =
     subst (TiedAt (births h) d (story (ticks came moment added wanting ∷ h) d)) (sym c) (subst (λ s. IsTied d s row) (sym (tick_stays h came moment added wanting d is)) k)
-clocked_at h came moment added wanting d true row None is k c = absurd c
-clocked_at h came moment added wanting d true row (Some after) is k c =
+clocked_at h came moment added wanting true None is k c = absurd c
+clocked_at h came moment added wanting {d} true (Some after) is k c =
     let entries = entry_at moment Clock ∷ [] in
     subst (λ s. IsTied d s after)
     (sym (same_story (story (ticks came moment added wanting ∷ h) d) (record (story h d) { accepts = accepted h d ++ entries }) refl (ap (λ b. accepted h d ++ cond b entries []) is)
     (append-nil (positions h d)) (append-nil (queued h d)) (append-nil (sent h d)) refl refl))
-    (tied_extends d (story h d) row after entries k c)
+    (tied_extends k c)
 
 none_clocked : (x : Bool) (moment : ℕ) (left : Option Row) → ClocksAt x moment None left → left ≡ None
 none_clocked false moment left c = c
 none_clocked true moment None c = absurd c
 none_clocked true moment (Some after) c = absurd c
 
-ticked_at : (h : List Event) (came : Option Prepared) (old new : Shelf) (moment added wanting : ℕ) → wanting ≡ 0 → Tied h old → Sound old → (g : Ticks old moment added wanting new) → (d : ℕ) (o : Option Row)
-    → map.get old.rows (local_of h d) ≡ o → TiedAt (births h) d (story h d) o → TiedAt (births h) d (story (ticks came moment added wanting ∷ h) d) (map.get new.rows (local_of h d))
-ticked_at h came old new moment added wanting nothing t k g d None was tied =
+ticked_at : {h : List Event} (came : Option Prepared) {old new : Shelf} {moment added wanting : ℕ} → wanting ≡ 0 → Tied h old → Sound old → (g : Ticks old moment added wanting new) → (d : ℕ) (o : Option Row)
+    → get old.rows (local_of h d) ≡ o → TiedAt (births h) d (story h d) o → TiedAt (births h) d (story (ticks came moment added wanting ∷ h) d) (get new.rows (local_of h d))
+ticked_at {h} came {new} {moment} {added} {wanting} nothing t k g d None was tied =
     let l = local_of h d in
-    let left : map.get new.rows l ≡ None = none_clocked (among l g.due) moment (map.get new.rows l) (subst (λ o. ClocksAt (among l g.due) moment o (map.get new.rows l)) was (g.rows l)) in
+    let left : get new.rows l ≡ None = none_clocked (among l g.due) moment (get new.rows l) (subst (λ o. ClocksAt (among l g.due) moment o (get new.rows l)) was (g.rows l)) in
     subst (TiedAt (births h) d (story (ticks came moment added wanting ∷ h) d)) (sym left)
     (subst (λ s. TiedAt (births h) d s None) (sym (tick_stays h came moment added wanting d (gone_due h moment d tied.admitted))) tied)
-ticked_at h came old new moment added wanting nothing t k g d (Some row) was tied =
+ticked_at {h} came {new} {moment} {added} {wanting} nothing t k g d (Some row) was tied =
     let l = local_of h d in
-    clocked_at h came moment added wanting d (among l g.due) row (map.get new.rows l) (clock_is h old moment d row t k was ∙ sym (all_due old new moment added wanting nothing g l row was)) tied
-    (subst (λ o. ClocksAt (among l g.due) moment o (map.get new.rows l)) was (g.rows l))
+    clocked_at h came moment added wanting (among l g.due) (get new.rows l) (clock_is moment d row t k was ∙ sym (all_due nothing g l row was)) tied
+    (subst (λ o. ClocksAt (among l g.due) moment o (get new.rows l)) was (g.rows l))
 
 -- each dialogue that is due is given a Clock
-pub Tied-ticks : (h : List Event) (came : Option Prepared) (old new : Shelf) (moment added wanting : ℕ) → Tied h old → Sound old → wanting ≡ 0
-    → Ticks old moment added wanting new → Tied (event (steps.Tick moment) came (outputs.Ticked added wanting) ∷ h) new
-Tied-ticks h came old new moment added wanting t k nothing g =
+pub Tied-ticks : {h : List Event} (came : Option Prepared) {old new : Shelf} {moment added wanting : ℕ} → Tied h old → Sound old → wanting ≡ 0
+    → Ticks old moment added wanting new → Tied (event (Step.Tick moment) came (Output.Ticked added wanting) ∷ h) new
+Tied-ticks {h} came {old} {moment} {added} {wanting} t k nothing g =
     let e = ticks came moment added wanting in
     subst (Tied (e ∷ h)) (sym g.new_is)
-    (Tied-next h e old _ t (quiet h e old _ t refl (ap (λ n. n + added) t.entries_are) refl refl refl refl refl refl refl refl)
-    (λ d. ticked_at h came old new moment added wanting nothing t k g d (map.get old.rows (local_of h d)) refl (t.rows d))
+    (Tied-next t (quiet e _ t refl (ap (λ n. n + added) t.entries_are) refl refl refl refl refl refl refl refl)
+    (λ d. ticked_at came nothing t k g d (get old.rows (local_of h d)) refl (t.rows d))
     (λ d past. tick_stays h came moment added wanting d (gone_due h moment d (not_born h d past))))
 
 -- what a dialogue adds to the number of those that are due
-pub due_at_is : (h : List Event) (s : Shelf) (moment d : ℕ) (o : Option Row) → Tied h s → Sound s → map.get s.rows (local_of h d) ≡ o → TiedAt (births h) d (story h d) o
+pub due_at_is : {h : List Event} {s : Shelf} (moment d : ℕ) (o : Option Row) → Tied h s → Sound s → get s.rows (local_of h d) ≡ o → TiedAt (births h) d (story h d) o
     → amount (λ row. cond {A = ℕ} (due_at s moment row) 1 0) o ≡ cond {A = ℕ} (clock_in h moment d) 1 0
-due_at_is h s moment d None t k was tied = ap (λ b. cond {A = ℕ} b 1 0) (sym (gone_due h moment d tied.admitted))
-due_at_is h s moment d (Some row) t k was tied = ap (λ b. cond {A = ℕ} b 1 0) (sym (clock_is h s moment d row t k was))
+due_at_is {h} moment d None t k was tied = ap (λ b. cond {A = ℕ} b 1 0) (sym (gone_due h moment d tied.admitted))
+due_at_is moment d (Some row) t k was tied = ap (λ b. cond {A = ℕ} b 1 0) (sym (clock_is moment d row t k was))

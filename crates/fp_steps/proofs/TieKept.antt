@@ -1,38 +1,7 @@
 -- Each step keeps the tie between a book and its history, and the tie gives the headline.
-use Rattle.std.proofs.Common.{◌≡◌, ℕ, ◌≤◌, ◌&&◌, nat_le, nat_lt, ⊎_elim, true, false, Option, Some, None, List, [], ◌∷◌, ◌++◌, refl, sym, ◌∙◌, ap, subst, arith, inl, inr, add-zero, ◌+◌, ◌<◌}
-use Rattle.std.specs.Prelude.{option_map}
-use Rattle.std.specs.FinMap as map
-use Rattle.std.specs.Ordering.{nat_cmp}
-use Rattle.std.proofs.lemmas.Bool.{and_right, lt-leb}
-use Rattle.std.proofs.lemmas.Bool.Decides.{leb_tells}
-use Rattle.std.proofs.lemmas.Option.{same_Some}
-use Rattle.fp_book.proofs.Tells.{BeginsAnew, Tells, verdict_tells}
-use Rattle.fp_book.specs.Calls.{Follows}
-use Rattle.fp_book.specs.Shelf.{Shelf, Sound, empty_shelf}
-use Rattle.fp_book.specs.Lines.{verdict}
-use Rattle.fp_book.specs.declared.answers.Posted.{Posted}
-use Rattle.fp_book.specs.declared.verdict.Verdict.{Verdict}
-use Rattle.fp_entry.specs.Arrival.{IsArrival}
-use Rattle.fp_entry.specs.Prepared.{IsLost, arrival_of}
-use Rattle.fp_entry.specs.declared.arrival.Arrival.{Arrival}
-use Rattle.fp_entry.specs.declared.prepared.Prepared.{Prepared}
+use Rattle.fp_steps.proofs.Names.{AbortsTied, Arrival, Beginning, BeginsAnew, Contents, Event, Follows, Headline, IsArrival, IsCame, IsGone, IsLost, IsStraight, Kind, List, MakesOf, None, Option, Output, Posted, Prepared, Row, RowsKeepTheirOrder, Shelf, Some, Sound, Step, Story, Tells, Tid, Tied, TiedAt, Verdict, [], abort_out, aborts, aborts_sent, add-zero, ap, arith, arrival_of, began_with, beginning, births, empty_shelf, entry_count, false, get, get-empty, identifier, inl, inr, is_ending, local_of, nat_cmp, nat_le, nat_lt, nat_tests, octets_of, opened_in, option_map, out, refl, same_Some, story, subst, sym, true, untold, verdict, verdict_tells, ℕ, ⊎_elim, ◌&&◌, ◌++◌, ◌+◌, ◌<◌, ◌∙◌, ◌∷◌, ◌≡◌, ◌≤◌}
 use Rattle.fp_q773.specs.Ids.{AreIds, AreIdsIn}
-use Rattle.fp_q773.specs.Tid.{octets_of, Tid}
-use Rattle.fp_q773.specs.declared.kind.Kind.{Kind}
-use Rattle.fp_records.specs.Table.{Contents}
-use Rattle.fp_row.specs.Laws.{RowsKeepTheirOrder}
-use Rattle.fp_row.specs.declared.row.Row.{Row}
-use Rattle.fp_tids.specs.Identifiers.{identifier}
-use Rattle.fp_steps.specs.Accepted.{entry_count, is_ending}
-use Rattle.fp_steps.specs.Births.{Beginning, beginning, births, local_of, opened_in}
-use Rattle.fp_steps.specs.Headline.{Headline}
-use Rattle.fp_steps.specs.History.{Event, IsCame}
-use Rattle.fp_steps.specs.Makes.{MakesOf}
-use Rattle.fp_steps.specs.Sending.{abort_out, aborts, aborts_sent, out}
-use Rattle.fp_steps.specs.Tied.{AbortsTied, IsGone, IsStraight, Story, Tied, TiedAt, began_with, story, untold}
-use Rattle.fp_steps.specs.declared.output.Output.TheVariants as outputs
-use Rattle.fp_steps.specs.declared.step.Step.{Step}
-use Rattle.fp_steps.proofs.Cases.{Cases, by_made}
+use Rattle.fp_steps.proofs.Cases.{Cases, by_made, IsAnew}
 use Rattle.fp_steps.proofs.HeldDialogues.{event, stays, straight_tied}
 use Rattle.fp_steps.proofs.OpenedDialogues.{all_opened}
 use Rattle.fp_steps.proofs.TieAtMessages.{Tied-discards, Tied-ends, Tied-extends, Tied-opens, Tied-refuses, posts}
@@ -42,51 +11,51 @@ use Rattle.fp_steps.proofs.TieAtTurns.{Tied-gives, Tied-puts_back, Tied-takes}
 use Rattle.fp_steps.proofs.TieNext.{Tied-quiet, quiet}
 
 -- nothing changes
-still : (h : List Event) (e : Event) (old new : Shelf) → Tied h old → new ≡ old → opened_in e.output ≡ None → entry_count (e ∷ h) ≡ entry_count h + 0
+still : {h : List Event} (e : Event) {old : Shelf} (new : Shelf) → Tied h old → new ≡ old → opened_in e.output ≡ None → entry_count (e ∷ h) ≡ entry_count h + 0
     → aborts (e ∷ h) ≡ aborts h ++ [] → aborts_sent (e ∷ h) ≡ aborts_sent h ++ [] → out (e ∷ h) ≡ out h → ((d : ℕ) → story (e ∷ h) d ≡ story h d)
     → Tied (e ∷ h) new
-still h e old new t same none entries all sent_all out_stays told =
-    subst (Tied (e ∷ h)) (sym same) (Tied-quiet h e old old t (quiet h e old old t none (entries ∙ add-zero (entry_count h) ∙ t.entries_are) all sent_all out_stays refl refl refl refl refl) told refl)
+still {h} e {old} new t same none entries all sent_all out_stays told =
+    subst (Tied (e ∷ h)) (sym same) (Tied-quiet _ t (quiet e old t none (entries ∙ add-zero (entry_count h) ∙ t.entries_are) all sent_all out_stays refl refl refl refl refl) told refl)
 
 -- by the step, and by its answer
 
-made_by : RowsKeepTheirOrder → (h : List Event) (step : Step) (came : Prepared) (answer : Posted) (components : ℕ) (old new : Shelf) (v : Verdict) → Tied h old → Sound old → Tells old came v → Follows v old came answer new
+made_by : RowsKeepTheirOrder → {h : List Event} (step : Step) (came : Prepared) (answer : Posted) (components : ℕ) {old : Shelf} (new : Shelf) (v : Verdict) → Tied h old → Sound old → Tells old came v → Follows v old came answer new
     → Tied (posts step came answer components ∷ h) new
-made_by law h step came answer components old new Verdict.Discard t k told g = Tied-discards h step came answer components old new t g
-made_by law h step came answer components old new (Verdict.Refuse cause closes) t k told g = Tied-refuses law h step came answer components old new cause closes t k told g
-made_by law h step came answer components old new (Verdict.Open sender) t k told g = Tied-opens h step came answer components old new sender t k told g
-made_by law h step came answer components old new (Verdict.Extend local false) t k told g = Tied-extends h step came answer components old new local t k told.0 (ap is_ending told.1) g
-made_by law h step came answer components old new (Verdict.Extend local true) t k told g =
-    Tied-ends law h step came answer components old new local t k told.0 (⊎_elim (λ kind. ap is_ending kind) (λ kind. ap is_ending kind) told.1) g
+made_by law step came answer components new Verdict.Discard t k told g = Tied-discards step components t g
+made_by law step came answer components new (Verdict.Refuse cause closes) t k told g = Tied-refuses law step components t k told g
+made_by law step came answer components new (Verdict.Open sender) t k told g = Tied-opens step components t k told g
+made_by law step came answer components new (Verdict.Extend local false) t k told g = Tied-extends step components t k told.0 (ap is_ending told.1) g
+made_by law step came answer components new (Verdict.Extend local true) t k told g =
+    Tied-ends law step components t k told.0 (⊎_elim (λ kind. ap is_ending kind) (λ kind. ap is_ending kind) told.1) g
 
-made : RowsKeepTheirOrder → (h : List Event) (came : Option Prepared) (old new : Shelf) → Tied h old → Sound old → ((p : Prepared) → came ≡ Some p → BeginsAnew (arrival_of p).ids) → Cases (λ step output. Tied (event step came output ∷ h) new) came old new
-made law h came old new t k anew =
-    let none : (step : Step) → new ≡ old → Tied (event step came outputs.Nothing ∷ h) new = λ step same.
-    let e = event step came outputs.Nothing in
-    still h e old new t same refl refl refl refl refl (λ d. stays e h d refl refl refl refl refl refl refl)
+made : RowsKeepTheirOrder → {h : List Event} (came : Option Prepared) {old : Shelf} (new : Shelf) → Tied h old → Sound old → IsAnew came → Cases (λ step output. Tied (event step came output ∷ h) new) came old new
+made law {h} came {old} new t k anew =
+    let none : (step : Step) → new ≡ old → Tied (event step came Output.Nothing ∷ h) new = λ step same.
+    let e = event step came Output.Nothing in
+    still e new t same refl refl refl refl refl (λ d. stays e h d refl refl refl refl refl refl refl)
     in
-    let no_room = event Step.Take came outputs.NoRoom in
-    let busy = event Step.Pick came outputs.Busy in
+    let no_room = event Step.Take came Output.NoRoom in
+    let busy = event Step.Pick came Output.Busy in
     record {
       posted = λ step posting p answer components is count g totals.
-          subst (λ c. Tied (event step c (outputs.Posted answer components) ∷ h) new) (sym is)
-          (made_by law h step p answer components old new (verdict old p) t k (verdict_tells old p (anew p is)) g);
-      ticked = λ moment added wanting none g. Tied-ticks h came old new moment added wanting t k none g;
-      took = λ turn g. Tied-takes h came old new turn t k g;
-      no_room = λ some full same. still h no_room old new t same refl refl refl refl refl (λ d. stays no_room h d refl refl refl refl refl refl refl);
+          subst (λ c. Tied (event step c (Output.Posted answer components) ∷ h) new) (sym is)
+          (made_by law step p answer components new (verdict old p) t k (verdict_tells old p (anew p is)) g);
+      ticked = λ moment added wanting none g. Tied-ticks came t k none g;
+      took = λ turn g. Tied-takes came t k g;
+      no_room = λ some full same. still no_room new t same refl refl refl refl refl (λ d. stays no_room h d refl refl refl refl refl refl refl);
       none_taken = λ empty same. none Step.Take same;
-      gave = λ done given g. Tied-gives law h came old new done given t k g;
+      gave = λ done given g. Tied-gives law came t k g;
       none_given = λ local out same. none (Step.Give local) same;
-      went_back = λ turn g. Tied-puts_back law h came old new turn t k g;
+      went_back = λ turn g. Tied-puts_back law came t k g;
       none_back = λ local out same. none (Step.PutBack local) same;
-      picked = λ content frame is g. Tied-picks h came old new content frame t k is g;
-      busy = λ some same. still h busy old new t same refl refl refl refl refl (λ d. stays busy h d refl refl refl refl refl refl refl);
+      picked = λ content frame is g. Tied-picks came frame t k is g;
+      busy = λ some same. still busy new t same refl refl refl refl refl (λ d. stays busy h d refl refl refl refl refl refl refl);
       none_picked = λ empty same. none Step.Pick same;
-      sent = λ content g. Tied-sends law h came old new content t k g;
+      sent = λ content g. Tied-sends law came new content t k g;
       none_sent = λ empty same. none Step.Sent same;
-      unsent = λ parcel g. Tied-unsends law h came old new parcel t k g;
+      unsent = λ parcel g. Tied-unsends law came t k g;
       none_unsent = λ empty same. none Step.Unsent same;
-      down = λ g. Tied-down law h came old new t k g;
+      down = λ g. Tied-down law came t k g;
     }
 
 -- a Begin has no destination
@@ -103,31 +72,30 @@ anew_by [] kind orig dest ids is = ids.2
 anew_by (first ∷ octets) kind orig dest (told, inl found) is = anew_in kind found.0 orig dest found.3 is
 anew_by (first ∷ octets) kind orig dest (told, inr none) is = none.2
 
-pub anew : (octets : List ℕ) (moment : ℕ) (arrival : Arrival) → IsArrival octets moment arrival → BeginsAnew arrival.ids
-anew octets moment arrival is begin = no_octets arrival.ids.dest (anew_by octets arrival.ids.kind (option_map octets_of arrival.ids.orig) (option_map octets_of arrival.ids.dest) is.has_ids begin)
+pub anew : {octets : List ℕ} {moment : ℕ} {arrival : Arrival} → IsArrival octets moment arrival → BeginsAnew arrival.ids
+anew {octets} {arrival} is begin = no_octets arrival.ids.dest (anew_by octets arrival.ids.kind (option_map octets_of arrival.ids.orig) (option_map octets_of arrival.ids.dest) is.has_ids begin)
 
 lost_arrival : (octets : List ℕ) (moment : ℕ) (came : Prepared) → IsLost octets moment came → IsArrival octets moment (arrival_of came)
 lost_arrival octets moment (Prepared.Lost arrival) is = is
 lost_arrival octets moment came is = absurd is
 
-pub came_anew : (contents : Contents) (contexts : List (List ℕ)) (step : Step) (came : Option Prepared) → IsCame contents contexts step came → (p : Prepared) → came ≡ Some p → BeginsAnew (arrival_of p).ids
+pub came_anew : (contents : Contents) (contexts : List (List ℕ)) (step : Step) (came : Option Prepared) → IsCame contents contexts step came → IsAnew came
 came_anew contents contexts step None is p same = absurd (cc)
-came_anew contents contexts (Step.Post frame moment) (Some came) is p same = subst (λ (q : Prepared). BeginsAnew (arrival_of q).ids) (same_Some came p same) (anew frame moment (arrival_of came) is.0.is_arrival)
-came_anew contents contexts (Step.Lost frame moment) (Some came) is p same = subst (λ (q : Prepared). BeginsAnew (arrival_of q).ids) (same_Some came p same) (anew frame moment (arrival_of came) (lost_arrival frame moment came is))
+came_anew contents contexts (Step.Post frame moment) (Some came) is p same = subst (λ (q : Prepared). BeginsAnew (arrival_of q).ids) (same_Some came p same) (anew is.0.is_arrival)
+came_anew contents contexts (Step.Lost frame moment) (Some came) is p same = subst (λ (q : Prepared). BeginsAnew (arrival_of q).ids) (same_Some came p same) (anew (lost_arrival frame moment came is))
 came_anew contents contexts step (Some came) is p same = absurd is
 
 -- each step keeps the tie
-pub Tied-makes : RowsKeepTheirOrder → (h : List Event) (e : Event) (old new : Shelf) → ((p : Prepared) → e.came ≡ Some p → BeginsAnew (arrival_of p).ids) → Tied h old → Sound old → MakesOf e.step e.came e.output old new → Tied (e ∷ h) new
-Tied-makes law h e old new anew t k g = by_made (λ step output. Tied (event step e.came output ∷ h) new) e.step e.came e.output old new (made law h e.came old new t k anew) g
+pub Tied-makes : RowsKeepTheirOrder → {h : List Event} (e : Event) {old : Shelf} (new : Shelf) → IsAnew e.came → Tied h old → Sound old → MakesOf e.step e.came e.output old new → Tied (e ∷ h) new
+Tied-makes law {h} e new anew t k g = by_made (λ step output. Tied (event step e.came output ∷ h) new) e.step e.output (made law e.came new t k anew) g
 
 -- a book on which nothing came yet is tied to no history
 
-pub none_there : (link l : ℕ) → map.get (empty_shelf link).rows l ≡ None
-none_there link l = map.get-empty nat_cmp l
+pub none_there : (link l : ℕ) → get (empty_shelf link).rows l ≡ None
+none_there link l = get-empty nat_cmp l
 
 none_born : (d : ℕ) → (nat_lt 0 d && nat_le d 0) ≡ false
-none_born d =
-    ⊎_elim (λ a. and_right (nat_lt 0 d) (nat_le d 0) (lt-leb d 0 (let lt : 1 ≤ d = a.1 in omega (arith, lt)))) (λ a. ap (λ b. b && nat_le d 0) a.0) (leb_tells 1 d)
+none_born d = grind (arith, nat_tests)
 
 none_yet : (d : ℕ) → IsGone 0 d untold
 none_yet d = record {
@@ -153,19 +121,17 @@ Tied-none link = record {
 
 straight_at : RowsKeepTheirOrder → (n d : ℕ) (t : Story) (o : Option Row) → TiedAt n d t o → IsStraight d t
 straight_at law n d t None k = k.straight
-straight_at law n d t (Some row) k = straight_tied law d t row k
+straight_at law n d t (Some row) k = straight_tied law k
 
 pub headline : RowsKeepTheirOrder → (h : List Event) (s : Shelf) → Tied h s → Headline h
 headline law h s t =
     let local : (d : ℕ) (b : Beginning) → beginning h d ≡ Some b → b.local ≡ identifier s.link d = λ d b at.
     let there : (0 < d) × (d ≤ births h) = t.opened.begins d b at in
-    sym (ap began_with at) ∙ t.opened.locals d there.0 there.1
-    in
-    record {
+    sym (ap began_with at) ∙ t.opened.locals d there.0 there.1 in record {
       dialogues = λ d.
-          let k : IsStraight d (story h d) = straight_at law (births h) d (story h d) (map.get s.rows (local_of h d)) (t.rows d) in
+          let k : IsStraight d (story h d) = straight_at law (births h) d (story h d) (get s.rows (local_of h d)) (t.rows d) in
           record { served_first = k.served_first; sent_first = k.sent_first; each_once = k.each_once; sent_queued = k.sent_queued; queued_first = k.queued_first };
       apart = λ c d b g at_c at_d same. omega (arith, same, local c b at_c, local d g at_d);
-      each_there = λ d. (straight_at law (births h) d (story h d) (map.get s.rows (local_of h d)) (t.rows d)).each_there;
+      each_there = λ d. (straight_at law (births h) d (story h d) (get s.rows (local_of h d)) (t.rows d)).each_there;
       aborts_first = let a : AbortsTied h s = t.aborts_are in (abort_out (out h) ++ a.rest, a.all);
     }

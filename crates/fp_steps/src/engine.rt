@@ -39,7 +39,7 @@ fn give_up(book: &mut Book, turn: Turn)
 }
 
 impl Engine {
-    /// Time goes by. `Err`: memory was wanting for a Clock.
+    /// Time goes by. `Err`: memory ran out for a Clock.
     fn tick(&mut self, moment: Moment) -> Result<Output, AllocError>
         requires sound { Sound self.old.book }
         requires holds { Holds self.old.turns.items self.old.parcel self.old.book }
@@ -211,7 +211,7 @@ impl Engine {
         })
     }
 
-    /// A message is posted. `Err`: memory was wanting for it.
+    /// A message is posted. `Err`: memory ran out for it.
     fn post(&mut self, alloc: Global, came: Prepared) -> Result<Output, AllocError>
         requires sound { Sound self.old.book }
         requires holds { Holds self.old.turns.items self.old.parcel self.old.book }
@@ -229,7 +229,7 @@ impl Engine {
         })
     }
 
-    /// A step is made. `Err`: memory was wanting.
+    /// A step is made. `Err`: memory ran out.
     pub(crate) fn make(
         &mut self,
         alloc: Global,

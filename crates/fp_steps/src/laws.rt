@@ -4,9 +4,10 @@ ghost use Rattle.fp_steps.specs.Laws.{AnswersAreOne, BooksLogWhatIsTold, Headlin
 
 use fp_entry::prepared_is_one;
 
-/// Where a dialogue has the same birth in two runs, began so with the same identifiers and at the same moment, and
-/// accepted the same entries, what was sent for it in one of them is a front of what was sent in the other, in whatever
-/// order their steps came.
+/// If a dialogue has the same birth in two runs, began in both with the same identifiers and at the same moment, and
+/// accepted the same entries, what was sent for it in one of them is a prefix of what was sent in the other, in
+/// whatever order their steps came.
+#[tactic(auto, using(crate::proofs::SentAlike::sent_alike))]
 pub fn equal_dialogues_send_the_same()
     ensures { SentAlike }
 {}
@@ -17,15 +18,16 @@ pub fn headline_holds_at_the_end()
     ensures { HeadlineHolds }
 {}
 
-/// Behind a history a step has one answer, and so one telling.
+/// After a history a step has one answer, and so one log line.
+#[tactic(auto, using(crate::proofs::OneAnswer::answers_one))]
 pub fn answers_are_one()
     ensures { AnswersAreOne }
 {
     prepared_is_one();
 }
 
-/// A list of steps has one list of outputs and one history, by the same records and names, on the same link: the event of
-/// each step has the same message and the same output, whatever makes the steps.
+/// A list of steps has one list of outputs and one history, by the same records and names, on the same link: the event
+/// of each step has the same message and the same output, whatever makes the steps.
 pub fn runs_are_one()
     ensures { RunsAreOne }
 {
@@ -33,6 +35,7 @@ pub fn runs_are_one()
 }
 
 /// Histories that retell the same lines of a log, by the same records and names, are one.
+#[tactic(auto, using(crate::proofs::OneAnswer::retold_once))]
 pub fn lines_are_retold_once()
     ensures { LinesAreRetoldOnce }
 {
@@ -41,12 +44,14 @@ pub fn lines_are_retold_once()
 
 /// The totals of a history that retells the lines of a log are what can be counted in those: the components of the
 /// messages that were accepted, the turns that were given back, and the frames of dialogues that were sent.
+#[tactic(auto, using(crate::proofs::LogTotals::retold_counted))]
 pub fn retold_lines_are_counted()
     ensures { RetoldLinesAreCounted }
 {}
 
 /// A book to which a history leads logs of a step what the history tells of it, and nothing if that
 /// has no line; where the log is full it counts the step in a gap.
+#[tactic(auto, using(crate::proofs::BookLog::log_tells))]
 pub fn books_log_what_is_told()
     ensures { BooksLogWhatIsTold }
 {}

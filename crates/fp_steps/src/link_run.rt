@@ -77,7 +77,7 @@ fn empty_log(book: &mut Book, lines: &mut Vec<Line>)
 }
 
 impl LinkRun {
-    /// The run of a link, 0 to 7, on which nothing came yet. `Err`: memory was wanting.
+    /// The run of a link, 0 to 7, on which nothing came yet. `Err`: memory ran out.
     pub fn new(alloc: Global, link: u8) -> Result<LinkRun, AllocError>
         requires { link < LocalIds.LINKS }
         ensures link { IfOk result (λ run. run.link ≡ link) }
@@ -89,9 +89,9 @@ impl LinkRun {
         Ok(LinkRun { engine, lines })
     }
 
-    /// Makes a step, by these records and names of application contexts: what it answers, and what the log of the link
-    /// tells of it. Where a step is impossible the answer is `Nothing`. What a log has no line for changes nothing.
-    /// `Err`: memory was wanting, and what the run is then isn't said: it is to be abandoned.
+    /// Makes a step, by these records and names of application contexts: its answer, and the line that the log of the
+    /// link has of it. If a step is impossible, the answer is `Nothing`. What a log has no line for changes nothing.
+    /// `Err`: memory ran out, and what the run is then isn't said: it is to be abandoned.
     pub fn step(
         &mut self,
         alloc: Global,

@@ -69,7 +69,7 @@ fn forget_if(turns: &mut Vec<TurnOut>, dialogue: Option<u32>)
     }
 }
 
-/// Keeps which turns are out after a step. `Err`: memory was wanting.
+/// Keeps which turns are out after a step. `Err`: memory ran out.
 fn follow_turns(turns: &mut Vec<TurnOut>, step: &Step, output: &Output) -> Result<(), AllocError>
     ensures { IfOk result (λ _. turns.new.items ≡ turns_after step.now output.now turns.old.items) }
 {
@@ -178,7 +178,7 @@ fn written(told: Option<LoggedStep>) -> Option<LoggedStep>
     if is_written(&step) { Some(step) } else { None }
 }
 
-/// Puts a line behind the others, if there is one. `Err`: memory was wanting.
+/// Puts a line after the others, if there is one. `Err`: memory ran out.
 fn add(lines: &mut Vec<Line>, link: u8, told: Option<LoggedStep>) -> Result<(), AllocError>
     requires { link < LocalIds.LINKS }
     ensures lines { IfOk result (λ _. lines.new.items ≡ lines.old.items ++ map (line.Step link) (option_to_list told)) }
@@ -201,7 +201,7 @@ struct LogSoFar {
 }
 
 impl LogSoFar {
-    /// One more step of a link. `Err`: memory was wanting.
+    /// One more step of a link. `Err`: memory ran out.
     fn tell(&mut self, link: u8, step: &Step, output: &Output) -> Result<(), AllocError>
         requires { link < LocalIds.LINKS }
         ensures lines { IfOk result (λ _. self.new.lines.items ≡ self.old.lines.items
@@ -219,9 +219,9 @@ impl LogSoFar {
     }
 }
 
-/// The log of a run on a link, 0 to 7, which made these steps and has these outputs: how many links there are up to that
-/// one, and then the line of each step that is logged, in their order. Each line is in the ranges of the log's format. Of
-/// steps and outputs that aren't those of a run no more is said. `Err`: memory was wanting.
+/// The log of a run on a link, 0 to 7, which made these steps and has these outputs: how many links there are up to
+/// that one, and then the line of each step that is logged, in their order. Each line is in the ranges of the log's
+/// format. Of steps and outputs that aren't those of a run no more is said. `Err`: memory ran out.
 pub fn lines_of(
     alloc: Global,
     link: u8,

@@ -17,7 +17,7 @@ pub enum Output {
     Ticked {
         /// How many dialogues were given a Clock.
         added: u32,
-        /// How many were left, since memory was wanting.
+        /// How many were left out because memory ran out.
         wanting: u32,
     },
     /// A turn is out.

@@ -47,7 +47,7 @@ pub(crate) fn back_of(turns: &[Turn], step: &Step) -> Option<LoggedStep>
     Some(LoggedStep::PutBack { local, position })
 }
 
-/// Whether memory was wanting for reading a message.
+/// Whether memory ran out while a message was read.
 pub(crate) fn is_lost(came: &Prepared) -> bool
     ensures { result ≡ is_lost came.now }
 {

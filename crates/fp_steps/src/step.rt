@@ -8,7 +8,7 @@ use fp_frames::Frame;
 pub enum Step {
     /// A message came at this moment.
     Post(Frame, Moment),
-    /// A message came at this moment, and memory for reading it was wanting.
+    /// A message came at this moment, and memory ran out while it was read.
     Lost(Frame, Moment),
     /// It is this moment.
     Tick(Moment),

@@ -10,7 +10,7 @@ use fp_records::Table;
 use fp_tids::LocalIds;
 use std::alloc::{AllocError, Global};
 
-/// The outputs of these steps on a link on which nothing came yet. `Err`: memory was wanting.
+/// The outputs of these steps on a link on which nothing came yet. `Err`: memory ran out.
 fn make_all(
     alloc: Global,
     table: &Table,
@@ -30,18 +30,19 @@ fn make_all(
 }
 
 /// The outputs of these steps on a link, 0 to 7, on which nothing came yet, by these records and names of application
-/// contexts. Where a step is impossible its output is `Nothing`, and it changes nothing. `Err`: memory was wanting.
+/// contexts. If a step is impossible, its output is `Nothing`, and it changes nothing. `Err`: memory ran out.
 ///
-/// At each moment of the run, and for each dialogue, the entries that were served are a front of those that it
-/// accepted, cut at its end, in their order and each once; and the frames that were sent for it are a front of those
+/// At each moment of the run, and for each dialogue, the entries that were served are a prefix of those that it
+/// accepted, cut at its end, in their order and each once; and the frames that were sent for it are a prefix of those
 /// that its service logic requests on them, in their order and each once, under its own identifiers. No two dialogues
-/// have one local transaction identifier, and the Aborts of the provider that were sent are a front of those that were
-/// answered.
+/// have the same local transaction identifier, and the Aborts of the provider that were sent are a prefix of those that
+/// were answered.
 ///
-/// Each output is the answer at its moment, which the steps and outputs before it tell. A message is answered by the
-/// first line that fits it. A tick counts the dialogues that are due. A turn is handed out for the dialogue that has
-/// been ready longest, unless none is ready or all places are held; it is given or put back while it is out. The oldest
-/// Abort of the provider is sent next, or, where none waits, the oldest frame, while nothing else is out to be sent.
+/// Each output is the answer at its moment, which the steps and outputs before it determine. A message gets the answer
+/// of the first matching rule of receipt. A tick counts the dialogues that are due. A turn is handed out for the
+/// dialogue that has been ready longest, unless none is ready or all places are held; it is given or put back while it
+/// is out. The oldest Abort of the provider is sent next, or, where none waits, the oldest frame, while nothing else is
+/// out to be sent.
 ///
 /// The totals of the outputs are sums over the dialogues: of the entries that each accepted and that come from
 /// components, of those that were served, and of the frames that were sent for it.
@@ -51,7 +52,7 @@ fn make_all(
 /// all that its service logic requests on that was sent, unless something ended it from outside; and all Aborts of the
 /// provider that were answered were sent.
 ///
-/// What the log of the run tells of its steps ([`lines_of`](crate::lines_of)) fits a history with the same totals.
+/// What the log of the run has of its steps ([`lines_of`](crate::lines_of)) fits a history with the same totals.
 pub fn run(
     alloc: Global,
     table: &Table,

@@ -1,4 +1,4 @@
-use Rattle.std.specs.Prelude.{take}
+use Rattle.fp_steps.proofs.Names.{take}
 use Rattle.fp_steps.proofs.OutputTotals.{CountedSoFar}
 use Rattle.fp_steps.proofs.counting.totals.Given as goal
 

@@ -1,5 +1,4 @@
-use Rattle.std.proofs.Common.{refl, ◌∙◌, ap}
-use Rattle.fp_book.specs.Shelf.{Shelf}
+use Rattle.fp_steps.proofs.Names.{Shelf, ap, refl, ◌∙◌}
 use Rattle.fp_steps.proofs.link_run.empty_log.Goals as goal
 
 pub loop-book-init : goal.loop-book-init

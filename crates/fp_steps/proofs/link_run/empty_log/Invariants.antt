@@ -1,6 +1,4 @@
-use Rattle.std.proofs.Common.{◌≡◌, length}
-use Rattle.fp_book.specs.Shelf.{Sound}
-use Rattle.fp_steps.specs.Tokens.{IsPlace}
+use Rattle.fp_steps.proofs.Names.{IsPlace, Sound, length, ◌≡◌}
 use Rattle.fp_steps.proofs.link_run.empty_log.Given as goal
 
 -- nothing but the log changes

@@ -1,4 +1,4 @@
-use Rattle.std.proofs.Common.{rules}
+use Rattle.fp_steps.proofs.Names.{rules}
 use Rattle.std.proofs.lemmas.Fn.{filter_same}
 use Rattle.fp_steps.proofs.log.forget.Goals as goal
 

@@ -1,4 +1,4 @@
-use Rattle.std.proofs.Common.{length, take}
+use Rattle.fp_steps.proofs.Names.{length, take}
 use Rattle.fp_steps.proofs.LogSoFar.{Logging}
 use Rattle.fp_steps.proofs.log.lines_of.Given as goal
 

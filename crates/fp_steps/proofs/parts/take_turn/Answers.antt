@@ -1,5 +1,4 @@
-use Rattle.std.proofs.Common.{sym, subst}
-use Rattle.fp_steps.specs.Tokens.{TakesFirst}
+use Rattle.fp_steps.proofs.Names.{TakesFirst, subst, sym}
 use Rattle.fp_steps.proofs.TokensKept.{none_took, took_out}
 use Rattle.fp_steps.proofs.parts.take_turn.Goals as goal
 

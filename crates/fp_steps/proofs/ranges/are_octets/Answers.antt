@@ -1,4 +1,4 @@
-use Rattle.std.proofs.Common.{arith}
+use Rattle.fp_steps.proofs.Names.{arith}
 use Rattle.fp_steps.proofs.ranges.are_octets.Goals as goal
 
 pub returns : goal.returns

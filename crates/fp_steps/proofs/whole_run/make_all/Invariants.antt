@@ -1,4 +1,4 @@
-use Rattle.std.proofs.Common.{◌≡◌, take}
+use Rattle.fp_steps.proofs.Names.{take, ◌≡◌}
 use Rattle.fp_steps.proofs.RunsSoFar.{SoFar}
 use Rattle.fp_steps.proofs.whole_run.make_all.Given as goal
 

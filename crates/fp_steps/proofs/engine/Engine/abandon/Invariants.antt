@@ -1,4 +1,4 @@
-use Rattle.std.specs.Prelude.{vec_len}
+use Rattle.fp_steps.proofs.Names.{vec_len}
 use Rattle.fp_steps.proofs.engine.Engine.abandon.Given as goal
 
 abbrev pub decreases-loop-turn : goal.decreases-loop-turn

@@ -1,6 +1,4 @@
-use Rattle.std.proofs.lemmas.Bool.{false≢true}
-use Rattle.std.proofs.Common.{refl, sym, ◌∙◌, ap}
-use Rattle.fp_row.specs.declared.turn.Turn.{Turn}
+use Rattle.fp_steps.proofs.Names.{Turn, ap, false≢true, refl, sym, ◌∙◌}
 use Rattle.fp_steps.proofs.TokensKept.{holds_gives, holds_puts_back, none_kept, taken_out}
 use Rattle.fp_steps.proofs.engine.Engine.give.Goals as goal
 
@@ -11,19 +9,19 @@ returns-in-Ok-give-clause-makes c = (
 )
 
 pub returns-in_default-clause-makes : goal.returns-in_default-clause-makes
-returns-in_default-clause-makes c = (none_kept _ _ _ _ _ c.requires.holds c.in_default.ensures, refl)
+returns-in_default-clause-makes c = (none_kept _ _ c.requires.holds c.in_default.ensures, refl)
 
 pub returns-in-Ok-give-clause-holds : goal.returns-in-Ok-give-clause-holds
-returns-in-Ok-give-clause-holds c = holds_gives _ _ _ _ _ _ (taken_out _ _ _ _ _ _ _ c.requires.holds c.in-Some.ensures c.in-Ok.ensures.turn) c.requires.holds.parcel_is c.in-Ok-give.ensures.ok
+returns-in-Ok-give-clause-holds c = holds_gives _ (taken_out _ c.requires.holds c.in-Some.ensures c.in-Ok.ensures.turn) c.requires.holds.parcel_is c.in-Ok-give.ensures.ok
 
 pub returns-in-Err-give-clause-makes : goal.returns-in-Err-give-clause-makes
-returns-in-Err-give-clause-makes c = absurd (false≢true (c.in-Err-give.ensures.known.1 (taken_out _ _ _ _ _ _ _ c.requires.holds c.in-Some.ensures c.in-Ok.ensures.turn).is))
+returns-in-Err-give-clause-makes c = absurd (false≢true (c.in-Err-give.ensures.known.1 (taken_out _ c.requires.holds c.in-Some.ensures c.in-Ok.ensures.turn).is))
 
 pub returns-in-Err-give-clause-holds : goal.returns-in-Err-give-clause-holds
-returns-in-Err-give-clause-holds c = absurd (false≢true (c.in-Err-give.ensures.known.1 (taken_out _ _ _ _ _ _ _ c.requires.holds c.in-Some.ensures c.in-Ok.ensures.turn).is))
+returns-in-Err-give-clause-holds c = absurd (false≢true (c.in-Err-give.ensures.known.1 (taken_out _ c.requires.holds c.in-Some.ensures c.in-Ok.ensures.turn).is))
 
 pub give_up-requires : goal.give_up-requires
-give_up-requires c = (taken_out _ _ _ _ _ _ _ c.requires.holds c.in-Some.ensures c.in-Err.ensures.same).is
+give_up-requires c = (taken_out _ c.requires.holds c.in-Some.ensures c.in-Err.ensures.same).is
 
 pub returns-in-Err-clause-holds : goal.returns-in-Err-clause-holds
-returns-in-Err-clause-holds c = holds_puts_back _ _ _ _ _ (taken_out _ _ _ _ _ _ _ c.requires.holds c.in-Some.ensures c.in-Err.ensures.same) c.requires.holds.parcel_is c.give_up.ensures.puts
+returns-in-Err-clause-holds c = holds_puts_back _ (taken_out _ c.requires.holds c.in-Some.ensures c.in-Err.ensures.same) c.requires.holds.parcel_is c.give_up.ensures.puts

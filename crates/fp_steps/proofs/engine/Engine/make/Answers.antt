@@ -1,5 +1,4 @@
-use Rattle.std.proofs.Common.{Some, None, sym, ◌∙◌, subst}
-use Rattle.fp_entry.specs.Prepared.{IsLost, IsPrepared}
+use Rattle.fp_steps.proofs.Names.{IsLost, IsPrepared, None, Some, subst, sym, ◌∙◌}
 use Rattle.fp_steps.proofs.LoggedLines.{if_ok}
 use Rattle.fp_steps.proofs.engine.Engine.make.Goals as goal
 

@@ -1,11 +1,8 @@
-use Rattle.std.proofs.Common.{[], None, refl, sym, subst}
-use Rattle.fp_book.specs.Shelf.{Shelf, empty_shelf}
-use Rattle.fp_steps.specs.Tokens.{Holds}
+use Rattle.fp_steps.proofs.Names.{Holds, None, Shelf, [], empty_shelf, refl, subst, sym}
 use Rattle.fp_steps.proofs.TokensKept.{holds_none}
 use Rattle.fp_steps.proofs.TieKept.{none_there}
 use Rattle.fp_steps.proofs.engine.Engine.new.Goals as goal
 
 pub returns-clause-holds : goal.returns-clause-holds
-returns-clause-holds c =
-    subst (λ ts. Holds ts None c.in_ok-new.field-0) (sym c.new-2.ensures.items)
+returns-clause-holds c = subst (λ ts. Holds ts None c.in_ok-new.field-0) (sym c.new-2.ensures.items)
     (subst (λ (s : Shelf). Holds [] None s) (sym c.in_ok-new.ensures.value) (holds_none (empty_shelf c.args.link) (none_there c.args.link) refl))

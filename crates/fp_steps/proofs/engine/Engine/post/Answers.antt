@@ -1,14 +1,11 @@
-use Rattle.std.proofs.Common.{subst}
-use Rattle.fp_book.specs.Calls.{Follows}
+use Rattle.fp_steps.proofs.Names.{Follows, subst, verdict}
 use Rattle.fp_book.specs.Receipt.{treated_as}
-use Rattle.fp_book.specs.Lines.{verdict}
 use Rattle.fp_steps.proofs.TokensKept.{follows_untouched, holds_untouched}
 use Rattle.fp_steps.proofs.engine.Engine.post.Goals as goal
 
 pub returns-clause-makes : goal.returns-clause-makes
 returns-clause-makes c =
-    let old = c.args.self.now.book in
-    let new = c.post_with_receipt-receipt.new.self in
+    let old = c.args.self.now.book in let new = c.post_with_receipt-receipt.new.self in
     let posted = c.post_with_receipt-receipt.result.posted in
     let receipt = c.post_with_receipt-receipt.ensures.receipt in (
       receipt.components,
@@ -17,7 +14,7 @@ returns-clause-makes c =
     )
 
 pub returns-clause-holds : goal.returns-clause-holds
-returns-clause-holds c = holds_untouched _ _ _ _ (follows_untouched _ _ _ _ _ c.requires.sound c.post_with_receipt-receipt.ensures.receipt.follows) c.requires.holds
+returns-clause-holds c = holds_untouched (follows_untouched _ _ _ _ _ c.requires.sound c.post_with_receipt-receipt.ensures.receipt.follows) c.requires.holds
 
 pub returns-then-receipt-clause-holds : goal.returns-then-receipt-clause-holds
-returns-then-receipt-clause-holds c = holds_untouched _ _ _ _ (follows_untouched _ _ _ _ _ c.requires.sound c.post_with_receipt-receipt.ensures.receipt.follows) c.requires.holds
+returns-then-receipt-clause-holds c = holds_untouched (follows_untouched _ _ _ _ _ c.requires.sound c.post_with_receipt-receipt.ensures.receipt.follows) c.requires.holds

@@ -1,6 +1,4 @@
-use Rattle.std.proofs.Common.{[], sym, subst}
-use Rattle.fp_book.specs.Shelf.{Shelf}
-use Rattle.fp_steps.specs.After.{IsAfter}
+use Rattle.fp_steps.proofs.Names.{IsAfter, Shelf, [], subst, sym}
 use Rattle.fp_steps.proofs.RunsSoFar.{after_none}
 use Rattle.fp_steps.proofs.link_run.LinkRun.new.Goals as goal
 
