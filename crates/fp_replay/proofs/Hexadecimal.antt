@@ -1,5 +1,5 @@
 -- Hexadecimal digits in upper case: what is read of them, and what is written.
-use Rattle.std.proofs.Common.{append_assoc, drop, ◌⊎◌, inl, inr, ◌++◌, ◌≡◌, ◌≢◌, ℕ, zero, suc, ◌+◌, ◌-◌, ◌*◌, ◌/◌, ◌%◌, ◌<◌, ◌≤◌, List, [], ◌∷◌, length, slice_index, Option, Some, None, Result, Ok, Err, refl, sym, ap, ◌∙◌, arith}
+use Rattle.std.proofs.Common.{append_assoc, drop, ◌⊎◌, inl, inr, ◌++◌, ◌≡◌, ℕ, zero, suc, ◌+◌, ◌*◌, ◌/◌, ◌%◌, ◌<◌, ◌≤◌, ltb, true, List, [], ◌∷◌, length, slice_index, Option, Some, None, Result, Ok, Err, refl, sym, ap, ◌∙◌, arith}
 use Rattle.std.specs.Prelude.{EachIndex}
 use Rattle.std.specs.Int.{w32, from_be_bytes, to_be_bytes}
 use Rattle.std.specs.Result.{result_unwrap_or}
@@ -7,11 +7,11 @@ use Rattle.std.proofs.lemmas.Nat.{be_bytes_4}
 use Rattle.hex.specs.Hex.{IsBytes, decode_of, decode_pairs, decode_sized, digit_or_error, encode_upper, encode_with, hex_digit_value, pair_value, upper_digits, value_at, ◌>>=◌}
 use Rattle.hex.specs.declared.error.FromHexError.{FromHexError}
 use Rattle.std.proofs.lemmas.List.{append-nil, drop_all, get_or_past}
-use Rattle.std.proofs.lemmas.Bool.{cases_lt}
+use Rattle.std.proofs.lemmas.Bool.{cases_lt, ltb-true}
+use Rattle.std.proofs.lemmas.List.Elements.{All-get_or}
+use Rattle.std.proofs.lemmas.List.Sums.{AllPass-from_list_all}
 use Rattle.hex.proofs.Pairs.{encode_with-drop}
-use Rattle.hex.proofs.HexLemmas.{decode_of-encode_upper, decode_of-even, decode_of-ok, decode_sized-ok, decode_sized-twice, length-encode_with}
-use Rattle.std.proofs.lemmas.List.Elements.{All-cons, All-nil}
-use Rattle.fp_replay.specs.Fields.{IsField}
+use Rattle.hex.proofs.HexLemmas.{IsDigits-upper_digits, decode_of-encode_upper, decode_of-even, decode_of-ok, decode_sized-ok, decode_sized-twice, length-encode_with}
 use Rattle.fp_replay.specs.Format.{identifier_text}
 
 -- each stands before the letters in lower case
@@ -29,46 +29,34 @@ digit_read : (c i : ℕ) (o : Option ℕ) (v : ℕ) → digit_or_error c i o ≡
 digit_read c i (Some w) v h = ap Some (ap (λ (r : Result ℕ FromHexError). result_unwrap_or r 0) h)
 digit_read c i None v h = cc h
 
--- the digits from 0 to 9
-low_digit : (v : ℕ) → v < 10 → slice_index upper_digits v ≡ 48 + v
-low_digit zero h = refl
-low_digit (suc zero) h = refl
-low_digit (suc (suc zero)) h = refl
-low_digit (suc (suc (suc zero))) h = refl
-low_digit (suc (suc (suc (suc zero)))) h = refl
-low_digit (suc (suc (suc (suc (suc zero))))) h = refl
-low_digit (suc (suc (suc (suc (suc (suc zero)))))) h = refl
-low_digit (suc (suc (suc (suc (suc (suc (suc zero))))))) h = refl
-low_digit (suc (suc (suc (suc (suc (suc (suc (suc zero)))))))) h = refl
-low_digit (suc (suc (suc (suc (suc (suc (suc (suc (suc zero))))))))) h = refl
-low_digit (suc (suc (suc (suc (suc (suc (suc (suc (suc (suc v)))))))))) h = absurd (omega arith)
-
--- the digits from A to F
-high_digit : (v : ℕ) → v < 6 → slice_index upper_digits (10 + v) ≡ 65 + v
-high_digit zero h = refl
-high_digit (suc zero) h = refl
-high_digit (suc (suc zero)) h = refl
-high_digit (suc (suc (suc zero))) h = refl
-high_digit (suc (suc (suc (suc zero)))) h = refl
-high_digit (suc (suc (suc (suc (suc zero))))) h = refl
-high_digit (suc (suc (suc (suc (suc (suc v)))))) h = absurd (omega arith)
+-- the digits that are written stand before the letters in lower case
+digit_below : (v : ℕ) → slice_index upper_digits v < 97
+digit_below v =
+    elim (cases_lt v 16) [
+      | inl digit ↦
+          ltb-true (slice_index upper_digits v) 97
+          (All-get_or (λ o. ltb o 97 ≡ true) upper_digits v 0 digit (AllPass-from_list_all (λ o. ltb o 97) upper_digits refl))
+      | inr past ↦ omega (arith, get_or_past upper_digits v 0 past)
+    ]
 
 -- a digit in upper case has a value, and is the digit of that value
 value_of_digit : (c v : ℕ) → c < 97 → hex_digit_value c ≡ Some v → ((v < 10) × (48 + v ≡ c)) ⊎ ((10 ≤ v) × (v < 16) × (55 + v ≡ c))
 value_of_digit c v h e = grind (arith)
 
-record IsDigit (c v : ℕ) : Type 0 where
-  pub small : v < 16
-  pub digit : slice_index upper_digits v ≡ c
+one_digit : (c d v : ℕ) → ((v < 10) × (48 + v ≡ c)) ⊎ ((10 ≤ v) × (v < 16) × (55 + v ≡ c)) → ((v < 10) × (48 + v ≡ d)) ⊎ ((10 ≤ v) × (v < 16) × (55 + v ≡ d)) → d ≡ c
+one_digit c d v (inl p) (inl q) = omega (arith, p.1, q.1)
+one_digit c d v (inl p) (inr q) = absurd (omega (arith, p.0, q.0))
+one_digit c d v (inr p) (inl q) = absurd (omega (arith, p.0, q.0))
+one_digit c d v (inr p) (inr q) = omega (arith, p.2, q.2)
 
-digit_again : (c v : ℕ) → c < 97 → hex_digit_value c ≡ Some v → IsDigit c v
+value_small : (c v : ℕ) → hex_digit_value c ≡ Some v → v < 16
+value_small c v e = grind (arith)
+
+-- a digit in upper case is the digit of its value
+digit_again : (c v : ℕ) → c < 97 → hex_digit_value c ≡ Some v → (v < 16) × (slice_index upper_digits v ≡ c)
 digit_again c v h e =
-    elim (value_of_digit c v h e) [
-      | inl low ↦ record { small = omega arith; digit = low_digit v low.0 ∙ low.1 }
-      | inr high ↦
-          let w : 10 + (v - 10) ≡ v = omega arith in
-          record { small = high.1; digit = ap (slice_index upper_digits) (sym w) ∙ high_digit (v - 10) (omega arith) ∙ omega arith }
-    ]
+    let small = value_small c v e in
+    (small, one_digit c (slice_index upper_digits v) v (value_of_digit c v h e) (value_of_digit (slice_index upper_digits v) v (digit_below v) (IsDigits-upper_digits v small)))
 
 -- the octets of pairs of digits in upper case are written as those digits
 pairs_again : (i : ℕ) (text octets : List ℕ) → IsUpperCase text → decode_pairs i text ≡ Ok octets → text ≡ encode_upper octets
@@ -87,31 +75,17 @@ pairs_again i (a ∷ b ∷ rest) octets upper e =
     let da = digit_again a p1.0 (upper 0 (omega arith)) (digit_read a i (hex_digit_value a) p1.0 p1.1) in
     let db = digit_again b p2.0 (upper 1 (omega arith)) (digit_read b (i + 1) (hex_digit_value b) p2.0 p2.1) in
     let ih = pairs_again (i + 2) rest p3.0 (λ k lt. upper (suc (suc k)) (omega arith)) p3.1 in
-    let sa = da.small in
-    let sb = db.small in
+    let sa = da.0 in
+    let sb = db.0 in
     let high : p0.0 / 16 ≡ p1.0 = omega arith in
     let low : p0.0 % 16 ≡ p2.0 = omega arith in
-    rw (← is, high, low, da.digit, db.digit, ← ih) refl
+    rw (← is, high, low, da.1, db.1, ← ih) refl
 
 -- what digits in upper case are read as is written as those digits
 pub octets_again : (text octets : List ℕ) → IsUpperCase text → decode_of text ≡ Ok octets → text ≡ encode_upper octets
 octets_again text octets upper e =
     let ok = decode_of-ok text octets e in
     pairs_again 0 text octets upper (sym (decode_of-even text ok.0) ∙ e)
-
--- a digit in upper case stands before the letters in lower case
-digit_below : (v : ℕ) → slice_index upper_digits v < 97
-digit_below v =
-    elim (cases_lt v 10) [
-      | inl low ↦ omega (arith, low_digit v low)
-      | inr high ↦
-          elim (cases_lt v 16) [
-            | inl letter ↦
-                let w : 10 + (v - 10) ≡ v = omega arith in
-                omega (arith, ap (slice_index upper_digits) w, high_digit (v - 10) (omega arith))
-            | inr past ↦ omega (arith, get_or_past upper_digits v 0 past)
-          ]
-    ]
 
 -- what is written is in upper case
 pub written_in_upper_case : (octets : List ℕ) → IsUpperCase (encode_upper octets)
@@ -120,28 +94,6 @@ written_in_upper_case [] k lt = absurd (omega arith)
 written_in_upper_case (o ∷ octets) zero lt = digit_below (o / 16)
 written_in_upper_case (o ∷ octets) (suc zero) lt = digit_below (o % 16)
 written_in_upper_case (o ∷ octets) (suc (suc k)) lt = written_in_upper_case octets k (omega arith)
-
--- no digit is a blank
-no_blank : (v : ℕ) → slice_index upper_digits v ≢ 32
-no_blank v e =
-    elim (cases_lt v 10) [
-      | inl low ↦ omega (arith, low_digit v low)
-      | inr high ↦
-          elim (cases_lt v 16) [
-            | inl letter ↦
-                let w : 10 + (v - 10) ≡ v = omega arith in
-                omega (arith, ap (slice_index upper_digits) w, high_digit (v - 10) (omega arith))
-            | inr past ↦ omega (arith, get_or_past upper_digits v 0 past)
-          ]
-    ]
-
--- what is written has no blank
-pub octets_are_field : (octets : List ℕ) → IsField (encode_upper octets)
-unfolding encode_with
-octets_are_field [] = All-nil (λ octet. octet ≢ 32)
-octets_are_field (o ∷ octets) =
-    All-cons (λ octet. octet ≢ 32) (slice_index upper_digits (o / 16)) (slice_index upper_digits (o % 16) ∷ encode_upper octets) (no_blank (o / 16))
-    (All-cons (λ octet. octet ≢ 32) (slice_index upper_digits (o % 16)) (encode_upper octets) (no_blank (o % 16)) (octets_are_field octets))
 
 -- the identifier that eight digits in upper case are read as is written as those digits
 pub identifier_again : (text octets : List ℕ) → IsUpperCase text → decode_sized text 4 ≡ Ok octets

@@ -1,176 +1,73 @@
--- The letter of a step says which step it is.
-use Rattle.std.proofs.Common.{◌≡◌, ℕ, List, [], ◌∷◌, drop, get_or, refl, ap, arith}
+-- The letter of a step says which step it is, so what holds of the fields behind it holds of the step.
+use Rattle.std.proofs.Common.{◌≡◌, ◌^◌, ◌<◌, ℕ, List, [], ◌∷◌, decimal, drop, get_or, ap, arith}
+use Rattle.std.specs.Int.{w32, to_be_bytes}
+use Rattle.std.specs.List.{join_with_byte}
 use Rattle.fp_book.specs.declared.answers.Given.{Given}
 use Rattle.fp_book.specs.declared.answers.Posted.{Posted}
 use Rattle.fp_book.specs.declared.line.LoggedStep.{LoggedStep}
 use Rattle.fp_book.specs.declared.line.LoggedStep.TheVariants as steps
-use Rattle.fp_replay.specs.Reading.{give_fields, gap_fields, parcel_fields, posting_fields, step_text, tick_fields, turn_fields}
+use Rattle.fp_digits.specs.declared.moment.TheConstants.Moment.{END}
+use Rattle.fp_replay.specs.Fields.{IsField}
+use Rattle.fp_replay.specs.Format.{IsPosting, IsStep, given_text, identifier_text}
+use Rattle.fp_replay.specs.Reading.{parcel_fields, posting_fields, step_text, turn_fields}
+use Rattle.fp_replay.proofs.Cutting.{decimal_is_field, octets_are_field}
 
 -- the first octet of a text
-abbrev first : List ℕ → ℕ
+abbrev pub first : List ℕ → ℕ
 first text = get_or text 0 0
 
--- behind `P`
-pub post_told : (fields : List ℕ) (step : LoggedStep) → 80 ∷ fields ≡ step_text step
-    → (moment : ℕ) × (message : List ℕ) × (answer : Posted) × (step ≡ steps.Post moment message answer) × (fields ≡ posting_fields moment message answer)
-post_told fields (steps.Post moment message answer) e = (moment, message, answer, refl, ap (drop 1) e)
-post_told fields (steps.Lost moment message answer) e = let no : ◌≡◌ {A = ℕ} 80 76 = ap first e in absurd (omega arith)
-post_told fields (steps.Tick moment added wanting) e = let no : ◌≡◌ {A = ℕ} 80 75 = ap first e in absurd (omega arith)
-post_told fields (steps.Take local position) e = let no : ◌≡◌ {A = ℕ} 80 84 = ap first e in absurd (omega arith)
-post_told fields (steps.Give local position given) e = let no : ◌≡◌ {A = ℕ} 80 71 = ap first e in absurd (omega arith)
-post_told fields (steps.PutBack local position) e = let no : ◌≡◌ {A = ℕ} 80 66 = ap first e in absurd (omega arith)
-post_told fields (steps.Pick local) e = let no : ◌≡◌ {A = ℕ} 80 81 = ap first e in absurd (omega arith)
-post_told fields (steps.Sent local) e = let no : ◌≡◌ {A = ℕ} 80 89 = ap first e in absurd (omega arith)
-post_told fields (steps.Unsent local) e = let no : ◌≡◌ {A = ℕ} 80 85 = ap first e in absurd (omega arith)
-post_told fields steps.Down e = let no : ◌≡◌ {A = ℕ} 80 78 = ap first e in absurd (omega arith)
-post_told fields (steps.Gap lost) e = let no : ◌≡◌ {A = ℕ} 80 90 = ap first e in absurd (omega arith)
+module _ (fields : List ℕ) (T : LoggedStep → Type 0) where
+  -- behind `P`
+  pub post_only : ((moment : ℕ) (message : List ℕ) (answer : Posted) → IsPosting moment message answer → fields ≡ posting_fields moment message answer → T (steps.Post moment message answer)) → (step : LoggedStep) → IsStep step → 80 ∷ fields ≡ step_text step → T step
+  post_only told (steps.Post moment message answer) fits e = told moment message answer fits (ap (drop 1) e)
+  post_only told _ fits e = absurd (omega (arith, ap first e))
 
--- behind `L`
-pub lost_told : (fields : List ℕ) (step : LoggedStep) → 76 ∷ fields ≡ step_text step
-    → (moment : ℕ) × (message : List ℕ) × (answer : Posted) × (step ≡ steps.Lost moment message answer) × (fields ≡ posting_fields moment message answer)
-lost_told fields (steps.Post moment message answer) e = let no : ◌≡◌ {A = ℕ} 76 80 = ap first e in absurd (omega arith)
-lost_told fields (steps.Lost moment message answer) e = (moment, message, answer, refl, ap (drop 1) e)
-lost_told fields (steps.Tick moment added wanting) e = let no : ◌≡◌ {A = ℕ} 76 75 = ap first e in absurd (omega arith)
-lost_told fields (steps.Take local position) e = let no : ◌≡◌ {A = ℕ} 76 84 = ap first e in absurd (omega arith)
-lost_told fields (steps.Give local position given) e = let no : ◌≡◌ {A = ℕ} 76 71 = ap first e in absurd (omega arith)
-lost_told fields (steps.PutBack local position) e = let no : ◌≡◌ {A = ℕ} 76 66 = ap first e in absurd (omega arith)
-lost_told fields (steps.Pick local) e = let no : ◌≡◌ {A = ℕ} 76 81 = ap first e in absurd (omega arith)
-lost_told fields (steps.Sent local) e = let no : ◌≡◌ {A = ℕ} 76 89 = ap first e in absurd (omega arith)
-lost_told fields (steps.Unsent local) e = let no : ◌≡◌ {A = ℕ} 76 85 = ap first e in absurd (omega arith)
-lost_told fields steps.Down e = let no : ◌≡◌ {A = ℕ} 76 78 = ap first e in absurd (omega arith)
-lost_told fields (steps.Gap lost) e = let no : ◌≡◌ {A = ℕ} 76 90 = ap first e in absurd (omega arith)
+  -- behind `L`
+  pub lost_only : ((moment : ℕ) (message : List ℕ) (answer : Posted) → IsPosting moment message answer → fields ≡ posting_fields moment message answer → T (steps.Lost moment message answer)) → (step : LoggedStep) → IsStep step → 76 ∷ fields ≡ step_text step → T step
+  lost_only told (steps.Lost moment message answer) fits e = told moment message answer fits (ap (drop 1) e)
+  lost_only told _ fits e = absurd (omega (arith, ap first e))
 
--- behind `K`
-pub tick_told : (fields : List ℕ) (step : LoggedStep) → 75 ∷ fields ≡ step_text step
-    → (moment : ℕ) × (added : ℕ) × (wanting : ℕ) × (step ≡ steps.Tick moment added wanting) × (fields ≡ tick_fields moment added wanting)
-tick_told fields (steps.Post moment message answer) e = let no : ◌≡◌ {A = ℕ} 75 80 = ap first e in absurd (omega arith)
-tick_told fields (steps.Lost moment message answer) e = let no : ◌≡◌ {A = ℕ} 75 76 = ap first e in absurd (omega arith)
-tick_told fields (steps.Tick moment added wanting) e = (moment, added, wanting, refl, ap (drop 1) e)
-tick_told fields (steps.Take local position) e = let no : ◌≡◌ {A = ℕ} 75 84 = ap first e in absurd (omega arith)
-tick_told fields (steps.Give local position given) e = let no : ◌≡◌ {A = ℕ} 75 71 = ap first e in absurd (omega arith)
-tick_told fields (steps.PutBack local position) e = let no : ◌≡◌ {A = ℕ} 75 66 = ap first e in absurd (omega arith)
-tick_told fields (steps.Pick local) e = let no : ◌≡◌ {A = ℕ} 75 81 = ap first e in absurd (omega arith)
-tick_told fields (steps.Sent local) e = let no : ◌≡◌ {A = ℕ} 75 89 = ap first e in absurd (omega arith)
-tick_told fields (steps.Unsent local) e = let no : ◌≡◌ {A = ℕ} 75 85 = ap first e in absurd (omega arith)
-tick_told fields steps.Down e = let no : ◌≡◌ {A = ℕ} 75 78 = ap first e in absurd (omega arith)
-tick_told fields (steps.Gap lost) e = let no : ◌≡◌ {A = ℕ} 75 90 = ap first e in absurd (omega arith)
+  -- behind `T`
+  pub take_only : ((local position : ℕ) → local < 2 ^ 32 → position < 2 ^ 64 → fields ≡ turn_fields local position → T (steps.Take local position)) → (step : LoggedStep) → IsStep step → 84 ∷ fields ≡ step_text step → T step
+  take_only told (steps.Take local position) fits e = told local position fits.0 fits.1 (ap (drop 1) e)
+  take_only told _ fits e = absurd (omega (arith, ap first e))
 
--- behind `T`
-pub take_told : (fields : List ℕ) (step : LoggedStep) → 84 ∷ fields ≡ step_text step
-    → (local : ℕ) × (position : ℕ) × (step ≡ steps.Take local position) × (fields ≡ turn_fields local position)
-take_told fields (steps.Post moment message answer) e = let no : ◌≡◌ {A = ℕ} 84 80 = ap first e in absurd (omega arith)
-take_told fields (steps.Lost moment message answer) e = let no : ◌≡◌ {A = ℕ} 84 76 = ap first e in absurd (omega arith)
-take_told fields (steps.Tick moment added wanting) e = let no : ◌≡◌ {A = ℕ} 84 75 = ap first e in absurd (omega arith)
-take_told fields (steps.Take local position) e = (local, position, refl, ap (drop 1) e)
-take_told fields (steps.Give local position given) e = let no : ◌≡◌ {A = ℕ} 84 71 = ap first e in absurd (omega arith)
-take_told fields (steps.PutBack local position) e = let no : ◌≡◌ {A = ℕ} 84 66 = ap first e in absurd (omega arith)
-take_told fields (steps.Pick local) e = let no : ◌≡◌ {A = ℕ} 84 81 = ap first e in absurd (omega arith)
-take_told fields (steps.Sent local) e = let no : ◌≡◌ {A = ℕ} 84 89 = ap first e in absurd (omega arith)
-take_told fields (steps.Unsent local) e = let no : ◌≡◌ {A = ℕ} 84 85 = ap first e in absurd (omega arith)
-take_told fields steps.Down e = let no : ◌≡◌ {A = ℕ} 84 78 = ap first e in absurd (omega arith)
-take_told fields (steps.Gap lost) e = let no : ◌≡◌ {A = ℕ} 84 90 = ap first e in absurd (omega arith)
+  -- behind `B`
+  pub put_back_only : ((local position : ℕ) → local < 2 ^ 32 → position < 2 ^ 64 → fields ≡ turn_fields local position → T (steps.PutBack local position)) → (step : LoggedStep) → IsStep step → 66 ∷ fields ≡ step_text step → T step
+  put_back_only told (steps.PutBack local position) fits e = told local position fits.0 fits.1 (ap (drop 1) e)
+  put_back_only told _ fits e = absurd (omega (arith, ap first e))
 
--- behind `G`
-pub give_told : (fields : List ℕ) (step : LoggedStep) → 71 ∷ fields ≡ step_text step
-    → (local : ℕ) × (position : ℕ) × (given : Given) × (step ≡ steps.Give local position given) × (fields ≡ give_fields local position given)
-give_told fields (steps.Post moment message answer) e = let no : ◌≡◌ {A = ℕ} 71 80 = ap first e in absurd (omega arith)
-give_told fields (steps.Lost moment message answer) e = let no : ◌≡◌ {A = ℕ} 71 76 = ap first e in absurd (omega arith)
-give_told fields (steps.Tick moment added wanting) e = let no : ◌≡◌ {A = ℕ} 71 75 = ap first e in absurd (omega arith)
-give_told fields (steps.Take local position) e = let no : ◌≡◌ {A = ℕ} 71 84 = ap first e in absurd (omega arith)
-give_told fields (steps.Give local position given) e = (local, position, given, refl, ap (drop 1) e)
-give_told fields (steps.PutBack local position) e = let no : ◌≡◌ {A = ℕ} 71 66 = ap first e in absurd (omega arith)
-give_told fields (steps.Pick local) e = let no : ◌≡◌ {A = ℕ} 71 81 = ap first e in absurd (omega arith)
-give_told fields (steps.Sent local) e = let no : ◌≡◌ {A = ℕ} 71 89 = ap first e in absurd (omega arith)
-give_told fields (steps.Unsent local) e = let no : ◌≡◌ {A = ℕ} 71 85 = ap first e in absurd (omega arith)
-give_told fields steps.Down e = let no : ◌≡◌ {A = ℕ} 71 78 = ap first e in absurd (omega arith)
-give_told fields (steps.Gap lost) e = let no : ◌≡◌ {A = ℕ} 71 90 = ap first e in absurd (omega arith)
+  -- behind `Q`
+  pub pick_only : ((local : ℕ) → local < 2 ^ 32 → fields ≡ parcel_fields local → T (steps.Pick local)) → (step : LoggedStep) → IsStep step → 81 ∷ fields ≡ step_text step → T step
+  pick_only told (steps.Pick local) fits e = told local fits (ap (drop 1) e)
+  pick_only told _ fits e = absurd (omega (arith, ap first e))
 
--- behind `B`
-pub put_back_told : (fields : List ℕ) (step : LoggedStep) → 66 ∷ fields ≡ step_text step
-    → (local : ℕ) × (position : ℕ) × (step ≡ steps.PutBack local position) × (fields ≡ turn_fields local position)
-put_back_told fields (steps.Post moment message answer) e = let no : ◌≡◌ {A = ℕ} 66 80 = ap first e in absurd (omega arith)
-put_back_told fields (steps.Lost moment message answer) e = let no : ◌≡◌ {A = ℕ} 66 76 = ap first e in absurd (omega arith)
-put_back_told fields (steps.Tick moment added wanting) e = let no : ◌≡◌ {A = ℕ} 66 75 = ap first e in absurd (omega arith)
-put_back_told fields (steps.Take local position) e = let no : ◌≡◌ {A = ℕ} 66 84 = ap first e in absurd (omega arith)
-put_back_told fields (steps.Give local position given) e = let no : ◌≡◌ {A = ℕ} 66 71 = ap first e in absurd (omega arith)
-put_back_told fields (steps.PutBack local position) e = (local, position, refl, ap (drop 1) e)
-put_back_told fields (steps.Pick local) e = let no : ◌≡◌ {A = ℕ} 66 81 = ap first e in absurd (omega arith)
-put_back_told fields (steps.Sent local) e = let no : ◌≡◌ {A = ℕ} 66 89 = ap first e in absurd (omega arith)
-put_back_told fields (steps.Unsent local) e = let no : ◌≡◌ {A = ℕ} 66 85 = ap first e in absurd (omega arith)
-put_back_told fields steps.Down e = let no : ◌≡◌ {A = ℕ} 66 78 = ap first e in absurd (omega arith)
-put_back_told fields (steps.Gap lost) e = let no : ◌≡◌ {A = ℕ} 66 90 = ap first e in absurd (omega arith)
+  -- behind `Y`
+  pub sent_only : ((local : ℕ) → local < 2 ^ 32 → fields ≡ parcel_fields local → T (steps.Sent local)) → (step : LoggedStep) → IsStep step → 89 ∷ fields ≡ step_text step → T step
+  sent_only told (steps.Sent local) fits e = told local fits (ap (drop 1) e)
+  sent_only told _ fits e = absurd (omega (arith, ap first e))
 
--- behind `Q`
-pub pick_told : (fields : List ℕ) (step : LoggedStep) → 81 ∷ fields ≡ step_text step
-    → (local : ℕ) × (step ≡ steps.Pick local) × (fields ≡ parcel_fields local)
-pick_told fields (steps.Post moment message answer) e = let no : ◌≡◌ {A = ℕ} 81 80 = ap first e in absurd (omega arith)
-pick_told fields (steps.Lost moment message answer) e = let no : ◌≡◌ {A = ℕ} 81 76 = ap first e in absurd (omega arith)
-pick_told fields (steps.Tick moment added wanting) e = let no : ◌≡◌ {A = ℕ} 81 75 = ap first e in absurd (omega arith)
-pick_told fields (steps.Take local position) e = let no : ◌≡◌ {A = ℕ} 81 84 = ap first e in absurd (omega arith)
-pick_told fields (steps.Give local position given) e = let no : ◌≡◌ {A = ℕ} 81 71 = ap first e in absurd (omega arith)
-pick_told fields (steps.PutBack local position) e = let no : ◌≡◌ {A = ℕ} 81 66 = ap first e in absurd (omega arith)
-pick_told fields (steps.Pick local) e = (local, refl, ap (drop 1) e)
-pick_told fields (steps.Sent local) e = let no : ◌≡◌ {A = ℕ} 81 89 = ap first e in absurd (omega arith)
-pick_told fields (steps.Unsent local) e = let no : ◌≡◌ {A = ℕ} 81 85 = ap first e in absurd (omega arith)
-pick_told fields steps.Down e = let no : ◌≡◌ {A = ℕ} 81 78 = ap first e in absurd (omega arith)
-pick_told fields (steps.Gap lost) e = let no : ◌≡◌ {A = ℕ} 81 90 = ap first e in absurd (omega arith)
+  -- behind `U`
+  pub unsent_only : ((local : ℕ) → local < 2 ^ 32 → fields ≡ parcel_fields local → T (steps.Unsent local)) → (step : LoggedStep) → IsStep step → 85 ∷ fields ≡ step_text step → T step
+  unsent_only told (steps.Unsent local) fits e = told local fits (ap (drop 1) e)
+  unsent_only told _ fits e = absurd (omega (arith, ap first e))
 
--- behind `Y`
-pub sent_told : (fields : List ℕ) (step : LoggedStep) → 89 ∷ fields ≡ step_text step
-    → (local : ℕ) × (step ≡ steps.Sent local) × (fields ≡ parcel_fields local)
-sent_told fields (steps.Post moment message answer) e = let no : ◌≡◌ {A = ℕ} 89 80 = ap first e in absurd (omega arith)
-sent_told fields (steps.Lost moment message answer) e = let no : ◌≡◌ {A = ℕ} 89 76 = ap first e in absurd (omega arith)
-sent_told fields (steps.Tick moment added wanting) e = let no : ◌≡◌ {A = ℕ} 89 75 = ap first e in absurd (omega arith)
-sent_told fields (steps.Take local position) e = let no : ◌≡◌ {A = ℕ} 89 84 = ap first e in absurd (omega arith)
-sent_told fields (steps.Give local position given) e = let no : ◌≡◌ {A = ℕ} 89 71 = ap first e in absurd (omega arith)
-sent_told fields (steps.PutBack local position) e = let no : ◌≡◌ {A = ℕ} 89 66 = ap first e in absurd (omega arith)
-sent_told fields (steps.Pick local) e = let no : ◌≡◌ {A = ℕ} 89 81 = ap first e in absurd (omega arith)
-sent_told fields (steps.Sent local) e = (local, refl, ap (drop 1) e)
-sent_told fields (steps.Unsent local) e = let no : ◌≡◌ {A = ℕ} 89 85 = ap first e in absurd (omega arith)
-sent_told fields steps.Down e = let no : ◌≡◌ {A = ℕ} 89 78 = ap first e in absurd (omega arith)
-sent_told fields (steps.Gap lost) e = let no : ◌≡◌ {A = ℕ} 89 90 = ap first e in absurd (omega arith)
+  -- behind `K`, by what is known of its three fields
+  pub tick_only : {P : List ℕ → List ℕ → List ℕ → Type 0}
+      → ((a b c : List ℕ) → IsField a → IsField b → fields ≡ 32 ∷ join_with_byte 32 (a ∷ b ∷ c ∷ []) → P a b c)
+      → ((moment added wanting : ℕ) → moment < END → added < 2 ^ 32 → wanting < 2 ^ 32 → P (decimal moment) (decimal added) (decimal wanting) → T (steps.Tick moment added wanting))
+      → (step : LoggedStep) → IsStep step → 75 ∷ fields ≡ step_text step → T step
+  tick_only cut told (steps.Tick moment added wanting) fits e =
+      told moment added wanting fits.0 fits.1 fits.2
+      (cut (decimal moment) (decimal added) (decimal wanting) (decimal_is_field moment (omega (arith, fits.0))) (decimal_is_field added (omega (arith, fits.1))) (ap (drop 1) e))
+  tick_only cut told _ fits e = absurd (omega (arith, ap first e))
 
--- behind `U`
-pub unsent_told : (fields : List ℕ) (step : LoggedStep) → 85 ∷ fields ≡ step_text step
-    → (local : ℕ) × (step ≡ steps.Unsent local) × (fields ≡ parcel_fields local)
-unsent_told fields (steps.Post moment message answer) e = let no : ◌≡◌ {A = ℕ} 85 80 = ap first e in absurd (omega arith)
-unsent_told fields (steps.Lost moment message answer) e = let no : ◌≡◌ {A = ℕ} 85 76 = ap first e in absurd (omega arith)
-unsent_told fields (steps.Tick moment added wanting) e = let no : ◌≡◌ {A = ℕ} 85 75 = ap first e in absurd (omega arith)
-unsent_told fields (steps.Take local position) e = let no : ◌≡◌ {A = ℕ} 85 84 = ap first e in absurd (omega arith)
-unsent_told fields (steps.Give local position given) e = let no : ◌≡◌ {A = ℕ} 85 71 = ap first e in absurd (omega arith)
-unsent_told fields (steps.PutBack local position) e = let no : ◌≡◌ {A = ℕ} 85 66 = ap first e in absurd (omega arith)
-unsent_told fields (steps.Pick local) e = let no : ◌≡◌ {A = ℕ} 85 81 = ap first e in absurd (omega arith)
-unsent_told fields (steps.Sent local) e = let no : ◌≡◌ {A = ℕ} 85 89 = ap first e in absurd (omega arith)
-unsent_told fields (steps.Unsent local) e = (local, refl, ap (drop 1) e)
-unsent_told fields steps.Down e = let no : ◌≡◌ {A = ℕ} 85 78 = ap first e in absurd (omega arith)
-unsent_told fields (steps.Gap lost) e = let no : ◌≡◌ {A = ℕ} 85 90 = ap first e in absurd (omega arith)
-
--- behind `N`
-pub down_told : (fields : List ℕ) (step : LoggedStep) → 78 ∷ fields ≡ step_text step
-    → (step ≡ steps.Down) × (fields ≡ [])
-down_told fields (steps.Post moment message answer) e = let no : ◌≡◌ {A = ℕ} 78 80 = ap first e in absurd (omega arith)
-down_told fields (steps.Lost moment message answer) e = let no : ◌≡◌ {A = ℕ} 78 76 = ap first e in absurd (omega arith)
-down_told fields (steps.Tick moment added wanting) e = let no : ◌≡◌ {A = ℕ} 78 75 = ap first e in absurd (omega arith)
-down_told fields (steps.Take local position) e = let no : ◌≡◌ {A = ℕ} 78 84 = ap first e in absurd (omega arith)
-down_told fields (steps.Give local position given) e = let no : ◌≡◌ {A = ℕ} 78 71 = ap first e in absurd (omega arith)
-down_told fields (steps.PutBack local position) e = let no : ◌≡◌ {A = ℕ} 78 66 = ap first e in absurd (omega arith)
-down_told fields (steps.Pick local) e = let no : ◌≡◌ {A = ℕ} 78 81 = ap first e in absurd (omega arith)
-down_told fields (steps.Sent local) e = let no : ◌≡◌ {A = ℕ} 78 89 = ap first e in absurd (omega arith)
-down_told fields (steps.Unsent local) e = let no : ◌≡◌ {A = ℕ} 78 85 = ap first e in absurd (omega arith)
-down_told fields steps.Down e = (refl, ap (drop 1) e)
-down_told fields (steps.Gap lost) e = let no : ◌≡◌ {A = ℕ} 78 90 = ap first e in absurd (omega arith)
-
--- behind `Z`
-pub gap_told : (fields : List ℕ) (step : LoggedStep) → 90 ∷ fields ≡ step_text step
-    → (lost : ℕ) × (step ≡ steps.Gap lost) × (fields ≡ gap_fields lost)
-gap_told fields (steps.Post moment message answer) e = let no : ◌≡◌ {A = ℕ} 90 80 = ap first e in absurd (omega arith)
-gap_told fields (steps.Lost moment message answer) e = let no : ◌≡◌ {A = ℕ} 90 76 = ap first e in absurd (omega arith)
-gap_told fields (steps.Tick moment added wanting) e = let no : ◌≡◌ {A = ℕ} 90 75 = ap first e in absurd (omega arith)
-gap_told fields (steps.Take local position) e = let no : ◌≡◌ {A = ℕ} 90 84 = ap first e in absurd (omega arith)
-gap_told fields (steps.Give local position given) e = let no : ◌≡◌ {A = ℕ} 90 71 = ap first e in absurd (omega arith)
-gap_told fields (steps.PutBack local position) e = let no : ◌≡◌ {A = ℕ} 90 66 = ap first e in absurd (omega arith)
-gap_told fields (steps.Pick local) e = let no : ◌≡◌ {A = ℕ} 90 81 = ap first e in absurd (omega arith)
-gap_told fields (steps.Sent local) e = let no : ◌≡◌ {A = ℕ} 90 89 = ap first e in absurd (omega arith)
-gap_told fields (steps.Unsent local) e = let no : ◌≡◌ {A = ℕ} 90 85 = ap first e in absurd (omega arith)
-gap_told fields steps.Down e = let no : ◌≡◌ {A = ℕ} 90 78 = ap first e in absurd (omega arith)
-gap_told fields (steps.Gap lost) e = (lost, refl, ap (drop 1) e)
+  -- behind `G`, the same
+  pub give_only : {P : List ℕ → List ℕ → List ℕ → Type 0}
+      → ((a b c : List ℕ) → IsField a → IsField b → fields ≡ 32 ∷ join_with_byte 32 (a ∷ b ∷ c ∷ []) → P a b c)
+      → ((local position : ℕ) (given : Given) → local < 2 ^ 32 → position < 2 ^ 64 → P (identifier_text local) (decimal position) (given_text given) → T (steps.Give local position given))
+      → (step : LoggedStep) → IsStep step → 71 ∷ fields ≡ step_text step → T step
+  give_only cut told (steps.Give local position given) fits e =
+      told local position given fits.0 fits.1
+      (cut (identifier_text local) (decimal position) (given_text given) (octets_are_field (to_be_bytes w32 local)) (decimal_is_field position fits.1) (ap (drop 1) e))
+  give_only cut told _ fits e = absurd (omega (arith, ap first e))

@@ -1,12 +1,11 @@
 -- The runs of the links, and the lines that they retell.
-use Rattle.std.proofs.Common.{◌≡◌, ◌≢◌, ◌⊎◌, inl, inr, ⊎_elim, ℕ, ◌+◌, ◌<◌, ◌≤◌, Bool, true, false, cond, eqb, get_or, List, [], ◌∷◌, ◌++◌, length, Some, None, zero, suc, refl, sym, ◌∙◌, ap, subst, arith, add-one, length-append, length-set, set}
-use Rattle.std.specs.Prelude.{slice_get, Result, Ok, Err}
+use Rattle.std.proofs.Common.{◌≡◌, ◌≢◌, ◌⊎◌, inl, inr, ⊎_elim, ℕ, ◌+◌, ◌<◌, Bool, true, false, cond, eqb, get_or, List, [], ◌∷◌, ◌++◌, length, Some, zero, suc, refl, sym, ◌∙◌, ap, subst, arith, add-one, length-append, length-set, set}
+use Rattle.std.specs.Prelude.{slice_get, Result, Err}
 use Rattle.std.proofs.lemmas.Bool.{eqb-false, eqb-true}
-use Rattle.std.proofs.lemmas.Option.{slice_get-get_or, slice_get_within}
+use Rattle.std.proofs.lemmas.Option.{slice_get-get_or}
 use Rattle.fp_book.specs.declared.line.Line.{Line}
 use Rattle.fp_book.specs.declared.line.Line.TheVariants.{Head, Step}
 use Rattle.fp_book.specs.declared.line.LoggedStep.{LoggedStep}
-use Rattle.fp_book.specs.declared.line.LoggedStep.TheVariants as logged
 use Rattle.fp_book.specs.declared.totals.Totals.{Totals}
 use Rattle.fp_records.specs.Table.{Contents}
 use Rattle.fp_steps.specs.Answers.{IsAnswer}
@@ -16,7 +15,7 @@ use Rattle.fp_replay.specs.Format.{IsLine, text_of}
 use Rattle.fp_replay.specs.Laws.{TextIsOfOneLine}
 use Rattle.fp_replay.specs.Making.{AreAfter, AreNew, IsKept, IsRunOf, Taking, TakingText}
 use Rattle.fp_replay.specs.declared.replay_fault.Refusal.{Refusal}
-use Rattle.fp_replay.specs.declared.replay_fault.Refusal.TheVariants.{BadLine, Disagrees, Gap, Memory}
+use Rattle.fp_replay.specs.declared.replay_fault.Refusal.TheVariants.{BadLine, Memory}
 use Rattle.fp_replay.specs.Replayed.{AllFit, IsInPlace, links_in, report_line, report_of, steps_of}
 use Rattle.fp_steps.specs.After.{Follows, IsAfter}
 use Rattle.fp_replay.specs.Stopped.{Differs, is_gap}
@@ -27,7 +26,7 @@ use Rattle.fp_steps.specs.declared.link_run.LinkRun.{LinkRun}
 -- AN ELEMENT AT A PLACE
 
 -- behind a push: one that was there, or the one that was pushed
-pub get_push : {X : Type 0} (xs : List X) (x : X) (i : ℕ) (y : X) → slice_get (xs ++ x ∷ []) i ≡ Some y → (slice_get xs i ≡ Some y) ⊎ ((i ≡ length xs) × (x ≡ y))
+get_push : {X : Type 0} (xs : List X) (x : X) (i : ℕ) (y : X) → slice_get (xs ++ x ∷ []) i ≡ Some y → (slice_get xs i ≡ Some y) ⊎ ((i ≡ length xs) × (x ≡ y))
 get_push [] x zero y e = inr (refl, cc)
 get_push [] x (suc i) y e = absurd (cc)
 get_push (z ∷ xs) x zero y e = inl e
@@ -35,13 +34,27 @@ get_push (z ∷ xs) x (suc i) y e =
     ⊎_elim (λ h. inl h) (λ h. inr (ap suc h.0, h.1)) (get_push xs x i y e)
 
 -- where one was put in a place: that one, or another that was there
-pub get_set : {X : Type 0} (xs : List X) (i : ℕ) (x : X) (j : ℕ) (y : X) → slice_get (set xs i x) j ≡ Some y → ((j ≡ i) × (x ≡ y)) ⊎ ((j ≢ i) × (slice_get xs j ≡ Some y))
+get_set : {X : Type 0} (xs : List X) (i : ℕ) (x : X) (j : ℕ) (y : X) → slice_get (set xs i x) j ≡ Some y → ((j ≡ i) × (x ≡ y)) ⊎ ((j ≢ i) × (slice_get xs j ≡ Some y))
 get_set [] i x j y e = absurd (cc)
 get_set (z ∷ xs) zero x zero y e = inl (refl, cc)
 get_set (z ∷ xs) zero x (suc j) y e = inr (λ is. omega (arith, is), e)
 get_set (z ∷ xs) (suc i) x zero y e = inr (λ is. omega (arith, is), e)
 get_set (z ∷ xs) (suc i) x (suc j) y e =
     ⊎_elim (λ h. inl (ap suc h.0, h.1)) (λ h. inr (λ is. h.0 (omega (arith, is)), h.1)) (get_set xs i x j y e)
+
+-- a run that was read out of the list is there
+read_at : (old : List LinkRun) (index link : ℕ) (run : LinkRun) → index ≡ link → index < length old → run ≡ get_or old index run → slice_get old link ≡ Some run
+read_at old index link run at within is =
+    ap (λ n. slice_get old n) (sym at) ∙ slice_get-get_or old index run within ∙ ap Some (sym is)
+
+-- LINES IN THEIR PLACES
+
+-- where a line stands there is a link
+links_some : (lines : List Line) → AllFit lines → 0 < length lines → 0 < links_in lines
+links_some [] fit some = absurd (omega arith)
+links_some (Head links ∷ before) fit some = omega (arith, fit.0.0.0)
+links_some (Step link step ∷ []) fit some = absurd fit.0.1
+links_some (Step link step ∷ (last ∷ before)) fit some = let n = fit.0.1 in omega (arith, n)
 
 -- RUNS BEGIN
 
@@ -57,196 +70,138 @@ new_more link runs more run news new is = record {
       (get_push runs run at r (ap (λ l. slice_get l at) (sym is) ∙ found));
 }
 
--- LINES IN THEIR PLACES
+module _ (contents : Contents) (contexts : List (List ℕ)) where
+  -- where there are no runs there are no lines
+  pub no_lines : (lines : List Line) (runs : List LinkRun) → IsKept contents contexts lines runs → length runs ≡ 0 → lines ≡ []
+  no_lines [] runs kept none = refl
+  no_lines (line ∷ lines) runs kept none =
+      absurd (let n = links_some (line ∷ lines) kept.good.fit (omega arith) in omega (arith, n, kept.many, none))
 
--- where a line stands there is a link
-pub links_some : (lines : List Line) → AllFit lines → 0 < length lines → 0 < links_in lines
-links_some [] fit some = absurd (omega arith)
-links_some (Head links ∷ before) fit some = omega (arith, fit.0.0.0)
-links_some (Step link step ∷ []) fit some = absurd fit.0.1
-links_some (Step link step ∷ (last ∷ before)) fit some = let n = fit.0.1 in omega (arith, n)
+  -- a step of a link that there is is in its place
+  step_place : (lines : List Line) (link : ℕ) (step : LoggedStep) (runs : List LinkRun) → IsKept contents contexts lines runs → link < length runs → IsInPlace lines (Step link step)
+  step_place [] link step runs kept within = absurd (omega (arith, kept.many, within))
+  step_place (line ∷ lines) link step runs kept within = let n = kept.many in omega (arith, n, within)
 
--- where there are no runs there are no lines
-pub no_lines : (contents : Contents) (contexts : List (List ℕ)) (lines : List Line) (runs : List LinkRun) → IsKept contents contexts lines runs → length runs ≡ 0 → lines ≡ []
-no_lines contents contexts [] runs kept none = refl
-no_lines contents contexts (line ∷ lines) runs kept none =
-    absurd (let n = links_some (line ∷ lines) kept.good.fit (omega arith) in omega (arith, n, kept.many, none))
+  -- THE HEAD
 
--- a head behind others isn't in its place
-pub head_late : (contents : Contents) (contexts : List (List ℕ)) (lines : List Line) (links : ℕ) (runs : List LinkRun) → IsKept contents contexts lines runs → 0 < length runs → IsInPlace lines (Head links) → ⊥
-head_late contents contexts [] links runs kept some place = omega (arith, kept.many, some)
-head_late contents contexts (line ∷ lines) links runs kept some place = place
+  -- no line, and no link
+  pub kept_none : (runs : List LinkRun) → runs ≡ [] → IsKept contents contexts [] runs
+  kept_none runs none = record {
+    good = record { fit = tt; history = λ link. []; retells = λ link within. absurd (omega (arith, within)) };
+    many = ap length none;
+    each = λ link run found. absurd (let e = ap (λ l. slice_get l link) (sym none) ∙ found in (cc));
+  }
 
--- a step of a link is in its place just where there is that link
-pub step_place : (contents : Contents) (contexts : List (List ℕ)) (lines : List Line) (link : ℕ) (step : LoggedStep) (runs : List LinkRun) → IsKept contents contexts lines runs → link < length runs → IsInPlace lines (Step link step)
-step_place contents contexts [] link step runs kept within = absurd (omega (arith, kept.many, within))
-step_place contents contexts (line ∷ lines) link step runs kept within = let n = kept.many in omega (arith, n, within)
-
-pub no_link : (contents : Contents) (contexts : List (List ℕ)) (lines : List Line) (link : ℕ) (step : LoggedStep) (runs : List LinkRun) → IsKept contents contexts lines runs → length runs ≤ link → IsInPlace lines (Step link step) → ⊥
-no_link contents contexts [] link step runs kept past place = place
-no_link contents contexts (line ∷ lines) link step runs kept past place = let n = kept.many in omega (arith, n, past, place)
-
--- THE HEAD
-
--- no line, and no link
-pub kept_none : (contents : Contents) (contexts : List (List ℕ)) (runs : List LinkRun) → runs ≡ [] → IsKept contents contexts [] runs
-kept_none contents contexts runs none = record {
-  good = record { fit = tt; history = λ link. []; retells = λ link within. absurd (omega (arith, within)) };
-  many = ap length none;
-  each = λ link run found. absurd (let e = ap (λ l. slice_get l link) (sym none) ∙ found in (cc));
-}
-
--- the head, and its links
-kept_head_at : (contents : Contents) (contexts : List (List ℕ)) (links : ℕ) (runs : List LinkRun) → IsLine (Head links) → AreNew links runs → IsKept contents contexts (Head links ∷ []) runs
-kept_head_at contents contexts links runs is news = record {
-  good = record { fit = ((is, tt), tt); history = λ link. []; retells = λ link within. tt };
-  many = news.length_is;
-  each = λ link run found. news.each contents contexts link run found;
-}
-
-pub kept_head : (contents : Contents) (contexts : List (List ℕ)) (lines : List Line) (links : ℕ) (old new : List LinkRun) → IsKept contents contexts lines old → length old ≡ 0 → IsLine (Head links) → AreNew links new
-    → IsInPlace lines (Head links) × IsKept contents contexts (Head links ∷ lines) new
-kept_head contents contexts lines links old new kept none is news =
-    let P : List Line → Type 0 = λ ls. IsInPlace ls (Head links) × IsKept contents contexts (Head links ∷ ls) new in
-    subst P (sym (no_lines contents contexts lines old kept none)) (tt, kept_head_at contents contexts links new is news)
-
--- A STEP
-
--- only lost lines tell no step
-pub no_step : (line : LoggedStep) → is_gap line ≡ false → step_of line ≡ None → ⊥
-no_step (logged.Post moment message answer) some none = (cc)
-no_step (logged.Lost moment message answer) some none = (cc)
-no_step (logged.Tick moment added wanting) some none = (cc)
-no_step (logged.Take local position) some none = (cc)
-no_step (logged.Give local position given) some none = (cc)
-no_step (logged.PutBack local position) some none = (cc)
-no_step (logged.Pick local) some none = (cc)
-no_step (logged.Sent local) some none = (cc)
-no_step (logged.Unsent local) some none = (cc)
-no_step logged.Down some none = (cc)
-no_step (logged.Gap lost) some none = (cc)
-
--- the step of a line is told otherwise
-pub differs : (contents : Contents) (contexts : List (List ℕ)) (link : ℕ) (h : List Event) (line : LoggedStep) (step : MadeStep) (made : Stepped) (run new : LinkRun)
-    → IsRunOf contents contexts link h run → new.link ≡ run.link → step_of line ≡ Some step
-    → Follows contents contexts h step made new → (made.line ≡ Some line → ⊥) → Differs contents contexts link h line
-differs contents contexts link h line step made run new of same step_is follows other = record {
-  step = step;
-  step_is = step_is;
-  came = follows.came;
-  came_is = follows.is_came;
-  output = made.output;
-  answer = subst (λ l. IsAnswer l h step follows.came made.output) (same ∙ of.link_is) follows.answer;
-  differs = λ is. other (follows.line ∙ is);
-}
-
--- the event of a step that was made again
-abbrev event_of : (contents : Contents) (contexts : List (List ℕ)) (h : List Event) (step : MadeStep) (made : Stepped) (new : LinkRun) → Follows contents contexts h step made new → Event
-event_of contents contexts h step made new follows = record { step = step; came = follows.came; output = made.output }
-
--- it retells its line
-retells_one : (contents : Contents) (contexts : List (List ℕ)) (link : ℕ) (h : List Event) (line : LoggedStep) (step : MadeStep) (made : Stepped) (run new : LinkRun)
-    → IsRunOf contents contexts link h run → new.link ≡ run.link → step_of line ≡ Some step → (follows : Follows contents contexts h step made new) → made.line ≡ Some line
-    → RetellsOne contents contexts link line h (event_of contents contexts h step made new follows)
-retells_one contents contexts link h line step made run new of same step_is follows told_is = record {
-  step = step_is;
-  came = follows.is_came;
-  answer = subst (λ l. IsAnswer l h step follows.came made.output) (same ∙ of.link_is) follows.answer;
-  tells = sym follows.line ∙ told_is;
-}
-
--- one line more of this link, or none of another
-retells_if : (contents : Contents) (contexts : List (List ℕ)) (b : Bool) (link : ℕ) (line : LoggedStep) (lines : List LoggedStep) (e : Event) (h : List Event)
-    → (b ≡ true → RetellsOne contents contexts link line h e) → Retells contents contexts link lines h
-    → Retells contents contexts link (cond b (line ∷ lines) lines) (cond b (e ∷ h) h)
-retells_if contents contexts true link line lines e h one before = (one refl, before)
-retells_if contents contexts false link line lines e h one before = before
-
--- the run of this link went on, and that of another didn't
-of_if : (contents : Contents) (contexts : List (List ℕ)) (b : Bool) (link : ℕ) (e : Event) (h : List Event) (run : LinkRun)
-    → (b ≡ true → IsRunOf contents contexts link (e ∷ h) run) → (b ≡ false → IsRunOf contents contexts link h run) → IsRunOf contents contexts link (cond b (e ∷ h) h) run
-of_if contents contexts true link e h run here other = here refl
-of_if contents contexts false link e h run here other = other refl
-
--- the lines with one more are retold, and the runs are those of their links
-pub kept_step : (contents : Contents) (contexts : List (List ℕ)) (lines : List Line) (link : ℕ) (line : LoggedStep) (step : MadeStep) (made : Stepped) (old : List LinkRun) (run new : LinkRun)
-    → (kept : IsKept contents contexts lines old) → IsLine (Step link line) → slice_get old link ≡ Some run → new.link ≡ run.link → step_of line ≡ Some step
-    → Follows contents contexts (kept.good.history link) step made new → made.line ≡ Some line
-    → IsKept contents contexts (Step link line ∷ lines) (set old link new)
-kept_step contents contexts lines link line step made old run new kept is found same step_is follows told_is =
-    let h = kept.good.history link in
-    let e = event_of contents contexts h step made new follows in
-    let of : IsRunOf contents contexts link h run = kept.each link run found in
-    let within : link < length old = slice_get_within old link run found in
-    let one = retells_one contents contexts link h line step made run new of same step_is follows told_is in
+  -- the head, and its links
+  pub kept_head : (lines : List Line) (links : ℕ) (old new : List LinkRun) → IsKept contents contexts lines old → length old ≡ 0 → IsLine (Head links) → AreNew links new
+      → IsInPlace lines (Head links) × IsKept contents contexts (Head links ∷ lines) new
+  kept_head [] links old new kept none is news = (
+    tt,
     record {
-      good = record {
-        fit = ((is, step_place contents contexts lines link line old kept within), kept.good.fit);
-        history = λ k. cond (eqb link k) (e ∷ kept.good.history k) (kept.good.history k);
-        retells = λ k below.
-            retells_if contents contexts (eqb link k) k line (steps_of k lines) e (kept.good.history k)
-            (λ here. subst (λ n. RetellsOne contents contexts n line (kept.good.history n) e) (eqb-true link k here) one)
-            (kept.good.retells k below);
-      };
-      many = length-set old link new ∙ kept.many;
-      each = λ k r there.
-          of_if contents contexts (eqb link k) k e (kept.good.history k) r
-          (λ here.
-          let at = eqb-true link k here in
-          ⊎_elim
-          (λ now. subst (λ n. IsRunOf contents contexts n (e ∷ kept.good.history n) r) at (subst (IsRunOf contents contexts link (e ∷ h)) now.1 (record { link_is = same ∙ of.link_is; after = follows.after })))
-          (λ before. absurd (before.0 (sym at)))
-          (get_set old link new k r there))
-          (λ other.
-          ⊎_elim
-          (λ now. absurd (eqb-false link k other (sym now.0)))
-          (λ before. kept.each k r before.1)
-          (get_set old link new k r there));
-    }
+      good = record { fit = ((is, tt), tt); history = λ link. []; retells = λ link within. tt };
+      many = news.length_is;
+      each = news.each contents contexts;
+    },
+  )
+  kept_head (line ∷ lines) links old new kept none is news = absurd (let some = no_lines (line ∷ lines) old kept none in (cc))
 
--- a run that was read out of the list is there
-read_at : (old : List LinkRun) (index link : ℕ) (run : LinkRun) → index ≡ link → index < length old → run ≡ get_or old index run → slice_get old link ≡ Some run
-read_at old index link run at within is =
-    ap (λ n. slice_get old n) (sym at) ∙ slice_get-get_or old index run within ∙ ap Some (sym is)
+  -- A STEP
 
--- the step of a line was made again, and told as the line tells it
-pub made_again : (contents : Contents) (contexts : List (List ℕ)) (lines : List Line) (link index : ℕ) (line : LoggedStep) (step : MadeStep) (made : Stepped) (old : List LinkRun) (run new : LinkRun)
-    → IsKept contents contexts lines old → IsLine (Step link line) → index ≡ link → index < length old → run ≡ get_or old index run → new.link ≡ run.link → step_of line ≡ Some step
-    → ((h : List Event) → IsAfter contents contexts h run → Follows contents contexts h step made new) → made.line ≡ Some line
-    → IsInPlace lines (Step link line) × IsKept contents contexts (Step link line ∷ lines) (set old index new)
-made_again contents contexts lines link index line step made old run new kept is at within read same step_is follows told_is =
-    let found = read_at old index link run at within read in (
-      step_place contents contexts lines link line old kept (omega (arith, at, within)),
-      subst (λ n. IsKept contents contexts (Step link line ∷ lines) (set old n new)) (sym at)
-          (kept_step contents contexts lines link line step made old run new kept is found same step_is (follows (kept.good.history link) (kept.each link run found).after) told_is),
+  -- one line more of this link, or none of another
+  retells_if : (b : Bool) (link : ℕ) (line : LoggedStep) (lines : List LoggedStep) (e : Event) (h : List Event)
+      → (b ≡ true → RetellsOne contents contexts link line h e) → Retells contents contexts link lines h
+      → Retells contents contexts link (cond b (line ∷ lines) lines) (cond b (e ∷ h) h)
+  retells_if true link line lines e h one before = (one refl, before)
+  retells_if false link line lines e h one before = before
+
+  -- the run of this link went on, and that of another didn't
+  of_if : (b : Bool) (link : ℕ) (e : Event) (h : List Event) (run : LinkRun)
+      → (b ≡ true → IsRunOf contents contexts link (e ∷ h) run) → (b ≡ false → IsRunOf contents contexts link h run) → IsRunOf contents contexts link (cond b (e ∷ h) h) run
+  of_if true link e h run here other = here refl
+  of_if false link e h run here other = other refl
+
+  -- a step was made on the run of its link
+  module _ (lines : List Line) (link index : ℕ) (line : LoggedStep) (step : MadeStep) (made : Stepped) (old : List LinkRun) (run new : LinkRun)
+      (kept : IsKept contents contexts lines old) (at : index ≡ link) (within : index < length old) (read : run ≡ get_or old index run) (same : new.link ≡ run.link) (step_is : step_of line ≡ Some step)
+      (follows_all : (h : List Event) → IsAfter contents contexts h run → Follows contents contexts h step made new) where
+    -- it is in its place
+    placed : IsInPlace lines (Step link line)
+    placed = step_place lines link line old kept (omega (arith, at, within))
+
+    -- the run was one of the link
+    of : IsRunOf contents contexts link (kept.good.history link) run
+    of = kept.each link run (read_at old index link run at within read)
+
+    follows : Follows contents contexts (kept.good.history link) step made new
+    follows = follows_all (kept.good.history link) of.after
+
+    answered : IsAnswer link (kept.good.history link) step follows.came made.output
+    answered = subst (λ l. IsAnswer l (kept.good.history link) step follows.came made.output) (same ∙ of.link_is) follows.answer
+
+    -- it was told as the line tells it: the lines with one more are retold, and the runs are those of their links
+    pub made_again : IsLine (Step link line) → made.line ≡ Some line → IsInPlace lines (Step link line) × IsKept contents contexts (Step link line ∷ lines) (set old index new)
+    made_again is told_is =
+        let h = kept.good.history link in
+        let e : Event = record { step = step; came = follows.came; output = made.output } in
+        let one : RetellsOne contents contexts link line h e = record { step = step_is; came = follows.is_came; answer = answered; tells = sym follows.line ∙ told_is } in
+        let gone : IsRunOf contents contexts link (e ∷ h) new = record { link_is = same ∙ of.link_is; after = follows.after } in (
+          placed,
+          record {
+            good = record {
+              fit = ((is, placed), kept.good.fit);
+              history = λ k. cond (eqb link k) (e ∷ kept.good.history k) (kept.good.history k);
+              retells = λ k below.
+                  retells_if (eqb link k) k line (steps_of k lines) e (kept.good.history k)
+                  (λ here. subst (λ n. RetellsOne contents contexts n line (kept.good.history n) e) (eqb-true link k here) one)
+                  (kept.good.retells k below);
+            };
+            many = length-set old index new ∙ kept.many;
+            each = λ k r there.
+                ⊎_elim
+                (λ now. of_if (eqb link k) k e (kept.good.history k) r
+                (λ here. subst (λ n. IsRunOf contents contexts n (e ∷ kept.good.history n) r) (eqb-true link k here) (subst (IsRunOf contents contexts link (e ∷ h)) now.1 gone))
+                (λ other. absurd (eqb-false link k other (sym (now.0 ∙ at)))))
+                (λ before. of_if (eqb link k) k e (kept.good.history k) r
+                (λ here. absurd (before.0 (sym (at ∙ eqb-true link k here))))
+                (λ other. kept.each k r before.1))
+                (get_set old index new k r there);
+          },
+        )
+
+    -- it was told otherwise
+    pub disagreed : (made.line ≡ Some line → ⊥) → is_gap line ≡ false
+        → IsInPlace lines (Step link line) × ((is_gap line ≡ false) × Differs contents contexts link (kept.good.history link) line)
+    disagreed other none = (
+      placed,
+      (
+        none,
+        record {
+          step = step;
+          step_is = step_is;
+          came = follows.came;
+          came_is = follows.is_came;
+          output = made.output;
+          answer = answered;
+          differs = λ is. other (follows.line ∙ is);
+        },
+      ),
     )
 
--- it was told otherwise
-pub disagreed : (contents : Contents) (contexts : List (List ℕ)) (lines : List Line) (link index : ℕ) (line : LoggedStep) (step : MadeStep) (made : Stepped) (old : List LinkRun) (run new : LinkRun)
-    → (kept : IsKept contents contexts lines old) → index ≡ link → index < length old → run ≡ get_or old index run → new.link ≡ run.link → step_of line ≡ Some step
-    → ((h : List Event) → IsAfter contents contexts h run → Follows contents contexts h step made new) → (made.line ≡ Some line → ⊥) → is_gap line ≡ false
-    → IsInPlace lines (Step link line) × ((is_gap line ≡ false) × Differs contents contexts link (kept.good.history link) line)
-disagreed contents contexts lines link index line step made old run new kept at within read same step_is follows other none =
-    let found = read_at old index link run at within read in
-    let of : IsRunOf contents contexts link (kept.good.history link) run = kept.each link run found in (
-      step_place contents contexts lines link line old kept (omega (arith, at, within)),
-      (none, differs contents contexts link (kept.good.history link) line step made run new of same step_is (follows (kept.good.history link) of.after) other),
-    )
+  -- A TEXT
 
--- A TEXT
+  -- what comes of a line comes of its text
+  pub taken_text : (old : List LinkRun) (line : Line) (text : List ℕ) (result : Result (Unit {0}) Refusal) (new : List LinkRun)
+      → TextIsOfOneLine → IsLine line → text ≡ text_of line → Taking contents contexts old line result new → TakingText contents contexts old text result new
+  taken_text old line text (Err BadLine) new one is text_is taking lines kept =
+      λ other fits e. taking lines kept is (subst (λ l. IsInPlace lines l) (one other line fits.0 is (sym e ∙ text_is)) fits.1)
+  taken_text old line text (Err Memory) new one is text_is taking lines kept = tt
+  taken_text old line text _ new one is text_is taking lines kept = let t = taking lines kept is in (line, (is, t.0), text_is, t.1)
 
--- what comes of a line comes of its text
-pub taken_text : (contents : Contents) (contexts : List (List ℕ)) (old : List LinkRun) (line : Line) (text : List ℕ) (result : Result (Unit {0}) Refusal) (new : List LinkRun)
-    → TextIsOfOneLine → IsLine line → text ≡ text_of line → Taking contents contexts old line result new → TakingText contents contexts old text result new
-taken_text contents contexts old line text (Ok done) new one is text_is taking lines kept =
-    let t = taking lines kept is in (line, (is, t.0), text_is, t.1)
-taken_text contents contexts old line text (Err BadLine) new one is text_is taking lines kept =
-    λ other fits e. taking lines kept is (subst (λ l. IsInPlace lines l) (one other line fits.0 is (sym e ∙ text_is)) fits.1)
-taken_text contents contexts old line text (Err Gap) new one is text_is taking lines kept =
-    let t = taking lines kept is in (line, (is, t.0), text_is, t.1)
-taken_text contents contexts old line text (Err Disagrees) new one is text_is taking lines kept =
-    let t = taking lines kept is in (line, (is, t.0), text_is, t.1)
-taken_text contents contexts old line text (Err Memory) new one is text_is taking lines kept = tt
+  -- a run that was read is one of its link
+  pub run_at : (history : ℕ → List Event) (same runs : List LinkRun) (link : ℕ) (run : LinkRun)
+      → AreAfter contents contexts history runs → same ≡ runs → link < length same → run ≡ get_or same link run → IsAfter contents contexts (history link) run
+  run_at history same runs link run after is within at =
+      (after link run (ap (λ l. slice_get l link) (sym is) ∙ read_at same link link run refl within at)).after
 
 -- THE REPORT
 
@@ -254,12 +209,4 @@ taken_text contents contexts old line text (Err Memory) new one is text_is takin
 pub report_more : (link : ℕ) (totals : ℕ → Totals) (before line more : List ℕ) (own : Totals)
     → more ≡ before ++ line → before ≡ report_of link totals → line ≡ report_line link own → own ≡ totals link → more ≡ report_of (link + 1) totals
 report_more link totals before line more own is so_far line_is own_is =
-    is ∙ ap (λ l. l ++ line) so_far
-    ∙ ap (λ l. report_of link totals ++ l) (line_is ∙ ap (report_line link) own_is)
-    ∙ sym (ap (λ n. report_of n totals) (add-one link))
-
--- a run that was read is one of its link
-pub run_at : (contents : Contents) (contexts : List (List ℕ)) (history : ℕ → List Event) (same runs : List LinkRun) (link : ℕ) (run : LinkRun)
-    → AreAfter contents contexts history runs → same ≡ runs → link < length same → run ≡ get_or same link run → IsAfter contents contexts (history link) run
-run_at contents contexts history same runs link run after is within at =
-    (after link run (ap (λ l. slice_get l link) (sym is) ∙ read_at same link link run refl within at)).after
+    is ∙ (λ i. so_far i ++ (line_is ∙ ap (report_line link) own_is) i) ∙ sym (ap (λ n. report_of n totals) (add-one link))

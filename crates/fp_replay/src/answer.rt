@@ -14,7 +14,7 @@ use fp_book::{Given, Posted};
 use fp_q773::AbortCause;
 use std::alloc::AllocError;
 
-/// Puts what became of a message behind a text.
+/// Adds what became of a message to a text.
 pub(crate) fn write_posted(answer: Posted, text: &mut Vec<u8>) -> Result<(), AllocError>
     ensures written { OnOk result (text.new.items ≡ text.old.items ++ posted_text answer) }
     ensures front { OnErr result (KeepsFront text.old.items text.new.items) }
@@ -37,7 +37,7 @@ pub(crate) fn write_posted(answer: Posted, text: &mut Vec<u8>) -> Result<(), All
     }
 }
 
-/// The cause of an Abort whose value a field tells.
+/// The cause of an Abort whose value a field has.
 fn cause_in(field: &[u8]) -> Option<AbortCause>
     ensures found { IfSome result (λ cause. field.now ≡ decimal (cause_code cause)) }
     ensures only { (cause : AbortCause) → field.now ≡ decimal (cause_code cause) → result ≡ Some cause }
@@ -77,7 +77,7 @@ fn given_letter(given: Given) -> u8
     }
 }
 
-/// Puts what became of a request behind a text.
+/// Adds what became of a request to a text.
 pub(crate) fn write_given(given: Given, text: &mut Vec<u8>) -> Result<(), AllocError>
     ensures written { OnOk result (text.new.items ≡ text.old.items ++ given_text given) }
     ensures front { OnErr result (KeepsFront text.old.items text.new.items) }

@@ -12,7 +12,7 @@ pub enum LineFault {
     /// It is the text of no line.
     #[error("bad line")]
     BadLine,
-    /// Memory was wanting.
+    /// An allocation failed.
     #[error("out of memory")]
     Memory,
 }

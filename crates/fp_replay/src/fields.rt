@@ -1,10 +1,10 @@
-//! The fields behind a letter, each behind a blank.
+//! The fields after a letter, each after a blank.
 
 ghost use Rattle.std.specs.Prelude.{◌≡◌, ◌++◌, [], ◌∷◌, List, ℕ, IfSome, IsSomeAnd};
 ghost use Rattle.std.specs.List.{join_with_byte};
 ghost use Rattle.fp_replay.specs.Fields.{IsField};
 
-/// What stands before the first blank and what stands behind it, or `None` where there is no blank.
+/// What precedes the first blank and what follows it, or `None` if there is no blank.
 pub(crate) fn cut(text: &[u8]) -> Option<(&[u8], &[u8])>
     ensures found { IfSome result (λ cut. text.now ≡ cut.0.now ++ 32 ∷ cut.1.now) }
     ensures only { (a b : List ℕ) → IsField a → text.now ≡ a ++ 32 ∷ b → IsSomeAnd result (λ cut. (cut.0.now ≡ a) × (cut.1.now ≡ b)) }
@@ -28,7 +28,7 @@ pub(crate) fn one_field(text: &[u8]) -> Option<&[u8]>
     Some(field)
 }
 
-/// Two fields, each behind a blank.
+/// Two fields, each after a blank.
 pub(crate) fn two_fields(text: &[u8]) -> Option<(&[u8], &[u8])>
     ensures found { IfSome result (λ f. text.now ≡ 32 ∷ join_with_byte 32 (f.0.now ∷ f.1.now ∷ [])) }
     ensures only { (a b : List ℕ) → IsField a → text.now ≡ 32 ∷ join_with_byte 32 (a ∷ b ∷ []) → IsSomeAnd result (λ f. (f.0.now ≡ a) × (f.1.now ≡ b)) }
@@ -36,7 +36,7 @@ pub(crate) fn two_fields(text: &[u8]) -> Option<(&[u8], &[u8])>
     cut(one_field(text)?)
 }
 
-/// Three fields, each behind a blank.
+/// Three fields, each after a blank.
 pub(crate) fn three_fields(text: &[u8]) -> Option<(&[u8], &[u8], &[u8])>
     ensures found { IfSome result (λ f. text.now ≡ 32 ∷ join_with_byte 32 (f.0.now ∷ f.1.now ∷ f.2.now ∷ [])) }
     ensures only { (a b c : List ℕ) → IsField a → IsField b → text.now ≡ 32 ∷ join_with_byte 32 (a ∷ b ∷ c ∷ []) → IsSomeAnd result (λ f. (f.0.now ≡ a) × (f.1.now ≡ b) × (f.2.now ≡ c)) }

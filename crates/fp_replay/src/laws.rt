@@ -2,7 +2,7 @@
 
 ghost use Rattle.fp_replay.specs.Laws.{TextIsOfOneLine};
 
-/// A text is of one line at most: whoever has the text of a line knows the line.
+/// A text is that of one line at most: no two lines have the same text.
 pub fn texts_are_of_one_line()
     ensures { TextIsOfOneLine }
 {}

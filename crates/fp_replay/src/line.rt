@@ -13,7 +13,7 @@ use crate::step::{step_in, write_step};
 use fp_book::Line;
 use std::alloc::{AllocError, Global};
 
-/// Puts the text of a line behind a text, without a line feed.
+/// Adds the text of a line to a text, without a line feed.
 fn write_text(line: &Line, text: &mut Vec<u8>) -> Result<(), AllocError>
     ensures written { OnOk result (text.new.items ≡ text.old.items ++ text_of line.now) }
     ensures front { OnErr result (KeepsFront text.old.items text.new.items) }
@@ -31,7 +31,7 @@ fn write_text(line: &Line, text: &mut Vec<u8>) -> Result<(), AllocError>
     }
 }
 
-/// Puts the text of a line and a line feed behind a text.
+/// Adds the text of a line and a line feed to a text.
 fn write_ended(line: &Line, text: &mut Vec<u8>) -> Result<(), AllocError>
     ensures written { OnOk result (text.new.items ≡ text.old.items ++ text_of line.now ++ 10 ∷ []) }
     ensures front { OnErr result (KeepsFront text.old.items text.new.items) }
@@ -40,7 +40,7 @@ fn write_ended(line: &Line, text: &mut Vec<u8>) -> Result<(), AllocError>
     Ok(text.push(b'\n')?)
 }
 
-/// Puts a line behind a text: its own text, and a line feed. Where memory is wanting the text is as it was.
+/// Adds a line to a text: its own text, and a line feed. If memory runs out, the text is unchanged.
 ///
 /// A line that no log has is written, too, as a head of nine links or a step of link 8; it isn't read again.
 pub fn write_line(line: &Line, text: &mut Vec<u8>) -> Result<(), AllocError>
@@ -62,7 +62,7 @@ fn is_text(field: &[u8], text: &[u8]) -> bool
     field == text
 }
 
-/// The head of a log, by what stands behind the name of the format and a blank.
+/// The head of a log, by what follows the name of the format and a blank.
 fn head_in(text: &[u8]) -> Result<Line, LineFault>
     ensures found { IfOk result (λ line. IsLine line × (codes "fplog " ++ text.now ≡ text_of line)) }
     ensures only { (line : Line) → IsLine line → codes "fplog " ++ text.now ≡ text_of line → result ≡ Ok line }

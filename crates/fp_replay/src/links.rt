@@ -54,7 +54,7 @@ impl Links {
         }
     }
 
-    /// The head was read: so many links begin, 1 to 8.
+    /// The head was read: this number of links begin, 1 to 8.
     fn begin(&mut self, alloc: Global, links: u8) -> Result<(), Refusal>
         requires { links ≤ 8 }
         ensures { (contents : Contents) (contexts : List (List ℕ))
@@ -67,7 +67,7 @@ impl Links {
         Ok(())
     }
 
-    /// Makes the step of a line again on its link, and compares what is told of it.
+    /// Replays the step of a line on its link, and compares the line that it gives.
     fn make_again(
         &mut self,
         alloc: Global,
@@ -130,7 +130,7 @@ impl Links {
     }
 }
 
-/// Puts runs of so many links, at most 8, on which nothing came yet, where there are none.
+/// Puts runs of this number of links, at most 8, on which nothing came yet, into an empty list.
 fn begin_all(alloc: Global, links: u8, runs: &mut Vec<LinkRun>) -> Result<(), AllocError>
     requires most { links ≤ 8 }
     requires none { runs.old.items ≡ [] }

@@ -8,7 +8,7 @@ use fp_book::LoggedStep;
 use fp_steps::Step;
 use std::alloc::AllocError;
 
-/// Whether a line tells that lines were lost, or that memory was wanting for a Clock.
+/// Whether a line says that lines were lost, or that memory ran out for a Clock.
 pub(crate) fn is_gap(line: &LoggedStep) -> bool
     ensures { result ≡ is_gap line.now }
 {

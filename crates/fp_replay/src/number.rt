@@ -8,7 +8,7 @@ use fp_digits::Moment;
 use itoa::Buffer;
 use std::alloc::AllocError;
 
-/// Puts a number behind a text.
+/// Adds a number to a text.
 pub(crate) fn write_number(number: u64, text: &mut Vec<u8>) -> Result<(), AllocError>
     ensures written { OnOk result (text.new.items ≡ text.old.items ++ decimal number) }
     ensures front { OnErr result (KeepsFront text.old.items text.new.items) }

@@ -17,7 +17,7 @@ use std::alloc::{AllocError, Global};
 /// The digits, by their value.
 const DIGITS: &[u8; 16] = b"0123456789ABCDEF";
 
-/// Puts octets behind a text.
+/// Adds octets to a text.
 pub(crate) fn write_octets(octets: &[u8], text: &mut Vec<u8>) -> Result<(), AllocError>
     ensures written { OnOk result (text.new.items ≡ text.old.items ++ encode_upper octets.now) }
     ensures front { OnErr result (KeepsFront text.old.items text.new.items) }
@@ -30,7 +30,7 @@ pub(crate) fn write_octets(octets: &[u8], text: &mut Vec<u8>) -> Result<(), Allo
     Ok(())
 }
 
-/// Puts a local transaction identifier behind a text.
+/// Adds a local transaction identifier to a text.
 pub(crate) fn write_identifier(local: u32, text: &mut Vec<u8>) -> Result<(), AllocError>
     ensures written { OnOk result (text.new.items ≡ text.old.items ++ identifier_text local) }
     ensures front { OnErr result (KeepsFront text.old.items text.new.items) }
@@ -38,7 +38,7 @@ pub(crate) fn write_identifier(local: u32, text: &mut Vec<u8>) -> Result<(), All
     write_octets(&local.to_be_bytes(), text)
 }
 
-/// Whether a field has no letter in lower case: each of them stands behind the digits and the letters in upper case.
+/// Whether a field has no letter in lower case: each of them comes after the digits and the letters in upper case.
 fn is_upper_case(field: &[u8]) -> bool
     ensures { IsTrue result ↔ EachIndex field.now (λ k. slice_index field.now k < 97) }
 {
@@ -59,7 +59,7 @@ pub(crate) fn identifier_in(field: &[u8]) -> Option<u32>
     Some(u32::from_be_bytes(octets))
 }
 
-/// Why digits aren't read: memory was wanting, or they are no pairs of digits.
+/// Why digits aren't read: memory ran out, or they are no pairs of digits.
 fn fault_of(error: FromHexError) -> LineFault
     ensures { error ≡ OutOfMemory → result ≡ Memory }
 {

@@ -10,7 +10,7 @@ use crate::octets::{identifier_in, write_identifier};
 use fp_book::LoggedStep;
 use std::alloc::AllocError;
 
-/// Puts the letter and the field of a parcel behind a text.
+/// Adds the letter and the field of a parcel to a text.
 pub(crate) fn write_parcel(letter: u8, local: u32, text: &mut Vec<u8>) -> Result<(), AllocError>
     ensures written { OnOk result (text.new.items ≡ text.old.items ++ letter ∷ parcel_fields local) }
     ensures front { OnErr result (KeepsFront text.old.items text.new.items) }
@@ -30,7 +30,7 @@ fn parcel_in(fields: &[u8]) -> Option<u32>
     identifier_in(field)
 }
 
-/// The parcel that was picked, by the field behind its letter.
+/// The parcel that was picked, by the field after its letter.
 pub(crate) fn pick_in(fields: &[u8]) -> Result<LoggedStep, LineFault>
     ensures { ReadsStep 81 fields.now result }
 {
@@ -40,7 +40,7 @@ pub(crate) fn pick_in(fields: &[u8]) -> Result<LoggedStep, LineFault>
     Ok(LoggedStep::Pick { local })
 }
 
-/// The parcel that was sent, by the field behind its letter.
+/// The parcel that was sent, by the field after its letter.
 pub(crate) fn sent_in(fields: &[u8]) -> Result<LoggedStep, LineFault>
     ensures { ReadsStep 89 fields.now result }
 {
@@ -50,7 +50,7 @@ pub(crate) fn sent_in(fields: &[u8]) -> Result<LoggedStep, LineFault>
     Ok(LoggedStep::Sent { local })
 }
 
-/// The parcel that couldn't be sent, by the field behind its letter.
+/// The parcel that couldn't be sent, by the field after its letter.
 pub(crate) fn unsent_in(fields: &[u8]) -> Result<LoggedStep, LineFault>
     ensures { ReadsStep 85 fields.now result }
 {

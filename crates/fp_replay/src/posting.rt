@@ -1,4 +1,4 @@
-//! A message that was posted, or for which memory was wanting.
+//! A message that was posted, or for which memory ran out.
 
 ghost use Rattle.std.specs.Prelude.{◌≡◌, ◌++◌, ◌∷◌, ℕ, List, IfOk, MatchResult, OnErr, OnOk};
 ghost use Rattle.fp_book.specs.declared.answers.Posted.{Posted};
@@ -25,7 +25,7 @@ struct Posting {
     answer: Posted,
 }
 
-/// Puts the letter and the fields of a message that was posted behind a text.
+/// Adds the letter and the fields of a message that was posted to a text.
 pub(crate) fn write_posting(
     letter: u8,
     moment: Moment,
@@ -66,7 +66,7 @@ fn posting_in(alloc: Global, fields: &[u8]) -> Result<Posting, LineFault>
     })
 }
 
-/// The step of a message that was posted, by the fields behind its letter.
+/// The step of a message that was posted, by the fields after its letter.
 pub(crate) fn post_in(alloc: Global, fields: &[u8]) -> Result<LoggedStep, LineFault>
     ensures { ReadsStep 80 fields.now result }
 {
@@ -82,7 +82,7 @@ pub(crate) fn post_in(alloc: Global, fields: &[u8]) -> Result<LoggedStep, LineFa
     })
 }
 
-/// The step of a message for which memory was wanting, by the fields behind its letter.
+/// The step of a message for which memory ran out, by the fields after its letter.
 pub(crate) fn lost_in(alloc: Global, fields: &[u8]) -> Result<LoggedStep, LineFault>
     ensures { ReadsStep 76 fields.now result }
 {

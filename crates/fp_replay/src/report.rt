@@ -13,8 +13,8 @@ use fp_streams::{LinkWrite, write_all};
 use std::alloc::{AllocError, Global};
 
 /// The line of a link in the report: `link L accepted A served S sent T` and a line feed, each a decimal number without
-/// leading zeros. L is the number of the link, A how many components it accepted, S how many entries it served and T how
-/// many frames of dialogues it sent. `Err`: memory was wanting.
+/// leading zeros. L is the number of the link, A how many components it accepted, S how many entries it served and T
+/// how many frames of dialogues it sent. `Err`: memory ran out.
 pub fn report_line(alloc: Global, link: usize, totals: Totals) -> Result<String, AllocError>
     ensures { IfOk result (λ text. string_bytes text ≡ report_line link totals) }
 {

@@ -12,7 +12,7 @@ use crate::turn::{give_in, put_back_in, take_in, write_give, write_turn};
 use fp_book::LoggedStep;
 use std::alloc::{AllocError, Global};
 
-/// Puts a step behind a text.
+/// Adds a step to a text.
 pub(crate) fn write_step(step: &LoggedStep, text: &mut Vec<u8>) -> Result<(), AllocError>
     ensures written { OnOk result (text.new.items ≡ text.old.items ++ step_text step.now) }
     ensures front { OnErr result (KeepsFront text.old.items text.new.items) }
@@ -48,7 +48,7 @@ pub(crate) fn write_step(step: &LoggedStep, text: &mut Vec<u8>) -> Result<(), Al
     }
 }
 
-/// The step that has no fields, by what stands behind its letter.
+/// The step that has no fields, by what follows its letter.
 fn down_in(fields: &[u8]) -> Result<LoggedStep, LineFault>
     ensures { ReadsStep 78 fields.now result }
 {
@@ -59,7 +59,7 @@ fn down_in(fields: &[u8]) -> Result<LoggedStep, LineFault>
     }
 }
 
-/// The step of this letter, by the fields behind it.
+/// The step of this letter, by the fields after it.
 pub(crate) fn step_in(alloc: Global, letter: u8, fields: &[u8]) -> Result<LoggedStep, LineFault>
     ensures { ReadsStep letter fields.now result }
 {

@@ -11,7 +11,7 @@ use fp_book::LoggedStep;
 use fp_digits::Moment;
 use std::alloc::AllocError;
 
-/// Puts the letter and the fields of a tick behind a text.
+/// Adds the letter and the fields of a tick to a text.
 pub(crate) fn write_tick(
     moment: Moment,
     added: u32,
@@ -29,7 +29,7 @@ pub(crate) fn write_tick(
     write_number(u64::from(wanting), text)
 }
 
-/// The tick, by the fields behind its letter.
+/// The tick, by the fields after its letter.
 pub(crate) fn tick_in(fields: &[u8]) -> Result<LoggedStep, LineFault>
     ensures { ReadsStep 75 fields.now result }
 {
@@ -52,7 +52,7 @@ pub(crate) fn tick_in(fields: &[u8]) -> Result<LoggedStep, LineFault>
     })
 }
 
-/// Puts the letter and the field of a gap behind a text.
+/// Adds the letter and the field of a gap to a text.
 pub(crate) fn write_gap(lost: u64, text: &mut Vec<u8>) -> Result<(), AllocError>
     ensures written { OnOk result (text.new.items ≡ text.old.items ++ 90 ∷ gap_fields lost) }
     ensures front { OnErr result (KeepsFront text.old.items text.new.items) }
@@ -61,7 +61,7 @@ pub(crate) fn write_gap(lost: u64, text: &mut Vec<u8>) -> Result<(), AllocError>
     write_number(lost, text)
 }
 
-/// The gap, by the field behind its letter.
+/// The gap, by the field after its letter.
 pub(crate) fn gap_in(fields: &[u8]) -> Result<LoggedStep, LineFault>
     ensures { ReadsStep 90 fields.now result }
 {

@@ -12,7 +12,7 @@ use crate::octets::{identifier_in, write_identifier};
 use fp_book::{Given, LoggedStep};
 use std::alloc::AllocError;
 
-/// Puts the letter and the fields of a turn behind a text.
+/// Adds the letter and the fields of a turn to a text.
 pub(crate) fn write_turn(
     letter: u8,
     local: u32,
@@ -45,7 +45,7 @@ fn turn_in(fields: &[u8]) -> Option<(u32, u64)>
     Some((local, position))
 }
 
-/// The turn that was taken, by the fields behind its letter.
+/// The turn that was taken, by the fields after its letter.
 pub(crate) fn take_in(fields: &[u8]) -> Result<LoggedStep, LineFault>
     ensures { ReadsStep 84 fields.now result }
 {
@@ -55,7 +55,7 @@ pub(crate) fn take_in(fields: &[u8]) -> Result<LoggedStep, LineFault>
     Ok(LoggedStep::Take { local, position })
 }
 
-/// The turn that was put back, by the fields behind its letter.
+/// The turn that was put back, by the fields after its letter.
 pub(crate) fn put_back_in(fields: &[u8]) -> Result<LoggedStep, LineFault>
     ensures { ReadsStep 66 fields.now result }
 {
@@ -65,7 +65,7 @@ pub(crate) fn put_back_in(fields: &[u8]) -> Result<LoggedStep, LineFault>
     Ok(LoggedStep::PutBack { local, position })
 }
 
-/// Puts the letter and the fields of a turn that was given behind a text.
+/// Adds the letter and the fields of a turn that was given to a text.
 pub(crate) fn write_give(
     local: u32,
     position: u64,
@@ -80,7 +80,7 @@ pub(crate) fn write_give(
     write_given(given, text)
 }
 
-/// The turn that was given, by the fields behind its letter.
+/// The turn that was given, by the fields after its letter.
 pub(crate) fn give_in(fields: &[u8]) -> Result<LoggedStep, LineFault>
     ensures { ReadsStep 71 fields.now result }
 {

@@ -10,7 +10,7 @@ returns-then-octet-eq32-clause-found c = cut_at c.args.text.now c.loop-place.pla
 pub returns-then-octet-eq32-clause-only : goal.returns-then-octet-eq32-clause-only
 returns-then-octet-eq32-clause-only c = λ a b field e.
     let cut = cut_at c.args.text.now c.loop-place.place _ c.loop-place-test.true c.if-octet-eq32.true refl in
-    one_cut _ _ a b c.loop-place.invariant field (sym cut ∙ e)
+    one_cut 32 _ _ a b c.loop-place.invariant field (sym cut ∙ e)
 
 pub returns-clause-only : goal.returns-clause-only
 returns-clause-only c = λ a b field e.

@@ -2,8 +2,7 @@ use Rattle.std.proofs.Common.{arith, decimal}
 use Rattle.std.proofs.lemmas.Result.{err_from_is_err_and}
 use Rattle.hex.specs.Hex.{encode_upper}
 use Rattle.fp_replay.specs.Format.{posted_text}
-use Rattle.fp_replay.proofs.Cutting.{decimal_is_field}
-use Rattle.fp_replay.proofs.Hexadecimal.{octets_are_field}
+use Rattle.fp_replay.proofs.Cutting.{decimal_is_field, octets_are_field}
 use Rattle.fp_replay.proofs.posting.posting_in.Goals as goal
 
 pub returns-in_default-clause-only : goal.returns-in_default-clause-only

@@ -4,8 +4,7 @@ use Rattle.fp_replay.proofs.posting.write_posting.Goals as goal
 pub returns-clause-front : goal.returns-clause-front
 returns-clause-front c =
     let old = c.args.text.now.items in
-    let k0 = kept_self old in
-    let k1 = kept_by old _ _ _ k0 c.in_ok-extend_from_slice.ensures.items in
+    let k1 = kept_by old _ _ _ (kept_self old) c.in_ok-extend_from_slice.ensures.items in
     let k2 = kept_by old _ _ _ k1 c.in_ok-write_number.ensures.written in
     let k3 = kept_by old _ _ _ k2 c.in_ok-push.ensures.items in
     let k4 = kept_by old _ _ _ k3 c.in_ok-write_octets.ensures.written in

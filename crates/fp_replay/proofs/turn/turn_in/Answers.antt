@@ -1,7 +1,7 @@
 use Rattle.std.proofs.Common.{decimal, arith}
 use Rattle.std.specs.Int.{w32, to_be_bytes}
 use Rattle.fp_replay.specs.Format.{identifier_text}
-use Rattle.fp_replay.proofs.Hexadecimal.{octets_are_field}
+use Rattle.fp_replay.proofs.Cutting.{octets_are_field}
 use Rattle.fp_replay.proofs.turn.turn_in.Goals as goal
 
 pub returns-in_default-clause-only : goal.returns-in_default-clause-only
