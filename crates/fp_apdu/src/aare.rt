@@ -71,7 +71,7 @@ fn write_apdu(name: &[u8], verdict: Verdict, out: &mut Writer) -> Result<(), All
 }
 
 /// Puts the dialogue portion that answers a request for a dialogue of this name by a verdict before the octets that are
-/// there: an AARE of version 1 with the same name, 37 octets and those of the name. After want of memory nothing
+/// there: an AARE of version 1 with the same name, 37 octets and those of the name. If memory runs out, nothing
 /// is promised of the octets.
 pub fn write_aare(name: &Name, verdict: Verdict, out: &mut Writer) -> Result<(), AllocError>
     ensures ok { OnOk result (out.new ≡ canon (dialogue_portion (aare name.now verdict)) ++ out.old) }

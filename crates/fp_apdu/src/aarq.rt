@@ -41,7 +41,7 @@ fn is_user_information(members: &[Element]) -> bool
         .is_some()
 }
 
-/// The name in the members of an AARQ behind its protocol version.
+/// The name in the members of an AARQ after its protocol version.
 fn name_in(members: &[Element]) -> Option<Name>
     ensures { MatchOption result
         ((name : List ℕ) (information : Option Trees) → IsName name

@@ -27,8 +27,7 @@ fn write_apdu(out: &mut Writer) -> Result<(), AllocError>
 }
 
 /// Puts the dialogue portion of an abort by the dialogue service user, an ABRT, before the octets that are there: 20
-/// octets. After want of memory nothing is promised of
-/// the octets.
+/// octets. If memory runs out, nothing is promised of the octets.
 pub fn write_abrt(out: &mut Writer) -> Result<(), AllocError>
     ensures ok { OnOk result (out.new ≡ canon (dialogue_portion abrt) ++ out.old) }
 

@@ -45,7 +45,7 @@ pub(crate) fn read(portion: &Element) -> Option<&Element>
     in_external(external)
 }
 
-/// Puts tags, lengths and the name of the abstract syntax before an APDU, so that with the APDU behind them they are a
+/// Puts tags, lengths and the name of the abstract syntax before an APDU, so that with the APDU after them they are a
 /// dialogue portion. All octets but the last ones, `behind` in number, are those of the APDU.
 pub(crate) fn write(behind: usize, out: &mut Writer) -> Result<(), AllocError>
     requires { (apdu : Tree) × (rest : List ℕ) × (out.old ≡ canon apdu ++ rest) × (length rest ≡ behind) }

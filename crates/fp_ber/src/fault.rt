@@ -6,7 +6,7 @@ ghost use Rattle.fp_ber.specs.declared.fault.BerFault.TheVariants.{Memory};
 use std::alloc::{AllocError, AllocFailed};
 use thiserror::Error;
 
-/// The first fault of octets that don't spell an element, from left to right, or want of memory.
+/// The first fault of octets that don't spell an element, from left to right, or out of memory.
 #[derive(Clone, Copy, Debug, PartialEq, Eq, Error)]
 pub enum BerFault {
     /// The octets, or the definite contents of the parent, end inside an element or before its end of
@@ -26,7 +26,7 @@ pub enum BerFault {
     /// Octets after the element.
     #[error("octets after the element")]
     Trailing,
-    /// Memory was wanting, and nothing is known of the octets.
+    /// An allocation failed, and nothing is known of the octets.
     #[error("out of memory")]
     Memory,
 }

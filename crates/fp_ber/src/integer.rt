@@ -25,7 +25,7 @@ pub fn octet_of(value: i8) -> u8
     }
 }
 
-/// A number, and eight more bits behind it.
+/// A number, and eight more bits after it.
 fn with_octet(high: i32, octet: u8) -> i32
     requires least { pos 0 ≤ℤ (pos 0x80_0000 +ℤ high) }
     requires most { high <ℤ pos 0x80_0000 }

@@ -22,7 +22,7 @@ pub enum Extent<'a> {
     Indefinite { rest: &'a [u8] },
 }
 
-/// Reads the length at the front of what stands behind a tag, `None` for an indefinite one, and gives what follows.
+/// Reads the length at the front of what follows a tag, `None` for an indefinite one, and gives what follows.
 /// A primitive element has no indefinite one.
 pub fn length_at(octets: &[u8], constructed: bool) -> Result<(Option<usize>, &[u8]), BerFault>
     ensures ok { IfOk result (λ x. MatchOption x.0

@@ -11,7 +11,7 @@
 //! * [`length_at`] reads a length alone, where the octets needn't be an element.
 //!
 //! The layer above may rely on this: `read` answers an element exactly where the octets spell it and it
-//! is in range (at most sixteen elements inside each other, tag numbers to 16,383), want of memory aside;
+//! is in range (at most sixteen elements inside each other, tag numbers to 16,383), unless memory runs out;
 //! no spelling begins another; octets have one first fault at most, and none where they spell an element in
 //! range; and what `write` appends is a spelling of its element, which `read` reads
 //! as that element. Contracts speak of an element as its tree (`specs/Tree.antt`), and of octets by

@@ -46,7 +46,7 @@ fn first_of(class: Class, constructed: bool, low: u8) -> u8
     class + form + low
 }
 
-/// Reads the number of a tag in the high form, behind its first octet, and gives what follows.
+/// Reads the number of a tag in the high form, after its first octet, and gives what follows.
 fn high_number_at(octets: &[u8]) -> Result<(u16, &[u8]), BerFault>
     ensures ok { IfOk result (λ x. (class : Class) (form : Bool)
         → BeginsTag (first_octet class form 31 ∷ octets.now) class form x.0 x.1.now) }

@@ -1,6 +1,6 @@
 //! Spellings that grow at their front.
 //!
-//! The length of an element stands in front of its contents, and isn't known before they are there. So a spelling is
+//! The length of an element precedes its contents, and isn't known before they are there. So a spelling is
 //! made from its end to its front: the contents first, and then their tag and length before them. No element is built
 //! on the way.
 
@@ -18,8 +18,7 @@ use std::alloc::{AllocError, Global};
 use std::marker::Model;
 
 /// Octets that grow at their front, less than 2^32 of them. Contracts see them as their list, the first one first.
-/// Where memory is wanting for what is put, the octets are as they were. More than 2^32 - 1 octets count as want of
-/// memory.
+/// If memory runs out for what is put, the octets are unchanged. More than 2^32 - 1 octets count as out of memory.
 #[derive(Debug, Drop)]
 pub struct Writer {
     /// The octets, the last one first.
@@ -68,7 +67,7 @@ impl Writer {
         self.reversed.len()
     }
 
-    /// Puts octets before those that are there. More than 2^32 - 1 in all are want of memory.
+    /// Puts octets before those that are there. More than 2^32 - 1 in all count as out of memory.
     pub fn put(&mut self, octets: &[u8]) -> Result<(), AllocError>
         ensures ok { OnOk result (self.new ≡ octets.now ++ self.old) }
         ensures err { OnErr result (self.new ≡ self.old) }
@@ -103,7 +102,7 @@ impl Writer {
     }
 
     /// Puts the canonical spelling of a primitive element before the octets that are there. More than 2^32 - 1 octets
-    /// in all are want of memory.
+    /// in all count as out of memory.
     pub fn put_primitive(
         &mut self,
         class: Class,
@@ -129,7 +128,7 @@ impl Writer {
         Ok(())
     }
 
-    /// Puts a tag and a length before the spellings of elements, so that with the elements behind them they are a
+    /// Puts a tag and a length before the spellings of elements, so that with the elements after them they are a
     /// constructed element. All octets but the last ones, `behind` in number, are those of the elements.
     pub fn put_constructed(
         &mut self,
@@ -152,8 +151,8 @@ impl Writer {
         self.put_header(tag, length)
     }
 
-    /// Puts the canonical spelling of an element before the octets that are there. More than 2^32 - 1 octets in all are
-    /// want of memory.
+    /// Puts the canonical spelling of an element before the octets that are there. More than 2^32 - 1 octets in all
+    /// count as out of memory.
     pub fn put_element(&mut self, element: &Element) -> Result<(), AllocError>
         requires tags { HasTags (tree_of element.now) }
         requires lengths { HasLengths (tree_of element.now) }

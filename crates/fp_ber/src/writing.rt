@@ -1,6 +1,6 @@
 //! Writing the canonical spelling of an element.
 //!
-//! The length of an element stands in front of contents whose length isn't known before they are written. So the
+//! The length of an element precedes contents whose length isn't known before they are written. So the
 //! room for all is made first, and then filled from its end to its front: each octet is written once, however deep
 //! it lies, memory is asked for once, and the element is gone through twice.
 
@@ -133,7 +133,7 @@ fn put_all(elements: &[Element], out: &mut [u8], end: usize) -> usize
 /// Appends the canonical spelling of an element (X.690, 10.1): definite lengths in as few octets as they take.
 ///
 /// The element has tags that elements may have, and lengths that four octets can say, at each level. It may
-/// lie as deep as it likes. Where memory is wanting the vector is as it was.
+/// be nested as deep as it likes. If memory runs out, the vector is unchanged.
 pub fn write(element: &Element, out: &mut Vec<u8>) -> Result<(), AllocError>
     requires tags { HasTags (tree_of element.now) }
     requires lengths { HasLengths (tree_of element.now) }

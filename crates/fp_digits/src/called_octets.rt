@@ -53,7 +53,7 @@ impl CalledOctets {
         self.octets.push(octet);
     }
 
-    /// Two digits in an octet, and 0 behind the last one of an odd number.
+    /// Puts digits, two in an octet, and 0 after the last one of an odd number.
     pub(crate) fn push_digits(&mut self, digits: &[u8])
         requires room { length self.old + (length digits.now + 1) / 2 ≤ Self.MOST }
         requires digits { All (λ digit. digit < 10) digits.now }

@@ -65,7 +65,7 @@ impl Digits {
         self.octets.as_slice()
     }
 
-    /// Puts a digit, 0 to 15, behind the others. There is room for it.
+    /// Puts a digit, 0 to 15, after the others. There is room for it.
     pub fn push(&mut self, digit: u8)
         requires room { length self.old < Self.MOST }
         requires digit { digit < 16 }

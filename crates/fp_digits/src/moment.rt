@@ -29,7 +29,7 @@ impl Moment {
     /// 2100-01-01T00:00:00Z in milliseconds since 1970-01-01T00:00:00Z: each moment lies before it.
     pub const END: u64 = 4_102_444_800_000;
 
-    /// The moment so many milliseconds after 1970-01-01T00:00:00Z, or `None` exactly at
+    /// The moment this number of milliseconds after 1970-01-01T00:00:00Z, or `None` exactly at
     /// [`Moment::END`] and above.
     pub fn new(milliseconds: u64) -> Option<Moment>
         ensures { SomeIff result (milliseconds < Self.END) milliseconds }

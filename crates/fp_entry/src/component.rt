@@ -116,7 +116,7 @@ fn rejected_identifier(reject: &Reject) -> Option<i8>
     }
 }
 
-/// The kind of entry that a component gives. Want of memory, for one more share of a record, is the only
+/// The kind of entry that a component gives. Out of memory, for one more share of a record, is the only
 /// error.
 pub fn kind_of(table: &Table, component: &Component<'_>) -> Result<EntryKind, AllocError>
     ensures { IfOk result (IsKind table.now (component_of component.now)) }

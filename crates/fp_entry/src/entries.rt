@@ -40,7 +40,7 @@ impl Entries {
         self.items.as_slice()
     }
 
-    /// Puts an entry behind the others, or leaves them as they were.
+    /// Puts an entry after the others. If memory runs out, they are unchanged.
     pub fn push(&mut self, entry: Entry) -> Result<(), AllocError>
         ensures ok { OnOk result (self.new ≡ self.old ++ entry ∷ []) }
         ensures err { OnErr result (self.new ≡ self.old) }
@@ -49,7 +49,7 @@ impl Entries {
         Ok(())
     }
 
-    /// Puts all of the others behind these, in their order, or, where memory is wanting, leaves these as they were.
+    /// Puts all of the others after these, in their order. If memory runs out, these are unchanged.
     pub fn append(&mut self, others: Entries) -> Result<(), AllocError>
         ensures ok { OnOk result (self.new ≡ self.old ++ others) }
         ensures err { OnErr result (self.new ≡ self.old) }
@@ -107,7 +107,7 @@ impl Entries {
         self.items
     }
 
-    /// A copy. Want of memory is the only error.
+    /// A copy. Out of memory is the only error.
     pub fn try_clone(&self, alloc: Global) -> Result<Entries, AllocError>
         ensures { IfOk result (λ copy. copy ≡ self.now) }
     {

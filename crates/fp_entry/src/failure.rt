@@ -11,7 +11,7 @@ use std::alloc::{AllocError, AllocFailed};
 pub enum Failure {
     /// It is refused.
     Refused(Fault),
-    /// Memory was wanting.
+    /// An allocation failed.
     Memory,
 }
 

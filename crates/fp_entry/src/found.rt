@@ -19,7 +19,7 @@ pub enum Found {
 }
 
 impl Found {
-    /// A copy. Want of memory, for one more share of a record, is the only error.
+    /// A copy. Out of memory, for one more share of a record, is the only error.
     pub fn try_clone(&self) -> Result<Found, AllocError>
         ensures { IfOk result (λ copy. copy ≡ self.now) }
     {

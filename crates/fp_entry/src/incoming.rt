@@ -7,7 +7,7 @@ use crate::Entries;
 pub struct Incoming {
     /// Its entries, in their order.
     pub entries: Entries,
-    /// How many elements its component portion holds: all of them, also those behind a faulty component,
+    /// How many elements its component portion holds: all of them, also those after a faulty component,
     /// which are never delivered.
     pub elements: usize,
 }

@@ -10,7 +10,7 @@ pub fn components_are_counted()
     ensures { ComponentsAreCounted }
 {}
 
-/// A frame that came at a moment is prepared to one thing over a table and accepted names, want of memory aside.
+/// A frame that came at a moment is prepared to one thing over a table and accepted names, unless memory runs out.
 pub fn prepared_is_one()
     ensures { PreparedIsOne }
 {

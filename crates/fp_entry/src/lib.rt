@@ -6,7 +6,7 @@
 //! nothing but memory: no clock, no input, no lock. It knows nothing of the dialogues that there are.
 //!
 //! * [`Prepared`] is what a frame is prepared to: a readable message, with what it brings, [`Incoming`], and so its
-//!   [`Entries`]; or a refusal, with its [`Fault`]; or neither, where memory was wanting. Each of them has its
+//!   [`Entries`]; or a refusal, with its [`Fault`]; or neither, if memory ran out. Each of them has its
 //!   [`Arrival`]: the frame, its moment, and what can be known of its octets, their kind and identifiers.
 //! * [`Entry`] is what a dialogue is handed at a time: a moment, and an [`EntryKind`].
 //! * [`Found`] is what the table has of the number that an InitialDP asks for; a [`SharedRecord`] is a share of the

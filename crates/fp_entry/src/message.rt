@@ -18,7 +18,7 @@ use fp_q773::{Abort, Begin, Component, Continue, End, Message};
 use fp_records::Table;
 use std::alloc::{AllocError, Global};
 
-/// Puts the entries of components behind others, up to that of the first faulty component.
+/// Puts the entries of components after others, up to that of the first faulty component.
 fn deliver(
     table: &Table,
     components: &[Component<'_>],

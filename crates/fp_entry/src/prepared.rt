@@ -46,7 +46,7 @@ pub enum Prepared {
         /// Why.
         fault: Fault,
     },
-    /// Memory was wanting, and the frame wasn't read to its end.
+    /// Memory ran out, and the frame wasn't read to its end.
     Lost {
         /// The frame, its moment and what can be known of its octets all the same.
         arrival: Arrival,
@@ -138,8 +138,8 @@ impl Prepared {
     /// What isn't readable, has the tag of no message, or has other contents than its own is
     /// [`Prepared::Refused`], and so is a Begin whose dialogue portion is no request for a dialogue. The dialogue
     /// portion of any other message isn't looked at, nor what a Unidirectional holds. No message is refused for
-    /// how many components it has. Want of memory alone, also for one more share of a record, gives
-    /// [`Prepared::Lost`].
+    /// how many components it has. [`Prepared::Lost`] comes only if memory runs out, also for one more share
+    /// of a record.
     pub fn read(
         alloc: Global,
         table: &Table,
@@ -150,14 +150,14 @@ impl Prepared {
         // What is answered is what the octets are prepared to.
         ensures is { IsPrepared table.now contexts.now frame moment result }
 
-        // There is no other answer, want of memory aside.
+        // There is no other answer, unless memory runs out.
         ensures only { (other : Prepared) → IsPrepared table.now contexts.now frame moment other → Answers result other }
     {
         prepared_is_one();
         prepare(alloc, table, contexts, Arrival::new(frame, moment))
     }
 
-    /// A frame that came at this moment and that isn't read, as if memory had been wanting. Takes no memory.
+    /// A frame that came at this moment and that isn't read, as if memory had run out. Takes no memory.
     pub fn lost(frame: Frame, moment: Moment) -> Prepared
         ensures { IsLost frame moment result }
     {

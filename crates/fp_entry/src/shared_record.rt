@@ -43,7 +43,7 @@ impl Eq for SharedRecord {
 }
 
 impl SharedRecord {
-    /// One more share of a record of the table. Want of memory is the only error.
+    /// One more share of a record of the table. Out of memory is the only error.
     pub fn new(found: &Arc<Record>) -> Result<SharedRecord, AllocError>
         ensures { IfOk result (λ shared. shared ≡ arc_value found.now) }
     {
@@ -59,7 +59,7 @@ impl SharedRecord {
         &self.record
     }
 
-    /// One more share of the same record. Want of memory is the only error.
+    /// One more share of the same record. Out of memory is the only error.
     pub fn try_clone(&self) -> Result<SharedRecord, AllocError>
         ensures { IfOk result (λ shared. shared ≡ self.now) }
     {

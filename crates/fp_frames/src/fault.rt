@@ -12,7 +12,7 @@ pub enum FrameFault {
     /// The length of the next frame is 0 or above 4,096 octets.
     #[error("bad frame length")]
     BadFrameLength,
-    /// Memory was wanting.
+    /// An allocation failed.
     #[error("out of memory")]
     Memory,
 }

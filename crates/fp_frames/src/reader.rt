@@ -15,9 +15,9 @@ const HEAD: usize = 4;
 /// The frames of a stream of octets, in whatever pieces it comes. Contracts see it as the octets that were fed and not
 /// handed out.
 ///
-/// Octets are copied where they are fed, and what was begun once more where there is no room behind it. A frame that is
-/// handed out shares them, and keeps the memory of its neighbours while it lives. A peer that sends a length that no frame
-/// has can't be understood any more: from there on each call of [`FrameReader::next`] answers so.
+/// Octets are copied where they are fed, and what was begun once more if there is no room after it. A frame that is
+/// handed out shares them, and keeps the memory of its neighbours while it lives. A peer that sends a length that no
+/// frame has can't be understood any more: from there on each call of [`FrameReader::next`] answers so.
 #[derive(Drop)]
 pub struct FrameReader {
     octets: BytesMut,
@@ -41,7 +41,7 @@ impl FrameReader {
         }
     }
 
-    /// Takes the next piece of the stream, of any length. `Err`: memory was wanting, and nothing was taken.
+    /// Takes the next piece of the stream, of any length. `Err`: memory ran out, and nothing was taken.
     pub fn feed(&mut self, piece: &[u8]) -> Result<(), AllocError>
         ensures ok { OnOk result (self.new ≡ self.old ++ piece.now) }
         ensures err { OnErr result (self.new ≡ self.old) }

@@ -21,7 +21,7 @@ const DESTINATION_ROUTING_ADDRESS: u16 = 0;
 /// before the octets that are there.
 ///
 /// The argument is a sequence of destinationRoutingAddress alone, tag 0, and that of one called party number, as
-/// [`write_called`] spells it. After want of memory nothing is promised of the octets.
+/// [`write_called`] spells it. If memory runs out, nothing is promised of the octets.
 pub fn write_connect(destination: &[u8], out: &mut Writer) -> Result<(), AllocError>
     requires some { 1 ≤ length destination.now }
     requires most { length destination.now ≤ 15 }

@@ -55,7 +55,7 @@ impl Eq for ActiveInvocations {
     ghost laws = { same_list_equiv };
 }
 
-/// What stands in a place where no invocation is.
+/// What a place holds that has no invocation.
 const VACANT: Invocation = Invocation {
     identifier: 0,
     class: OperationClass::Class1,
@@ -92,7 +92,7 @@ impl ActiveInvocations {
         &self.places[..self.used]
     }
 
-    /// Puts one behind the others. There is room for it.
+    /// Puts one after the others. There is room for it.
     pub(crate) fn push(&mut self, invocation: Invocation)
         requires { length self.old < Self.MOST }
         ensures { self.new ≡ self.old ++ invocation ∷ [] }

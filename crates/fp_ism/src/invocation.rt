@@ -31,7 +31,7 @@ pub(crate) fn time_limit_of(class: OperationClass) -> u64
     }
 }
 
-/// The identifier so many steps behind the successor of this one, 127 being followed by 1.
+/// The identifier this number of steps after the successor of this one, 127 being followed by 1.
 pub(crate) fn identifier_after(last: u8, step: u8) -> i8
     requires last { last ≤ IDENTIFIERS }
     requires step { step < IDENTIFIERS }

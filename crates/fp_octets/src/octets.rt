@@ -138,7 +138,7 @@ impl<const MOST: usize> Octets<MOST> {
         &self.places[..usize::from(self.used)]
     }
 
-    /// Puts an octet behind the others. There is room for it.
+    /// Puts an octet after the others. There is room for it.
     pub fn push(&mut self, octet: u8)
         requires { length self.old < MOST }
         ensures { self.new ≡ self.old ++ octet ∷ [] }
@@ -147,7 +147,7 @@ impl<const MOST: usize> Octets<MOST> {
         self.used += 1;
     }
 
-    /// Puts octets behind the others. There is room for them.
+    /// Puts octets after the others. There is room for them.
     pub fn extend(&mut self, octets: &[u8])
         requires most { MOST ≤ 255 }
         requires room { length self.old + length octets.now ≤ MOST }

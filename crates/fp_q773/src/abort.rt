@@ -147,8 +147,8 @@ impl<'a> Abort<'a> {
     }
 }
 
-/// Writes what stands before the reason of an Abort, of the user or of the provider. The octets before the last
-/// `behind` ones are the spelling of its reason, and there are none where it has none. After want of memory nothing is
+/// Writes what precedes the reason of an Abort, of the user or of the provider. The octets before the last
+/// `behind` ones are the spelling of its reason, and there are none where it has none. If memory runs out, nothing is
 /// promised of the octets.
 pub fn write_abort_message(
     destination: Tid,
@@ -157,7 +157,7 @@ pub fn write_abort_message(
 ) -> Result<(), AllocError>
     requires behind { behind ≤ length out.old }
 
-    // The Abort stands before the last octets.
+    // The Abort precedes the last octets.
     ensures exact { (reason : Option value.ReasonValue) (rest : List ℕ)
         → out.old ≡ canon_of_all (reason_trees reason) ++ rest → length rest ≡ behind
         → OnOk result (out.new ≡ canon (written (value.abort (octets_of destination) reason)) ++ rest) }

@@ -46,14 +46,14 @@ pub enum Component<'a> {
     ReturnResultNotLast(ReturnResult<'a>),
     /// What is none of these, and what a Reject of it has.
     Faulty {
-        /// The invoke identifier that stands first, if one does and the tag is that of a component.
+        /// The invoke identifier that comes first, if one does and the tag is that of a component.
         identifier: Option<i8>,
         /// An unrecognized component, or a mistyped one.
         problem: GeneralProblem,
     },
 }
 
-/// The invoke identifier that stands first, if one does.
+/// The invoke identifier that comes first, if one does.
 fn first_identifier(members: &[Element]) -> Option<i8>
     ensures { BeginsWith (forest_of members.now) result }
 {

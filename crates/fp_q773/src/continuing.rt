@@ -78,8 +78,8 @@ impl<'a> Continue<'a> {
     }
 }
 
-/// Writes what stands before the portions of a Continue. The octets before the last `behind` ones are the spelling of
-/// its portions, and there are none where it has none. After want of memory nothing is promised of the octets.
+/// Writes what precedes the portions of a Continue. The octets before the last `behind` ones are the spelling of
+/// its portions, and there are none where it has none. If memory runs out, nothing is promised of the octets.
 pub fn write_continue_message(
     originating: Tid,
     destination: Tid,
@@ -88,7 +88,7 @@ pub fn write_continue_message(
 ) -> Result<(), AllocError>
     requires behind { behind ≤ length out.old }
 
-    // The Continue stands before the last octets.
+    // The Continue precedes the last octets.
     ensures exact { (dialogue : Option Tree) (components : List value.ComponentValue) (rest : List ℕ)
         → out.old ≡ canon_of_all (portions_trees dialogue components) ++ rest → length rest ≡ behind
         → OnOk result (out.new ≡ canon (written (value.continuing (octets_of originating) (octets_of destination) dialogue components)) ++ rest) }

@@ -71,8 +71,8 @@ impl<'a> End<'a> {
     }
 }
 
-/// Writes what stands before the portions of an End. The octets before the last `behind` ones are the spelling of
-/// its portions, and there are none where it has none. After want of memory nothing is promised of the octets.
+/// Writes what precedes the portions of an End. The octets before the last `behind` ones are the spelling of
+/// its portions, and there are none where it has none. If memory runs out, nothing is promised of the octets.
 pub fn write_end_message(
     destination: Tid,
     behind: usize,
@@ -80,7 +80,7 @@ pub fn write_end_message(
 ) -> Result<(), AllocError>
     requires behind { behind ≤ length out.old }
 
-    // The End stands before the last octets.
+    // The End precedes the last octets.
     ensures exact { (dialogue : Option Tree) (components : List value.ComponentValue) (rest : List ℕ)
         → out.old ≡ canon_of_all (portions_trees dialogue components) ++ rest → length rest ≡ behind
         → OnOk result (out.new ≡ canon (written (value.end (octets_of destination) dialogue components)) ++ rest) }

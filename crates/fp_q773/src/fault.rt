@@ -15,7 +15,7 @@ pub enum MessageFault {
     /// The tag is that of a message, and the contents are not its own.
     #[error("a message with other contents than its own")]
     Badly,
-    /// Memory was wanting, and nothing is known of the element.
+    /// An allocation failed, and nothing is known of the element.
     #[error("out of memory")]
     Memory,
 }

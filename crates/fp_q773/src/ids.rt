@@ -32,14 +32,14 @@ struct Found {
     dest: Option<Tid>,
 }
 
-/// An identifier, and the octets behind it.
+/// An identifier, and the octets after it.
 #[derive(Clone, Copy)]
 struct Standing<'a> {
     identifier: Tid,
     rest: &'a [u8],
 }
 
-/// What stands behind this tag, if it stands first.
+/// What follows this tag, if it comes first.
 fn behind(octets: &[u8], tag: u8) -> Option<&[u8]>
     ensures { MatchOption result (IsMarked tag octets.now → ⊥) (λ body. octets.now ≡ tag ∷ body.now) }
 {
@@ -52,7 +52,7 @@ fn behind(octets: &[u8], tag: u8) -> Option<&[u8]>
     Some(body)
 }
 
-/// The identifier with this tag that stands first, and what stands behind it.
+/// The identifier with this tag that comes first, and what follows it.
 fn identifier_at(octets: &[u8], tag: u8) -> Option<Standing<'_>>
     ensures some { IfSome result (λ s. Stands tag octets.now (octets_of s.identifier) s.rest.now) }
     ensures none { IfNone result (Counts tag octets.now None) }
@@ -76,7 +76,7 @@ fn identifier_at(octets: &[u8], tag: u8) -> Option<Standing<'_>>
     Some(Standing { identifier, rest })
 }
 
-/// The identifier with this tag that stands first.
+/// The identifier with this tag that comes first.
 fn counted(octets: &[u8], tag: u8) -> Option<Tid>
     ensures { Counts tag octets.now (option_map octets_of result) }
 {
@@ -86,7 +86,7 @@ fn counted(octets: &[u8], tag: u8) -> Option<Tid>
     Some(standing.identifier)
 }
 
-/// The identifiers of a Continue: a destination one counts only behind an originating one.
+/// The identifiers of a Continue: a destination one counts only after an originating one.
 fn continue_ids(octets: &[u8]) -> Found
     ensures { AreIdsIn kinds.Continue octets.now (option_map octets_of result.orig) (option_map octets_of result.dest) }
 {
@@ -146,7 +146,7 @@ fn ids_in(kind: Kind, octets: &[u8]) -> Found
     }
 }
 
-/// What stands behind a tag of one octet and a length.
+/// What follows a tag of one octet and a length.
 fn contents_of(first: u8, body: &[u8]) -> Option<&[u8]>
     ensures some { IfSome result (λ contents. (first % 32 < 31) × PassesLength body.now contents.now) }
     ensures none { IfNone result ((contents : List ℕ) → first % 32 < 31 → PassesLength body.now contents → ⊥) }

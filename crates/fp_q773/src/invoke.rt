@@ -36,14 +36,14 @@ pub struct Invoke<'a> {
     pub parameter: Option<&'a Element>,
 }
 
-/// A linked identifier, if there is one, and what stands behind it.
+/// A linked identifier, if there is one, and what follows it.
 #[derive(Clone, Copy)]
 struct Linked<'a> {
     identifier: Option<i8>,
     rest: &'a [Element],
 }
 
-/// Takes off a linked identifier, if one stands first.
+/// Takes off a linked identifier, if one comes first.
 fn linked_at(members: &[Element]) -> Linked<'_>
     ensures some { IfSome result.identifier (λ identifier. (first : Tree)
         × (forest_of members.now ≡ tree.more first (forest_of result.rest.now)) × IsLinked first identifier) }
@@ -121,8 +121,8 @@ fn write_asked(linked: Option<i8>, code: Code<'_>, out: &mut Writer) -> Result<(
     write_linked(linked, out)
 }
 
-/// Writes what stands before the parameter of an Invoke. The octets before the last `behind` ones are the spelling of
-/// its parameter, and there are none where it has none. After want of memory nothing is promised of the octets.
+/// Writes what precedes the parameter of an Invoke. The octets before the last `behind` ones are the spelling of
+/// its parameter, and there are none where it has none. If memory runs out, nothing is promised of the octets.
 pub fn write_invoke(
     identifier: i8,
     linked: Option<i8>,
@@ -132,7 +132,7 @@ pub fn write_invoke(
 ) -> Result<(), AllocError>
     requires behind { behind ≤ length out.old }
 
-    // The Invoke stands before the last octets.
+    // The Invoke precedes the last octets.
     ensures exact { (parameter : Option Tree) (rest : List ℕ) → out.old ≡ canon_of_all (only parameter) ++ rest → length rest ≡ behind
         → OnOk result (out.new ≡ canon (component_tree (value.invoke identifier linked (code_of code.entry) parameter)) ++ rest) }
 

@@ -1,4 +1,4 @@
-//! Kinds of messages (Q.773, 4.2.1), told by the first octet.
+//! Kinds of messages (Q.773, 4.2.1), by the first octet.
 
 ghost use Rattle.std.specs.Prelude.{◌≡◌};
 ghost use Rattle.fp_q773.specs.Ids.{kind_of};

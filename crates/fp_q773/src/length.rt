@@ -1,4 +1,4 @@
-//! The length that stands behind a tag (X.690, 8.1.3), where the octets needn't be an element.
+//! The length that follows a tag (X.690, 8.1.3), in octets that needn't be an element.
 
 ghost use Rattle.std.specs.Prelude.{◌≡◌, ◌∷◌, MatchOption, IfSome, IfNone};
 ghost use Rattle.fp_ber.specs.Spelling.{BeginsLength};

@@ -12,14 +12,14 @@ ghost use Rattle.fp_q773.specs.Writable.{only};
 use fp_ber::{Element, Writer};
 use std::alloc::AllocError;
 
-/// An element, and those behind it.
+/// An element, and those after it.
 #[derive(Clone, Copy)]
 pub struct Split<'a> {
     pub first: &'a Element,
     pub rest: &'a [Element],
 }
 
-/// The first element and those behind it; `None` for no elements.
+/// The first element and those after it; `None` for no elements.
 pub fn split_first(members: &[Element]) -> Option<Split<'_>>
     ensures { MatchOption result (forest_of members.now ≡ tree.none)
         (λ split. forest_of members.now ≡ tree.more (tree_of split.first.now) (forest_of split.rest.now)) }

@@ -144,8 +144,8 @@ pub fn message_of(alloc: Global, element: &Element) -> Result<Message<'_>, Messa
 /// Writes a message (Q.773, 4.2.1) before the octets that are there.
 ///
 /// No component is faulty, and a dialogue portion has the tag 6B. The elements that the message lends, its parameters
-/// and its dialogue portion, have tags that elements may have, and lengths that four octets tell. A Unidirectional is
-/// written without components. After want of memory nothing is promised of the octets.
+/// and its dialogue portion, have tags that elements may have, and lengths that four octets can say. A Unidirectional
+/// is written without components. If memory runs out, nothing is promised of the octets.
 pub fn write_message(message: &Message<'_>, out: &mut Writer) -> Result<(), AllocError>
     requires writable { IsWritableMessage (message_value message.now) }
     requires tags { CopiesHaveTags (message_value message.now) }

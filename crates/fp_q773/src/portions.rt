@@ -33,14 +33,14 @@ pub struct Portions<'a> {
     pub components: Vec<Component<'a>>,
 }
 
-/// A dialogue portion, if there is one, and what stands behind it.
+/// A dialogue portion, if there is one, and what follows it.
 #[derive(Clone, Copy)]
 pub struct Dialogue<'a> {
     pub element: Option<&'a Element>,
     pub rest: &'a [Element],
 }
 
-/// Takes off a dialogue portion, if one stands first.
+/// Takes off a dialogue portion, if one comes first.
 pub fn dialogue_at(members: &[Element]) -> Dialogue<'_>
     ensures some { IfSome result.element (λ dialogue. (forest_of members.now ≡ tree.more (tree_of dialogue.now) (forest_of result.rest.now))
         × IsDialogue (tree_of dialogue.now)) }
@@ -136,8 +136,8 @@ fn write_components(components: &[Component<'_>], out: &mut Writer) -> Result<()
     Ok(())
 }
 
-/// Writes what stands before components, of which there is one at least. The octets before the last `behind` ones are
-/// their spellings. After want of memory nothing is promised of the octets.
+/// Writes what precedes components, of which there is one at least. The octets before the last `behind` ones are
+/// their spellings. If memory runs out, nothing is promised of the octets.
 pub fn write_component_portion(behind: usize, out: &mut Writer) -> Result<(), AllocError>
     requires { behind ≤ length out.old }
     ensures { (components : List ComponentValue) (rest : List ℕ) → components ≢ []

@@ -22,7 +22,7 @@ pub const REJECT: u16 = 4;
 /// A Reject: what is wrong with a component.
 #[derive(Clone, Copy, Debug, PartialEq, Eq)]
 pub struct Reject {
-    /// The invoke identifier of the component, if it could be told.
+    /// The invoke identifier of the component, if it could be read.
     pub identifier: Option<i8>,
     /// What is wrong with it.
     pub problem: Problem,

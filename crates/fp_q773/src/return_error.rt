@@ -70,8 +70,8 @@ impl<'a> ReturnError<'a> {
     }
 }
 
-/// Writes what stands before the parameter of a ReturnError. The octets before the last `behind` ones are the spelling
-/// of its parameter, and there are none where it has none. After want of memory nothing is promised of the octets.
+/// Writes what precedes the parameter of a ReturnError. The octets before the last `behind` ones are the spelling
+/// of its parameter, and there are none where it has none. If memory runs out, nothing is promised of the octets.
 pub fn write_return_error(
     identifier: i8,
     code: Code<'_>,
@@ -80,7 +80,7 @@ pub fn write_return_error(
 ) -> Result<(), AllocError>
     requires behind { behind ≤ length out.old }
 
-    // The ReturnError stands before the last octets.
+    // The ReturnError precedes the last octets.
     ensures exact { (parameter : Option Tree) (rest : List ℕ) → out.old ≡ canon_of_all (only parameter) ++ rest → length rest ≡ behind
         → OnOk result (out.new ≡ canon (component_tree (value.return_error identifier (code_of code.entry) parameter)) ++ rest) }
 

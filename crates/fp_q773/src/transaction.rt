@@ -19,14 +19,14 @@ pub const ORIGINATING: u16 = 8;
 /// The number of the application tag of a destination transaction identifier.
 pub const DESTINATION: u16 = 9;
 
-/// A transaction identifier, and the elements behind it.
+/// A transaction identifier, and the elements after it.
 #[derive(Clone, Copy)]
 pub struct Transaction<'a> {
     pub identifier: Tid,
     pub rest: &'a [Element],
 }
 
-/// Takes off the transaction identifier that stands first, with the tag of this number.
+/// Takes off the transaction identifier that comes first, with the tag of this number.
 pub fn transaction_at(members: &[Element], number: u16) -> Option<Transaction<'_>>
     ensures some { IfSome result (λ t. IsTransaction (forest_of members.now) number (octets_of t.identifier) (forest_of t.rest.now)) }
     ensures none { IfNone result ((octets : List ℕ) (rest : tree.Trees)

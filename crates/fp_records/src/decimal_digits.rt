@@ -96,7 +96,7 @@ impl DecimalDigits {
         Some(decimal)
     }
 
-    /// Puts a digit behind the others, where there is room for it.
+    /// Puts a digit after the others, if there is room for it.
     fn push(&mut self, digit: u8)
         requires room { length self.old < Self.MOST }
         requires digit { digit < 10 }

@@ -101,7 +101,7 @@ fn destination_in(row: &ByteRecord, place: usize) -> Result<Destination, Reason>
     Destination::from_text(field(row, place)?).ok_or(Reason::BadDestination)
 }
 
-/// One to four destinations, behind the other fields.
+/// One to four destinations, after the other fields.
 fn destinations_of(row: &ByteRecord) -> Result<Destinations, Reason>
     ensures { result ≡ destinations_of (fields_of row.now) }
 {
@@ -197,7 +197,7 @@ fn rule_in(row: &ByteRecord) -> Result<Rule, Reason>
 }
 
 /// The rule that a record is, and the number that it is for, or what is first wrong with it: its
-/// fields are tested from left to right as far as they are there, their count behind the action, and
+/// fields are tested from left to right as far as they are there, their count after the action, and
 /// the destinations last.
 pub(crate) fn numbered_in(row: &ByteRecord) -> Result<NumberedRule, Reason>
     ensures { result ≡ numbered_in (fields_of row.now) }

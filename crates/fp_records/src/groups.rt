@@ -120,7 +120,7 @@ impl Groups {
         }
     }
 
-    /// Puts a rule behind those of its number, for which there is room.
+    /// Puts a rule after those of its number, for which there is room.
     fn add(&mut self, alloc: Global, numbered: &NumberedRule) -> Result<(), RecordsFault>
         requires room { IsTrue (has_room self.old numbered.now.number) }
         requires decimal { IsTrue (is_decimal numbered.now.number) }
@@ -137,7 +137,7 @@ impl Groups {
         Ok(())
     }
 
-    /// The record of each number, with local time so many minutes east of UTC.
+    /// The record of each number, with local time this number of minutes east of UTC.
     pub(crate) fn into_records(
         self,
         alloc: Global,
@@ -152,14 +152,14 @@ impl Groups {
         let mut records = BTreeMap::new(alloc);
         for (number, rules) in self.groups {
             let record = Arc::new(alloc, Record::new(offset, rules))?;
-            // A number stands in the groups once, so no record is replaced.
+            // A number is in the groups once, so no record is replaced.
             drop(records.insert(number, record)?);
         }
         Ok(records)
     }
 }
 
-/// Puts a value behind the others of the list at a number.
+/// Puts a value after the others of the list at a number.
 fn push_at<T: Drop>(
     lists: &mut BTreeMap<DecimalDigits, Vec<T>>,
     alloc: Global,

@@ -25,7 +25,7 @@ pub(crate) struct Head {
     pub(crate) offset: i16,
 }
 
-/// The minutes east of UTC, -720 to 840, that a text writes: decimal digits, behind a `-` or not.
+/// The minutes east of UTC, -720 to 840, that a text writes: decimal digits, after a `-` or not.
 fn offset_of(text: &[u8]) -> Option<i16>
     ensures value { result ≡ offset_of text.now }
     ensures west { IfSome result (λ offset. neg_ℤ (pos 720) ≤ℤ offset) }

@@ -16,7 +16,7 @@
 //! - [`Destinations`] are those of a rule that routes. [`Destinations::split_first`] is the one that
 //!   is tried next and those that are left.
 //! - [`RecordsFault`] says why a text is no table: the first faulty record and its [`Reason`], or
-//!   want of memory.
+//!   out of memory.
 //!
 //! The layer above may rely on this: a table is what the text says and nothing else (`IsTable` of
 //! `specs/Table.antt` and `IsFile` of `specs/File.antt`), a fault names the first faulty record

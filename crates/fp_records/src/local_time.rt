@@ -16,7 +16,7 @@ pub(crate) struct LocalTime {
     pub(crate) minute: u16,
 }
 
-/// The weekday and the minute of the day at a moment, with local time so many minutes east of UTC.
+/// The weekday and the minute of the day at a moment, with local time this number of minutes east of UTC.
 pub(crate) fn local_time(moment: Moment, offset: i16) -> LocalTime
     requires west { neg_ℤ (pos 720) ≤ℤ offset }
     requires east { offset ≤ℤ pos 840 }

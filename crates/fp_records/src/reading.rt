@@ -58,7 +58,7 @@ impl<'a> RecordReader<'a> {
         }
         self.has_ended = true;
         // A text in memory has no failure of its own, records may differ in length and their
-        // fields are octets: what is left of the reader's errors is want of memory.
+        // fields are octets: what is left of the reader's errors is out of memory.
         let Ok(found) = self.reader.read_byte_record(row) else {
             return Err(RecordsFault::Memory);
         };

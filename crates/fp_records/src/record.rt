@@ -58,7 +58,7 @@ struct Share {
 }
 
 impl Record {
-    /// The record of these rules, at most 1,000, with local time so many minutes east of UTC.
+    /// The record of these rules, at most 1,000, with local time this number of minutes east of UTC.
     pub(crate) fn new(offset: i16, rules: Vec<KeptRule>) -> Record
         requires { IsRules (record { offset = offset; rules = rules.items }) }
         ensures { result ≡ record { offset = offset; rules = rules.items } }

@@ -9,8 +9,8 @@ use crate::weight::Weight;
 use crate::window::Window;
 use std::marker::Model;
 
-/// A rule of a number: which calls it fits, its share of them, and what it does. Two are equal exactly where they say the
-/// same (`exact_rule` of `specs/Same.antt`).
+/// A rule of a number: which calls it fits, its share of them, and what it does. Two are equal exactly where they say
+/// the same (`exact_rule` of `specs/Same.antt`).
 #[derive(Clone, Copy, Debug, PartialEq, Eq)]
 pub struct Rule {
     /// The calling numbers that it fits begin with these digits.

@@ -47,8 +47,8 @@ impl Table {
     /// lines are no records) and the first reason that fits it: `BadHead` where record 1 is not
     /// `key,SERVICEKEY,OFFSET` (0 to 2147483647, and -720 to 840) or the text has no record, and for
     /// each other record what is wrong with its fields from left to right as far as they are there,
-    /// `FieldCount` behind the action, `BadDestination`, and `TooMany` where 100,000 rules or 1,000 of
-    /// its number stand before it. Want of memory is `Memory`. No table is left then.
+    /// `FieldCount` after the action, `BadDestination`, and `TooMany` where 100,000 rules or 1,000 of
+    /// its number come before it. Out of memory is `Memory`. No table is left then.
     pub fn read(alloc: Global, text: &[u8]) -> Result<Table, RecordsFault>
         ensures answer { Reads result (records_of text.now) }
         ensures file { (file : File) → IsFile (records_of text.now) file → MatchResult result (λ table. IsTable file table) (λ fault. fault ≡ RecordsFault.Memory) }

@@ -11,7 +11,7 @@ pub(crate) const LAST_START: u16 = 1439;
 /// The last minute at which a window may end, 24:00.
 pub(crate) const LAST_END: u16 = 1440;
 
-/// A window of the day: from its first minute on, up to and without the minute of its end. Where the
+/// A window of the day: from its first minute on, up to and without the minute of its end. If the
 /// end is before the first minute, it goes over midnight. Contracts see the two as a `Period`.
 #[derive(Clone, Copy, Debug, PartialEq, Eq)]
 pub struct Window {
@@ -40,7 +40,7 @@ impl Window {
         self.from
     }
 
-    /// The minute behind the last one, 0 (00:00) to 1440 (24:00), never [`Window::from`].
+    /// The minute after the last one, 0 (00:00) to 1440 (24:00), never [`Window::from`].
     pub fn to(self) -> u16
         ensures value { result ≡ self.to }
         ensures range { result ≤ 1440 }

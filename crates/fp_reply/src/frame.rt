@@ -32,7 +32,7 @@ pub fn bytes_of(
 ) -> Result<Vec<u8>, AllocError>
     ensures frame { IfOk result (λ octets. octets.items ≡ frame_of request.now local (octets_of peer.now)) }
 
-    // Whoever reads the frame finds the message of the request.
+    // The frame is read as the message of the request.
     ensures says { IfOk result (λ octets. IsFrameOf octets.items (reply request.now local (octets_of peer.now))) }
 
     // A frame is short.

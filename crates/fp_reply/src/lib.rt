@@ -2,7 +2,7 @@
 //! (ITU-T X.690, 10.1), with the head of a frame before it.
 //!
 //! The layer is handed a [`Request`](fp_service::Request) and the two transaction identifiers of its dialogue, and
-//! gives octets. It asks the system for nothing but memory, and want of memory is its only error.
+//! gives octets. It asks the system for nothing but memory, and out of memory is its only error.
 //!
 //! * [`bytes_of`] gives the frame of a request, of at most [`MOST_OCTETS`] octets.
 //! * [`abort_frame`] gives the frame of an Abort of the provider, and takes no memory.
@@ -12,7 +12,7 @@
 //! an application context there is none. Then come the components, if there are any.
 //!
 //! The layer above may rely on this: the frame is `frame_of` of `specs/Reply.antt`, which names nothing but the
-//! request and the identifiers, and whoever reads it finds the message that `reply` of the same file says.
+//! request and the identifiers, and it is read as the message that `reply` of the same file says.
 #![tactic(auto)]
 
 mod component;

@@ -40,8 +40,8 @@ impl AbortFrame {
     }
 }
 
-/// The octets that are sent where the provider aborts a dialogue for this cause, and the peer knows it by this
-/// identifier: the head of a frame, and behind it the Abort in canonical spelling (Q.773, 4.2.1; X.690, 10.1).
+/// The octets that are sent if the provider aborts a dialogue for this cause, and the peer knows it by this
+/// identifier: the head of a frame, and after it the Abort in canonical spelling (Q.773, 4.2.1; X.690, 10.1).
 /// Takes no memory.
 pub fn abort_frame(destination: Tid, cause: AbortCause) -> AbortFrame
     ensures { frame_octets result ≡ framed (canon (provider_abort (octets_of destination) (cause_code cause))) }
