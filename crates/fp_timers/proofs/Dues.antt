@@ -1,34 +1,43 @@
--- The first of the timers that are due is what the map has as due.
-use Rattle.std.proofs.Common.{◌≡◌, ◌⊎◌, inl, inr, ℕ, ◌<◌, ◌≤◌, List, length, Option, Some, None, sym, ap, ◌∙◌, subst, arith}
-use Rattle.std.specs.Option.{option_map}
-use Rattle.fp_timers.specs.declared.timers.Timer.{Timer}
-use Rattle.fp_timers.specs.Deadlines.{IsEarliestDue}
-use Rattle.fp_timers.specs.Timers.{timer_at, IsInOrder, IsAt, IsEarliest, ComesFirst}
-use Rattle.fp_timers.proofs.Lookups.{found, deadline_in_present}
-use Rattle.fp_timers.proofs.Maps.{map_of, get-map_of}
-use Rattle.fp_timers.proofs.Searches.{none_before}
+-- The first timer in the order of deadlines is what the map has as due.
+use Rattle.fp_timers.proofs.Names.{AreApart, IsEarliestDue, IsInTimeOrder, List, None, Some, Timer, and_parts, arith, cases_order, comes_before, eqb-true, get_or_default, inl, inr, length, ltb-true, nat_lt, or_cases, subst, sym, timer_at, true, ℕ, ◌&&◌, ◌<◌, ◌==◌, ◌∙◌, ◌≡◌, ◌≤◌, ◌⊎◌}
+use Rattle.fp_timers.proofs.Lookups.{found}
+use Rattle.fp_timers.proofs.Maps.{map_of, get-map_of, present}
 
--- what the order of timers says of an entry
-before_entry : (a b : Timer) (other later : ℕ) → ComesFirst a b → b.local ≡ other → b.deadline ≡ later → (a.deadline < later) ⊎ ((a.deadline ≡ later) × (a.local ≤ other))
-before_entry a b other later (inl sooner) local deadline = inl (omega arith)
-before_entry a b other later (inr same) local deadline = inr (omega arith, omega arith)
+-- the timer isn't after a deadline of an identifier
+abbrev NotAfter : Timer → ℕ → ℕ → Type 0
+NotAfter t local deadline = (t.deadline < deadline) ⊎ ((t.deadline ≡ deadline) × (t.local ≤ local))
 
--- the identifier of the first timer is due
-pub due_from_earliest : (l : List Timer) → IsInOrder l → (moment : ℕ) (first : Option Timer) → IsEarliest l (length l) moment first → IsEarliestDue (map_of l) moment (option_map (λ (t : Timer). t.local) first)
-due_from_earliest l sorted moment None none = λ local deadline is.
-    let f = found l local deadline (sym (get-map_of l local) ∙ is) in
-    omega (arith, none f.place f.in_range, f.has_deadline)
-due_from_earliest l sorted moment (Some first) (place, in_range, here, at_or_before, comes_first) =
-    let is_at : IsAt l first.local place = record { in_range = in_range; has_local = ap (λ (t : Timer). t.local) here } in
-    let present = deadline_in_present l first.local place is_at (none_before l sorted first.local place is_at) in (
-      first.deadline,
-      get-map_of l first.local ∙ present ∙ ap (λ (t : Timer). Some t.deadline) here,
-      at_or_before,
-      λ other later is.
-          let f = found l other later (sym (get-map_of l other) ∙ is) in
-          before_entry first (timer_at l f.place) other later (comes_first f.place f.in_range) f.has_local f.has_deadline,
-    )
+-- what comes before another isn't after it
+compared : (a b : Timer) → comes_before a b ≡ true → NotAfter a b.local b.deadline
+compared a b h = by (or_cases _ _ h)
+  where
+    by : (nat_lt a.deadline b.deadline ≡ true) ⊎ (((a.deadline == b.deadline) && nat_lt a.local b.local) ≡ true) → NotAfter a b.local b.deadline
+    by (inl p) = inl (ltb-true _ _ p)
+    by (inr q) = let r = and_parts _ _ q in inr (eqb-true _ _ r.0, omega (arith, ltb-true _ _ r.1))
 
--- the same of an identifier that equals it
-pub due_from_local : (l : List Timer) → IsInOrder l → (moment : ℕ) (first : Option Timer) (due : Option ℕ) → IsEarliest l (length l) moment first → due ≡ option_map (λ (t : Timer). t.local) first → IsEarliestDue (map_of l) moment due
-due_from_local l sorted moment first due e is = subst (IsEarliestDue (map_of l) moment) (sym is) (due_from_earliest l sorted moment first e)
+module _ (l : List Timer) (sorted : IsInTimeOrder l) where
+  -- no timer comes before the first
+  first_of_all : (i : ℕ) → i < length l → NotAfter (timer_at l 0) (timer_at l i).local (timer_at l i).deadline
+  first_of_all i in_range = by (cases_order 0 i)
+    where
+      by : (0 ≡ i) ⊎ ((0 < i) ⊎ (i < 0)) → NotAfter (timer_at l 0) (timer_at l i).local (timer_at l i).deadline
+      by (inl e) = rw (sym e) (inr (omega arith, omega arith))
+      by (inr (inl lt)) = compared _ _ (sorted 0 i lt in_range)
+      by (inr (inr lt)) = absurd (omega arith)
+
+  -- the first isn't due, so none is
+  pub none_due : (moment : ℕ) → (0 < length l → moment < (timer_at l 0).deadline) → IsEarliestDue (map_of l) moment None
+  none_due moment later local deadline is =
+      let f = found l local deadline (sym (get-map_of l local) ∙ is) in
+      grind (arith, later, first_of_all f.place f.in_range, f.in_range, f.has_deadline)
+
+  -- the first is due, and is the earliest
+  pub first_due : AreApart l → (moment : ℕ) → 0 < length l → (timer_at l 0).deadline ≤ moment → IsEarliestDue (map_of l) moment (Some (timer_at l 0).local)
+  first_due apart moment some due = (
+    (timer_at l 0).deadline,
+    sym (present l apart (timer_at l 0).local 0 (record { in_range = some; has_local = omega arith }) (timer_at l 0) (get_or_default l 0 _ _ some)),
+    due,
+    λ other later is.
+        let f = found l other later (sym (get-map_of l other) ∙ is) in
+        subst (NotAfter (timer_at l 0) other) f.has_deadline (subst (λ o. NotAfter (timer_at l 0) o (timer_at l f.place).deadline) f.has_local (first_of_all f.place f.in_range)),
+  )

@@ -1,22 +1,43 @@
--- A timer that is added where a search found the gap for it keeps the timers in order.
-use Rattle.std.proofs.Common.{◌≡◌, ℕ, ◌+◌, ◌-◌, ◌<◌, List, ap, subst, arith}
-use Rattle.std.specs.List.{insert}
-use Rattle.std.proofs.lemmas.List.Edits.{length-insert, get_or-insert_below, get_or-insert_at, get_or-insert_above}
-use Rattle.fp_timers.specs.declared.timers.Timer.{Timer}
-use Rattle.fp_timers.specs.Timers.{timer_at, IsInOrder, IsGapFor}
+-- A timer that is added where it belongs leaves the timers in order, whatever the order is.
+use Rattle.fp_timers.proofs.Names.{Err, List, Ok, OnErr, OnOk, Result, Timer, ap, arith, cases_order, get_or-insert_above, get_or-insert_at, get_or-insert_below, inl, inr, insert, length, length-insert, subst, timer_at, ℕ, ◌+◌, ◌-◌, ◌<◌, ◌≡◌, ◌≤◌, ◌⊎◌}
 
 -- the default that `timer_at` reads beyond the end
 abbrev pub past_end : Timer
 past_end = record { local = 0; deadline = 0 }
 
--- each timer is an old one below the gap, the new one, or an old one moved up by one
-pub in_order_insert : (l : List Timer) → IsInOrder l → (k v at : ℕ) → IsGapFor l k at → IsInOrder (insert l at (record { local = k; deadline = v }))
-in_order_insert l sorted k v at gap i j lt in_range =
-    let t : Timer = record { local = k; deadline = v } in
-    let new = insert l at t in
-    let local = λ (t : Timer). t.local in
-    let length_new = length-insert l at t gap.in_range in
-    let below : (i : ℕ) → i < at → (timer_at new i).local ≡ (timer_at l i).local = λ i lt. ap local (get_or-insert_below l at t past_end i lt gap.in_range) in
-    let here : (i : ℕ) → i ≡ at → (timer_at new i).local ≡ k = λ i e. rw e (ap local (get_or-insert_at l at t past_end gap.in_range)) in
-    let above : (i : ℕ) → at < i → (timer_at new i).local ≡ (timer_at l (i - 1)).local = λ i lt. subst (λ q. (timer_at new q).local ≡ (timer_at l (i - 1)).local) {x = i - 1 + 1} (omega arith) (ap local (get_or-insert_above l at t past_end (i - 1) (omega arith) gap.in_range)) in
-    grind (arith, below i, here i, above i, below j, here j, above j, sorted i j, sorted i (j - 1), sorted (i - 1) (j - 1), gap.smaller_before i, gap.greater_after (j - 1))
+-- this holds of each timer and those that follow it
+abbrev pub Rises : (Timer → Timer → Type 0) → List Timer → Type 0
+Rises R l = (i j : ℕ) → i < j → j < length l → R (timer_at l i) (timer_at l j)
+
+module _ (R : Timer → Timer → Type 0) (l : List Timer) (rises : Rises R l) (at : ℕ) where
+  -- the same of equal timers
+  alike : (a b c d : Timer) → c ≡ a → d ≡ b → R a b → R c d
+  alike a b c d p q h = rw (p, q) h
+
+  -- each timer is an old one below the place, the new one, or an old one moved up by one
+  pub rises_insert : (t : Timer) → at ≤ length l → ((i : ℕ) → i < at → R (timer_at l i) t) → ((i : ℕ) → at ≤ i → i < length l → R t (timer_at l i)) → Rises R (insert l at t)
+  rises_insert t within before after i j lt in_range = by (cases_order j at) (cases_order i at)
+    where
+      below : (k : ℕ) → k < at → timer_at (insert l at t) k ≡ timer_at l k
+      below k h = get_or-insert_below l at t past_end k h within
+
+      here : (k : ℕ) → k ≡ at → timer_at (insert l at t) k ≡ t
+      here k e = rw e (get_or-insert_at l at t past_end within)
+
+      above : (k : ℕ) → at < k → timer_at (insert l at t) k ≡ timer_at l (k - 1)
+      above k h = subst (λ q. timer_at (insert l at t) q ≡ timer_at l (k - 1)) {x = k - 1 + 1} (omega arith) (get_or-insert_above l at t past_end (k - 1) (omega arith) within)
+
+      fits : j < length l + 1
+      fits = omega (arith, length-insert l at t within)
+
+      by : (j ≡ at) ⊎ ((j < at) ⊎ (at < j)) → (i ≡ at) ⊎ ((i < at) ⊎ (at < i)) → R (timer_at (insert l at t) i) (timer_at (insert l at t) j)
+      by (inl q) _ = alike _ _ _ _ (below i (omega arith)) (here j q) (before i (omega arith))
+      by (inr (inl q)) _ = alike _ _ _ _ (below i (omega arith)) (below j q) (rises i j lt (omega arith))
+      by (inr (inr q)) (inl p) = alike _ _ _ _ (here i p) (above j q) (after (j - 1) (omega arith) (omega (arith, fits)))
+      by (inr (inr q)) (inr (inl p)) = alike _ _ _ _ (below i p) (above j q) (rises i (j - 1) (omega arith) (omega (arith, fits)))
+      by (inr (inr q)) (inr (inr p)) = alike _ _ _ _ (above i p) (above j q) (rises (i - 1) (j - 1) (omega arith) (omega (arith, fits)))
+
+-- an insert for which there is room has happened
+pub grown : {A E : Type 0} (r : Result A E) (l new : List Timer) (at : ℕ) (t : Timer) (len capacity : ℕ) → len ≡ length l → length l < 4096 → 4096 ≤ capacity → at ≤ length l → OnErr r (capacity ≤ len) → OnOk r (new ≡ insert l at t) → (new ≡ insert l at t) × (length new ≤ 4096)
+grown (Ok a) l new at t len capacity all fewer room within full items = (items, omega (arith, ap length items, length-insert l at t within))
+grown (Err e) l new at t len capacity all fewer room within full items = absurd (omega (arith, full))

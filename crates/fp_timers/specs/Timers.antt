@@ -1,5 +1,5 @@
--- Timers in the order of their local identifiers, and what a search and a scan find among them.
-use Rattle.std.specs.Prelude.{◌≡◌, ℕ, ◌<◌, ◌≤◌, ◌⊎◌, List, map, length, slice_index_or, Option, Some, None}
+-- Timers in the order of their local identifiers, or of their deadlines, and what a search finds among them.
+use Rattle.std.specs.Prelude.{◌≡◌, ◌≢◌, ℕ, ◌<◌, ◌≤◌, ◌==◌, nat_lt, Bool, false, true, ◌&&◌, ◌||◌, List, map, length, slice_index_or}
 use Rattle.fp_timers.specs.declared.timers.Timer.{Timer}
 
 -- the identifiers, each with its deadline
@@ -14,9 +14,28 @@ timer_at timers place = slice_index_or timers place (record { local = 0; deadlin
 abbrev pub IsInOrder : List Timer → Type 0
 IsInOrder timers = (i j : ℕ) → i < j → j < length timers → (timer_at timers i).local < (timer_at timers j).local
 
--- what each value of `Deadlines` keeps: its timers in order, at most 4,096, and memory for as many
+-- the deadline is earlier, or the same with a smaller identifier
+abbrev pub comes_before : Timer → Timer → Bool
+comes_before timer other = nat_lt timer.deadline other.deadline || ((timer.deadline == other.deadline) && nat_lt timer.local other.local)
+
+-- each timer comes before all that follow it
+abbrev pub IsInTimeOrder : List Timer → Type 0
+IsInTimeOrder timers = (i j : ℕ) → i < j → j < length timers → comes_before (timer_at timers i) (timer_at timers j) ≡ true
+
+-- no identifier comes twice
+abbrev pub AreApart : List Timer → Type 0
+AreApart timers = (i j : ℕ) → i < j → j < length timers → (timer_at timers i).local ≢ (timer_at timers j).local
+
+-- what a list by identifier keeps: its timers in order, at most 4,096, and memory for as many
 pub record IsKept (timers : List Timer) (capacity : ℕ) : Type 0 where
   pub in_order : IsInOrder timers
+  pub most : length timers ≤ 4096
+  pub room : 4096 ≤ capacity
+
+-- what a list by deadline keeps: its timers in order, each of another identifier, at most 4,096, and memory for as many
+pub record IsKeptInTime (timers : List Timer) (capacity : ℕ) : Type 0 where
+  pub in_order : IsInTimeOrder timers
+  pub apart : AreApart timers
   pub most : length timers ≤ 4096
   pub room : 4096 ≤ capacity
 
@@ -31,16 +50,8 @@ pub record IsGapFor (timers : List Timer) (local place : ℕ) : Type 0 where
   pub smaller_before : (i : ℕ) → i < place → (timer_at timers i).local < local
   pub greater_after : (i : ℕ) → place ≤ i → i < length timers → local < (timer_at timers i).local
 
--- the deadline is earlier, or the same with no greater identifier
-abbrev pub ComesFirst : Timer → Timer → Type 0
-ComesFirst a b = (a.deadline < b.deadline) ⊎ ((a.deadline ≡ b.deadline) × (a.local ≤ b.local))
-
--- among so many timers at the front, none is due, or this one is, and comes first
-abbrev pub IsEarliest : List Timer → ℕ → ℕ → Option Timer → Type 0
-IsEarliest timers count moment None = (i : ℕ) → i < count → moment < (timer_at timers i).deadline
-IsEarliest timers count moment (Some first) =
-    (place : ℕ)
-    × (place < count)
-    × (timer_at timers place ≡ first)
-    × (first.deadline ≤ moment)
-    × ((i : ℕ) → i < count → ComesFirst first (timer_at timers i))
+-- the timer is, or would go, at this place in the order of deadlines: all that come before it are before this place
+pub record IsPlaceFor (timers : List Timer) (timer : Timer) (place : ℕ) : Type 0 where
+  pub in_range : place ≤ length timers
+  pub earlier_before : (i : ℕ) → i < place → comes_before (timer_at timers i) timer ≡ true
+  pub none_after : (i : ℕ) → place ≤ i → i < length timers → comes_before (timer_at timers i) timer ≡ false

@@ -5,7 +5,9 @@ ghost use Rattle.std.specs.Ordering.{nat_cmp};
 ghost use Rattle.std.specs.FinMap as map;
 ghost use Rattle.fp_timers.specs.Deadlines.{HasRoom, IsEarliestDue};
 
-use crate::timers::{Timer, earliest, place_of};
+use crate::by_deadline::ByDeadline;
+use crate::by_local::ByLocal;
+use crate::timers::Timer;
 use fp_digits::Moment;
 use std::alloc::{AllocError, Global};
 use std::marker::Model;
@@ -13,23 +15,23 @@ use std::marker::Model;
 /// Deadlines in milliseconds, each under its local identifier, at most 4,096. Contracts see them as a finite map.
 #[derive(Debug, Drop)]
 pub struct Deadlines {
-    timers: Vec<Timer>,
+    by_local: ByLocal,
+    by_deadline: ByDeadline,
 }
 
 impl Model for Deadlines {
-    ghost use Rattle.std.specs.Prelude.{ℕ, vec_capacity};
+    ghost use Rattle.std.specs.Prelude.{◌≡◌, ℕ};
     ghost use Rattle.std.specs.Ordering.{nat_cmp};
     ghost use Rattle.std.specs.FinMap as map;
     ghost use Rattle.std.specs.Coded.{coded_ℕ};
-    ghost use Rattle.fp_timers.specs.Timers.{entries, IsKept};
 
     ghost Value = { map.FinMap nat_cmp ℕ };
 
     ghost coded = { map.code coded_ℕ coded_ℕ };
 
-    ghost view = { λ deadlines. map.from_entries (entries deadlines.timers.items) };
+    ghost view = { λ deadlines. deadlines.by_local };
 
-    ghost invariant = { λ deadlines. IsKept deadlines.timers.items (vec_capacity deadlines.timers) };
+    ghost invariant = { λ deadlines. deadlines.by_deadline ≡ deadlines.by_local };
 }
 
 impl Deadlines {
@@ -41,7 +43,8 @@ impl Deadlines {
         ensures { IfOk result (λ deadlines. deadlines ≡ map.empty) }
     {
         Ok(Deadlines {
-            timers: Vec::with_capacity(alloc, Self::MOST)?,
+            by_local: ByLocal::new(alloc)?,
+            by_deadline: ByDeadline::new(alloc)?,
         })
     }
 
@@ -50,7 +53,7 @@ impl Deadlines {
         ensures count { result ≡ map.len self.now }
         ensures most { result ≤ Self.MOST }
     {
-        self.timers.len()
+        self.by_local.len()
     }
 
     /// Gives an identifier a deadline, in place of any that it had. The identifier has one, or there are fewer than
@@ -60,20 +63,30 @@ impl Deadlines {
         ensures { self.new ≡ map.insert self.old local deadline }
     {
         let timer = Timer { local, deadline };
-        match place_of(&self.timers, local) {
-            Ok(place) => self.timers[place] = timer,
-            // There is room, so this takes no memory and succeeds.
-            Err(place) => drop(self.timers.insert(place, timer)),
+        let before = self.by_local.set(timer);
+        if let Some(same) = before {
+            if same == deadline {
+                return;
+            }
         }
+        self.by_deadline.remove(local, before);
+        self.by_deadline.add(timer);
     }
 
     /// Takes an identifier's deadline away, if it has one. Takes no memory.
     pub fn clear(&mut self, local: u32)
         ensures { self.new ≡ map.remove self.old local }
     {
-        if let Ok(place) = place_of(&self.timers, local) {
-            self.timers.remove(place);
-        }
+        let before = self.by_local.clear(local);
+        self.by_deadline.remove(local, before);
+    }
+
+    /// Takes all deadlines away. Takes no memory.
+    pub fn clear_all(&mut self)
+        ensures { self.new ≡ map.empty }
+    {
+        self.by_local.clear_all();
+        self.by_deadline.clear_all();
     }
 
     /// The identifier with the earliest deadline, if that is at or before the moment: the smallest where several have
@@ -81,6 +94,6 @@ impl Deadlines {
     pub fn due(&self, moment: Moment) -> Option<u32>
         ensures { IsEarliestDue self.now moment result }
     {
-        earliest(&self.timers, moment).map(|timer| timer.local)
+        self.by_deadline.due(moment)
     }
 }

@@ -5,12 +5,17 @@
 //! since 1970-01-01T00:00:00Z, as a moment is, and may lie beyond the last moment. Memory for 4,096 deadlines is taken
 //! by [`Deadlines::new`], and none after it.
 //!
+//! Each deadline is in two lists, one in the order of identifiers and one in the order of deadlines. A change searches
+//! both by halves, and [`Deadlines::due`] looks only at the first of the second list.
+//!
 //! The layer above may rely on this: contracts see [`Deadlines`] as a finite map from identifier to deadline, which
-//! [`Deadlines::set`] and [`Deadlines::clear`] change at one identifier alone. [`Deadlines::due`] gives the identifier
-//! of the earliest deadline, the smallest where several have it, exactly where that deadline is at or before the moment
-//! (`specs/Deadlines.antt`).
+//! [`Deadlines::set`] and [`Deadlines::clear`] change at one identifier alone, and [`Deadlines::clear_all`] empties.
+//! [`Deadlines::due`] gives the identifier of the earliest deadline, the smallest where several have it, exactly where
+//! that deadline is at or before the moment (`specs/Deadlines.antt`).
 #![tactic(auto)]
 
+mod by_deadline;
+mod by_local;
 mod deadlines;
 mod laws;
 mod timers;
