@@ -1,5 +1,5 @@
 -- A message or a moment comes to a book in which nothing waits.
-use Rattle.std.proofs.Common.{◌≡◌, ℕ, ◌≤◌, ◌+◌, true, false, cond, eqb, not, ◌&&◌, ◌||◌, Option, Some, None, is_some, List, [], ◌∷◌, ◌++◌, length, drop, map, refl, sym, ◌∙◌, ap, subst, arith, rules, append-nil, inl}
+use Rattle.std.proofs.Common.{◌≡◌, ℕ, ◌≤◌, ◌+◌, true, false, cond, eqb, not, ◌&&◌, ◌||◌, nat_lt, Option, Some, None, is_some, List, [], ◌∷◌, ◌++◌, length, drop, map, refl, sym, ◌∙◌, ap, subst, arith, rules, append-nil, inl}
 use Rattle.std.specs.FinMap as fin
 use Rattle.std.proofs.lemmas.Bool.{eq-eqb}
 use Rattle.std.proofs.lemmas.List.{length-map}
@@ -21,7 +21,7 @@ use Rattle.fp_reply.specs.ProviderAbort.{AbortFrame, frame_octets}
 use Rattle.fp_row.specs.declared.ending.Ending.{Ending}
 use Rattle.fp_row.specs.declared.row.Row.{Row}
 use Rattle.fp_row.specs.Calls.{ended_by}
-use Rattle.fp_row.specs.Row.{is_closed, is_ready, waiting_of}
+use Rattle.fp_row.specs.Row.{is_closed, is_ready, waiting_of, has_turn_out}
 use Rattle.fp_service.specs.Dialogue.{fresh, is_over}
 use Rattle.fp_tids.specs.Identifiers.{identifier}
 use Rattle.fp_ask.specs.Solo.{Outcome, Dialogue, LinkState, aborts, continued, discarded, ended, found, Job, jobs_for, left_by, newborn, next_local, opened, refused, serve_all, without}
@@ -68,7 +68,7 @@ midway_of dialogues a same = record {
 }
 
 -- a dialogue that wasn't ready and isn't has nothing that waits
-none_joined : (before after : Row) → is_ready before ≡ false → after.is_out ≡ false → (not (is_ready before) && is_ready after) ≡ false → waiting_of after ≡ []
+none_joined : (before after : Row) → is_ready before ≡ false → has_turn_out after ≡ false → (not (is_ready before) && is_ready after) ≡ false → waiting_of after ≡ []
 none_joined before after unready out h = none_waits after out (sym (ap (λ b. not b && is_ready after) unready) ∙ h)
 
 -- A DIALOGUE IS OPENED
@@ -83,11 +83,11 @@ module _ {s new : Shelf} {peer : Tid} {came : Prepared} {answer : Posted} (r : R
   -- the book after it,
   opens_arrives : Arrives s new d (entries_in came) []
   opens_arrives =
-      let out : o.after.is_out ≡ false = o.extends.is_out ∙ o.opens.is_out in
+      let out : has_turn_out o.after ≡ false = ap (nat_lt 0) (o.extends.out ∙ o.opens.out) in
       let row = o.opens in
       let waits : waiting_of o.after ≡ entries_in came =
       o.extends.waiting (λ i. not (is_some (row.ended i)) && not (is_over (row.core i)))
-      ∙ (λ i. cond (is_closed (row.ended i) || is_over (row.core i)) [] (drop (cond {A = ℕ} (row.is_out i) 1 0) (drop (row.served i) (row.accepted i))) ++ entries_in came) in
+      ∙ (λ i. cond (is_closed (row.ended i) || is_over (row.core i)) [] (drop (row.out i) (drop (row.served i) (row.accepted i))) ++ entries_in came) in
       subst (λ n. Arrives s n d (entries_in came) []) (sym o.new_is) (record {
         idle = outs_then there r.served.fit.idle out;
         ready = joined _ d (entries_in came) s.ready (is_ready o.after) r.served.ready (ap waiting_at there.there ∙ waits) (λ e. sym waits ∙ none_waits o.after out e);
@@ -134,7 +134,7 @@ module _ {s new : Shelf} {d : ℕ} {came : Prepared} {answer : Posted} (r : Rest
   extends_arrives =
       let q = quiet s r d x.before x.was in
       let there = inserted s.rows d (Some x.before) x.after x.was in
-      let out : x.after.is_out ≡ false = x.extends.is_out ∙ q.is_out in
+      let out : has_turn_out x.after ≡ false = ap (nat_lt 0) x.extends.out ∙ q.is_out in
       let waits : waiting_of x.after ≡ entries_in came = x.extends.waiting q.admitted ∙ ap (λ w. w ++ entries_in came) q.waiting in
       subst (λ n. Arrives s n d (entries_in came) []) (sym x.new_is) (record {
         idle = outs_then there r.served.fit.idle out;
@@ -173,7 +173,7 @@ module _ {s new : Shelf} {d : ℕ} {came : Prepared} {answer : Posted} (r : Rest
   ends_arrives =
       let q = quiet s r d x.before x.was in
       let there = kept s.rows d (Some x.before) x.after x.was in
-      let out : x.after.is_out ≡ false = x.ends.is_out ∙ x.extends.is_out ∙ q.is_out in
+      let out : has_turn_out x.after ≡ false = ap (nat_lt 0) (x.ends.out ∙ x.extends.out) ∙ q.is_out in
       let waits : waiting_of x.after ≡ cond (is_closed x.after.ended) [] (entries_in came) =
       x.ends.waiting ∙ ap (cond (is_closed x.after.ended) []) (x.extends.waiting q.admitted ∙ ap (λ w. w ++ entries_in came) q.waiting) in
       subst (λ n. Arrives s n d (waiting_of x.after) []) (sym x.new_is) (record {
@@ -220,7 +220,7 @@ closed_as s closed None r e = subst (λ c. Leaves s c None []) (sym e) (record {
 })
 closed_as s closed (Some d) r x =
     let there = kept s.rows d (Some x.before) x.after x.was in
-    let out = out_left x.after (x.ends.is_out ∙ (quiet s r d x.before x.was).is_out) in
+    let out = out_left x.after (ap (nat_lt 0) x.ends.out ∙ (quiet s r d x.before x.was).is_out) in
     subst (λ c. Leaves s c (Some d) []) (sym x.new_is) (record {
       arrives = record {
         idle = outs_then there r.served.fit.idle out;

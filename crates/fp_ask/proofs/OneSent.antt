@@ -1,5 +1,5 @@
 -- One frame is sent.
-use Rattle.std.proofs.Common.{◌≡◌, ℕ, Some, List, [], ◌∷◌, ◌++◌, length, map, refl, sym, ◌∙◌, ap, subst, arith, append_assoc, inl}
+use Rattle.std.proofs.Common.{◌≡◌, ℕ, nat_lt, Some, List, [], ◌∷◌, ◌++◌, length, map, refl, sym, ◌∙◌, ap, subst, arith, append_assoc, inl}
 use Rattle.std.specs.FinMap as fin
 use Rattle.fp_book.specs.declared.parcel.Content.{Content}
 use Rattle.fp_book.specs.declared.parcel.Waiting.{Waiting}
@@ -52,7 +52,7 @@ picked_and_sent s mid new (Content.Frame w) served p g sound =
           sound = sound;
           link = f.link;
           up = f.up;
-          idle = outs_then there f.idle (out_left g.after (g.sends.is_out ∙ sym (ap is_out was) ∙ f.idle w.local));
+          idle = outs_then there f.idle (out_left g.after (ap (nat_lt 0) g.sends.out ∙ sym (ap is_out was) ∙ f.idle w.local));
           none_out = refl;
           orderly = inl (omega (arith, ap length served.ready));
           room = omega (arith, f.room, ap length p.next.2, ap (λ q. length (jobs_in q (keep s.rows w.local g.after))) served.ready);

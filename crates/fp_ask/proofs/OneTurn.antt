@@ -1,5 +1,5 @@
 -- One entry is served.
-use Rattle.std.proofs.Common.{◌≡◌, ℕ, ◌<◌, ◌≤◌, ◌+◌, Bool, true, false, cond, eqb, not, ◌&&◌, Option, Some, None, is_some, option_map, option_to_list, List, [], ◌∷◌, ◌++◌, length, map, refl, sym, ◌∙◌, ap, subst, arith, append_assoc, append-nil, length-append, ⊎_elim, ◌⊎◌, inl, inr}
+use Rattle.std.proofs.Common.{◌≡◌, ℕ, ◌<◌, ◌≤◌, ◌+◌, Bool, true, false, cond, eqb, nat_lt, not, ◌&&◌, Option, Some, None, is_some, option_map, option_to_list, List, [], ◌∷◌, ◌++◌, length, map, refl, sym, ◌∙◌, ap, subst, arith, append_assoc, append-nil, length-append, ⊎_elim, ◌⊎◌, inl, inr}
 use Rattle.std.specs.FinMap as fin
 use Rattle.std.proofs.lemmas.List.{map-append, nil_from_length}
 use Rattle.std.proofs.lemmas.Bool.{and_right}
@@ -10,6 +10,7 @@ use Rattle.fp_book.specs.Outbox.{places_out}
 use Rattle.fp_book.specs.Shelf.{Shelf, Sound, places_held, ready_count, turns_of}
 use Rattle.fp_book.specs.Totals.{sum_of}
 use Rattle.fp_book.proofs.Sums.{OneChanges, amount, inserted, kept, left_of}
+use Rattle.fp_book.proofs.Changes.{turns_are}
 use Rattle.fp_entry.specs.declared.entry.Entry.{Entry}
 use Rattle.fp_reply.specs.ProviderAbort.{frame_octets}
 use Rattle.fp_reply.specs.Reply.{frame_of}
@@ -18,7 +19,7 @@ use Rattle.fp_row.specs.declared.ending.Ending.{Ending}
 use Rattle.fp_row.specs.declared.row.Row.{Row}
 use Rattle.fp_row.specs.declared.turn.Turn.{Turn}
 use Rattle.fp_row.specs.Calls.{Gives, requested_of}
-use Rattle.fp_row.specs.Row.{is_ready, waiting_of, waits}
+use Rattle.fp_row.specs.Row.{is_ready, waiting_of, waits, has_turn_out}
 use Rattle.fp_row.proofs.Keeping.{known_turn}
 use Rattle.fp_service.specs.declared.request.Request.{Request}
 use Rattle.fp_service.specs.Dialogue.{is_over}
@@ -41,7 +42,7 @@ pub record Turned (s new : Shelf) (d : ℕ) (entry : Entry) (before then : Row) 
   pub dialogue : dialogue_of then ≡ after (dialogue_of before) entry
   pub ended : then.ended ≡ before.ended
   pub going : is_over before.core ≡ false
-  pub out : then.is_out ≡ false
+  pub out : has_turn_out then ≡ false
   pub waits : waiting_of before ≡ entry ∷ more
   pub waits_then : waiting_of then ≡ cond (is_over then.core) [] more
   pub ready_old : s.ready ≡ d ∷ rest
@@ -254,12 +255,12 @@ taken_and_given {s} {new = new} {done} {given} f sound_mid sound t g =
       };
       ended = gives.ended ∙ t.takes.ended;
       going = ready_live t.before t.takes.was_ready;
-      out = gives.is_out;
+      out = ap (nat_lt 0) gives.out;
       waits = t.takes.waiting;
       waits_then = gives.waiting ∙ (λ i. cond (is_over (sym gives.core i)) [] (waiting_of t.after));
       ready_old = t.first;
       ready_new = refl;
-      once = sound_mid.ready d ∙ ap ready_count took.there ∙ (λ i. cond {A = ℕ} (not (t.takes.is_out i) && waits t.after) 1 0);
+      once = sound_mid.ready d ∙ ap ready_count took.there ∙ (λ i. cond {A = ℕ} (not (nat_lt 0 (t.takes.out i)) && waits t.after) 1 0);
       frames =
           ap (λ x. map frame_octets s.outbox.aborts ++ x) (map-append frame s.outbox.frames (waiting_in d g.asked) ∙ ap (λ x. map frame s.outbox.frames ++ x) (ap (map frame) asked ∙ wait.0))
           ∙ sym (append_assoc (map frame_octets s.outbox.aborts) (map frame s.outbox.frames) (frames_by t.before.ended before turn.entry));
@@ -281,5 +282,5 @@ known_done {s} done t =
 -- nothing is out, so all places that are held are held by frames that wait, which are fewer
 pub has_room : (s : Shelf) → Fit s → 8192 ≤ places_held s → ⊥
 has_room s f full =
-    let turns : sum_of turns_of s.rows ≡ 0 = sum_zero_at turns_of s.rows (λ k row was. ap (λ b. cond {A = ℕ} b 1 0) (sym (ap is_out was) ∙ f.idle k)) in
+    let turns : sum_of turns_of s.rows ≡ 0 = sum_zero_at turns_of s.rows (λ k row was. turns_are row false (sym (ap is_out was) ∙ f.idle k)) in
     absurd (omega (arith, full, turns, ap places_out f.none_out, f.room))

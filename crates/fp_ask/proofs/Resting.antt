@@ -8,13 +8,14 @@ use Rattle.std.proofs.lemmas.List.{length-take-le}
 use Rattle.fp_book.specs.Shelf.{Shelf, Sound, of_row, ready_count, unsent_for}
 use Rattle.fp_book.specs.Verdict as book
 use Rattle.fp_book.proofs.Sums.{len-sum, removed, sum-none}
+use Rattle.fp_book.proofs.Changes.{turns_are}
 use Rattle.fp_entry.specs.declared.entry.Entry.{Entry}
 use Rattle.fp_entry.specs.Entries.{place_count}
 use Rattle.fp_q773.specs.declared.ids.Ids.{Ids}
 use Rattle.fp_q773.specs.Tid.{octets_of}
 use Rattle.fp_row.specs.declared.ending.Ending.{Ending}
 use Rattle.fp_row.specs.declared.row.Row.{Row}
-use Rattle.fp_row.specs.Row.{frames_of, is_admitted, is_closed, is_ready, kept_of, places_taken, sent_of, unserved, waiting_of, waits}
+use Rattle.fp_row.specs.Row.{frames_of, is_admitted, is_closed, is_ready, kept_of, places_taken, sent_of, unserved, waiting_of, waits, has_turn_out}
 use Rattle.fp_row.proofs.Keeping.{queued_within, sent_within}
 use Rattle.fp_service.specs.Dialogue.{is_over}
 use Rattle.fp_tids.specs.Identifiers.{identifier}
@@ -44,35 +45,35 @@ not_less m n e = grind (arith, nat_tests)
 
 -- what is known of a dialogue then
 pub record Quiet (row : Row) : Type 0 where
-  pub is_out : row.is_out ≡ false
+  pub is_out : has_turn_out row ≡ false
   pub unready : is_ready row ≡ false
   pub waiting : waiting_of row ≡ []
   pub admitted : is_admitted row ≡ true
   pub unserved : unserved row ≡ []
 
 -- if nothing waits everything was served
-unserved_by : (ended : Option Ending) (over out : Bool) (xs : List Entry) → (not (is_some ended) && not over) ≡ true → out ≡ false
-    → cond (is_closed ended || over) [] (drop (cond {A = ℕ} out 1 0) xs) ≡ [] → xs ≡ []
-unserved_by None false false xs a o h = h
-unserved_by ended over out xs a o h = absurd (cc)
+unserved_by : (ended : Option Ending) (over : Bool) (k : ℕ) (xs : List Entry) → (not (is_some ended) && not over) ≡ true → k ≡ 0
+    → cond (is_closed ended || over) [] (drop k xs) ≡ [] → xs ≡ []
+unserved_by None false k xs a o h = sym (ap (λ k. drop k xs) o) ∙ h
+unserved_by ended over k xs a o h = absurd (cc)
 
 -- it is known of each dialogue that is held
 pub quiet : (s : Shelf) → Rest s → (d : ℕ) (row : Row) → fin.get s.rows d ≡ Some row → Quiet row
 quiet s r d row was =
     let sound = r.served.fit.sound in
-    let out : row.is_out ≡ false = sym (ap is_out was) ∙ r.served.fit.idle d in
+    let out : has_turn_out row ≡ false = sym (ap is_out was) ∙ r.served.fit.idle d in
     let unready : is_ready row ≡ false = none_if (is_ready row) (sym (sound.ready d ∙ ap ready_count was) ∙ ap (count d) r.served.ready) in
     let none = none_waits row out unready in
     let frames : sent_of row ≡ kept_of row =
     sym (append-nil (sent_of row)) ∙ (λ i. of_row sent_of (sym was i) ++ unsent_for d (sym r.outbox i)) ∙ sound.frames d ∙ ap (of_row kept_of) was in
     let admitted : is_admitted row ≡ true =
-    held_by (is_admitted row) row.is_out (waits row) (nat_lt row.sent row.kept) (sound.own d row was).is_left out (waits_by row.is_out (waits row) out unready) (not_less row.sent row.kept (all_sent row frames)) in
+    held_by (is_admitted row) (has_turn_out row) (waits row) (nat_lt row.sent row.kept) (sound.own d row was).is_left out (waits_by (has_turn_out row) (waits row) out unready) (not_less row.sent row.kept (all_sent row frames)) in
     record {
       is_out = out;
       unready = unready;
       waiting = none;
       admitted = admitted;
-      unserved = unserved_by row.ended (is_over row.core) row.is_out (unserved row) admitted out none;
+      unserved = unserved_by row.ended (is_over row.core) row.out (unserved row) admitted (turns_are row false out) none;
     }
 
 -- THE TESTS OF A BOOK ARE THOSE OF THE LIST

@@ -4,37 +4,39 @@ use Rattle.std.specs.FinMap as fin
 use Rattle.std.proofs.lemmas.Bool.{ltb-true}
 use Rattle.std.proofs.lemmas.Bool.Decides.{nat_tests}
 use Rattle.std.proofs.lemmas.List.{drop_all}
-use Rattle.fp_book.proofs.Changes.{by_held, not_held}
+use Rattle.fp_book.proofs.Changes.{by_held, not_held, turns_are}
 use Rattle.fp_book.proofs.Sums.{OneChanges, left_of}
 use Rattle.fp_book.specs.Calls.{joins}
 use Rattle.fp_entry.specs.declared.entry.Entry.{Entry}
 use Rattle.fp_row.specs.declared.ending.Ending.{Ending}
 use Rattle.fp_row.specs.declared.row.Row.{Row}
 use Rattle.fp_row.specs.Calls.{IsSame}
-use Rattle.fp_row.specs.Row.{is_closed, is_ready, waiting_of, waits}
+use Rattle.fp_row.specs.Row.{is_closed, is_ready, waiting_of, waits, has_turn_out}
 use Rattle.fp_service.specs.Dialogue.{is_over}
 use Rattle.fp_ask.specs.Solo.{Dialogue, found, jobs_for}
 use Rattle.fp_ask.specs.Tied.{Rows, Same, dialogue_of, is_out, jobs_in, live, waiting_at}
 use Rattle.fp_ask.proofs.Dialogues.{by_number}
 
 -- by its parts: what waits,
-none_by : (out closed over : Bool) (n : ℕ) (xs : List Entry) → out ≡ false → (not out && (not closed && (not over && nat_lt n (length xs)))) ≡ false
-    → cond (closed || over) [] (drop (cond {A = ℕ} out 1 0) (drop n xs)) ≡ []
-none_by out closed over n xs o h = grind (arith, nat_tests, drop_all)
+none_by : (out closed over : Bool) (n k : ℕ) (xs : List Entry) → k ≡ 0 → out ≡ false → (not out && (not closed && (not over && nat_lt n (length xs)))) ≡ false
+    → cond (closed || over) [] (drop k (drop n xs)) ≡ []
+none_by out closed over n k xs z o h =
+    ap (λ k. cond (closed || over) [] (drop k (drop n xs))) z ∙ (let none : cond (closed || over) [] (drop n xs) ≡ [] = grind (arith, nat_tests, drop_all) in none)
 
 -- of a dialogue that isn't ready, and of which no turn is out, no entry waits
-pub none_waits : (row : Row) → row.is_out ≡ false → is_ready row ≡ false → waiting_of row ≡ []
-none_waits row o h = none_by row.is_out (is_closed row.ended) (is_over row.core) row.served row.accepted o h
+pub none_waits : (row : Row) → has_turn_out row ≡ false → is_ready row ≡ false → waiting_of row ≡ []
+none_waits row o h = none_by (has_turn_out row) (is_closed row.ended) (is_over row.core) row.served row.out row.accepted (turns_are row false o) o h
 
 -- whether it is ready,
-ready_by : (out closed over : Bool) (n : ℕ) (xs : List Entry) → cond (closed || over) [] (drop (cond {A = ℕ} out 1 0) (drop n xs)) ≡ []
+ready_by : (out closed over : Bool) (n k : ℕ) (xs : List Entry) → (out ≡ false → k ≡ 0) → cond (closed || over) [] (drop k (drop n xs)) ≡ []
     → (not out && (not closed && (not over && nat_lt n (length xs)))) ≡ false
-ready_by false false false n xs h = let le : length xs ≤ n = omega (arith, length-drop n xs, ap length h) in grind (arith, ltb-true)
-ready_by out closed over n xs h = refl
+ready_by false false false n k xs none h =
+    let le : length xs ≤ n = omega (arith, length-drop n xs, ap length (sym (ap (λ k. drop k (drop n xs)) (none refl)) ∙ h)) in grind (arith, ltb-true)
+ready_by out closed over n k xs none h = refl
 
 -- one of which no entry waits isn't ready
 pub none_ready : (row : Row) → waiting_of row ≡ [] → is_ready row ≡ false
-none_ready row h = ready_by row.is_out (is_closed row.ended) (is_over row.core) row.served row.accepted h
+none_ready row h = ready_by (has_turn_out row) (is_closed row.ended) (is_over row.core) row.served row.out row.accepted (turns_are row false) h
 
 -- and whether it is over
 live_by : (out closed over : Bool) (n : ℕ) (xs : List Entry) → (not out && (not closed && (not over && nat_lt n (length xs)))) ≡ true → over ≡ false
@@ -42,7 +44,7 @@ live_by out closed over n xs h = grind (arith, nat_tests)
 
 -- one that is ready isn't over
 pub ready_live : (row : Row) → is_ready row ≡ true → is_over row.core ≡ false
-ready_live row h = live_by row.is_out (is_closed row.ended) (is_over row.core) row.served row.accepted h
+ready_live row h = live_by (has_turn_out row) (is_closed row.ended) (is_over row.core) row.served row.accepted h
 
 -- what waits for nothing is not ready
 both_by : (out waits : Bool) → waits ≡ false → (not out && waits) ≡ false
@@ -60,10 +62,10 @@ live_left row = by_held row (λ o. live o ≡ live (Some row)) (λ h. refl) (λ 
 -- what waits,
 pub waiting_left : (row : Row) → waiting_at (left_of row) ≡ waiting_of row
 waiting_left row = by_held row (λ o. waiting_at o ≡ waiting_of row) (λ h. refl)
-    (λ h. let n = not_held row h in sym (none_waits row n.is_out (both_by row.is_out (waits row) n.waits)))
+    (λ h. let n = not_held row h in sym (none_waits row n.is_out (both_by (has_turn_out row) (waits row) n.waits)))
 
 -- and that no turn is out
-pub out_left : (row : Row) → row.is_out ≡ false → is_out (left_of row) ≡ false
+pub out_left : (row : Row) → has_turn_out row ≡ false → is_out (left_of row) ≡ false
 out_left row o = by_held row (λ o. is_out o ≡ false) (λ h. o) (λ h. refl)
 
 -- whether a dialogue goes on, by its end and what the plain list has of it

@@ -50,7 +50,7 @@ at_tick moment false o left idle q g = record { out = ap is_out g ∙ idle; live
 at_tick moment true (Some before) (Some after) idle q g =
     let own = q before refl in
     record {
-      out = g.is_out ∙ idle;
+      out = ap (nat_lt 0) g.out ∙ idle;
       lives = live_stays before after g.same g.ended g.stay.core;
       waits = λ e. g.waiting own.admitted ∙ ap (λ w. w ++ clock moment ∷ []) own.waiting;
     }

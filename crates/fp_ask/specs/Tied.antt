@@ -13,7 +13,7 @@ use Rattle.fp_q773.specs.Tid.{octets_of}
 use Rattle.fp_records.specs.Table.{Contents}
 use Rattle.fp_reply.specs.ProviderAbort.{frame_octets}
 use Rattle.fp_row.specs.declared.row.Row.{Row}
-use Rattle.fp_row.specs.Row.{is_admitted, waiting_of}
+use Rattle.fp_row.specs.Row.{is_admitted, waiting_of, has_turn_out}
 use Rattle.fp_ask.specs.Solo.{Job, Outcome, Served, Dialogue, LinkState, found, jobs_for, serve_all}
 
 abbrev pub Rows : Type 0
@@ -31,7 +31,7 @@ live (Some row) = if is_admitted row then Some (dialogue_of row) else None
 -- whether a turn is out
 abbrev pub is_out : Option Row → Bool
 is_out None = false
-is_out (Some row) = row.is_out
+is_out (Some row) = has_turn_out row
 
 -- the entries that wait
 abbrev pub waiting_at : Option Row → List Entry

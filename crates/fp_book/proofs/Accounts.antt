@@ -1,23 +1,13 @@
--- That a log tells or counts each step, and what a drain has done after each step that it moved.
-use Rattle.std.proofs.Common.{◌≡◌, ℕ, ◌+◌, ◌-◌, ◌<◌, Bool, true, false, List, [], ◌∷◌, ◌++◌, length, take, Option, Some, None, unwrap_or, if◌then◌else◌, refl, sym, ap, ◌∙◌, append-nil, arith, drop, map, min, get_or, append_assoc}
-use Rattle.std.specs.List.{slice_get}
-use Rattle.std.specs.Option.{option_and_then}
-use Rattle.std.proofs.lemmas.List.{take_more, take_all, drop-drop, get_or-drop, map_more, take_min, drop_min}
-use Rattle.std.proofs.lemmas.List.Elements.{filter-append}
-use Rattle.std.proofs.lemmas.Option.{slice_get_within, get_or_from_slice_get}
-use Rattle.fp_book.specs.declared.line.LoggedStep.{LoggedStep}
+-- That a log has or counts each step, and what a drain has done after each step that it moved.
+use Rattle.fp_book.proofs.Names.{Bool, Drains, Line, List, LoggedStep, None, Option, Some, Step, [], accounted, ap, append-nil, append_assoc, arith, drop, drop-drop, drop_min, false, filter-append, gap_at_end, get_or, get_or-drop, get_or_from_slice_get, if◌then◌else◌, is_told, length, lose_behind, lost_in, map, map_more, min, one_more, option_and_then, refl, slice_get, slice_get_within, sym, take, take_all, take_min, take_more, told, true, unwrap_or, ℕ, ◌++◌, ◌+◌, ◌-◌, ◌<◌, ◌∙◌, ◌∷◌, ◌≡◌}
 use Rattle.fp_book.specs.declared.line.LoggedStep.TheVariants as steps
-use Rattle.fp_book.specs.Log.{gap_at_end, lose_behind, lost_in, one_more, Drains}
-use Rattle.fp_book.specs.Laws.{accounted, is_told, told}
-use Rattle.fp_book.specs.declared.line.Line.{Line}
-use Rattle.fp_book.specs.declared.line.Line.TheVariants.{Step}
 
 -- two lists account for what each does
 accounted_append : (a b : List LoggedStep) → accounted (a ++ b) ≡ accounted a + accounted b
 accounted_append [] b = omega arith
 accounted_append (step ∷ a) b = omega (arith, accounted_append a b)
 
--- what stands in the last place, behind the others
+-- the last line, after the others
 is_last : (list : List LoggedStep) (step : LoggedStep) → slice_get list (length list - 1) ≡ Some step → list ≡ take (length list - 1) list ++ step ∷ []
 is_last list step is =
     let within : length list - 1 < length list = slice_get_within list (length list - 1) step is in
@@ -25,13 +15,13 @@ is_last list step is =
     ∙ take_more list (length list - 1) step within
     ∙ ap (λ s. take (length list - 1) list ++ s ∷ []) (get_or_from_slice_get list (length list - 1) step step is)
 
--- a gap of so many stands last, behind what else there is
+-- the last line is a gap of so many, after what else there is
 record EndsInGap (list : List LoggedStep) (lost : ℕ) : Type 0 where
   last : LoggedStep
   split : list ≡ take (length list - 1) list ++ last ∷ []
   counts : lost_in last ≡ Some lost
 
--- where the last place has a gap, it is that one
+-- if the last line is a gap, it is that one
 ends_in_gap : (list : List LoggedStep) (lost : ℕ) (at : Option LoggedStep) → slice_get list (length list - 1) ≡ at → option_and_then lost_in at ≡ Some lost → EndsInGap list lost
 ends_in_gap list lost None is counts = absurd (let clash : None ≡ Some lost = counts in cc)
 ends_in_gap list lost (Some step) is counts = record { last = step; split = is_last list step is; counts = counts }
@@ -53,11 +43,11 @@ pub step_accounted : (list : List LoggedStep) (step : LoggedStep) → lost_in st
 step_accounted list step none few true = omega (arith, accounted_append list (step ∷ []), ap (λ o. unwrap_or o 1) none)
 step_accounted list step none few false = lost_accounted list (gap_at_end list) refl few
 
--- a gap tells nothing
+-- a gap is no step
 gap_told : (step : LoggedStep) (lost : ℕ) → lost_in step ≡ Some lost → told (step ∷ []) ≡ []
 gap_told step lost is = rw is refl
 
--- a lost step changes nothing that is told
+-- a lost step leaves the steps that the log has
 lost_told : (list : List LoggedStep) (gap : Option ℕ) → gap_at_end list ≡ gap → told (lose_behind list gap) ≡ told list ++ []
 lost_told list None is = filter-append is_told list (steps.Gap 1 ∷ [])
 lost_told list (Some lost) is =
@@ -66,7 +56,7 @@ lost_told list (Some lost) is =
     filter-append is_told front (steps.Gap (one_more lost) ∷ [])
     ∙ sym (append-nil (told list) ∙ ap told ends.split ∙ filter-append is_told front (ends.last ∷ []) ∙ ap (λ l. told front ++ l) (gap_told ends.last lost ends.counts))
 
--- what was told stays told, and a step that has a place is told behind it
+-- the steps that the log has stay, and a step for which there is a place comes after them
 pub step_told : (list : List LoggedStep) (step : LoggedStep) → lost_in step ≡ None → (room : Bool)
     → told (if room then list ++ step ∷ [] else lose_behind list (gap_at_end list)) ≡ told list ++ (if room then step ∷ [] else [])
 step_told list step none true = filter-append is_told list (step ∷ []) ∙ ap (λ l. told list ++ l) (rw none refl)

@@ -1,19 +1,9 @@
 -- One dialogue of a link changes, comes or goes: what its book keeps then.
-use Rattle.std.proofs.Common.{◌≡◌, ℕ, ◌<◌, ◌≤◌, ◌+◌, ◌^◌, Bool, true, false, cond, eqb, not, ◌||◌, nat_lt, Option, Some, None, List, [], ◌∷◌, ◌++◌, length, take, is_some, count_by, refl, sym, ◌∙◌, ap, subst, arith, length-append, add-zero, le_refl, ⊎_elim}
-use Rattle.std.proofs.lemmas.Bool.{cases_Bool, cond_both, eqb-true, or_parts, and_right, ltb-false}
+use Rattle.fp_book.proofs.Names.{Bool, Closed, IsOwn, IsSame, List, None, Option, Outbox, Row, Shelf, Some, Sound, Totals, [], accepted_by, add-zero, and_right, ap, arith, cases_Bool, cond, cond_both, count_by, eqb, eqb-true, false, frames_for, frames_held, frames_of, gone_with, has_turn_out, identifier, is_admitted, is_held, is_ready, is_some, keep, kept_of, le_refl, length, length-append, ltb-false, nat_lt, nat_tests, not, of_row, one_if, or_parts, places_held, ready_count, refl, sent_by, sent_of, served_by, subst, sum_of, sym, take, true, turns_of, unsent_for, waits, with_row, ℕ, ⊎_elim, ◌++◌, ◌+◌, ◌<◌, ◌^◌, ◌||◌, ◌∙◌, ◌∷◌, ◌≡◌, ◌≤◌}
 use Rattle.std.specs.FinMap as map
 use Rattle.fp_book.proofs.Sums.{OneChanges, amount, kept, left_of, len-sum}
-use Rattle.fp_book.specs.declared.totals.Totals.{Totals}
-use Rattle.fp_book.specs.Outbox.{Outbox, frames_held}
-use Rattle.fp_book.specs.Shelf.{IsOwn, Shelf, Sound, frames_for, gone_with, keep, of_row, one_if, places_held, ready_count, turns_of, unsent_for}
-use Rattle.fp_book.specs.Totals.{accepted_by, sent_by, served_by, sum_of, with_row}
-use Rattle.fp_row.specs.declared.ending.Ending.TheVariants.{Closed}
-use Rattle.fp_row.specs.declared.row.Row.{Row}
-use Rattle.fp_row.specs.Calls.{IsSame}
-use Rattle.fp_row.specs.Row.{frames_of, is_admitted, is_held, is_ready, kept_of, sent_of, waits}
-use Rattle.fp_tids.specs.Identifiers.{identifier}
 
--- how often a dialogue stands in a queue
+-- how often a dialogue is in a queue
 abbrev pub count : ℕ → List ℕ → ℕ
 count local queue = count_by (λ other. eqb other local) queue
 
@@ -30,13 +20,13 @@ entries_of row = length row.accepted
 abbrev pub one : Row → ℕ
 one row = 1
 
--- the order of service, where a dialogue that stood there so often stands there so often then
+-- the order of service, in which a dialogue was so often, and is so often then
 pub record QueueChanges (old new : List ℕ) (local was is : ℕ) : Type 0 where
   pub own : count local new ≡ is
   pub others : (d : ℕ) → eqb d local ≡ false → count d new ≡ count d old
   pub length_is : length new + was ≡ length old + is
 
--- what is to be sent, where one dialogue changes
+-- what is to be sent, if one dialogue changes
 pub record OutboxChanges (s : Shelf) (outbox : Outbox) (local : ℕ) (before : Option Row) (after : Row) : Type 0 where
   pub other_dropped : (d : ℕ) → eqb d local ≡ false → frames_for d s.outbox.frames ≡ [] → frames_for d outbox.frames ≡ []
   pub own_frames : sent_of after ++ unsent_for local outbox ≡ kept_of after
@@ -45,7 +35,7 @@ pub record OutboxChanges (s : Shelf) (outbox : Outbox) (local : ℕ) (before : O
   pub aborts : length outbox.aborts ≤ 64
   pub quiet : s.is_down ≡ true → (outbox.aborts ≡ []) × (outbox.frames ≡ [])
 
--- what is counted, where one dialogue changes
+-- what is counted, if one dialogue changes
 pub record CountsChange (old new : Shelf) (before : Option Row) (after : Row) : Type 0 where
   pub accepted : new.totals.accepted + amount accepted_by before ≡ old.totals.accepted + accepted_by after
   pub served : new.totals.served + amount served_by before ≡ old.totals.served + served_by after
@@ -92,22 +82,30 @@ by_local d local P own other = ⊎_elim (λ e. subst P (sym (eqb-true d local e)
 pub by_held : (row : Row) (P : Option Row → Type 0) → (is_held row ≡ true → P (Some row)) → (is_held row ≡ false → P None) → P (left_of row)
 by_held row P = cond_both (is_held row) (Some row) None P
 
+-- how many entries of a dialogue are out: one of its turn
+one_or_none : (b : Bool) (n : ℕ) → n ≤ 1 → nat_lt 0 n ≡ b → n ≡ cond b 1 0
+one_or_none true n most out = grind (arith, nat_tests)
+one_or_none false n most out = grind (arith, nat_tests)
+
+pub turns_are : (row : Row) (b : Bool) → has_turn_out row ≡ b → turns_of row ≡ cond b 1 0
+turns_are row b = one_or_none b row.out row.out_most
+
 -- what is not held
 pub record NotHeld (row : Row) : Type 0 where
   pub admitted : is_admitted row ≡ false
-  pub is_out : row.is_out ≡ false
+  pub is_out : has_turn_out row ≡ false
   pub waits : waits row ≡ false
   pub sent : row.kept ≤ row.sent
 
 pub not_held : (row : Row) → is_held row ≡ false → NotHeld row
 not_held row h =
-    let a : (is_admitted row ≡ false) × ((row.is_out || (waits row || nat_lt row.sent row.kept)) ≡ false) = or_parts (is_admitted row) (row.is_out || (waits row || nat_lt row.sent row.kept)) h in
-    let b : (row.is_out ≡ false) × ((waits row || nat_lt row.sent row.kept) ≡ false) = or_parts row.is_out (waits row || nat_lt row.sent row.kept) a.1 in
+    let a : (is_admitted row ≡ false) × ((has_turn_out row || (waits row || nat_lt row.sent row.kept)) ≡ false) = or_parts (is_admitted row) (has_turn_out row || (waits row || nat_lt row.sent row.kept)) h in
+    let b : (has_turn_out row ≡ false) × ((waits row || nat_lt row.sent row.kept) ≡ false) = or_parts (has_turn_out row) (waits row || nat_lt row.sent row.kept) a.1 in
     let c : (waits row ≡ false) × (nat_lt row.sent row.kept ≡ false) = or_parts (waits row) (nat_lt row.sent row.kept) b.1 in
     record { admitted = a.0; is_out = b.0; waits = c.0; sent = ltb-false row.sent row.kept c.1 }
 
 not_ready : (row : Row) → NotHeld row → is_ready row ≡ false
-not_ready row h = and_right (not row.is_out) (waits row) h.waits
+not_ready row h = and_right (not (has_turn_out row)) (waits row) h.waits
 
 -- it adds nothing to what only those that are held have
 pub amount_left : (f : Row → ℕ) (row : Row) → (NotHeld row → f row ≡ 0) → amount f (left_of row) ≡ f row
@@ -120,17 +118,17 @@ pub ready_left : (row : Row) → amount ready (left_of row) ≡ ready row
 ready_left row = amount_left ready row (λ h. ap one_if (not_ready row h))
 
 pub turns_left : (row : Row) → amount turns_of (left_of row) ≡ turns_of row
-turns_left row = amount_left turns_of row (λ h. ap (λ b. cond {A = ℕ} b 1 0) h.is_out)
+turns_left row = amount_left turns_of row (λ h. turns_are row false h.is_out)
 
 pub one_left : (row : Row) → amount one (left_of row) ≤ 1
 one_left row = by_held row (λ o. amount one o ≤ 1) (λ h. omega arith) (λ h. omega arith)
 
--- nothing stands behind a list that it leaves as it is
+-- nothing comes after a list that it leaves as it is
 none_behind : (xs ys : List (List ℕ)) → xs ++ ys ≡ xs → ys ≡ []
 none_behind xs [] e = refl
 none_behind xs (y ∷ ys) e = absurd (let n : length (xs ++ y ∷ ys) ≡ length xs = ap length e in omega (arith, length-append xs (y ∷ ys)))
 
--- where nothing is left, all that is kept was sent
+-- if nothing is left, all that is kept was sent
 all_sent : (row : Row) (unsent : List (List ℕ)) → NotHeld row → sent_of row ++ unsent ≡ kept_of row → unsent ≡ []
 all_sent row unsent h e =
     let same : row.kept ≡ row.sent = omega (arith, h.sent, row.sent_within) in
@@ -150,7 +148,7 @@ one_if_most false = omega arith
 pub one_most : (b : Bool) → cond {A = ℕ} b 1 0 ≤ 1
 one_most b = omega (arith, one_by b, one_if_most b)
 
--- a dialogue stands in the queue once, if it is ready
+-- a dialogue is in the queue once, if it is ready
 pub count_is : (o : Option Row) → ready_count o ≡ amount ready o
 count_is None = refl
 count_is (Some row) = one_by (is_ready row)
@@ -173,7 +171,7 @@ gone_by gone row few false = record {
   few_sent = λ le. omega (arith, le, few);
 }
 
--- what of a dialogue stays where it changes
+-- what of a dialogue stays if it changes
 pub own_after : (old new : Shelf) (d : ℕ) (before after : Row) → IsOwn old d before → IsSame before after → new.link ≡ old.link → old.given ≤ new.given → old.births ≤ new.births
     → (is_some after.ended ≡ true → frames_for d new.outbox.frames ≡ []) → (new.is_down ≡ true → after.ended ≡ Some Closed) → is_held after ≡ true → IsOwn new d after
 own_after old new d before after own same link given births dropped closed held = record {

@@ -1,40 +1,18 @@
 -- To give dialogues a Clock keeps what a book keeps.
-use Rattle.std.proofs.Common.{◌≡◌, ℕ, suc, ◌<◌, ◌≤◌, ◌+◌, ◌^◌, Bool, true, false, cond, eqb, not, ◌&&◌, ◌||◌, ⊎_elim, nat_eq, nat_lt, Option, Some, None, List, [], ◌∷◌, ◌++◌, length, All, AllPairs, is_some, slice_index_or, refl, sym, ◌∙◌, ap, subst, arith, length-append, append_assoc, append-nil, add-zero}
-use Rattle.std.specs.Prelude.{⊤}
-use Rattle.std.specs.List.{AllByRecursion}
-use Rattle.std.specs.FinMap.{get, insert, len}
-use Rattle.std.proofs.lemmas.Bool.{and_from, and_parts, eq-eqb, eqb-true, false_from_ne_true, false≢true, leb-false, lt-ltb, not-true}
-use Rattle.std.proofs.lemmas.List.Elements.{recursion_from_All}
+use Rattle.fp_book.proofs.Names.{All, AllByRecursion, AllPairs, AsksOnceAtMost, Bool, Clock, ClocksAt, ComesFirst, Due, Ending, Entry, Extends, IsDue, List, LoggedStep, None, Option, Row, Shelf, Some, Sound, Ticks, Totals, [], add-zero, and_from, and_parts, ap, append-nil, append_assoc, arith, cond, deadline_of, due_at, entry_at, eq-eqb, eqb, eqb-true, false, false_from_ne_true, false≢true, get, has_clock, has_turn_out, idle_among, insert, is_admitted, is_among, is_closed, is_due, is_full, is_idle, is_over, is_ready, is_some, joins, leb-false, len, length, length-append, logged, lt-ltb, more_accepted, nat_eq, nat_lt, next_due, not, not-true, one_if, recursion_from_All, refl, slice_index_or, subst, suc, sum_of, sym, true, waits, ℕ, ⊎_elim, ⊤, ◌&&◌, ◌++◌, ◌+◌, ◌<◌, ◌^◌, ◌||◌, ◌∙◌, ◌∷◌, ◌≡◌, ◌≤◌}
 use Rattle.fp_book.proofs.Changes.{admitted, one, one_most}
 use Rattle.fp_book.proofs.Extends.{Sound-extended, few_admitted, joined}
 use Rattle.fp_book.proofs.Posts.{Sound-logs}
 use Rattle.fp_book.proofs.Queue.{eqb_swap}
 use Rattle.fp_book.proofs.Sums.{Rows, amount, get-inserted, len-sum, same_rows, sum-insert, sum-le}
 use Rattle.fp_book.proofs.Turns.{admitted_as}
-use Rattle.fp_book.specs.declared.line.LoggedStep.{LoggedStep}
 use Rattle.fp_book.specs.declared.line.LoggedStep.TheVariants as line
-use Rattle.fp_book.specs.declared.totals.Totals.{Totals}
-use Rattle.fp_book.specs.Calls.{ClocksAt, ComesFirst, Due, IsDue, Ticks, due_at, is_idle, joins, more_accepted}
-use Rattle.fp_book.specs.Clocking.{idle_among, is_among}
-use Rattle.fp_book.specs.Log.{logged}
-use Rattle.fp_book.specs.Shelf.{Shelf, Sound, one_if}
-use Rattle.fp_book.specs.Totals.{sum_of}
-use Rattle.fp_book.specs.Lines.{is_full}
-use Rattle.fp_entry.specs.declared.entry.Entry.{Entry}
-use Rattle.fp_entry.specs.declared.entry.EntryKind.TheVariants.{Clock}
-use Rattle.fp_entry.specs.Entries.{entry_at}
-use Rattle.fp_row.specs.declared.row.Row.{Row}
-use Rattle.fp_row.specs.Calls.{Extends}
-use Rattle.fp_row.specs.Row.{deadline_of, has_clock, is_admitted, is_closed, is_due, is_ready, waits}
-use Rattle.fp_row.specs.declared.ending.Ending.{Ending}
-use Rattle.fp_service.specs.Dialogue.{is_over, next_due}
-use Rattle.fp_service.specs.Laws.{AsksOnceAtMost}
 
 -- the Clock of a moment
 abbrev pub clock : ℕ → List Entry
 clock moment = entry_at moment Clock ∷ []
 
--- each of these dialogues stands there once
+-- each of these dialogues is there once
 abbrev pub Apart : List Due → Type 0
 Apart [] = ⊤
 Apart (d ∷ due) = AllByRecursion (λ (e : Due). eqb d.1 e.1 ≡ false) due × Apart due
@@ -94,9 +72,9 @@ joins_by false false = refl
 
 pub joins_is : (moment : ℕ) (before after : Row) → Extends before (clock moment) after → is_admitted before ≡ true → (not (is_ready before) && is_ready after) ≡ is_idle (Some before)
 joins_is moment before after g e =
-    ap (λ b. not (is_ready before) && (not b && waits after)) g.is_out
-    ∙ ap (λ b. not (is_ready before) && (not before.is_out && b)) (waits_then moment before after g e)
-    ∙ joins_by before.is_out (waits before)
+    ap (λ b. not (is_ready before) && (not b && waits after)) (ap (nat_lt 0) g.out)
+    ∙ ap (λ b. not (is_ready before) && (not (has_turn_out before) && b)) (waits_then moment before after g e)
+    ∙ joins_by (has_turn_out before) (waits before)
 
 -- the dialogue got a Clock
 clocked : (b : Bool) (moment : ℕ) (o left : Option Row) (before : Row) → ClocksAt b moment o left → b ≡ true → o ≡ Some before → (after : Row) × (left ≡ Some after) × Extends before (clock moment) after

@@ -1,47 +1,26 @@
 -- Where dialogues are ended: what of one of them is dropped, and how all of them are closed.
-use Rattle.std.proofs.Common.{◌≡◌, ℕ, ◌<◌, ◌≤◌, ◌+◌, ◌-◌, ◌^◌, Bool, true, false, cond, eqb, nat_lt, List, [], ◌∷◌, Option, Some, None, is_some, ⊎_elim, refl, sym, ◌∙◌, ap, subst, arith, ◌&&◌, min, ◌++◌, length, length-append}
-use Rattle.std.proofs.lemmas.Bool.{cases_Bool, false≢true, ltb-false}
-use Rattle.std.proofs.lemmas.Bool.Decides.{nat_tests}
-use Rattle.std.proofs.lemmas.List.{nil_from_length}
-use Rattle.std.specs.Bool.{⊤}
+use Rattle.fp_book.proofs.Names.{AreTimed, Bool, Closed, Closes, ClosesAt, Content, Dropped, Ending, Ends, EndsAt, Entry, Extends, IsAbove, IsAfter, List, None, Option, Outbox, Row, SendsOne, Shelf, Some, Sound, Waiting, [], ap, arith, cases_Bool, cond, dropped_of, drops_frames, eqb, false, false≢true, frame_out, frames_for, is_frame_of, is_ready, is_some, is_unsent, kept_of, length, length-append, ltb-false, min, nat_lt, nat_tests, nil_from_length, one_if, refl, sending, sent_of, subst, sym, true, unsent_for, with_deadline, without, without_frames_of, ℕ, ⊎_elim, ⊤, ◌&&◌, ◌++◌, ◌+◌, ◌-◌, ◌<◌, ◌^◌, ◌∙◌, ◌∷◌, ◌≡◌, ◌≤◌}
 use Rattle.std.specs.FinMap as map
 use Rattle.fp_book.proofs.Changes.{by_local, count}
 use Rattle.fp_book.proofs.Kept.{Deadlines, changed, timed_by}
 use Rattle.fp_book.proofs.Sums.{OneChanges, Rows, left_of}
-use Rattle.fp_book.specs.declared.parcel.Content.{Content}
-use Rattle.fp_book.specs.Calls.{Closes, ClosesAt, without}
-use Rattle.fp_book.specs.Dialogues.{EndsAt, is_unsent, with_deadline, dropped_of, drops_frames}
-use Rattle.fp_book.specs.Sending.{is_frame_of}
-use Rattle.fp_book.specs.Views.{AreTimed}
-use Rattle.fp_row.specs.declared.ending.Ending.TheVariants.{Closed}
-use Rattle.fp_row.specs.declared.row.Row.{Row}
 use Rattle.fp_row.specs.Calls as calls
-use Rattle.fp_row.specs.Calls.{Ends, SendsOne, Extends, sending}
-use Rattle.fp_row.specs.Keys.{IsAbove}
-use Rattle.fp_row.specs.Rows.{IsAfter}
 use Rattle.fp_book.proofs.Extends.{kept_count, sending_count, sent_count}
 use Rattle.fp_book.proofs.Queue.{count-cons, without_by}
 use Rattle.fp_book.proofs.Turns.{frames_at, ready_at}
 use Rattle.fp_book.proofs.Unsent.{others, others_by}
-use Rattle.fp_book.specs.declared.parcel.Waiting.{Waiting}
-use Rattle.fp_book.specs.declared.dialogues.Dropped.{Dropped}
-use Rattle.fp_book.specs.Outbox.{Outbox, without_frames_of}
-use Rattle.fp_book.specs.Shelf.{Shelf, Sound, frame_out, frames_for, one_if, unsent_for}
-use Rattle.fp_entry.specs.declared.entry.Entry.{Entry}
-use Rattle.fp_row.specs.declared.ending.Ending.{Ending}
-use Rattle.fp_row.specs.Row.{is_ready, kept_of, sent_of}
 
--- where a frame is kept that wasn't sent, one more is sent
+-- if a frame is kept that wasn't sent, one more is sent
 pub one_sent : (answer : Bool) (before after : Row) (there : Option Row) → there ≡ Some before → is_unsent there ≡ true → calls.Sends answer before after → SendsOne before after
 one_sent true before after there was unsent sends = sends
 one_sent false before after there was unsent sends = absurd (false≢true (sym sends.0 ∙ ap is_unsent (sym was) ∙ unsent))
 
--- an identifier below the next one, as each is where there is none
+-- an identifier below the next one, as each is if there is none
 abbrev pub IsBelow : ℕ → Option ℕ → Type 0
 IsBelow q None = ⊤
 IsBelow q (Some next) = q < next
 
--- how many identifiers are not below the next one; none where there is none
+-- how many identifiers are not below the next one; none if there is none
 abbrev pub ahead : Option ℕ → ℕ
 ahead None = 0
 ahead (Some next) = 2 ^ 32 - next
@@ -57,7 +36,7 @@ absent_by : (o : Option Row) → (is_some o ≡ true → ⊥) → o ≡ None
 absent_by None absent = refl
 absent_by (Some row) absent = absurd (absent refl)
 
--- no dialogue stands between an identifier and the next one
+-- there is no dialogue between an identifier and the next one
 none_between : (rows : Rows) (from next : Option ℕ) → IsAfter rows from next → (q : ℕ) → IsAbove from q → IsBelow q next → map.get rows q ≡ None
 none_between rows from None after q above below = absent_by (map.get rows q) (λ there. after q there above)
 none_between rows from (Some n) after q above below = absent_by (map.get rows q) (λ there. let least : n ≤ q = after.2 q there above in omega (arith, least, below))
@@ -126,12 +105,12 @@ dropped_by : (l : ℕ) (w : Waiting) (ws : List Waiting) (b : Bool) → eqb w.lo
 dropped_by l w ws true is rest none = absurd (let clash : w.frame ∷ frames_for l ws ≡ [] = sym (ap (λ b. cond b (w.frame ∷ []) [] ++ frames_for l ws) is) ∙ none in cc)
 dropped_by l w ws false is rest none = ap (λ r. w ∷ r) (rest (sym (ap (λ b. cond b (w.frame ∷ []) [] ++ frames_for l ws) is) ∙ none))
 
--- where no frame of a dialogue waits none is dropped
+-- if no frame of a dialogue waits none is dropped
 none_dropped : (l : ℕ) (ws : List Waiting) → frames_for l ws ≡ [] → others l ws ≡ ws
 none_dropped l [] none = refl
 none_dropped l (w ∷ ws) none = others_by l w ws (eqb w.local l) refl ∙ dropped_by l w ws (eqb w.local l) refl (none_dropped l ws) none
 
--- no frame of a dialogue waits where ending it drops none
+-- no frame of a dialogue waits if ending it drops none
 pub nothing_to_drop : (s : Shelf) (local : ℕ) (row : Row) → sent_of row ++ unsent_for local s.outbox ≡ kept_of row
     → nat_lt (min row.kept (row.sent + sending (is_frame_of local s.outbox.out))) row.kept ≡ false → others local s.outbox.frames ≡ s.outbox.frames
 nothing_to_drop s local row all none =
@@ -152,7 +131,7 @@ pub none_leaves : (l : ℕ) (xs : List ℕ) → count l xs ≡ 0 → without l x
 none_leaves l [] none = refl
 none_leaves l (x ∷ xs) none = without_by l x xs (eqb x l) refl ∙ leaves_by l x xs (eqb x l) refl (none_leaves l xs) none
 
--- so to drop its frames only where ending it drops one is to drop them
+-- so to drop its frames only if ending it drops one is to drop them
 pub drops_by : (s : Shelf) (local : ℕ) (row : Row) (drops : Bool) → sent_of row ++ unsent_for local s.outbox ≡ kept_of row
     → drops ≡ nat_lt (min row.kept (row.sent + sending (is_frame_of local s.outbox.out))) row.kept → cond drops (without_frames_of local s.outbox) s.outbox ≡ without_frames_of local s.outbox
 drops_by s local row true all is = refl
@@ -163,7 +142,7 @@ pub leaves_by_ready : (l : ℕ) (xs : List ℕ) (was_ready : Bool) → count l x
 leaves_by_ready l xs true is = refl
 leaves_by_ready l xs false is = sym (none_leaves l xs is)
 
--- where it isn't ended none is dropped
+-- if it isn't ended none is dropped
 pub drops_as : (s : Shelf) (local : ℕ) (row : Row) (is_ended drops : Bool) → sent_of row ++ unsent_for local s.outbox ≡ kept_of row
     → drops ≡ (is_ended && drops_frames row (is_frame_of local s.outbox.out))
     → cond drops (without_frames_of local s.outbox) s.outbox ≡ cond is_ended (without_frames_of local s.outbox) s.outbox
@@ -179,7 +158,7 @@ pub drops_ended : (ending : Ending) (sends : Bool) (before extended after : Row)
 drops_ended ending sends before extended after entries drops more ends is =
     is ∙ ap (λ n. nat_lt n extended.kept) ends.kept ∙ ap (λ n. nat_lt (min n (extended.sent + sending sends)) n) more.stay.kept ∙ ap (λ n. nat_lt (min before.kept (n + sending sends)) before.kept) more.stay.sent
 
--- so is told of the dialogue that there was
+-- so it is with the dialogue that there was
 pub drops_of : (o : Option Row) (before : Row) (is_ended sends drops : Bool) → o ≡ Some before → drops ≡ (is_ended && drops_frames before sends) → (row : Row) → o ≡ Some row
     → drops ≡ (is_ended && drops_frames row sends)
 drops_of o before is_ended sends drops was is row there = subst (λ r. drops ≡ (is_ended && drops_frames r sends)) (same_row o before row was there) is

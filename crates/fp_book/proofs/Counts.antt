@@ -1,27 +1,7 @@
--- What a link counts once a message was posted, and what is told of it.
-use Rattle.std.proofs.Common.{◌≡◌, ℕ, true, false, Option, Some, None, refl, sym, ◌∙◌, ap, subst, ⊎_elim, ◌≢◌, Bool, List, [], ◌∷◌, inl, inr}
-use Rattle.std.proofs.lemmas.Bool.{cond_both, false≢true}
+-- What a link counts once a message was posted, and what its receipt says.
+use Rattle.fp_book.proofs.Names.{AbortCause, Answers, Arrival, Bool, ClosesOne, Continue, Discard, Entry, Extend, Follows, IsReceipt, Kind, List, Lost, None, Open, Option, Posted, Posts, Prepared, Receipt, Refuse, Shelf, Some, Tid, Totals, Verdict, [], accepted_components, ap, are_some, arrival_of, asks_for_memory, closed_answer, cond_both, false, false≢true, inl, inr, lost_of, named, posted_totals, refl, subst, sym, treated_as, true, verdict, ℕ, ⊎_elim, ◌∙◌, ◌∷◌, ◌≡◌, ◌≢◌}
 use Rattle.fp_book.proofs.Lines.{first_line_decides}
-use Rattle.fp_book.specs.declared.answers.Posted.{Posted}
-use Rattle.fp_book.specs.declared.totals.Totals.{Totals}
-use Rattle.fp_book.specs.declared.verdict.Verdict.{Verdict}
-use Rattle.fp_book.specs.declared.verdict.Verdict.TheVariants.{Discard, Refuse, Open, Extend}
-use Rattle.fp_book.specs.Calls.{Answers, ClosesOne, Follows, Posts, closed_answer, posted_totals, are_some, asks_for_memory}
-use Rattle.fp_book.specs.Receipt.{accepted_components, IsReceipt, treated_as}
-use Rattle.fp_book.specs.Shelf.{Shelf}
-use Rattle.fp_book.specs.Lines.{named, verdict}
-use Rattle.fp_book.specs.Verdict.{lost_of}
-use Rattle.fp_entry.specs.declared.arrival.Arrival.{Arrival}
-use Rattle.fp_entry.specs.declared.prepared.Prepared.{Prepared}
 use Rattle.fp_entry.specs.declared.prepared.Prepared.TheVariants as prepared
-use Rattle.fp_entry.specs.Prepared.{arrival_of}
-use Rattle.fp_q773.specs.declared.kind.Kind.{Kind}
-use Rattle.fp_q773.specs.declared.kind.Kind.TheVariants.{Continue}
-use Rattle.fp_q773.specs.declared.provider_abort.AbortCause.{AbortCause}
-use Rattle.fp_q773.specs.Tid.{Tid}
-use Rattle.fp_book.specs.declared.answers.Receipt.{Receipt}
-use Rattle.fp_entry.specs.declared.entry.Entry.{Entry}
-use Rattle.fp_entry.specs.declared.prepared.Prepared.TheVariants.{Lost}
 
 -- whether a message is accepted
 abbrev pub accepts : Verdict → Bool
@@ -79,7 +59,7 @@ lost_away s arrival =
     subst (λ v. accepts v ≡ false) (first_line_decides s (prepared.Lost arrival))
     (cond_both s.is_down Discard (lost_of arrival.ids.kind (named s arrival.ids)) (λ v. accepts v ≡ false) (λ _. refl) (λ _. lost_by arrival.ids.kind (named s arrival.ids)))
 
--- what is counted is told by the answer
+-- the answer says what is counted
 pub posted_counts : (old : Shelf) (came : Prepared) (answer : Posted) (new : Shelf) → Posts old came answer new → new.totals ≡ posted_totals old.totals came answer
 posted_counts old came answer new posts =
     ⊎_elim (λ g. followed (verdict old came) old came answer new g)

@@ -1,35 +1,14 @@
 -- Books whose parcel comes back, and books whose link goes down: to close all dialogues keeps what a book keeps.
-use Rattle.std.proofs.Common.{◌≡◌, ℕ, ◌≤◌, ◌+◌, Bool, true, cond, ◌⊎◌, inl, inr, Option, Some, None, List, [], ◌∷◌, ◌++◌, length, take, refl, sym, ◌∙◌, ap, subst, arith, append-nil, le_refl, ◌<◌, ◌^◌, length-append}
+use Rattle.fp_book.proofs.Names.{AreTimed, AsksOnceAtMost, Bool, Closed, Closes, ClosesAt, Content, GoesDown, Inside, IsKept, IsOwn, List, LoggedStep, None, Option, Outbox, Parcel, Row, Sends, SendsAt, Shelf, Some, Sound, Unsends, [], accepted_by, ap, append-nil, arith, component_count, dialogue_of, frame_out, frames_for, inl, inr, is_frame_of, is_held, is_unsent, kept_of, le_refl, length, length-append, logged, nat_tests, nil_from_length, of_row, one_if, one_sent, places_out, refl, sending, sent_by, sent_of, served_by, shelf_of, subst, sum_of, sym, take, true, turns_of, unsent_for, with_dialogue, with_nothing_out, ℕ, ◌++◌, ◌+◌, ◌<◌, ◌^◌, ◌∙◌, ◌∷◌, ◌≡◌, ◌≤◌, ◌⊎◌}
 use Rattle.std.specs.FinMap as map
 use Rattle.fp_book.proofs.Changes.{admitted, admitted_left, amount_left, by_held, count_is, entries_of, frames_left, left_by, one, one_left, ready, ready_left, turns_left, own_after}
 use Rattle.fp_book.proofs.Extends.{closed_then, ended_frames, front, none_admitted, not_served, sent_count, kept_count}
 use Rattle.fp_book.proofs.Sums.{Rows, amount, len-sum, sum-zero, sums-le, zero_of, sum-le}
 use Rattle.fp_book.proofs.Turns.{few_sent, frames_at}
-use Rattle.fp_book.specs.declared.line.LoggedStep.{LoggedStep}
 use Rattle.fp_book.specs.declared.line.LoggedStep.TheVariants as line
-use Rattle.fp_book.specs.declared.parcel.Content.{Content}
-use Rattle.fp_book.specs.declared.parcel.Parcel.{Parcel}
-use Rattle.fp_book.specs.Calls.{Closes, ClosesAt, GoesDown, Unsends, Sends, one_sent}
-use Rattle.fp_book.specs.Log.{logged}
-use Rattle.fp_book.specs.Outbox.{Outbox, places_out, with_nothing_out}
-use Rattle.fp_book.specs.Sending.{is_frame_of}
-use Rattle.fp_book.specs.Shelf.{IsOwn, Shelf, Sound, frame_out, frames_for, of_row, one_if, turns_of, unsent_for, with_dialogue}
-use Rattle.fp_book.specs.Totals.{sent_by, served_by, sum_of, accepted_by}
-use Rattle.fp_row.specs.declared.ending.Ending.TheVariants.{Closed}
-use Rattle.fp_row.specs.declared.row.Row.{Row}
-use Rattle.fp_row.specs.Calls.{sending}
-use Rattle.fp_row.specs.Row.{is_held, kept_of, sent_of}
-use Rattle.fp_service.specs.Laws.{AsksOnceAtMost}
-use Rattle.std.proofs.lemmas.Bool.Decides.{nat_tests}
-use Rattle.std.proofs.lemmas.List.{nil_from_length}
 use Rattle.fp_book.proofs.Kept.{Deadlines, Leaves, few_entries}
 use Rattle.fp_book.proofs.Unsent.{first_own}
-use Rattle.fp_book.specs.declared.book.Book.TheInside.{Inside}
 use Rattle.fp_book.specs.declared.parcel.Content.TheVariants as content
-use Rattle.fp_book.specs.Dialogues.{SendsAt, is_unsent}
-use Rattle.fp_book.specs.Parcel.{dialogue_of}
-use Rattle.fp_book.specs.Views.{AreTimed, IsKept, shelf_of}
-use Rattle.fp_entry.specs.Entries.{component_count}
 
 -- what is still being sent: what was, or nothing
 abbrev StillOut : Shelf → Option Content → Type 0
@@ -86,7 +65,7 @@ not_ready_by sends None left closes = ap (amount ready) closes
 not_ready_by sends (Some row) left closes = left_not_ready sends row left closes
 
 pub left_turns : (sends : Bool) (row : Row) (left : Option Row) → Closes sends row left → amount turns_of left ≡ turns_of row
-left_turns sends row left g = ap (amount turns_of) g.left_is ∙ turns_left g.after ∙ ap (λ b. cond {A = ℕ} b 1 0) g.ends.is_out
+left_turns sends row left g = ap (amount turns_of) g.left_is ∙ turns_left g.after ∙ g.ends.out
 
 -- what was served of it, and what it accepted
 left_entries : (sends : Bool) (row : Row) (left : Option Row) → Closes sends row left → served_by row + amount entries_of left ≤ entries_of row + amount served_by left

@@ -1,41 +1,14 @@
 -- Messages that dialogues accept, that open one or end one, and dialogues that are closed: all that keeps what a book keeps.
-use Rattle.std.proofs.Common.{◌≡◌, ℕ, ◌<◌, ◌≤◌, ◌+◌, ◌^◌, Bool, true, false, cond, not, ◌&&◌, ◌||◌, nat_lt, Option, Some, None, List, [], ◌++◌, length, take, is_some, refl, sym, ◌∙◌, ap, subst, arith, length-append, zero-add, ⊎_elim, eqb, ◌⊎◌, ◌∷◌, length-take-le, take_all, append-nil, append_assoc, le_refl}
-use Rattle.std.proofs.lemmas.Bool.{false≢true, or_cases, or_left, or_right, and_left, and_right}
+use Rattle.fp_book.proofs.Names.{AsksOnceAtMost, Bool, ByPeer, Closed, ClosesDialogue, Content, Ending, Ends, EndsDialogue, Entry, Extends, ExtendsDialogue, FramesStay, IsSame, List, LoggedStep, None, OpensDialogue, Option, Posted, Prepared, Request, Row, Shelf, Some, Sound, Tid, [], and_left, and_right, ap, append-nil, append_assoc, arith, component_count, cond, ended_by, entries_in, eqb, false, false≢true, frame_of, frame_out, frames_for, frames_of, has_turn_out, identifier, is_admitted, is_closed, is_frame_of, is_held, is_over, is_ready, is_some, joins, kept_of, le_refl, length, length-append, length-map, length-take-le, logged, more_accepted, nat_lt, not, octets_of, one_if, option_map_or, or_cases, or_left, or_right, posted_line, ready_stays, refl, requests_of, sending, sent_of, subst, sum_of, sym, take, take-append-le, take_all, true, turns_of, unsent_for, waits, with_dialogue, with_row, without, without_frames_of, zero-add, ℕ, ⊎_elim, ◌&&◌, ◌++◌, ◌+◌, ◌<◌, ◌^◌, ◌||◌, ◌∙◌, ◌∷◌, ◌≡◌, ◌≤◌, ◌⊎◌}
 use Rattle.std.specs.FinMap as map
 use Rattle.fp_book.proofs.Changes.{Sound-change, admitted, one, one_if_most, ready, QueueChanges, link_stays, own_after}
 use Rattle.fp_book.proofs.Queue.{queue_joins, queue_leaves}
 use Rattle.fp_book.proofs.Sums.{len-sum, put_held, sum-le}
 use Rattle.fp_book.proofs.Turns.{Sound-stays, admitted_as, components_few, counts_of, few_sent, frames_at, held_dialogue, outbox_stays, ready_at}
-use Rattle.fp_book.specs.declared.answers.Posted.{Posted}
-use Rattle.fp_book.specs.declared.line.LoggedStep.{LoggedStep}
-use Rattle.fp_book.specs.Calls.{ExtendsDialogue, OpensDialogue, entries_in, joins, more_accepted, posted_line, ClosesDialogue, EndsDialogue, without}
-use Rattle.fp_book.specs.Log.{logged}
-use Rattle.fp_book.specs.Shelf.{Shelf, Sound, one_if, turns_of, frame_out, frames_for, unsent_for, with_dialogue}
-use Rattle.fp_book.specs.Totals.{sum_of, with_row}
-use Rattle.fp_entry.specs.declared.entry.Entry.{Entry}
-use Rattle.fp_entry.specs.declared.prepared.Prepared.{Prepared}
-use Rattle.fp_entry.specs.Entries.{component_count}
-use Rattle.fp_q773.specs.Tid.{Tid, octets_of}
-use Rattle.fp_row.proofs.Keeping.{ready_stays}
-use Rattle.fp_row.specs.declared.row.Row.{Row}
-use Rattle.fp_row.specs.Calls.{Extends, Ends, FramesStay, IsSame, ended_by, sending}
-use Rattle.fp_row.specs.Row.{frames_of, is_admitted, is_closed, is_held, is_ready, kept_of, sent_of, waits, requests_of}
-use Rattle.fp_service.specs.Dialogue.{is_over}
-use Rattle.fp_service.specs.Laws.{AsksOnceAtMost}
-use Rattle.fp_tids.specs.Identifiers.{identifier}
-use Rattle.std.proofs.lemmas.List.{length-map, take-append-le}
-use Rattle.std.specs.Option.{option_map_or}
 use Rattle.fp_book.proofs.Unsent.{dropped_other, dropped_own, fewer, others}
-use Rattle.fp_book.specs.declared.parcel.Content.{Content}
 use Rattle.fp_book.specs.declared.parcel.Content.TheVariants as content
-use Rattle.fp_book.specs.Outbox.{without_frames_of}
-use Rattle.fp_book.specs.Sending.{is_frame_of}
-use Rattle.fp_row.specs.declared.ending.Ending.{Ending}
-use Rattle.fp_row.specs.declared.ending.Ending.TheVariants.{ByPeer, Closed}
-use Rattle.fp_reply.specs.Reply.{frame_of}
-use Rattle.fp_service.specs.declared.request.Request.{Request}
 
--- entries that wait still wait where more come
+-- entries that wait still wait if more come
 waits_more : (before after : Row) (more : List Entry) → Extends before more after → waits before ≡ true → waits after ≡ true
 waits_more before after more g h =
     rw (g.ended, g.stay.core, g.stay.served) (ready_stays true (not (is_closed before.ended)) (not (is_over before.core)) before.served before.accepted more after.accepted g.accepted h)
@@ -46,10 +19,10 @@ more_true a b c d f g h = ⊎_elim (λ e. or_left c d (f e)) (λ e. or_right c d
 -- a dialogue of which something is left keeps it
 pub held_more : (before after : Row) (more : List Entry) → Extends before more after → is_held before ≡ true → is_held after ≡ true
 held_more before after more g h =
-    more_true (is_admitted before) (before.is_out || (waits before || nat_lt before.sent before.kept)) (is_admitted after) (after.is_out || (waits after || nat_lt after.sent after.kept))
+    more_true (is_admitted before) (has_turn_out before || (waits before || nat_lt before.sent before.kept)) (is_admitted after) (has_turn_out after || (waits after || nat_lt after.sent after.kept))
     (λ e. admitted_as before after g.ended g.stay.core ∙ e)
-    (more_true before.is_out (waits before || nat_lt before.sent before.kept) after.is_out (waits after || nat_lt after.sent after.kept)
-    (λ e. g.is_out ∙ e)
+    (more_true (has_turn_out before) (waits before || nat_lt before.sent before.kept) (has_turn_out after) (waits after || nat_lt after.sent after.kept)
+    (λ e. ap (nat_lt 0) g.out ∙ e)
     (more_true (waits before) (nat_lt before.sent before.kept) (waits after) (nat_lt after.sent after.kept)
     (waits_more before after more g)
     (λ e. ap (λ n. nat_lt n after.kept) g.stay.sent ∙ ap (nat_lt before.sent) g.stay.kept ∙ e)))
@@ -81,7 +54,7 @@ Sound-extended law old l before after more joins_it log s was extends join limit
     let queue = old.ready ++ joins l joins_it in
     subst Sound (ap (λ (t : Shelf). record t { entries = old.entries + length more; ready = queue; totals = more_accepted old.totals more; log = log }) (held_dialogue old l after held))
     (Sound-stays law old l before after more (old.entries + length more) (old.totals.accepted + component_count more) queue log s was extends.same extends.accepted extends.stay extends.ended
-    (queue_joins old.ready l joins_it (ready before) (ready after) (ready_at old l (Some before) s was) join) (omega (arith, s.places, ap (λ b. cond {A = ℕ} b 1 0) extends.is_out)) refl refl limit)
+    (queue_joins old.ready l joins_it (ready before) (ready after) (ready_at old l (Some before) s was) join) (omega (arith, s.places, extends.out)) refl refl limit)
 
 pub Sound-extends : AsksOnceAtMost → (old new : Shelf) (local : ℕ) (came : Prepared) (answer : Posted) → Sound old → ExtendsDialogue old local came answer new → old.entries < 2 ^ 63
     → length (entries_in came) ≤ 17 → Sound new
@@ -120,7 +93,7 @@ Sound-opens law old new peer came answer s g up room few places serial =
     let is_admitted_then : is_admitted after ≡ true =
     ap (λ e. not (is_some e) && not (is_over after.core)) not_ended ∙ ap (λ c. not (is_over c)) (g.extends.stay.core ∙ g.opens.core) in
     let held : is_held after ≡ true = or_left (is_admitted after) _ is_admitted_then in
-    let no_turn : turns_of after ≡ 0 = ap (λ b. cond {A = ℕ} b 1 0) (g.extends.is_out ∙ g.opens.is_out) in
+    let no_turn : turns_of after ≡ 0 = g.extends.out ∙ g.opens.out in
     let accepted_is : after.accepted ≡ more = g.extends.accepted ∙ ap (λ es. es ++ more) g.opens.accepted in
     let birth_is : after.birth ≡ old.births + 1 = g.extends.same.birth ∙ g.opens.birth_is in
     subst Sound (sym g.new_is) (Sound-change old then l None after s (record {
@@ -205,7 +178,7 @@ closed_as (Some ByPeer) = refl
 closed_as (Some Closed) = refl
 
 served_on : (sends : Bool) (before after : Row) → Ends ByPeer sends before after → is_ready after ≡ is_ready before
-served_on sends before after g = rw (g.is_out, g.ended, closed_as before.ended, g.core, g.served, g.accepted) refl
+served_on sends before after g = rw (g.out, g.ended, closed_as before.ended, g.core, g.served, g.accepted) refl
 
 -- one that is closed is not served
 pub closed_then : (ended : Option Ending) → ended_by Closed ended ≡ Some Closed
@@ -215,7 +188,7 @@ closed_then (Some Closed) = refl
 
 pub not_served : (sends : Bool) (before after : Row) → Ends Closed sends before after → is_ready after ≡ false
 not_served sends before after g =
-    and_right (not after.is_out) (waits after)
+    and_right (not (has_turn_out after)) (waits after)
     (and_left (not (is_closed after.ended)) (not (is_over after.core) && nat_lt after.served (length after.accepted))
     (ap (λ e. not (is_closed e)) (g.ended ∙ closed_then before.ended)))
 
@@ -224,7 +197,7 @@ same_both a b c f g = record { local = g.local ∙ f.local; peer = g.peer ∙ f.
 
 -- a dialogue accepts entries, or none, and is ended: its frames that wait are dropped
 Sound-ended : AsksOnceAtMost → (ending : Ending) (old : Shelf) (local : ℕ) (before middle after : Row) (more : List Entry) (entries accepted : ℕ) (queue : List ℕ) (log : List LoggedStep) → Sound old
-    → map.get old.rows local ≡ Some before → IsSame before middle → middle.accepted ≡ before.accepted ++ more → FramesStay before middle → middle.is_out ≡ before.is_out
+    → map.get old.rows local ≡ Some before → IsSame before middle → middle.accepted ≡ before.accepted ++ more → FramesStay before middle → middle.out ≡ before.out
     → Ends ending (is_frame_of local old.outbox.out) middle after → (old.is_down ≡ true → after.ended ≡ Some Closed) → QueueChanges old.ready queue local (ready before) (ready after)
     → entries ≡ old.entries + length more → accepted ≡ old.totals.accepted + component_count more → entries + sum_of admitted old.rows ≤ 2 ^ 63 + 8192 + admitted before
     → Sound (record (with_dialogue old local after) {
@@ -262,7 +235,7 @@ Sound-ended law ending old l before middle after more entries accepted queue log
             ∙ ap (λ r. sent_of middle ++ r) (append-nil (frame_out l old.outbox.out))
             ∙ ended_frames old l middle all ∙ sym ends.kept_frames;
         other_frames = λ d ne. ap (λ r. frame_out d old.outbox.out ++ r) (dropped_other d l old.outbox.frames ne);
-        places = omega (arith, s.places, ap (λ b. cond {A = ℕ} b 1 0) (ends.is_out ∙ out), fewer l old.outbox.frames);
+        places = omega (arith, s.places, ends.out, out, fewer l old.outbox.frames);
         aborts = s.aborts;
         quiet = λ e. ((s.quiet e).0, ap (others l) (s.quiet e).1);
       };
@@ -280,7 +253,7 @@ Sound-ends law old new local came answer s g takes_more limit =
     ⊎_elim (λ h. let room : old.entries < 2 ^ 63 = h.0 in let few : length more ≤ 17 = h.1 in omega (arith, few_admitted old, s.held)) (λ h. omega (arith, h, s.entries, was_admitted)) limit in
     subst Sound (sym g.new_is)
     (Sound-ended law ByPeer old local g.before g.extended g.after more (old.entries + length more) (old.totals.accepted + component_count more) (old.ready ++ joins local (not (is_ready g.before) && is_ready g.after))
-    (logged old.log (posted_line came answer)) s g.was g.extends.same g.extends.accepted g.extends.stay g.extends.is_out g.ends
+    (logged old.log (posted_line came answer)) s g.was g.extends.same g.extends.accepted g.extends.stay g.extends.out g.ends
     (λ e. g.ends.ended ∙ ap (ended_by ByPeer) (g.extends.ended ∙ (s.own local g.before g.was).closed e))
     (queue_joins old.ready local (not (is_ready g.before) && is_ready g.after) (ready g.before) (ready g.after) (ready_at old local (Some g.before) s g.was) join) refl refl room)
 

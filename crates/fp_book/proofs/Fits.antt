@@ -1,27 +1,9 @@
 -- What the verdict on a message has made sure of.
-use Rattle.std.proofs.Common.{◌≡◌, ◌≢◌, ℕ, ◌<◌, ◌≤◌, ◌+◌, ◌^◌, Bool, true, false, ◌||◌, ◌⊎◌, inl, inr, nat_eq, nat_le, nat_lt, Option, Some, None, length, refl, ap, ◌∙◌, subst, arith}
-use Rattle.std.specs.Prelude.{⊤}
-use Rattle.std.proofs.lemmas.Bool.{cond_both, eqb-false, leb-false, ltb-false, or_parts}
-use Rattle.std.specs.Option.{option_and_then, option_map_or}
+use Rattle.fp_book.proofs.Names.{Abort, Arrival, Begin, Bool, Continue, Discard, End, Extend, Ids, Incoming, Kind, Lost, Message, None, Open, Option, Prepared, Refuse, Refused, Shelf, Some, Tid, Unidirectional, Verdict, abort_of, ap, arith, arrived, begin_of, cond_both, entries_in, eqb-false, false, inl, inr, is_admitted, is_full, leb-false, length, lost_of, ltb-false, message_of, more_of, named, nat_eq, nat_le, nat_lt, no_dialogue_left, no_place_left, number_of, octets_of, option_and_then, option_map_or, or_parts, place_count, refl, refused_of, subst, too_many, true, verdict, ℕ, ⊤, ◌+◌, ◌<◌, ◌^◌, ◌||◌, ◌∙◌, ◌≡◌, ◌≢◌, ◌≤◌, ◌⊎◌}
 use Rattle.std.specs.FinMap as map
 use Rattle.fp_book.proofs.Lines.{first_line_decides}
 use Rattle.fp_book.proofs.Tells.{names_by}
-use Rattle.fp_book.specs.declared.verdict.Verdict.{Verdict}
-use Rattle.fp_book.specs.declared.verdict.Verdict.TheVariants.{Discard, Refuse, Open, Extend}
-use Rattle.fp_book.specs.Shelf.{Shelf}
-use Rattle.fp_book.specs.Lines.{entries_in, is_full, named, number_of, verdict}
-use Rattle.fp_book.specs.Verdict.{abort_of, arrived, begin_of, lost_of, message_of, more_of, no_dialogue_left, no_place_left, refused_of, too_many}
-use Rattle.fp_entry.specs.declared.arrival.Arrival.{Arrival}
-use Rattle.fp_entry.specs.declared.incoming.Incoming.{Incoming}
-use Rattle.fp_entry.specs.declared.prepared.Prepared.{Prepared}
-use Rattle.fp_entry.specs.declared.prepared.Prepared.TheVariants.{Message, Refused, Lost}
-use Rattle.fp_entry.specs.Entries.{place_count}
-use Rattle.fp_q773.specs.declared.ids.Ids.{Ids}
-use Rattle.fp_q773.specs.declared.kind.Kind.{Kind}
-use Rattle.fp_q773.specs.declared.kind.Kind.TheVariants.{Unidirectional, Begin, End, Continue, Abort}
 use Rattle.fp_q773.specs.declared.provider_abort.AbortCause.TheVariants as cause
-use Rattle.fp_q773.specs.Tid.{Tid, octets_of}
-use Rattle.fp_row.specs.Row.{is_admitted}
 
 -- there is room for the entries
 pub record CanGrow (s : Shelf) (came : Prepared) : Type 0 where

@@ -1,16 +1,9 @@
 -- A book on which nothing came yet keeps what a book keeps.
-use Rattle.std.proofs.Common.{◌≡◌, ℕ, ◌<◌, [], ◌++◌, false, length, Option, Some, None, refl, sym, ◌∙◌, ap, subst, arith}
+use Rattle.fp_book.proofs.Names.{IsKept, None, Option, Row, Some, Sound, [], accepted_by, ap, arith, deadline_at, empty_shelf, false, kept_of, length, nat_cmp, no_totals, nothing, of_row, ready_count, refl, sent_by, sent_of, served_by, subst, sum_of, sym, turns_of, ℕ, ◌++◌, ◌<◌, ◌∙◌, ◌≡◌}
 use Rattle.std.specs.FinMap as map
-use Rattle.std.specs.Ordering.{nat_cmp}
 use Rattle.fp_book.proofs.Changes.{admitted, ready}
 use Rattle.fp_book.proofs.Kept.{leaves}
 use Rattle.fp_book.proofs.Sums.{sum-none}
-use Rattle.fp_book.specs.Outbox.{nothing}
-use Rattle.fp_book.specs.Shelf.{Sound, empty_shelf, no_totals, of_row, ready_count, turns_of}
-use Rattle.fp_book.specs.Totals.{accepted_by, sent_by, served_by, sum_of}
-use Rattle.fp_book.specs.Views.{IsKept, deadline_at}
-use Rattle.fp_row.specs.declared.row.Row.{Row}
-use Rattle.fp_row.specs.Row.{kept_of, sent_of}
 
 -- no dialogue is there
 no_row : (q : ℕ) → map.get {X = Row} (map.empty {R = nat_cmp}) q ≡ None

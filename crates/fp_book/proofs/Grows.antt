@@ -1,41 +1,12 @@
 -- What a message does: a new dialogue, one that accepts it, or one that is closed for it, and the answer.
-use Rattle.std.proofs.Common.{◌≡◌, ℕ, ◌+◌, Bool, true, false, cond, not, ◌&&◌, Option, Some, List, ◌++◌, length, sym, ◌∙◌, ap, subst, is_some, refl, None, inl, arith}
-use Rattle.std.proofs.lemmas.Bool.{and_parts, not-true, or_left}
+use Rattle.fp_book.proofs.Names.{AbortCause, Accepted, Accepts, AnsweredBy, Answers, AreTimed, Bool, Closed, ClosesOne, EndsAt, Entry, Extend, Extends, ExtendsAt, Follows, Grows, Inside, IsKept, Left, List, LoggedStep, None, Opens, OpensAt, Option, Outbox, Posted, PostingKeepsSound, Prepared, Refuse, Refuses, Row, Shelf, Some, Tid, Totals, abort_for, and_parts, ap, arith, arrival_of, cond, entries_in, false, gone_with, inl, is_admitted, is_frame_of, is_held, is_over, is_ready, is_some, joins, left_as, length, logged, more_accepted, not, not-true, option_map_or, or_left, posted_line, refl, shelf_of, subst, sum_of, sym, takes_more, true, turns_of, verdict, with_deadline, with_dialogue, without, without_frames_of, ℕ, ◌&&◌, ◌++◌, ◌+◌, ◌∙◌, ◌≡◌}
 use Rattle.std.specs.FinMap as map
-use Rattle.std.specs.Option.{option_map_or}
 use Rattle.fp_book.proofs.Sums.{Rows}
 use Rattle.fp_book.proofs.Turns.{admitted_as, held_dialogue}
-use Rattle.fp_book.specs.declared.answers.Posted.{Posted}
-use Rattle.fp_book.specs.declared.answers.Posted.TheVariants.{Accepted}
-use Rattle.fp_book.specs.declared.dialogues.Left.{Left}
-use Rattle.fp_book.specs.declared.verdict.Verdict.TheVariants.{Extend, Refuse}
-use Rattle.fp_book.specs.Calls.{Follows, entries_in, joins, more_accepted, posted_line, Answers, ClosesOne, Refuses, abort_for, without}
-use Rattle.fp_book.specs.Dialogues.{ExtendsAt, Grows, takes_more, OpensAt, left_as, AnsweredBy, EndsAt, with_deadline}
-use Rattle.fp_book.specs.Log.{logged}
-use Rattle.fp_book.specs.Outbox.{without_frames_of, Outbox}
-use Rattle.fp_book.specs.Sending.{is_frame_of}
-use Rattle.fp_book.specs.Shelf.{Shelf, with_dialogue, gone_with, turns_of}
-use Rattle.fp_entry.specs.declared.entry.Entry.{Entry}
-use Rattle.fp_entry.specs.declared.prepared.Prepared.{Prepared}
-use Rattle.fp_row.specs.declared.row.Row.{Row}
-use Rattle.fp_row.specs.Calls.{Accepts, Extends, Opens}
-use Rattle.fp_row.specs.Row.{is_admitted, is_held, is_ready}
-use Rattle.fp_q773.specs.Tid.{Tid}
-use Rattle.fp_service.specs.Dialogue.{is_over}
 use Rattle.fp_book.proofs.Fits.{CanRefuse, Allowed, verdict_allowed}
 use Rattle.fp_book.proofs.Kept.{Deadlines, Leaves, leaves, same_parts, seen_with, timed_by, turns_by}
-use Rattle.fp_book.specs.declared.book.Book.TheInside.{Inside}
-use Rattle.fp_book.specs.declared.line.LoggedStep.{LoggedStep}
-use Rattle.fp_book.specs.declared.totals.Totals.{Totals}
-use Rattle.fp_book.specs.Laws.{PostingKeepsSound}
-use Rattle.fp_book.specs.Totals.{sum_of}
-use Rattle.fp_book.specs.Lines.{verdict}
-use Rattle.fp_book.specs.Views.{AreTimed, IsKept, shelf_of}
-use Rattle.fp_entry.specs.Prepared.{arrival_of}
-use Rattle.fp_q773.specs.declared.provider_abort.AbortCause.{AbortCause}
-use Rattle.fp_row.specs.declared.ending.Ending.TheVariants.{Closed}
 
--- a dialogue that takes messages has the entries behind its others
+-- a dialogue that takes messages has the entries after its others
 pub extended_by : (rows : Rows) (local : ℕ) (before extended : Row) (entries : List Entry) (taken : Bool) → map.get rows local ≡ Some before → takes_more (map.get rows local) ≡ true
     → taken ≡ is_admitted before → Accepts taken before entries extended → Extends before entries extended
 extended_by rows local before extended entries taken was admitted is accepts =
@@ -46,9 +17,9 @@ pub was_idle : (before after : Row) (left : Left) (deadline : Option ℕ) → le
 was_idle before after left deadline is joins = not-true (is_ready before) (and_parts (not (is_ready before)) (is_ready after) (sym (ap (λ (x : Left). x.is_ready) is) ∙ joins)).0
 
 -- its turn stays out
-pub grown_out : (entries : List Entry) (ends sends : Bool) (before after : Row) → Grows entries ends sends before after → after.is_out ≡ before.is_out
-grown_out entries false sends before after g = g.is_out
-grown_out entries true sends before after g = g.2.is_out ∙ g.1.is_out
+pub grown_out : (entries : List Entry) (ends sends : Bool) (before after : Row) → Grows entries ends sends before after → after.out ≡ before.out
+grown_out entries false sends before after g = g.out
+grown_out entries true sends before after g = g.2.out ∙ g.1.out
 
 -- what a book is then: of a dialogue that isn't ended the frames stay
 pub grown_shelf : (s then : Shelf) (came : Prepared) (local : ℕ) (ends : Bool) (left : Left) (rows : Rows) (answer : Posted) → (g : ExtendsAt s.rows local (entries_in came) ends (is_frame_of local s.outbox.out) left rows)
@@ -146,7 +117,7 @@ one_closed b local rows deadlines ready outbox k ends cleared left dropped =
       };
       aborts = ap (λ (o : Outbox). o.aborts) dropped;
       links = k.links;
-      turns = turns_by b.turns b.turns ends k.turns (omega (arith, ap (λ b. cond {A = ℕ} b 1 0) ends.does.is_out));
+      turns = turns_by b.turns b.turns ends k.turns (omega (arith, ends.does.out));
       timed = timed_by b.deadlines deadlines ends k.timed (cleared ∙ ap (with_deadline b.deadlines local) (sym ends.does.deadline));
     }
 

@@ -1,15 +1,6 @@
 -- What the type of a book keeps of each dialogue that is held.
-use Rattle.std.proofs.Common.{◌≡◌, ◌≢◌, ℕ, ◌++◌, Bool, true, false, cond, List, Option, Some, None, IsSome, length, take, drop, refl, sym, ◌∙◌, ap, subst}
-use Rattle.std.proofs.lemmas.List.{take-append-drop}
-use Rattle.std.specs.Prelude.{option_map}
-use mathlib.Core.List.{IsPrefix}
-use Rattle.fp_book.specs.Laws.{DialoguesAreKeptInOrder, entry_in, frames_under}
-use Rattle.fp_book.specs.Shelf.{of_row, unsent_for}
-use Rattle.fp_entry.specs.declared.entry.Entry.{Entry}
-use Rattle.fp_row.specs.declared.row.Row.{Row}
-use Rattle.fp_row.specs.declared.turn.Turn.{Turn}
-use Rattle.fp_row.specs.Laws.{KeepsOrder, RowsKeepTheirOrder}
-use Rattle.fp_row.specs.Row.{entry_out, frames_of, kept_of, requests_of, sent_of, served_of, turn_of, turn_out, unserved, waiting_of}
+use Rattle.fp_book.proofs.Names.{Bool, DialoguesAreKeptInOrder, Entry, IsPrefix, IsSome, KeepsOrder, List, None, Option, Row, RowsKeepTheirOrder, Some, Turn, ap, cond, drop, entry_in, entry_out, false, frames_of, frames_under, has_turn_out, kept_of, length, of_row, option_map, refl, requests_of, sent_of, served_of, subst, sym, take, take-append-drop, true, turn_of, turn_out, unsent_for, unserved, waiting_of, ℕ, ◌++◌, ◌∙◌, ◌≡◌, ◌≢◌}
+use Rattle.fp_book.proofs.Changes.{turns_are}
 
 -- a turn that is out has the parts of its dialogue
 turn_by : (row : Row) (out : Bool) (o : Option Entry) (turn : Turn) → cond out (option_map (turn_of row) o) None ≡ Some turn → turn ≡ turn_of row turn.entry
@@ -20,10 +11,10 @@ turn_by row true None turn e = absurd (cc)
 turn_by row false o turn e = absurd (cc)
 
 -- its entry is the one that is out
-entry_by : (row : Row) (o : Option Turn) → turn_out row ≡ o → KeepsOrder row → (out : Bool) → row.is_out ≡ out → entry_out row ≡ entry_in o
+entry_by : (row : Row) (o : Option Turn) → turn_out row ≡ o → KeepsOrder row → (out : Bool) → has_turn_out row ≡ out → entry_out row ≡ entry_in o
 entry_by row (Some turn) is order out b = order.turn turn is
 entry_by row None is order true b = absurd (order.next b is)
-entry_by row None is order false b = ap (λ (b : Bool). take (cond {A = ℕ} b 1 0) (unserved row)) b
+entry_by row None is order false b = ap (λ n. take n (unserved row)) (turns_are row false b)
 
 some_by : (o : Option Turn) → o ≢ None → IsSome o
 some_by None none = absurd (none refl)
@@ -34,7 +25,7 @@ pub kept_in_order : RowsKeepTheirOrder → DialoguesAreKeptInOrder
 kept_in_order law s sound local row there =
     let order = law row in
     let own : row.local ≡ local = (sound.own local row there).local_is in
-    let entries : entry_out row ≡ entry_in (turn_out row) = entry_by row (turn_out row) refl order row.is_out refl in
+    let entries : entry_out row ≡ entry_in (turn_out row) = entry_by row (turn_out row) refl order (has_turn_out row) refl in
     let kept : sent_of row ++ unsent_for local s.outbox ≡ kept_of row =
     subst (λ (o : Option Row). of_row sent_of o ++ unsent_for local s.outbox ≡ of_row kept_of o) there (sound.frames local)
     in
@@ -45,7 +36,7 @@ kept_in_order law s sound local row there =
       served = order.served;
       core = order.core;
       turn = λ turn is.
-          turn_by row row.is_out _ turn is
+          turn_by row (has_turn_out row) _ turn is
           ∙ ap (λ l. record { local = l; peer = row.peer; position = row.served; entry = turn.entry; before = row.core }) own
           ∙ ap (λ n. record { local = local; peer = row.peer; position = n; entry = turn.entry; before = row.core }) (sym order.served_count)
           ∙ ap (λ core. record { local = local; peer = row.peer; position = length (served_of row); entry = turn.entry; before = core }) order.core;

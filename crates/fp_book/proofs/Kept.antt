@@ -1,22 +1,8 @@
--- What a book keeps where one of its dialogues changes, and what a call may rely on.
-use Rattle.std.proofs.Common.{◌≡◌, ℕ, ◌<◌, ◌≤◌, ◌+◌, ◌-◌, ◌^◌, true, false, cond, eqb, ◌&&◌, not, List, length, Option, Some, None, is_some, inl, inr, refl, sym, ◌∙◌, ap, subst, arith}
-use Rattle.std.proofs.lemmas.Bool.{eq-eqb}
+-- What a book keeps if one of its dialogues changes, and what a call may rely on.
+use Rattle.fp_book.proofs.Names.{AreTimed, Changes, HasRoom, Inside, IsKept, List, LoggedStep, None, Option, Outbox, Row, Shelf, Some, Sound, Totals, accepted_by, ap, arith, cond, deadline_at, deadline_of, eq-eqb, eqb, false, gone_of, has_clock, has_turn_out, inl, inr, is_admitted, is_ready, is_some, length, nat_cmp, next_due, not, one_if, refl, sent_by, served_by, shelf_of, subst, sum_of, sym, true, turns_of, with_deadline, ℕ, ◌&&◌, ◌+◌, ◌-◌, ◌<◌, ◌^◌, ◌∙◌, ◌≡◌, ◌≤◌}
 use Rattle.std.specs.FinMap as map
-use Rattle.std.specs.Ordering.{nat_cmp}
-use Rattle.fp_book.specs.declared.book.Book.TheInside.{Inside}
-use Rattle.fp_book.specs.declared.totals.Totals.{Totals}
-use Rattle.fp_book.proofs.Changes.{by_held, by_local, not_held, one_if_most, ready, turns_left}
+use Rattle.fp_book.proofs.Changes.{by_held, by_local, not_held, one_if_most, ready, turns_are, turns_left}
 use Rattle.fp_book.proofs.Sums.{OneChanges, Rows, amount, get-inserted, get-removed, inserted, kept, left_of, len-sum, removed, sum-le, sum-zero, sums-le, zero_of}
-use Rattle.fp_book.specs.Dialogues.{Changes, with_deadline}
-use Rattle.fp_book.specs.Outbox.{Outbox}
-use Rattle.fp_book.specs.Shelf.{Shelf, Sound, one_if, turns_of}
-use Rattle.fp_book.specs.Totals.{accepted_by, sent_by, served_by, sum_of}
-use Rattle.fp_book.specs.Views.{AreTimed, IsKept, deadline_at, gone_of, shelf_of}
-use Rattle.fp_book.specs.declared.line.LoggedStep.{LoggedStep}
-use Rattle.fp_row.specs.declared.row.Row.{Row}
-use Rattle.fp_row.specs.Row.{deadline_of, has_clock, is_admitted, is_ready}
-use Rattle.fp_service.specs.Dialogue.{next_due}
-use Rattle.fp_timers.specs.Deadlines.{HasRoom}
 
 -- what was counted of the dialogues that are gone is what the others leave
 gone_seen : (s : Shelf) → Sound s → gone_of s.totals s.rows ≡ s.gone
@@ -82,7 +68,7 @@ timed_at m old new local before left o timed one is d =
 pub timed_inserted : (m : Deadlines) (rows : Rows) (local : ℕ) (before : Option Row) (after : Row) → map.get rows local ≡ before → AreTimed m rows → AreTimed (with_deadline m local (deadline_of after)) (map.insert rows local after)
 timed_inserted m rows local before after was timed = timed_at m rows (map.insert rows local after) local before (Some after) (deadline_of after) timed (inserted rows local before after was) refl
 
--- where one dialogue changes
+-- if one dialogue changes
 
 pub changed : {R : Row → Row → Type 0} {old new : Rows} {local : ℕ} → (g : Changes R old local new) → OneChanges old new local (Some g.before) (left_of g.after)
 changed {R} {old} {new} {local} g = subst (λ r. OneChanges old r local (Some g.before) (left_of g.after)) (sym g.rows) (kept old local (Some g.before) g.after g.was)
@@ -142,7 +128,7 @@ room_for m rows local row timed was few = room_by m rows local row timed was few
 pub amount_within : (f : Row → ℕ) (rows : Rows) (local : ℕ) (row : Row) → map.get rows local ≡ Some row → f row ≤ sum_of f rows
 amount_within f rows local row was = let one = (removed rows local (Some row) was).sums f in omega arith
 
--- where one dialogue adds less to a sum than to another, and none adds more, that sum is smaller
+-- if one dialogue adds less to a sum than to another, and none adds more, that sum is smaller
 pub sum_less : (f g : Row → ℕ) (rows : Rows) (local : ℕ) (row : Row) → ((r : Row) → f r ≤ g r) → map.get rows local ≡ Some row → f row < g row → sum_of f rows < sum_of g rows
 sum_less f g rows local row le was less =
     let a = (removed rows local (Some row) was).sums f in
@@ -164,10 +150,10 @@ pub place_for_new : (s : Shelf) → Sound s → map.len s.rows < 4096 → length
 place_for_new s k few = omega (arith, k.ready_length, sum-le ready (λ _. 1) s.rows (λ r. one_if_most (is_ready r)), len-sum s.rows, few)
 
 -- the turn that is out holds a place for its frame
-pub place_to_queue : (s : Shelf) (local : ℕ) (row : Row) → Sound s → map.get s.rows local ≡ Some row → row.is_out ≡ true → length s.outbox.frames < 8192
+pub place_to_queue : (s : Shelf) (local : ℕ) (row : Row) → Sound s → map.get s.rows local ≡ Some row → has_turn_out row ≡ true → length s.outbox.frames < 8192
 place_to_queue s local row k was out =
     let here : turns_of row ≤ sum_of turns_of s.rows = amount_within turns_of s.rows local row was in
-    let one : turns_of row ≡ 1 = ap (λ b. cond {A = ℕ} b 1 0) out in
+    let one : turns_of row ≡ 1 = turns_are row true out in
     omega (arith, here, one, k.places)
 
 -- no total is above the number of all entries

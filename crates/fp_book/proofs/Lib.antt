@@ -1,4 +1,7 @@
+-- the names that all of them use
+mod Names
 mod Accounts
+mod Busy
 pub mod Changes
 pub mod Clocks
 mod Closes

@@ -1,46 +1,18 @@
 -- What the private functions find is what the first line says that fits; what holds of each message that was read.
-use Rattle.std.proofs.Common.{◌≡◌, ℕ, ◌+◌, ◌≤◌, ◌<◌, ◌^◌, Bool, true, false, cond, ◌||◌, List, [], ◌∷◌, ◌++◌, nat_eq, nat_le, nat_lt, Option, Some, None, IsSome, is_none, length, refl, sym, ◌∙◌, ap, arith, ◌≢◌, suc, option_map, length-append}
-use Rattle.std.proofs.lemmas.Bool.{false≢true, lt-ltb, ltb-true}
-use Rattle.std.proofs.lemmas.List.Sums.{sum_by-append}
-use Rattle.std.proofs.Math.Bool.{or-false, or_assoc, or_comm}
-use Rattle.std.specs.Option.{option_map_or}
+use Rattle.fp_book.proofs.Names.{Abort, AreEntries, AreGiven, Arrival, Begin, Bool, ComponentValue, Contents, Continue, Delivers, Discard, End, Entry, Extend, Fault, IdentifiersAreThoseOfTheMessage, IdsAreOne, Incoming, IsAsRead, IsSome, Kind, List, Lost, Message, MessageValue, None, Open, Option, PeerEnd, Prepared, ReadMessagesHaveFewEntries, Refuse, Refused, Row, SameIds, SevenLinesDecide, Shelf, Some, Tid, Unidirectional, Unknown, Verdict, [], abort, ap, arith, arrival_of, begin, begin_of, cond, continuing, delivered, destination_identifier, element_count, end, entry_at, false, false≢true, first_lines, first_that_fits, is_faulty, is_none, judged, last_lines, length, length-append, lost_of, lt-ltb, ltb-true, message_kind, message_of, more_of, named, nat_eq, nat_le, nat_lt, octets_of, of_row, option_map, option_map_or, or-false, or_assoc, or_comm, originating_identifier, own_tests, place_count, places_taken, refl, refused_of, suc, sum_by-append, sym, takes_a_place, true, unidirectional, unserved, unserved_in, verdict, ℕ, ◌++◌, ◌+◌, ◌<◌, ◌^◌, ◌||◌, ◌∙◌, ◌∷◌, ◌≡◌, ◌≢◌, ◌≤◌}
 use Rattle.std.specs.FinMap as map
-use Rattle.fp_book.specs.declared.verdict.Verdict.{Verdict}
-use Rattle.fp_book.specs.declared.verdict.Verdict.TheVariants.{Discard, Refuse, Open, Extend}
-use Rattle.fp_book.specs.Lines.{IsAsRead, ReadMessagesHaveFewEntries, SevenLinesDecide, first_lines, first_that_fits, last_lines, named, own_tests, unserved_in, verdict}
-use Rattle.fp_book.specs.Shelf.{Shelf, of_row}
-use Rattle.fp_book.specs.Verdict.{begin_of, judged, lost_of, message_of, more_of, refused_of}
-use Rattle.fp_entry.specs.declared.arrival.Arrival.{Arrival}
-use Rattle.fp_entry.specs.declared.entry.Entry.{Entry}
-use Rattle.fp_entry.specs.declared.fault.Fault.{Fault}
-use Rattle.fp_entry.specs.declared.incoming.Incoming.{Incoming}
-use Rattle.fp_entry.specs.declared.prepared.Prepared.{Prepared}
-use Rattle.fp_entry.specs.declared.prepared.Prepared.TheVariants.{Message, Refused, Lost}
-use Rattle.fp_entry.specs.Entries.{place_count, takes_a_place, AreEntries, AreGiven, Delivers, entry_at}
-use Rattle.fp_q773.specs.declared.kind.Kind.{Kind}
-use Rattle.fp_q773.specs.declared.kind.Kind.TheVariants.{Unidirectional, Begin, End, Continue, Abort, Unknown}
 use Rattle.fp_q773.specs.declared.provider_abort.AbortCause.TheVariants as cause
-use Rattle.fp_q773.specs.Tid.{Tid, octets_of}
-use Rattle.fp_row.specs.declared.row.Row.{Row}
-use Rattle.fp_row.specs.Row.{places_taken, unserved}
-use Rattle.fp_entry.specs.declared.entry.EntryKind.TheVariants.{Opened, PeerEnd}
-use Rattle.fp_entry.specs.Delivered.{delivered}
-use Rattle.fp_entry.specs.Incoming.{element_count}
-use Rattle.fp_entry.specs.Prepared.{arrival_of}
-use Rattle.fp_q773.specs.Ids.{destination_identifier, message_kind, originating_identifier}
-use Rattle.fp_q773.specs.Laws.{IdentifiersAreThoseOfTheMessage, IdsAreOne, SameIds}
-use Rattle.fp_q773.specs.Value.{ComponentValue, MessageValue, is_faulty, unidirectional, begin, end, continuing, abort}
-use Rattle.fp_records.specs.Table.{Contents}
+use Rattle.fp_entry.specs.declared.entry.EntryKind.TheVariants.{Opened}
 
 -- on a link that is up
 abbrev up : Shelf → Shelf
 up s = record s { is_down = false }
 
--- the lines behind the first ones
+-- the lines after the first ones
 abbrev behind_first : Shelf → Prepared → List (Bool × Verdict)
 behind_first s came = own_tests came (arrival_of came).ids.kind (named s (arrival_of came).ids) ++ last_lines s came (arrival_of came).ids.kind (named s (arrival_of came).ids)
 
--- what the first lines decide on a message that is lost, whatever others stand behind them
+-- what the first lines decide on a message that is lost, whatever others come after them
 lost_line : (s : Shelf) (arrival : Arrival) (others : List (Bool × Verdict)) (kind : Kind) (dialogue : Option ℕ)
     → lost_of kind dialogue ≡ first_that_fits (first_lines (up s) (Lost arrival) kind dialogue ++ others)
 lost_line s arrival others Continue None = refl
@@ -53,7 +25,7 @@ refused_line : (s : Shelf) (arrival : Arrival) (fault : Fault) (others : List (B
 refused_line s arrival fault others Unidirectional dialogue = refl
 refused_line s arrival fault others kind dialogue = refl
 
--- where one of several reasons is there it is refused, in whatever order they are looked for
+-- if there is one of several reasons it is refused, in whatever order they are looked for
 reasons_of_begin : (elements entries rows serials full places : Bool) (away taken : Verdict)
     → cond ((elements || entries) || ((rows || (serials || full)) || places)) away taken
     ≡ cond entries away (cond (elements || (places || (full || (rows || serials)))) away taken)
@@ -123,7 +95,7 @@ message_line s arrival incoming Abort None = refl
 message_line s arrival incoming Abort (Some local) = refl
 message_line s arrival incoming kind dialogue = refl
 
--- what is found for a message that is lost, or refused, is what the first lines decide, whatever others stand behind them
+-- what is found for a message that is lost, or refused, is what the first lines decide, whatever others come after
 lost_first : (s : Shelf) (arrival : Arrival) (others : List (Bool × Verdict))
     → judged s (Lost arrival) ≡ first_that_fits (first_lines s (Lost arrival) arrival.ids.kind (named s arrival.ids) ++ others)
 lost_first s arrival others = ap (λ (v : Verdict). cond s.is_down Discard v) (lost_line s arrival others arrival.ids.kind (named s arrival.ids))
@@ -138,12 +110,12 @@ first_line_decides s (Message arrival incoming) = ap (λ (v : Verdict). cond s.i
 first_line_decides s (Refused arrival fault) = refused_first s arrival fault (behind_first s (Refused arrival fault))
 first_line_decides s (Lost arrival) = lost_first s arrival (behind_first s (Lost arrival))
 
--- lines that decide alike do so behind others
+-- lines that decide alike do so after others
 alike_behind : (front xs ys : List (Bool × Verdict)) → first_that_fits xs ≡ first_that_fits ys → first_that_fits (front ++ xs) ≡ first_that_fits (front ++ ys)
 alike_behind [] xs ys same = same
 alike_behind (line ∷ front) xs ys same = ap (λ (v : Verdict). cond line.0 line.1 v) (alike_behind front xs ys same)
 
--- where one test is met only where another is, which decides the same, it needn't be made
+-- if one test is met only if another is, which decides the same, it needn't be made
 covered : (entries elements rest : Bool) (away taken : Verdict) → (entries ≡ true → elements ≡ true) → cond entries away (cond (elements || rest) away taken) ≡ cond (elements || rest) away taken
 covered false elements rest away taken within = refl
 covered true true rest away taken within = refl

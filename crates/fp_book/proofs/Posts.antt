@@ -1,24 +1,9 @@
 -- A message that is posted keeps what a book keeps, whatever is done with it.
-use Rattle.std.proofs.Common.{◌≡◌, ◌≢◌, ℕ, ◌<◌, ◌+◌, ◌^◌, Bool, true, false, cond, ⊎_elim, nat_lt, Option, Some, None, List, [], ◌∷◌, ◌++◌, length, refl, sym, ◌∙◌, ap, subst, arith, length-append, le_refl}
-use Rattle.std.proofs.lemmas.Bool.{false≢true, ltb-true}
+use Rattle.fp_book.proofs.Names.{AbortCause, Answers, AsksOnceAtMost, Bool, ClosesOne, Discard, Discards, Extend, Follows, List, LoggedStep, None, Open, Option, Outbox, Posted, Posts, Prepared, Queues, Refuse, Refuses, Shelf, Some, Sound, Tid, Verdict, [], abort_for, ap, arith, arrival_of, cond, false, false≢true, frames_held, le_refl, length, length-append, logged, ltb-true, nat_lt, posted_line, refl, subst, sym, true, verdict, ℕ, ⊎_elim, ◌++◌, ◌+◌, ◌<◌, ◌^◌, ◌∙◌, ◌∷◌, ◌≡◌, ◌≢◌}
 use Rattle.fp_book.proofs.Extends.{Sound-closes, Sound-ends, Sound-extends, Sound-opens}
 use Rattle.fp_book.proofs.Fits.{Allowed, verdict_allowed}
 use Rattle.fp_book.proofs.Sends.{Sound-outbox, WaitsAlike}
-use Rattle.fp_book.specs.declared.answers.Posted.{Posted}
-use Rattle.fp_book.specs.declared.line.LoggedStep.{LoggedStep}
-use Rattle.fp_book.specs.declared.verdict.Verdict.{Verdict}
-use Rattle.fp_book.specs.declared.verdict.Verdict.TheVariants.{Discard, Refuse, Open, Extend}
-use Rattle.fp_book.specs.Calls.{Answers, ClosesOne, Discards, Follows, Posts, Queues, Refuses, abort_for, posted_line}
-use Rattle.fp_book.specs.Log.{logged}
-use Rattle.fp_book.specs.Outbox.{Outbox, frames_held}
-use Rattle.fp_book.specs.Shelf.{Shelf, Sound}
-use Rattle.fp_book.specs.Lines.{verdict}
-use Rattle.fp_entry.specs.declared.prepared.Prepared.{Prepared}
 use Rattle.fp_entry.specs.declared.prepared.Prepared.TheVariants as prepared
-use Rattle.fp_entry.specs.Prepared.{arrival_of}
-use Rattle.fp_q773.specs.declared.provider_abort.AbortCause.{AbortCause}
-use Rattle.fp_q773.specs.Tid.{Tid}
-use Rattle.fp_service.specs.Laws.{AsksOnceAtMost}
 
 -- a line is logged, and nothing else changes
 pub Sound-logs : (s : Shelf) (log : List LoggedStep) → Sound s → Sound (record s { log = log })

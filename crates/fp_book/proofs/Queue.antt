@@ -1,12 +1,6 @@
--- How often a dialogue stands in the queue of those that are ready.
-use Rattle.std.proofs.Common.{◌≡◌, ℕ, ◌+◌, Bool, true, false, cond, eqb, not, List, [], ◌∷◌, ◌++◌, length, refl, sym, ◌∙◌, ap, zero-add, add-zero, arith, length-append}
-use Rattle.std.proofs.lemmas.Bool.{both_ways, eq-eqb, eqb-true, false_from_ne_true}
-use Rattle.std.proofs.lemmas.List.Filters.{length-filter_both}
-use Rattle.std.proofs.lemmas.List.Sums.{length-filter, sum_by-append, sum_by-cons}
-use Rattle.std.proofs.Math.Bool.{not-not}
+-- How often a dialogue is in the queue of those that are ready.
+use Rattle.fp_book.proofs.Names.{Bool, List, [], add-zero, ap, arith, both_ways, cond, eq-eqb, eqb, eqb-true, false, false_from_ne_true, joins, length, length-append, length-filter, length-filter_both, not, not-not, one_if, refl, sum_by-append, sum_by-cons, sym, true, without, zero-add, ℕ, ◌++◌, ◌+◌, ◌∙◌, ◌∷◌, ◌≡◌}
 use Rattle.fp_book.proofs.Changes.{QueueChanges, count, one_by}
-use Rattle.fp_book.specs.Calls.{joins, without}
-use Rattle.fp_book.specs.Shelf.{one_if}
 
 -- two identifiers are different, the other way round
 pub eqb_swap : (d l : ℕ) → eqb d l ≡ false → eqb l d ≡ false

@@ -1,23 +1,12 @@
 -- To hand out what is sent next, and to take it back, keeps what a book keeps.
-use Rattle.std.proofs.Common.{◌≡◌, ℕ, ◌≤◌, true, cond, Some, None, List, [], ◌∷◌, ◌++◌, length, is_some, refl, sym, ◌∙◌, ap, subst, arith, append_assoc, append-nil, le_refl}
+use Rattle.fp_book.proofs.Names.{AbortFrame, AsksOnceAtMost, Content, IsNext, List, LoggedStep, None, Outbox, PicksParcel, Sends, SendsAbort, SendsFrame, Shelf, Some, Sound, Waiting, [], ap, append-nil, append_assoc, arith, frame_out, frames_for, frames_held, is_some, kept_of, le_refl, length, local_of, logged, of_row, one_if, one_sent, places_out, refl, sent_of, subst, sym, true, unsent_for, with_dialogue, with_nothing_out, ℕ, ◌++◌, ◌∙◌, ◌∷◌, ◌≡◌, ◌≤◌}
 use Rattle.std.specs.FinMap as map
 use Rattle.fp_book.proofs.Changes.{Sound-change, link_stays, ready, stays_own, own_after}
 use Rattle.fp_book.proofs.Queue.{queue_stays}
 use Rattle.fp_book.proofs.Turns.{admitted_as, counts_of, frames_at, ready_at}
 use Rattle.fp_book.proofs.Unsent.{first_other, first_own, frames_for-append}
-use Rattle.fp_book.specs.declared.line.LoggedStep.{LoggedStep}
 use Rattle.fp_book.specs.declared.line.LoggedStep.TheVariants as line
-use Rattle.fp_book.specs.declared.parcel.Content.{Content}
 use Rattle.fp_book.specs.declared.parcel.Content.TheVariants as content
-use Rattle.fp_book.specs.declared.parcel.Waiting.{Waiting}
-use Rattle.fp_book.specs.Calls.{PicksParcel, Sends, SendsAbort, SendsFrame, one_sent}
-use Rattle.fp_book.specs.Log.{logged}
-use Rattle.fp_book.specs.Outbox.{IsNext, Outbox, frames_held, places_out, with_nothing_out}
-use Rattle.fp_book.specs.Parcel.{local_of}
-use Rattle.fp_book.specs.Shelf.{Shelf, Sound, frame_out, frames_for, of_row, one_if, unsent_for, with_dialogue}
-use Rattle.fp_reply.specs.ProviderAbort.{AbortFrame}
-use Rattle.fp_row.specs.Row.{kept_of, sent_of}
-use Rattle.fp_service.specs.Laws.{AsksOnceAtMost}
 
 -- the frames that are to be sent are the same, wherever they wait
 pub record WaitsAlike (s : Shelf) (outbox : Outbox) : Type 0 where
@@ -125,7 +114,7 @@ Sound-sends_frame law old new w s g =
         other_frames = λ d ne.
             ap (λ r. r ++ frames_for d old.outbox.frames) (sym (first_other d w [] ne))
             ∙ ap (λ o. frame_out d o ++ frames_for d old.outbox.frames) (sym g.was_out);
-        places = omega (arith, s.places, ap (λ b. cond {A = ℕ} b 1 0) g.sends.is_out);
+        places = omega (arith, s.places, g.sends.out);
         aborts = s.aborts;
         quiet = s.quiet;
       };

@@ -1,22 +1,11 @@
--- What a sum over dialogues is where one of them changes, comes or goes.
-use Rattle.std.proofs.Common.{◌≡◌, ℕ, ◌+◌, ◌≤◌, Bool, true, false, cond, ◌&&◌, T, eqb, List, [], ◌∷◌, length, sum_by, Option, Some, None, Ordering, Less, Equal, Greater, is_eq, is_lt, refl, sym, ap, subst, ◌∙◌, arith}
-use Rattle.std.proofs.lemmas.Bool.{eqb-true, eq-eqb}
-use Rattle.std.proofs.lemmas.Bool.Decides.{nat_tests}
-use Rattle.std.proofs.lemmas.List.{nil_from_length}
-use Rattle.std.proofs.lemmas.List.Sums.{sum_by-cons, sum_by-le-sum_by}
-use Rattle.std.specs.Ordering.{nat_cmp, eq_by_cmp}
-use Rattle.std.specs.Cmp.{nat_cmp_total}
+-- What a sum over dialogues is if one of them changes, comes or goes.
+use Rattle.fp_book.proofs.Names.{Bool, Equal, Greater, Less, List, None, Option, Ordering, Row, Some, T, [], ap, arith, below_all, by_order, cond, eq-eqb, eq_by_cmp, eqb, eqb-true, false, is_eq, is_held, is_lt, keep, length, nat_cmp, nat_cmp_total, nat_tests, nil_from_length, refl, subst, sum_by, sum_by-cons, sum_by-le-sum_by, sum_of, sym, true, ℕ, ◌&&◌, ◌+◌, ◌∙◌, ◌∷◌, ◌≡◌, ◌≤◌}
 use Rattle.std.specs.FinMap as map
-use Rattle.std.specs.FinMap.Entries.{by_order, below_all}
-use Rattle.fp_book.specs.Shelf.{keep}
-use Rattle.fp_book.specs.Totals.{sum_of}
-use Rattle.fp_row.specs.declared.row.Row.{Row}
-use Rattle.fp_row.specs.Row.{is_held}
 
 abbrev pub Rows : Type 0
 Rows = map.FinMap nat_cmp Row
 
--- what a dialogue adds to a sum, and nothing where there is none
+-- what a dialogue adds to a sum, and nothing if there is none
 abbrev pub amount : {X : Type 0} → (X → ℕ) → Option X → ℕ
 amount f None = 0
 amount f (Some x) = f x
@@ -259,6 +248,6 @@ pub keep_after : (rows new : Rows) (local : ℕ) (after : Row) (held : Bool) →
 keep_after rows new local after held is made =
     made ∙ ap (cond held (map.insert rows local after)) (put_and_removed rows local after) ∙ ap (λ b. cond b (map.insert rows local after) (map.remove rows local)) is
 
--- what is held stands where it stood
+-- what is held is where it was
 pub put_held : (rows : Rows) (local : ℕ) (after : Row) → is_held after ≡ true → map.insert rows local after ≡ keep rows local after
 put_held rows local after held = ap (λ b. cond b (map.insert rows local after) (map.remove rows local)) (sym held)

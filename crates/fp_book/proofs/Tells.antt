@@ -1,36 +1,14 @@
--- What the verdict on a message tells of it.
-use Rattle.std.proofs.Common.{◌≡◌, ℕ, Bool, true, false, cond, ◌||◌, Option, Some, None, length, refl, sym, ◌∙◌, ap, subst, nat_lt, ◌⊎◌, inl, inr}
-use Rattle.std.specs.Prelude.{⊤}
-use Rattle.std.proofs.lemmas.Bool.{cond_both}
-use Rattle.std.specs.Option.{option_and_then, option_map_or}
+-- What the verdict on a message says of it.
+use Rattle.fp_book.proofs.Names.{Abort, AbortCause, Answers, Begin, Bool, ClosesOne, Continue, Discard, End, Extend, Follows, Ids, Incoming, Kind, Lost, Message, None, Open, Option, Posted, Prepared, Refuse, Refused, Shelf, Some, Tid, Unidirectional, Verdict, abort_for, abort_of, admitted, ap, arrival_of, arrived, begin_of, cond, cond_both, false, inl, inr, is_admitted, is_full, length, logged, lost_of, message_of, more_of, named, nat_lt, no_dialogue_left, no_place_left, number_of, octets_of, option_and_then, option_map_or, place_count, posted_line, refl, refused_of, subst, sym, too_many, true, verdict, ℕ, ⊤, ◌||◌, ◌∙◌, ◌≡◌, ◌⊎◌}
 use Rattle.std.specs.FinMap as map
 use Rattle.fp_book.proofs.Lines.{first_line_decides}
-use Rattle.fp_book.specs.declared.verdict.Verdict.{Verdict}
-use Rattle.fp_book.specs.declared.verdict.Verdict.TheVariants.{Discard, Refuse, Open, Extend}
-use Rattle.fp_book.specs.Shelf.{Shelf}
-use Rattle.fp_book.specs.Lines.{admitted, is_full, named, number_of, verdict}
-use Rattle.fp_book.specs.Verdict.{abort_of, arrived, begin_of, lost_of, message_of, more_of, no_dialogue_left, no_place_left, refused_of, too_many}
-use Rattle.fp_entry.specs.declared.incoming.Incoming.{Incoming}
-use Rattle.fp_entry.specs.declared.prepared.Prepared.{Prepared}
-use Rattle.fp_entry.specs.declared.prepared.Prepared.TheVariants.{Message, Refused, Lost}
-use Rattle.fp_entry.specs.Entries.{place_count}
-use Rattle.fp_entry.specs.Prepared.{arrival_of}
-use Rattle.fp_q773.specs.declared.ids.Ids.{Ids}
-use Rattle.fp_q773.specs.declared.kind.Kind.{Kind}
-use Rattle.fp_q773.specs.declared.kind.Kind.TheVariants.{Unidirectional, Begin, End, Continue, Abort}
 use Rattle.fp_q773.specs.declared.provider_abort.AbortCause.TheVariants as cause
-use Rattle.fp_q773.specs.Tid.{Tid, octets_of}
-use Rattle.fp_row.specs.Row.{is_admitted}
-use Rattle.fp_book.specs.declared.answers.Posted.{Posted}
-use Rattle.fp_book.specs.Calls.{Answers, ClosesOne, Follows, abort_for, posted_line}
-use Rattle.fp_book.specs.Log.{logged}
-use Rattle.fp_q773.specs.declared.provider_abort.AbortCause.{AbortCause}
 
 -- a Begin has no destination
 abbrev pub BeginsAnew : Ids → Type 0
 BeginsAnew ids = ids.kind ≡ Begin → ids.dest ≡ None
 
--- what is told: of a refusal, the dialogue that is named; of a Begin, its sender; of what is accepted, the dialogue
+-- what is said: of a refusal, the dialogue that is named; of a Begin, its sender; of what is accepted, the dialogue
 -- that is named, and whether its peer ends it
 abbrev pub TellsOf : Ids → Kind → Option ℕ → Verdict → Type 0
 TellsOf ids kind dialogue Discard = ⊤
@@ -84,7 +62,7 @@ arrived_tells s (Lost arrival) anew = lost_tells arrival.ids arrival.ids.kind (n
 arrived_tells s (Refused arrival fault) anew = refused_tells arrival.ids arrival.ids.kind (named s arrival.ids)
 arrived_tells s (Message arrival incoming) anew = message_tells s arrival.ids incoming arrival.ids.kind (named s arrival.ids) (anew_named s arrival.ids anew)
 
--- what each verdict tells
+-- what each verdict says
 pub verdict_tells : (s : Shelf) (came : Prepared) → BeginsAnew (arrival_of came).ids → Tells s came (verdict s came)
 verdict_tells s came anew = subst (Tells s came) (first_line_decides s came) (cond_both s.is_down Discard (arrived s came) (Tells s came) (λ _. tt) (λ up. arrived_tells s came anew))
 
@@ -103,7 +81,7 @@ names_by s (Some l) local e =
     let is : (option_map_or is_admitted (map.get s.rows l) false ≡ true) × (l ≡ local) = known_by (option_map_or is_admitted (map.get s.rows l) false) l local e in
     record { number = ap Some is.1; takes = subst (λ d. option_map_or is_admitted (map.get s.rows d) false ≡ true) is.1 is.0 }
 
--- where no dialogue is named that takes messages, that with the number, if there is one, doesn't
+-- if no dialogue is named that takes messages, that with the number, if there is one, doesn't
 not_known : (b : Bool) (l : ℕ) → cond b (Some l) None ≡ None → b ≡ false
 not_known true l e = absurd (cc)
 not_known false l e = refl

@@ -1,39 +1,13 @@
 -- One dialogue that is due is given a Clock, and so each; what a book is then.
-use Rattle.std.proofs.Common.{◌≡◌, ℕ, zero, suc, ◌<◌, ◌≤◌, ◌+◌, ◌-◌, Bool, true, false, cond, not, ◌&&◌, nat_eq, nat_le, Option, Some, None, List, [], ◌++◌, is_some, slice_index_or, refl, sym, ◌∙◌, ap, subst, arith, append-nil, add-zero, eqb, ◌||◌, ◌⊎◌, ⊎_elim, inl, inr, ◌∷◌, length, map, filter, drop, count_by, All, length-append, append_assoc}
-use Rattle.std.proofs.lemmas.Bool.{false≢true, eq-eqb, eqb-false, false_from_ne_true, le-leb, lt-ltb}
-use Rattle.std.proofs.lemmas.Bool.Decides.{nat_tests}
-use Rattle.std.proofs.lemmas.List.Elements.{All-nil, filter-append, All-push}
+use Rattle.fp_book.proofs.Names.{All, All-nil, All-push, AreAgreed, AreTimed, Bool, Clocking, ClocksAt, ClocksFirst, ComesFirst, Deadlines, Due, Entry, Extends, IsDue, IsDueIn, IsEarliestDue, List, LoggedStep, None, Option, Row, Shelf, Some, Ticks, [], add-zero, all_pairs_push, ap, append-nil, append_assoc, arith, cond, count_by, deadline_at, deadline_of, drop, drop-append-le, due_at, due_now, eq-eqb, eqb, eqb-false, false, false_from_ne_true, false≢true, filter, filter-append, has_clock, idle_among, inl, inr, is_admitted, is_among, is_clock, is_due, is_full, is_idle, is_ready, is_some, joins, le-leb, length, length-append, list_any-append, logged, lt-ltb, map, map-append, nat_cmp, nat_cmp_total, nat_eq, nat_le, nat_tests, next_due, not, one_if, option_map_or, or-false, or-true, refl, slice_index_or, subst, suc, sum_by-append, sum_of, sym, true, turns_of, unserved, zero, ℕ, ⊎_elim, ◌&&◌, ◌++◌, ◌+◌, ◌-◌, ◌<◌, ◌||◌, ◌∙◌, ◌∷◌, ◌≡◌, ◌≤◌, ◌⊎◌}
 use Rattle.std.specs.FinMap as map
-use Rattle.std.specs.Option.{option_map_or}
-use Rattle.std.specs.Cmp.{nat_cmp_total}
-use Rattle.std.specs.Ordering.{nat_cmp}
 use Rattle.fp_book.proofs.Changes.{by_local, ready}
 use Rattle.fp_book.proofs.Sums.{Rows, len-sum, sum-zero, sums-le, zero_of, OneChanges, inserted}
-use Rattle.fp_book.specs.declared.line.LoggedStep.{LoggedStep}
 use Rattle.fp_book.specs.declared.line.LoggedStep.TheVariants as line
-use Rattle.fp_book.specs.Calls.{ComesFirst, IsDue, Ticks, due_at, ClocksAt, Due, is_idle, joins}
-use Rattle.fp_book.specs.Clocking.{AreAgreed, Clocking, ClocksFirst, Deadlines, IsDueIn, due_now, idle_among, is_among}
-use Rattle.fp_book.specs.Log.{logged}
-use Rattle.fp_book.specs.Shelf.{Shelf, one_if, turns_of}
-use Rattle.fp_book.specs.Totals.{sum_of}
-use Rattle.fp_book.specs.Lines.{is_full}
-use Rattle.fp_book.specs.Views.{AreTimed, deadline_at}
-use Rattle.fp_row.specs.declared.row.Row.{Row}
-use Rattle.fp_row.specs.Row.{deadline_of, is_due, has_clock, is_admitted, is_ready, unserved}
-use Rattle.fp_timers.specs.Deadlines.{IsEarliestDue}
-use Rattle.std.proofs.lemmas.List.{drop-append-le, map-append}
-use Rattle.std.proofs.lemmas.List.Folds.{list_any-append}
-use Rattle.std.proofs.lemmas.List.Quantifiers.{all_pairs_push}
-use Rattle.std.proofs.lemmas.List.Sums.{sum_by-append}
-use Rattle.std.proofs.Math.Bool.{or-false, or-true}
 use Rattle.fp_book.proofs.Clocks.{clock, few_pass, has_deadline, in_front, joins_is}
 use Rattle.fp_book.proofs.Extends.{joined}
 use Rattle.fp_book.proofs.Kept.{deadline-here, deadline-other, timed_at}
 use Rattle.fp_book.proofs.Queue.{eqb_swap, length_joins}
-use Rattle.fp_entry.specs.declared.entry.Entry.{Entry}
-use Rattle.fp_entry.specs.Entries.{is_clock}
-use Rattle.fp_row.specs.Calls.{Extends}
-use Rattle.fp_service.specs.Dialogue.{next_due}
 
 -- none was given a Clock yet
 pub begins : (moment : ℕ) (rows : Rows) (deadlines : Deadlines) (queue : List ℕ) → AreAgreed rows deadlines queue → Clocking moment rows queue rows deadlines queue 0
@@ -59,7 +33,7 @@ due_most moment rows held = omega (arith, held, few_pass (λ row. is_due row mom
 pub few_added : (moment : ℕ) (old : Rows) (was : List ℕ) (rows : Rows) (deadlines : Deadlines) (queue : List ℕ) (added : ℕ) → map.len old ≤ 4096 → Clocking moment old was rows deadlines queue added → added ≤ 4096
 few_added moment old was rows deadlines queue added held k = omega (arith, k.left, due_most moment old held)
 
--- where one has a deadline there is one
+-- if one has a deadline there is one
 has_some : (m : Deadlines) (local deadline n : ℕ) → map.get m local ≡ Some deadline → map.len m ≡ n → 0 < map.len m
 has_some m local deadline zero is none =
     let clash : None ≡ Some deadline = sym (map.get-empty nat_cmp local) ∙ ap (λ m. map.get m local) (sym (map.empty_of_len m none)) ∙ is in
@@ -133,7 +107,7 @@ not_due : (moment : ℕ) (o : Option ℕ) → ((deadline : ℕ) → o ≡ Some d
 not_due moment None later = refl
 not_due moment (Some deadline) later = let after : moment < deadline = later deadline refl in grind (arith, nat_tests)
 
--- where no deadline is due no dialogue is
+-- if no deadline is due no dialogue is
 pub none_found : (moment : ℕ) (rows : Rows) (deadlines : Deadlines) (o : Option ℕ) → AreTimed deadlines rows → IsEarliestDue deadlines moment o → is_some o ≡ false → 0 ≡ sum_of (due_now moment) rows
 none_found moment rows deadlines None timed later e =
     let each : (q : ℕ) (row : Row) → map.get rows q ≡ Some row → due_now moment row ≡ 0 = λ q row was. not_due moment (deadline_of row) (λ deadline is. later q deadline (timed q ∙ ap deadline_at was ∙ is)) in
@@ -214,7 +188,7 @@ one_more moment old was rows deadlines queue added rows_then deadlines_then queu
     let queued : length queue_then ≡ length queue + one_if g.is_joining = ap length g.ready_is ∙ length-append queue (joins l g.is_joining) ∙ ap (λ x. length queue + x) (length_joins l g.is_joining) in
     let due_before : due_now moment before ≡ 1 = ap (λ b. cond {A = ℕ} b 1 0) now in
     let due_after : due_now moment after ≡ 0 = ap (λ o. cond {A = ℕ} (option_map_or (λ t. nat_le t moment) o false) 1 0) gone in
-    let out : turns_of after ≡ turns_of before = ap (λ b. cond {A = ℕ} b 1 0) g.clocked.extends.is_out in
+    let out : turns_of after ≡ turns_of before = g.clocked.extends.out in
     record {
       due = k.due ++ d ∷ [];
       in_order = all_pairs_push ComesFirst k.due d k.in_order (k.behind l deadline got);

@@ -1,41 +1,16 @@
 -- To hand out a turn, and to take it back, keeps what a book keeps.
-use Rattle.std.proofs.Common.{◌≡◌, ℕ, ◌≤◌, ◌+◌, ◌^◌, Bool, true, false, cond, eqb, not, ◌&&◌, Option, Some, None, List, [], ◌∷◌, ◌++◌, length, take, is_some, refl, sym, ◌∙◌, ap, subst, arith, length-append, length-take-le, append_assoc, append-nil, le_refl, ◌-◌, option_to_list, slice_get}
-use Rattle.std.proofs.lemmas.Bool.{and_left, false≢true, or_left, or_right, and_parts, not-true}
-use Rattle.std.proofs.lemmas.List.Sums.{count_by-le-length, sum_by-append}
+use Rattle.fp_book.proofs.Names.{AsksOnceAtMost, Bool, Changes, Closed, Done, Ending, Entry, FramesStay, Given, GivesDone, HandsOutAt, Inside, IsEmptyIfNone, IsKept, IsSame, List, LoggedStep, Memory, NoRoom, None, Nothing, Option, PutsTurnBack, Requested, Row, Shelf, Some, Sound, Taken, Takes, TakesTurn, Turn, [], accepted_by, and_left, and_parts, ap, append-nil, append_assoc, arith, component_count, cond, count_by-le-length, eqb, false, false≢true, frame_out, frames_for, frames_in, has_turn_out, is_admitted, is_from_component, is_held, is_over, is_ready, is_some, joins, kept_of, le_refl, length, length-append, length-take-le, logged, nat_lt, not, not-true, of_row, one_if, one_served, option_to_list, or_left, or_right, places_held, ready_count, refl, requested_of, sent_of, slice_get, start_of, subst, sum_by-append, sum_of, sym, take, true, turn_out, turns_of, unsent_for, waiting_in, waits, with_dialogue, with_row, ℕ, ◌&&◌, ◌++◌, ◌+◌, ◌-◌, ◌^◌, ◌∙◌, ◌∷◌, ◌≡◌, ◌≤◌}
 use Rattle.std.specs.FinMap as map
-use Rattle.fp_book.proofs.Changes.{CountsChange, OutboxChanges, QueueChanges, Sound-change, admitted, count, count_is, link_stays, one_most, own_after, ready}
+use Rattle.fp_book.proofs.Changes.{CountsChange, OutboxChanges, QueueChanges, Sound-change, admitted, count, count_is, link_stays, one_most, own_after, ready, turns_are}
 use Rattle.fp_book.proofs.Queue.{queue_joins, queue_next, count_first}
 use Rattle.fp_book.proofs.Sums.{amount, Rows}
 use Rattle.fp_book.proofs.Unsent.{frames_for-append, requested_count, requested_other, requested_own}
-use Rattle.fp_book.specs.declared.answers.Given.{Given}
-use Rattle.fp_book.specs.declared.line.LoggedStep.{LoggedStep}
 use Rattle.fp_book.specs.declared.line.LoggedStep.TheVariants as line
-use Rattle.fp_book.specs.declared.taken.Taken.{Taken}
-use Rattle.fp_book.specs.declared.taken.Taken.TheVariants.{Turn as ATurn, Nothing, NoRoom, Memory}
-use Rattle.fp_book.specs.Calls.{GivesDone, PutsTurnBack, Takes, TakesTurn, joins, one_served, waiting_in}
-use Rattle.fp_book.specs.Log.{logged}
-use Rattle.fp_book.specs.Shelf.{Shelf, Sound, frame_out, frames_for, of_row, one_if, places_held, turns_of, unsent_for, with_dialogue, ready_count}
-use Rattle.fp_book.specs.Totals.{accepted_by, sum_of, with_row}
-use Rattle.fp_row.specs.declared.done.Done.{Done}
-use Rattle.fp_row.specs.declared.ending.Ending.{Ending}
-use Rattle.fp_row.specs.declared.ending.Ending.TheVariants.{Closed}
-use Rattle.fp_row.specs.declared.requested.Requested.{Requested}
+use Rattle.fp_book.specs.declared.taken.Taken.TheVariants.{Turn as ATurn}
 use Rattle.fp_row.specs.declared.requested.Requested.TheVariants as requested
-use Rattle.fp_row.specs.declared.row.Row.{Row}
-use Rattle.fp_row.specs.declared.turn.Turn.{Turn}
-use Rattle.fp_row.specs.Calls.{FramesStay, IsSame, frames_in, requested_of}
-use Rattle.fp_row.specs.Row.{is_admitted, is_held, is_ready, kept_of, sent_of, start_of, turn_out, waits}
-use Rattle.fp_entry.specs.declared.entry.Entry.{Entry}
-use Rattle.fp_entry.specs.Entries.{component_count, is_from_component}
-use Rattle.fp_service.specs.Dialogue.{is_over}
-use Rattle.fp_service.specs.Laws.{AsksOnceAtMost}
-use Rattle.fp_book.specs.declared.book.Book.TheInside.{Inside}
 use Rattle.fp_book.proofs.Kept.{amount_within, turns_by}
-use Rattle.fp_book.specs.Dialogues.{Changes, HandsOutAt}
-use Rattle.fp_book.specs.ReadyQueue.{IsEmptyIfNone}
-use Rattle.fp_book.specs.Views.{IsKept}
 
--- what is held stands where it stood, and nothing of it is gone
+-- what is held is where it was, and nothing of it is gone
 pub held_dialogue : (s : Shelf) (local : ℕ) (after : Row) → is_held after ≡ true → with_dialogue s local after ≡ record s { rows = map.insert s.rows local after }
 held_dialogue s local after held = ap (λ b. record s { rows = cond b (map.insert s.rows local after) (map.remove s.rows local); gone = cond b s.gone (with_row s.gone after) }) held
 
@@ -48,7 +23,7 @@ few_sent law row =
 pub frames_at : (s : Shelf) (local : ℕ) (o : Option Row) → Sound s → map.get s.rows local ≡ o → of_row sent_of o ++ unsent_for local s.outbox ≡ of_row kept_of o
 frames_at s local o k was = subst (λ o. of_row sent_of o ++ unsent_for local s.outbox ≡ of_row kept_of o) was (k.frames local)
 
--- how often it stands in the queue
+-- how often it is in the queue
 pub ready_at : (s : Shelf) (local : ℕ) (o : Option Row) → Sound s → map.get s.rows local ≡ o → count local s.ready ≡ amount ready o
 ready_at s local o k was = k.ready local ∙ count_is (map.get s.rows local) ∙ ap (amount ready) was
 
@@ -56,19 +31,15 @@ ready_at s local o k was = k.ready local ∙ count_is (map.get s.rows local) ∙
 pub admitted_as : (before after : Row) → after.ended ≡ before.ended → after.core ≡ before.core → is_admitted after ≡ is_admitted before
 admitted_as before after ended core = ap (λ e. not (is_some e) && not (is_over after.core)) ended ∙ ap (λ c. not (is_some before.ended) && not (is_over c)) core
 
-pub not_ready_out : (row : Row) → row.is_out ≡ true → is_ready row ≡ false
-not_ready_out row out = and_left (not row.is_out) (waits row) (ap not out)
+pub not_ready_out : (row : Row) → has_turn_out row ≡ true → is_ready row ≡ false
+not_ready_out row out = and_left (not (has_turn_out row)) (waits row) (ap not out)
 
 pub turns_most : (row : Row) → turns_of row ≤ 1
-turns_most row = one_most row.is_out
+turns_most row = row.out_most
 
 -- it is held
-pub held_out : (row : Row) → row.is_out ≡ true → is_held row ≡ true
-held_out row out = or_right (is_admitted row) _ (or_left row.is_out _ out)
-
--- how many turns of a dialogue are out
-pub turns_are : (row : Row) (b : Bool) → row.is_out ≡ b → turns_of row ≡ cond b 1 0
-turns_are row b is = ap (λ b. cond {A = ℕ} b 1 0) is
+pub held_out : (row : Row) → has_turn_out row ≡ true → is_held row ≡ true
+held_out row out = or_right (is_admitted row) _ (or_left (has_turn_out row) _ out)
 
 -- the components among more entries, and how many there are
 components_more : (before after : Row) (more : List Entry) → after.accepted ≡ before.accepted ++ more → accepted_by after ≡ accepted_by before + component_count more
@@ -78,7 +49,7 @@ components_more before after more is =
 pub components_few : (more : List Entry) → component_count more ≤ length more
 components_few more = count_by-le-length (λ (entry : Entry). is_from_component entry.kind) more
 
--- what is counted where a dialogue accepts more, or none
+-- what is counted if a dialogue accepts more, or none
 pub counts_of : AsksOnceAtMost → (old new : Shelf) (before after : Row) (more : List Entry) → Sound old → after.accepted ≡ before.accepted ++ more → new.entries ≡ old.entries + length more
     → new.totals.accepted ≡ old.totals.accepted + component_count more → new.totals.served + before.served ≡ old.totals.served + after.served → new.totals.sent + before.sent ≡ old.totals.sent + after.sent
     → CountsChange old new (Some before) after
@@ -128,9 +99,9 @@ pub Sound-takes : AsksOnceAtMost → (old new : Shelf) (turn : Turn) → Sound o
 Sound-takes law old new turn s g =
     let l = turn.local in
     let log = logged old.log (line.Take l turn.position) in
-    subst Sound (ap (λ (t : Shelf). record t { ready = g.rest; log = log }) (held_dialogue old l g.after (held_out g.after g.takes.is_out)) ∙ sym g.new_is)
+    subst Sound (ap (λ (t : Shelf). record t { ready = g.rest; log = log }) (held_dialogue old l g.after (held_out g.after (ap (nat_lt 0) g.takes.out))) ∙ sym g.new_is)
     (Sound-stays law old l g.before g.after [] old.entries old.totals.accepted g.rest log s g.was g.takes.same (g.takes.accepted ∙ sym (append-nil g.before.accepted)) g.takes.stay g.takes.ended
-    (queue_next old.ready g.rest l (ready g.before) (ready g.after) g.first (ready_at old l (Some g.before) s g.was) (ap one_if g.takes.was_ready) (ap one_if (not_ready_out g.after g.takes.is_out)))
+    (queue_next old.ready g.rest l (ready g.before) (ready g.after) g.first (ready_at old l (Some g.before) s g.was) (ap one_if g.takes.was_ready) (ap one_if (not_ready_out g.after (ap (nat_lt 0) g.takes.out))))
     (omega (arith, g.room, turns_most g.after)) (omega arith) (omega arith) s.entries)
 
 -- a turn is handed out, or none
@@ -142,7 +113,7 @@ Sound-takes_one law old new Memory s g = subst Sound (sym g.2) s
 
 -- a turn that is out is of a dialogue that isn't over
 pub record IsOut (row : Row) : Type 0 where
-  pub is_out : row.is_out ≡ true
+  pub is_out : has_turn_out row ≡ true
   pub live : is_over row.core ≡ false
 
 out_by : (b : Bool) (o : Option Turn) (turn : Turn) → cond b o None ≡ Some turn → b ≡ true
@@ -155,11 +126,11 @@ live_by false over live out = absurd (false≢true out)
 
 pub is_out : (row : Row) (turn : Turn) → turn_out row ≡ Some turn → IsOut row
 is_out row turn e =
-    let out : row.is_out ≡ true = out_by row.is_out _ turn e in
-    record { is_out = out; live = live_by row.is_out (is_over row.core) row.out_is_live out }
+    let out : has_turn_out row ≡ true = out_by (has_turn_out row) _ turn e in
+    record { is_out = out; live = live_by (has_turn_out row) (is_over row.core) row.out_is_live out }
 
--- a dialogue whose turn is out doesn't stand in the queue
-pub not_queued : (s : Shelf) (local : ℕ) (row : Row) → Sound s → map.get s.rows local ≡ Some row → row.is_out ≡ true → count local s.ready ≡ 0
+-- a dialogue whose turn is out isn't in the queue
+pub not_queued : (s : Shelf) (local : ℕ) (row : Row) → Sound s → map.get s.rows local ≡ Some row → has_turn_out row ≡ true → count local s.ready ≡ 0
 not_queued s local row k was out = ready_at s local (Some row) k was ∙ ap one_if (not_ready_out row out)
 
 pub Sound-puts_back : AsksOnceAtMost → (old new : Shelf) (turn : Turn) → Sound old → PutsTurnBack old turn new → Sound new
@@ -170,7 +141,7 @@ Sound-puts_back law old new turn s g =
     (Sound-stays law old l g.before g.after [] old.entries old.totals.accepted (old.ready ++ joins l (is_ready g.after)) (logged old.log (line.PutBack l turn.position)) s g.was g.puts.same
     (g.puts.accepted ∙ sym (append-nil g.before.accepted)) g.puts.stay g.puts.ended
     (queue_joins old.ready l (is_ready g.after) (ready g.before) (ready g.after) (ready_at old l (Some g.before) s g.was) (omega (arith, ap one_if (not_ready_out g.before out.is_out))))
-    (omega (arith, s.places, turns_are g.after false g.puts.is_out)) (omega arith) (omega arith) s.entries)
+    (omega (arith, s.places, g.puts.out)) (omega arith) (omega arith) s.entries)
 
 -- of a dialogue that was ended from outside no request is accepted
 none_asked : (P : Requested → Type 0) → P requested.Nothing → P requested.Dropped → (ended : Option Ending) (frame : Option (List ℕ)) → is_some ended ≡ true → P (requested_of ended frame)
@@ -230,7 +201,7 @@ Sound-gives law old new done given s g =
             ∙ sym (append_assoc (sent_of g.before) (unsent_for l old.outbox) (frames_in g.asked))
             ∙ ap (λ r. r ++ frames_in g.asked) (frames_at old l (Some g.before) s g.was) ∙ sym g.gives.kept_frames;
         other_frames = λ d ne. ap (λ r. frame_out d old.outbox.out ++ r) (others_then d ne);
-        places = omega (arith, s.places, turns_are g.after false g.gives.is_out, turns_are g.before true out.is_out, length-append old.outbox.frames more, requested_count l g.asked);
+        places = omega (arith, s.places, g.gives.out, turns_are g.before true out.is_out, length-append old.outbox.frames more, requested_count l g.asked);
         aborts = s.aborts;
         quiet = λ e.
             let closed : g.before.ended ≡ Some Closed = own.closed e in (
@@ -262,25 +233,25 @@ once_at_most : (o : Option Row) → ready_count o ≤ 1
 once_at_most None = omega arith
 once_at_most (Some row) = one_most (is_ready row)
 
--- the dialogue that stands first is ready
+-- the dialogue that is first is ready
 pub first_is_ready : (s : Shelf) (local : ℕ) → Sound s → slice_get s.ready 0 ≡ Some local → ready_count (map.get s.rows local) ≡ 1
 first_is_ready s local k first = omega (arith, k.ready local, stands_there s.ready local first, once_at_most (map.get s.rows local))
 
 -- a turn is handed out
 
--- the turn is of the dialogue that stands first
+-- the turn is of the dialogue that is first
 pub turn_is_of : (s : Shelf) (local : ℕ) (turn : Turn) (rows : Rows) → Sound s → (h : HandsOutAt s.rows local turn rows) → turn.local ≡ local
 turn_is_of s local turn rows k h = h.does.local ∙ (k.own local h.before h.was).local_is
 
 -- a dialogue that is ready has no turn out
-pub idle : (row : Row) → is_ready row ≡ true → row.is_out ≡ false
-idle row e = not-true row.is_out (and_parts (not row.is_out) (waits row) e).0
+pub idle : (row : Row) → is_ready row ≡ true → has_turn_out row ≡ false
+idle row e = not-true (has_turn_out row) (and_parts (not (has_turn_out row)) (waits row) e).0
 
 -- a turn is out
-pub turn_there : (b : Inside) (local : ℕ) (row : Row) → IsKept b → map.get b.rows local ≡ Some row → row.is_out ≡ true → 1 ≤ b.turns
+pub turn_there : (b : Inside) (local : ℕ) (row : Row) → IsKept b → map.get b.rows local ≡ Some row → has_turn_out row ≡ true → 1 ≤ b.turns
 turn_there b local row k was out = omega (arith, amount_within turns_of b.rows local row was, turns_are row true out, k.turns)
 
 -- one turn fewer is out
-pub fewer_turns : {R : Row → Row → Type 0} {rows : Rows} {local : ℕ} → (b : Inside) (g : Changes R b.rows local rows) → IsKept b → g.before.is_out ≡ true → g.after.is_out ≡ false → b.turns - 1 ≡ sum_of turns_of rows
+pub fewer_turns : {R : Row → Row → Type 0} {rows : Rows} {local : ℕ} → (b : Inside) (g : Changes R b.rows local rows) → IsKept b → has_turn_out g.before ≡ true → has_turn_out g.after ≡ false → b.turns - 1 ≡ sum_of turns_of rows
 fewer_turns {R} {rows} {local} b g k out none =
     turns_by b.turns (b.turns - 1) g k.turns (omega (arith, turns_are g.before true out, turns_are g.after false none, turn_there b local g.before k g.was out))

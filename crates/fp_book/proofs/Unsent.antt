@@ -1,16 +1,7 @@
 -- The frames of one dialogue among those that wait to be sent.
-use Rattle.std.proofs.Common.{◌≡◌, ℕ, ◌≤◌, Bool, true, false, cond, eqb, not, List, [], ◌∷◌, ◌++◌, length, filter, refl, sym, ◌∙◌, ap, arith}
-use Rattle.std.proofs.lemmas.Bool.{eq-eqb, eqb-true}
-use Rattle.std.proofs.lemmas.List.Concat.{flat_map-append}
-use Rattle.std.proofs.lemmas.List.Sums.{count_by-le-length, length-filter}
+use Rattle.fp_book.proofs.Names.{Bool, List, Requested, Waiting, [], ap, arith, cond, count_by-le-length, eq-eqb, eqb, eqb-true, false, filter, flat_map-append, frames_for, frames_in, is_of_other, length, length-filter, not, refl, sym, true, waiting_in, ℕ, ◌++◌, ◌∙◌, ◌∷◌, ◌≡◌, ◌≤◌}
 use Rattle.fp_book.proofs.Queue.{eqb_swap}
-use Rattle.fp_book.specs.declared.parcel.Waiting.{Waiting}
-use Rattle.fp_book.specs.Calls.{waiting_in}
-use Rattle.fp_book.specs.Outbox.{is_of_other}
-use Rattle.fp_book.specs.Shelf.{frames_for}
-use Rattle.fp_row.specs.declared.requested.Requested.{Requested}
 use Rattle.fp_row.specs.declared.requested.Requested.TheVariants as requested
-use Rattle.fp_row.specs.Calls.{frames_in}
 
 pub frames_for-append : (d : ℕ) (xs ys : List Waiting) → frames_for d (xs ++ ys) ≡ frames_for d xs ++ frames_for d ys
 frames_for-append d xs ys = flat_map-append (λ (w : Waiting). cond (eqb w.local d) (w.frame ∷ []) []) xs ys

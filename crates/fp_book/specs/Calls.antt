@@ -47,10 +47,10 @@ use Rattle.fp_row.specs.declared.requested.Requested.TheVariants as requested
 use Rattle.fp_row.specs.declared.row.Row.{Row}
 use Rattle.fp_row.specs.declared.turn.Turn.{Turn}
 use Rattle.fp_row.specs.Calls.{Ends, Extends, Gives, HandsOut, Opens, PutsBack, SendsOne}
-use Rattle.fp_row.specs.Row.{deadline_of, is_due, is_held, is_ready, turn_out}
+use Rattle.fp_row.specs.Row.{deadline_of, is_due, is_held, is_ready, turn_out, has_turn_out}
 use Rattle.fp_tids.specs.Identifiers.{identifier}
 
--- a dialogue that has become ready stands behind the others
+-- a dialogue that has become ready comes after the others
 abbrev pub joins : ℕ → Bool → List ℕ
 joins local true = local ∷ []
 joins local false = []
@@ -69,7 +69,7 @@ one_sent totals = record totals { sent = totals.sent + 1 }
 abbrev pub more_accepted : Totals → List Entry → Totals
 more_accepted totals entries = record totals { accepted = totals.accepted + component_count entries }
 
--- DRAIN: the oldest lines go behind others, as many as there is room for
+-- DRAIN: the oldest lines come after others, as many as there is room for
 pub record DrainsBook (old : Shelf) (lines : List Line) (room : ℕ) (new : Shelf) (more : List Line) : Type 0 where
   pub drains : Drains old.link old.log lines room new.log more
   pub new_is : new ≡ record old { log = new.log }
@@ -254,7 +254,7 @@ ClocksAt true moment (Some before) (Some after) = Extends before (entry_at momen
 -- whether a dialogue wasn't ready and no turn of it is out
 abbrev pub is_idle : Option Row → Bool
 is_idle None = false
-is_idle (Some row) = not row.is_out && not (is_ready row)
+is_idle (Some row) = not (has_turn_out row) && not (is_ready row)
 
 pub record Ticks (old : Shelf) (moment added wanting : ℕ) (new : Shelf) : Type 0 where
   -- those that are given a Clock, in their order
@@ -348,14 +348,14 @@ abbrev pub closed_answer : Option ℕ → Posted
 closed_answer None = Discarded
 closed_answer (Some local) = Ended
 
--- the Abort of the provider that is sent: a cause is named, the message told its sender's identifier, and fewer than 64
+-- the Abort of the provider that is sent: a cause is named, the message has its sender's identifier, and fewer than 64
 -- wait already
 abbrev pub abort_for : ℕ → Option AbortCause → Option Tid → Option (Tid × AbortCause)
 abort_for waiting None peer = None
 abort_for waiting (Some cause) None = None
 abort_for waiting (Some cause) (Some peer) = if nat_lt waiting 64 then Some (peer, cause) else None
 
--- an Abort of the provider waits behind the others
+-- an Abort of the provider waits after the others
 pub record Queues (old : Shelf) (peer : Tid) (cause : AbortCause) (new : Shelf) : Type 0 where
   pub frame : AbortFrame
   pub frame_is : frame_octets frame ≡ framed (canon (provider_abort (octets_of peer) (cause_code cause)))

@@ -31,7 +31,7 @@ use Rattle.fp_row.specs.Row.{deadline_of, is_admitted, is_due, is_ready}
 abbrev pub Rows : Type 0
 Rows = FinMap nat_cmp Row
 
--- what the other parts of a book are to be told of a dialogue that changed
+-- what the other parts of a book need of a dialogue that changed
 abbrev pub left_as : Row → Left
 left_as row = record { is_ready = is_ready row; deadline = deadline_of row }
 
@@ -86,7 +86,7 @@ dropped_of row is_sending = record { was_ready = is_ready row; frames = drops_fr
 abbrev pub takes_more : Option Row → Bool
 takes_more o = option_map_or is_admitted o false
 
--- entries stand behind its others, and then its peer ends it, or not
+-- entries come after its others, and then its peer ends it, or not
 abbrev pub Grows : List Entry → Bool → Bool → Row → Row → Type 0
 Grows entries false is_sending before after = Extends before entries after
 Grows entries true is_sending before after = (extended : Row) × Extends before entries extended × Ends ByPeer is_sending extended after

@@ -19,12 +19,12 @@ use Rattle.fp_reply.specs.Reply.{frame_of}
 use Rattle.fp_row.specs.declared.done.Done.{Done}
 use Rattle.fp_row.specs.declared.row.Row.{Row}
 use Rattle.fp_row.specs.declared.turn.Turn.{Turn}
-use Rattle.fp_row.specs.Row.{is_closed, sent_of, served_of, start_of, turn_out, waiting_of}
+use Rattle.fp_row.specs.Row.{is_closed, sent_of, served_of, start_of, turn_out, waiting_of, has_turn_out}
 use Rattle.fp_service.specs.declared.request.Request.{Request}
 use Rattle.fp_service.specs.Dialogue.{is_over}
 use Rattle.fp_service.specs.Fold.{core_after, cut, requests}
 
--- how many steps a log accounts for: each that it tells, and as many as its gaps count
+-- how many steps a log accounts for: each that it has, and as many as its gaps count
 abbrev pub accounted : List LoggedStep → ℕ
 accounted [] = 0
 accounted (step ∷ list) = unwrap_or (lost_in step) 1 + accounted list
@@ -33,7 +33,7 @@ accounted (step ∷ list) = unwrap_or (lost_in step) 1 + accounted list
 abbrev pub is_told : LoggedStep → Bool
 is_told step = not (is_some (lost_in step))
 
--- the steps that a log tells
+-- the steps that a log has
 abbrev pub told : List LoggedStep → List LoggedStep
 told list = filter is_told list
 
@@ -42,7 +42,7 @@ abbrev pub EachStepIsAccountedFor : Type 0
 EachStepIsAccountedFor =
     (list : List LoggedStep) (step : LoggedStep) → lost_in step ≡ None → accounted list < 18446744073709551615 → accounted (logged list step) ≡ accounted list + 1
 
--- what was told stays told, in its order; a step is told behind it while fewer than 8,191 lines wait
+-- the steps that a log has stay, in their order; a step comes after them while fewer than 8,191 lines wait
 abbrev pub ToldStepsStay : Type 0
 ToldStepsStay =
     (list : List LoggedStep) (step : LoggedStep) → lost_in step ≡ None → told (logged list step) ≡ told list ++ (if nat_lt (length list) 8191 then step ∷ [] else [])
@@ -94,16 +94,16 @@ frames_under local peer asked = map (λ request. frame_of request local (octets_
 -- What the type of a book keeps of the order of a dialogue that is held. The lengths of its lists are
 -- in `KeepsOrder` of `fp_row`.
 pub record IsKeptInOrder (s : Shelf) (local : ℕ) (row : Row) : Type 0 where
-  -- it stands under its own identifier
+  -- it is under its own identifier
   pub local_is : row.local ≡ local
-  -- the entries served are the first of those accepted, and none is behind the one that ends the dialogue
+  -- the entries served are the first of those accepted, and none is after the one that ends the dialogue
   pub served : IsPrefix (served_of row) (cut (start_of row) row.accepted)
   -- its core is the one that results from them
   pub core : row.core ≡ core_after (start_of row) (served_of row)
-  -- a turn that is out is of this dialogue, at the place behind them, and holds that core
+  -- a turn that is out is of this dialogue, at the place after them, and holds that core
   pub turn : (turn : Turn) → turn_out row ≡ Some turn
       → turn ≡ record { local = local; peer = row.peer; position = length (served_of row); entry = turn.entry; before = core_after (start_of row) (served_of row) }
-  pub is_there : row.is_out ≡ true → IsSome (turn_out row)
+  pub is_there : has_turn_out row ≡ true → IsSome (turn_out row)
   -- the entries served, the one that is out and those that wait are those accepted, or the first of them where the
   -- dialogue was closed or its core is over
   pub entries : IsPrefix (served_of row ++ (entry_in (turn_out row) ++ waiting_of row)) row.accepted

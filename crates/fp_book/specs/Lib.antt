@@ -1,6 +1,7 @@
 pub mod Calls
 pub mod Clocking
 pub mod Dialogues
+pub mod Holding
 pub mod Laws
 pub mod Lines
 pub mod Log

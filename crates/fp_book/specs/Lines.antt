@@ -134,7 +134,7 @@ abbrev pub own_tests : Prepared → Kind → Option ℕ → List (Bool × Verdic
 own_tests came kind dialogue =
     -- A message with an unknown tag.
     (is_unknown kind, Discard)
-    -- A Begin that doesn't tell by what its sender knows the dialogue.
+    -- A Begin without the identifier by which its sender knows the dialogue.
     ∷ (is_begin kind && is_none (arrival_of came).ids.orig, Discard)
     -- An Abort with more than one entry.
     ∷ (is_abort kind && nat_lt 1 (length (entries_in came)), Refuse None dialogue)
@@ -185,7 +185,7 @@ verdict s came = first_that_fits (lines s came)
 pub record IsAsRead (arrival : Arrival) (incoming : Incoming) : Type 0 where
   -- its tag is that of a message
   pub known : arrival.ids.kind ≢ Unknown
-  -- a Begin tells by what its sender knows the dialogue
+  -- a Begin has the identifier by which its sender knows the dialogue
   pub begins : arrival.ids.kind ≡ Begin → IsSome arrival.ids.orig
   -- an Abort brings its own entry
   pub aborts : arrival.ids.kind ≡ Abort → length incoming.entries ≡ 1

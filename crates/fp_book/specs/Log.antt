@@ -21,7 +21,7 @@ lost_in (steps.Unsent local) = None
 lost_in steps.Down = None
 lost_in (steps.Gap lost) = Some lost
 
--- how many steps the gap counts that stands last, if one does
+-- how many steps the last line counts, if it is a gap
 abbrev pub gap_at_end : List LoggedStep → Option ℕ
 gap_at_end list = option_and_then lost_in (slice_get list (length list - 1))
 
@@ -29,17 +29,17 @@ gap_at_end list = option_and_then lost_in (slice_get list (length list - 1))
 abbrev pub one_more : ℕ → ℕ
 one_more lost = min (lost + 1) 18446744073709551615
 
--- one step is lost: where no gap stands last a gap of one goes behind the others
+-- one step is lost: if the last line is no gap, a gap of one comes after the others
 abbrev pub lose_behind : List LoggedStep → Option ℕ → List LoggedStep
 lose_behind list None = list ++ steps.Gap 1 ∷ []
--- the gap that stands last counts one more
+-- if it is a gap, it counts one more
 lose_behind list (Some lost) = take (length list - 1) list ++ steps.Gap (one_more lost) ∷ []
 
 -- one step is lost
 abbrev pub lose : List LoggedStep → List LoggedStep
 lose list = lose_behind list (gap_at_end list)
 
--- a step goes behind the others while fewer than 8,191 stand there; from then on it is lost
+-- a step comes after the others while there are fewer than 8,191; from then on it is lost
 abbrev pub logged : List LoggedStep → LoggedStep → List LoggedStep
 logged list step = if nat_lt (length list) 8191 then list ++ step ∷ [] else lose list
 
@@ -49,7 +49,7 @@ pub record IsKept (list : List LoggedStep) (capacity : ℕ) : Type 0 where
   pub gap_in_last_place : length list ≡ 8192 → IsSome (gap_at_end list)
   pub room : 8192 ≤ capacity
 
--- the oldest steps, as many as `lines` has room for, go behind `lines` as lines of this link, and the others stay
+-- the oldest steps, as many as `lines` has room for, come after `lines` as lines of this link, and the others stay
 pub record Drains (link : ℕ) (old : List LoggedStep) (lines : List Line) (room : ℕ) (new : List LoggedStep) (more : List Line) : Type 0 where
   pub moved : more ≡ lines ++ map (Step link) (take room old)
   pub left : new ≡ drop room old

@@ -38,7 +38,7 @@ places_out (Some (contents.Frame waiting)) = 1
 abbrev pub frames_held : Outbox → ℕ
 frames_held outbox = length outbox.frames + places_out outbox.out
 
--- one more Abort waits, behind the others
+-- one more Abort waits, after the others
 abbrev pub with_abort : Outbox → AbortFrame → Outbox
 with_abort outbox frame = record { aborts = outbox.aborts ++ frame ∷ []; frames = outbox.frames; out = outbox.out }
 
@@ -46,7 +46,7 @@ with_abort outbox frame = record { aborts = outbox.aborts ++ frame ∷ []; frame
 abbrev pub abort_added : Outbox → AbortFrame → Outbox
 abort_added outbox frame = if nat_lt (length outbox.aborts) 64 then with_abort outbox frame else outbox
 
--- one more frame waits, behind the others
+-- one more frame waits, after the others
 abbrev pub with_frame : Outbox → Waiting → Outbox
 with_frame outbox waiting = record { aborts = outbox.aborts; frames = outbox.frames ++ waiting ∷ []; out = outbox.out }
 

@@ -79,14 +79,14 @@ abbrev pub of_row : {X : Type 0} → (Row → List X) → Option Row → List X
 of_row f None = []
 of_row f (Some row) = f row
 
--- how often a dialogue stands in the queue
+-- how often a dialogue is in the queue
 abbrev pub ready_count : Option Row → ℕ
 ready_count None = 0
 ready_count (Some row) = if is_ready row then 1 else 0
 
--- how many turns of a dialogue are out
+-- how many entries of a dialogue are out as a turn
 abbrev pub turns_of : Row → ℕ
-turns_of row = if row.is_out then 1 else 0
+turns_of row = row.out
 
 -- how many places for frames are held: by frames that wait, by the one that is being sent, and by turns that are out
 abbrev pub places_held : Shelf → ℕ
@@ -134,7 +134,7 @@ pub record Sound (s : Shelf) : Type 0 where
   -- of each dialogue: what was sent, and then what is to be sent, is what is kept of the frames that its entries
   -- request
   pub frames : (local : ℕ) → of_row sent_of (get s.rows local) ++ unsent_for local s.outbox ≡ of_row kept_of (get s.rows local)
-  -- each dialogue that is ready stands once in the queue, and no other
+  -- each dialogue that is ready is once in the queue, and no other
   pub ready : (local : ℕ) → count_by (λ other. other == local) s.ready ≡ ready_count (get s.rows local)
   pub ready_length : length s.ready ≡ sum_of (λ row. one_if (is_ready row)) s.rows
   pub places : places_held s ≤ 8192

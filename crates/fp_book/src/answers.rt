@@ -9,7 +9,7 @@ use fp_q773::AbortCause;
 pub enum Posted {
     /// A Begin opened a dialogue, which has this local transaction identifier.
     Opened(u32),
-    /// The dialogue that the message names accepted so many entries.
+    /// The dialogue that the message names accepted this number of entries.
     Accepted(u32),
     /// It was refused, which closed the admitted dialogue that it names, if there is one, and an Abort of the provider
     /// for this cause waits to be sent.

@@ -67,8 +67,8 @@ impl Book {
     /// How many elements the component portion of a message may hold.
     pub const MOST_ELEMENTS: usize = 16;
 
-    /// How many entries a link accepts before it takes no more: from then on each Begin, Continue and End is refused, and
-    /// no dialogue is given a Clock. An Abort of the peer is accepted all the same.
+    /// How many entries a link accepts before it takes no more: from then on each Begin, Continue and End is refused,
+    /// and no dialogue is given a Clock. An Abort of the peer is accepted all the same.
     pub const ALL_ENTRIES: u64 = 1 << 63;
 
     /// The book of a link, 0 to 7, which is up. It holds no dialogue, and has memory for all but the dialogues.
@@ -120,8 +120,8 @@ impl Book {
         self.log.len()
     }
 
-    /// Moves the oldest lines of the log behind `lines`, as many as `lines` has room for, and changes nothing else.
-    /// Takes no memory.
+    /// Moves the oldest lines of the log to the end of `lines`, as many as `lines` has room for, and changes nothing
+    /// else. Takes no memory.
     pub fn drain(&mut self, lines: &mut Vec<Line>)
         ensures drains { DrainsBook self.old lines.old.items (vec_capacity lines.old - vec_len lines.old) self.new lines.new.items }
         ensures capacity { vec_capacity lines.new ≡ vec_capacity lines.old }

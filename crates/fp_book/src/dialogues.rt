@@ -14,7 +14,7 @@ use fp_q773::Tid;
 use fp_row::{Done, Ending, Requested, Row, Rows, Turn, putting_back_changes_nothing};
 use std::alloc::{AllocError, Global};
 
-/// What the other parts of a book are to be told of a dialogue that changed.
+/// What the other parts of a book have to know of a dialogue that changed.
 #[derive(Clone, Copy, Debug)]
 pub(crate) struct Left {
     /// Whether it is ready, or has become so.
@@ -24,7 +24,7 @@ pub(crate) struct Left {
 }
 
 impl Left {
-    /// What is to be told of this dialogue.
+    /// What they have to know of this dialogue.
     fn of(row: &Row) -> Left
         ensures { result ≡ left_as row.now }
     {
@@ -40,14 +40,14 @@ impl Left {
 pub(crate) struct Served {
     /// What becomes of its request.
     pub(crate) requested: Requested,
-    /// What is to be told of the dialogue.
+    /// What the other parts have to know of the dialogue.
     pub(crate) left: Left,
 }
 
 /// What comes of the entries that a dialogue accepts.
 #[derive(Clone, Copy, Debug)]
 pub(crate) struct Extended {
-    /// What is to be told of the dialogue, and whether it has become ready.
+    /// What the other parts have to know of the dialogue, and whether it has become ready.
     pub(crate) left: Left,
     /// Whether frames of it that wait are to be dropped.
     pub(crate) drops_frames: bool,
@@ -78,7 +78,7 @@ fn keep(rows: &mut Rows, local: u32, is_held: bool)
     }
 }
 
-/// Hands out the turn of a dialogue that is ready. Where memory for a copy of the entry is wanting nothing changes.
+/// Hands out the turn of a dialogue that is ready. If memory runs out for a copy of the entry, nothing changes.
 pub(crate) fn take(rows: &mut Rows, local: u32) -> Result<Turn, AllocError>
     requires { ready_count (get rows.old local) ≡ 1 }
     ensures ok { IfOk result (λ turn. HandsOutAt rows.old local turn rows.new) }
@@ -94,8 +94,8 @@ pub(crate) fn take(rows: &mut Rows, local: u32) -> Result<Turn, AllocError>
     Ok(turn)
 }
 
-/// Gives a turn that was served back to its dialogue, which goes where nothing of it is left. A strange one comes back,
-/// and nothing changes. Takes no memory.
+/// Gives a turn that was served back to its dialogue, which goes if nothing of it is left. A stale or foreign one comes
+/// back, and nothing changes. Takes no memory.
 pub(crate) fn give(rows: &mut Rows, done: Done) -> Result<Served, Done>
     ensures ok { IfOk result (λ served. GivesAt rows.old done served.requested served.left rows.new) }
     ensures err { IfErr result (λ back. (back ≡ done) × (rows.new ≡ rows.old)) }
@@ -108,7 +108,7 @@ pub(crate) fn give(rows: &mut Rows, done: Done) -> Result<Served, Done>
     };
     let requested = match row.give(done) {
         Ok(requested) => requested,
-        Err(strange) => return Err(strange),
+        Err(foreign) => return Err(foreign),
     };
     let left = Left::of(row);
     let is_held = row.is_held();
@@ -116,8 +116,8 @@ pub(crate) fn give(rows: &mut Rows, done: Done) -> Result<Served, Done>
     Ok(Served { requested, left })
 }
 
-/// Gives a turn that wasn't served back to its dialogue, which goes where nothing of it is left, and says whether the
-/// dialogue is ready then. A strange one comes back, and nothing changes. Takes no memory.
+/// Gives a turn that wasn't served back to its dialogue, which goes if nothing of it is left, and says whether the
+/// dialogue is ready then. A stale or foreign one comes back, and nothing changes. Takes no memory.
 pub(crate) fn put_back(rows: &mut Rows, turn: Turn) -> Result<bool, Turn>
     ensures ok { IfOk result (λ joins. PutsBackAt rows.old turn joins rows.new) }
     ensures err { IfErr result (λ back. (back ≡ turn) × (rows.new ≡ rows.old)) }
@@ -130,7 +130,7 @@ pub(crate) fn put_back(rows: &mut Rows, turn: Turn) -> Result<bool, Turn>
     };
     match row.put_back(turn) {
         Ok(()) => {}
-        Err(strange) => return Err(strange),
+        Err(foreign) => return Err(foreign),
     }
     let is_ready = row.is_ready();
     let is_held = row.is_held();
@@ -152,8 +152,8 @@ pub(crate) fn sent(rows: &mut Rows, local: u32)
     keep(rows, local, is_held);
 }
 
-/// Ends a dialogue that is there from outside, which goes where nothing of it is left. Tells what of it is to be
-/// dropped elsewhere. Takes no memory.
+/// Ends a dialogue that is there from outside, which goes if nothing of it is left. Returns what of it is to be dropped
+/// elsewhere. Takes no memory.
 pub(crate) fn end(rows: &mut Rows, local: u32, ending: Ending, is_sending: bool) -> Dropped
     requires { IsTrue (contains_key rows.old local) }
     ensures ends { EndsAt rows.old local ending is_sending rows.new }
@@ -169,9 +169,9 @@ pub(crate) fn end(rows: &mut Rows, local: u32, ending: Ending, is_sending: bool)
     Dropped { was_ready, frames }
 }
 
-/// Puts entries behind those of a dialogue that takes messages, and ends it, where its peer does. It goes
-/// where nothing of it is left. Tells whether it has become ready. Where memory is wanting, which it never is for no
-/// entries, nothing changes, and the entries are gone.
+/// Puts entries after those of a dialogue that takes messages, and ends it if its peer does. It goes if nothing of it
+/// is left. Says whether it has become ready. If memory runs out, which it never does for no entries, nothing changes,
+/// and the entries are gone.
 pub(crate) fn extend(
     rows: &mut Rows,
     local: u32,
@@ -206,7 +206,7 @@ pub(crate) fn extend(
 }
 
 /// Opens a dialogue with these entries: this end knows it by `local`, its peer by `peer`, and it is the `birth`-th of
-/// its link. Where memory is wanting nothing changes, and the entries are gone.
+/// its link. If memory runs out, nothing changes, and the entries are gone.
 pub(crate) fn open(
     alloc: Global,
     rows: &mut Rows,
@@ -228,7 +228,7 @@ pub(crate) fn open(
     }
 }
 
-/// Gives a dialogue that is due a Clock of this moment, and tells whether it has become ready. Where memory is wanting
+/// Gives a dialogue that is due a Clock of this moment, and says whether it has become ready. If memory runs out,
 /// nothing changes.
 pub(crate) fn clock(rows: &mut Rows, local: u32, moment: Moment) -> Result<bool, AllocError>
     requires { is_due_at (get rows.old local) moment ≡ true }

@@ -8,8 +8,8 @@ use fp_q773::{identifiers_are_those_of_the_message, ids_are_one};
 use fp_row::rows_keep_their_order;
 use fp_service::entries_ask_once_at_most;
 
-/// A log tells each step that it is given, or counts it in a gap, as long as it accounts for fewer than 2^64 - 1; and
-/// what it tells stays, in its order.
+/// A log has each step that it is given, or counts it in a gap, as long as it accounts for fewer than 2^64 - 1; and
+/// what it has stays, in its order.
 pub fn steps_are_told_or_counted()
     ensures counted { EachStepIsAccountedFor }
     ensures told { ToldStepsStay }

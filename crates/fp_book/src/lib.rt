@@ -19,6 +19,9 @@
 //! | [`Book::down`] | the link is gone | |
 //! | [`Book::is_down`] | | whether it went down |
 //! | [`Book::drain`] | room for lines | the oldest lines of the log |
+//! | [`Book::holds_back`] | a message | whether it is better posted later: what keeps it out goes away |
+//! | [`Book::is_quiet`] | | whether nothing is left to be served or sent |
+//! | [`Book::entry_count`] | | how many entries the dialogues that are held keep |
 //! | [`Book::totals`] | | [`Totals`]: components accepted, entries served, frames sent |
 //!
 //! A dialogue is *admitted* from its Begin until its core is over, its peer's End or Abort is accepted, a message for
@@ -27,21 +30,24 @@
 //! a parcel of it is out. What is no longer held is forgotten, but for what was counted.
 //!
 //! A [`Turn`](fp_row::Turn) and a [`Parcel`] must be spent. What comes back is compared with what is out, and a
-//! stranger comes back and changes nothing. A dialogue whose turn or parcel was abandoned stays held.
+//! stale or foreign one comes back and changes nothing. A dialogue whose turn or parcel was abandoned stays held.
 //!
-//! What a call costs, by the number of dialogues that are held: `post`, `take`, `give`, `put_back` and `sent` look one of
-//! them up by halves, and where one comes or goes those with greater identifiers move; setting a deadline moves those of
-//! greater identifiers. `tick` goes through all deadlines once for each that is due, and twice more; where memory was
-//! wanting, through all dialogues. A message that is refused or ends its dialogue goes through the frames that wait only
-//! where one of them is that dialogue's, and through the order of service only where that dialogue stands in it. `down`
-//! and `unsent` go through everything, and move what is left for each dialogue that goes. Nothing else grows with what
-//! other dialogues have.
+//! What a call costs, by the number of dialogues that are held: `post`, `take`, `give`, `put_back` and `sent` look one
+//! of them up by halves, and where one comes or goes those with greater identifiers move; setting a deadline moves
+//! those of greater identifiers. `tick` goes through all deadlines once for each that is due, and twice more; if memory
+//! ran out, through all dialogues. A message that is refused or ends its dialogue goes through the frames that wait
+//! only if one of them is that dialogue's, and through the order of service only if that dialogue is in it.
+//! `down` and `unsent` go through everything, and move what is left for each dialogue that goes. Nothing else grows
+//! with what other dialogues have.
+//!
+//! [`Log`], [`Outbox`] and [`ReadyQueue`] are parts of a book, public so that worked cases can try each alone; the
+//! layers above use [`Log::MOST`] alone.
 //!
 //! The layer above may rely on this: contracts see a [`Book`] as a `Shelf` (`specs/Shelf.antt`),
 //! and its type keeps what `Sound` says: identifiers are those of the link, each of a serial that
 //! was given; of each dialogue what was sent, then what is being sent, then what waits is what is
 //! kept of the frames that its served entries request (its [`Row`](fp_row::Row) keeps the rest of
-//! it); each dialogue that is ready stands once in the order of service; all limits; and no total
+//! it); each dialogue that is ready is once in the order of service; all limits; and no total
 //! is below the sum over the dialogues that are held. Each call says of the whole shelf what it is
 //! then (`specs/Calls.antt`), so that the totals are the sums over the dialogues held and those
 //! gone. A message gets what the first line of `specs/Lines.antt` that fits it says. That a stale
@@ -51,13 +57,15 @@
 //! * [`read_messages_have_few_entries`]: on a frame that was prepared seven of those lines alone decide.
 //! * [`births_are_distinct`]: no two dialogues that are held have the same birth.
 //! * [`dialogues_are_kept_in_order`]: of each dialogue that is held the entries served, the one that is out and those
-//!   that wait are those accepted; and the frames sent, the one that is being sent and those that wait are those that it
-//!   requests on the entries served. Where it was closed, is over or was ended from outside they are the first of these.
+//!   that wait are those accepted; and the frames sent, the one that is being sent and those that wait are those that
+//!   it requests on the entries served. Where it was closed, is over or was ended from outside they are the first of
+//!   these.
 #![tactic(auto)]
 
 mod answers;
 mod book;
 mod dialogues;
+mod holding;
 mod laws;
 mod line;
 mod log;

@@ -21,7 +21,7 @@ pub enum Line {
     },
 }
 
-/// A step of a link as the log tells it.
+/// A step of a link as the log has it.
 #[derive(Debug, Drop)]
 pub enum LoggedStep {
     /// A message was posted.
@@ -33,7 +33,7 @@ pub enum LoggedStep {
         /// What became of it.
         answer: Posted,
     },
-    /// A message was posted for which memory was wanting.
+    /// A message was posted for which memory ran out.
     Lost {
         /// When it came.
         moment: Moment,
@@ -48,7 +48,7 @@ pub enum LoggedStep {
         moment: Moment,
         /// How many dialogues were given a Clock.
         added: u32,
-        /// How many were left, since memory was wanting.
+        /// How many were left out because memory ran out.
         wanting: u32,
     },
     /// A turn was taken.
@@ -91,7 +91,7 @@ pub enum LoggedStep {
     },
     /// The link went down.
     Down,
-    /// Here so many steps aren't told.
+    /// Steps are missing here.
     Gap {
         /// How many, at most 2^64 - 1.
         lost: u64,

@@ -9,7 +9,7 @@ use std::alloc::{AllocError, Global};
 use std::collections::VecDeque;
 use std::marker::Model;
 
-/// The steps of a link that weren't drained yet, the oldest first, at most 8,192. In the last place stands nothing but
+/// The steps of a link that weren't drained yet, the oldest first, at most 8,192. In the last place is nothing but
 /// a gap, which counts the steps that found no place. Contracts see them as their list.
 #[derive(Debug, Drop)]
 pub struct Log {
@@ -51,7 +51,7 @@ impl Log {
         self.steps.len()
     }
 
-    /// Puts a step behind the others. Where only the last place is left, it is counted in the gap there instead, which
+    /// Puts a step after the others. If only the last place is left, it is counted in the gap there instead, which
     /// begins at 1 and stays at 2^64 - 1. Takes no memory.
     pub fn add(&mut self, step: LoggedStep)
         ensures { self.new ≡ logged self.old step }
@@ -63,8 +63,8 @@ impl Log {
         }
     }
 
-    /// Moves the oldest steps behind `lines`, as lines of this link, 0 to 7, as many as `lines` has room for. The steps
-    /// that are left keep their order. Takes no memory.
+    /// Moves the oldest steps to the end of `lines`, as lines of this link, 0 to 7, as many as it has room for. The
+    /// steps that are left keep their order. Takes no memory.
     pub fn drain(&mut self, link: u8, lines: &mut Vec<Line>)
         ensures drains { Drains link self.old lines.old.items (vec_capacity lines.old - vec_len lines.old) self.new lines.new.items }
         ensures capacity { vec_capacity lines.new ≡ vec_capacity lines.old }
@@ -72,7 +72,7 @@ impl Log {
         move_steps(&mut self.steps, link, lines);
     }
 
-    /// Counts a step as lost, in the gap that stands last, or in a new one. Takes no memory.
+    /// Counts a step as lost, in the gap that is last, or in a new one. Takes no memory.
     fn lose(&mut self)
         ensures { self.new ≡ lose self.old }
     {
@@ -86,7 +86,7 @@ impl Log {
         self.steps.push_back_reserved(LoggedStep::Gap { lost });
     }
 
-    /// How many steps the gap counts that stands last, if one does.
+    /// How many steps the last gap counts, if the log ends with one.
     fn last_gap(&self) -> Option<u64>
         ensures { result ≡ gap_at_end self.now }
     {
@@ -104,7 +104,7 @@ fn lost_in(step: &LoggedStep) -> Option<u64>
     }
 }
 
-/// Moves the oldest steps behind `lines`, as lines of this link, as many as `lines` has room for.
+/// Moves the oldest steps to the end of `lines`, as lines of this link, as many as `lines` has room for.
 fn move_steps(steps: &mut VecDeque<LoggedStep>, link: u8, lines: &mut Vec<Line>)
     ensures drains { Drains link steps.old.items lines.old.items (vec_capacity lines.old - vec_len lines.old) steps.new.items lines.new.items }
     ensures places { deque_capacity steps.new ≡ deque_capacity steps.old }

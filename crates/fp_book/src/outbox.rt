@@ -1,6 +1,6 @@
 //! What waits to be sent on a link.
 
-ghost use Rattle.std.specs.Prelude.{◌≡◌, ◌+◌, ◌<◌, ◌≤◌, ◌↔◌, Some, IfErr, IfOk, IsOk, length, nat_lt};
+ghost use Rattle.std.specs.Prelude.{◌≡◌, ◌+◌, ◌<◌, ◌≤◌, ◌↔◌, Some, IfErr, IfOk, IsOk, IsTrue, length, nat_le, nat_lt};
 ghost use Rattle.fp_book.specs.Sending.{is_frame_of};
 ghost use Rattle.fp_book.specs.Outbox.{Picks, TakesNext, abort_added, frames_held, nothing, with_frame, with_nothing_out, without_frames_of, without_waiting};
 
@@ -61,7 +61,21 @@ impl Outbox {
         self.frames.len() + usize::from(self.sending.is_frame())
     }
 
-    /// Puts an Abort of the provider behind the others that wait, and says so; where [`Outbox::MOST_ABORTS`] wait,
+    /// Whether nothing waits, and nothing is being sent.
+    pub fn is_empty(&self) -> bool
+        ensures { IsTrue result ↔ (self.now ≡ nothing) }
+    {
+        self.aborts.is_empty() && self.frames.is_empty() && !self.sending.is_busy()
+    }
+
+    /// Whether [`Outbox::MOST_ABORTS`] of the provider wait.
+    pub fn has_all_aborts(&self) -> bool
+        ensures { result ≡ nat_le Self.MOST_ABORTS (length self.now.aborts) }
+    {
+        self.aborts.len() >= Self::MOST_ABORTS
+    }
+
+    /// Puts an Abort of the provider after the others that wait, and says so; if [`Outbox::MOST_ABORTS`] wait,
     /// nothing changes. Takes no memory.
     pub fn add_abort(&mut self, frame: AbortFrame) -> bool
         ensures added { result ≡ nat_lt (length self.old.aborts) Self.MOST_ABORTS }
@@ -74,7 +88,7 @@ impl Outbox {
         true
     }
 
-    /// Puts the frame of a dialogue behind the others that wait. Fewer than [`Outbox::MOST_FRAMES`] do. Takes no
+    /// Puts the frame of a dialogue after the others that wait. Fewer than [`Outbox::MOST_FRAMES`] do. Takes no
     /// memory.
     pub fn add_frame(&mut self, local: u32, frame: RequestFrame)
         requires room { length self.old.frames < Self.MOST_FRAMES }
@@ -121,7 +135,7 @@ impl Outbox {
     }
 
     /// Takes back the parcel of this link that is out: nothing is being sent from now on, and what waits stays. A
-    /// strange parcel, one of another link or whose content isn't what is being sent, comes back, and nothing changes.
+    /// foreign parcel, one of another link or whose content isn't what is being sent, comes back, and nothing changes.
     /// Takes no memory.
     pub fn take_back(&mut self, link: u8, parcel: Parcel) -> Result<(), Parcel>
         ensures ok { IfOk result (λ _. self.new ≡ with_nothing_out self.old) }

@@ -77,7 +77,7 @@ impl Parcel {
         }
     }
 
-    /// Spends a parcel that nobody reports. Its link stays busy with it. Takes no memory.
+    /// Gives up a parcel without a report. Its link stays busy with it. Takes no memory.
     pub fn abandon(self) {
         let Parcel {
             link: _,

@@ -23,7 +23,7 @@ use fp_reply::abort_frame;
 use fp_row::Ending;
 use std::alloc::Global;
 
-/// What is to be done with a message for which memory is wanting.
+/// What is to be done with a message that was lost: memory ran out for it.
 fn lost_of(kind: Kind, dialogue: Option<u32>) -> Verdict
     ensures { result ≡ lost_of kind dialogue }
 {
@@ -69,7 +69,7 @@ fn abort_of(local: u32, incoming: &Incoming) -> Verdict
 }
 
 /// Whether a message holds more elements in its component portion than are taken.
-fn too_many(incoming: &Incoming) -> bool
+pub(crate) fn too_many(incoming: &Incoming) -> bool
     ensures { result ≡ too_many incoming.now }
 {
     incoming.elements > Book::MOST_ELEMENTS || incoming.entries.len() > Book::MOST_ELEMENTS + 1
@@ -98,7 +98,7 @@ fn line_of(came: Prepared, answer: Posted) -> LoggedStep
     }
 }
 
-/// Answers a message that is refused: where a cause is named, its sender told its identifier, and there is a place, an
+/// Answers a message that is refused: if a cause is named, its sender gave its identifier, and there is a place, an
 /// Abort of the provider waits to be sent. `closed` is the dialogue that was closed for it, if one was. Takes no
 /// memory.
 fn answer_by(
@@ -164,7 +164,7 @@ impl Book {
         self.rows.len() >= Self::MOST_DIALOGUES || self.ids.next().is_none() || self.is_full()
     }
 
-    /// Whether a dialogue has no place for so many entries more.
+    /// Whether a dialogue has no place for this number of entries more.
     fn no_place_left(&self, local: u32, places: usize) -> bool
         ensures { result ≡ no_place_left (get self.now.rows local) places }
     {
@@ -233,8 +233,8 @@ impl Book {
         }
     }
 
-    /// What is to be done with what came: the first line that fits decides.
-    fn verdict(&self, came: &Prepared) -> Verdict
+    /// What is to be done with what came: what the first matching rule of receipt says.
+    pub(crate) fn verdict(&self, came: &Prepared) -> Verdict
         ensures value { result ≡ verdict self.now came.now }
         ensures sound { Sound self.now }
     {
@@ -290,8 +290,8 @@ impl Book {
         }
     }
 
-    /// Puts the entries of a message behind those of its dialogue, and ends that, where the message is its peer's end
-    /// or abort. If memory runs out, the message is treated as lost.
+    /// Puts the entries of a message after those of its dialogue, and ends that if the message is its peer's end or
+    /// abort. If memory runs out, the message is treated as lost.
     fn extend(&mut self, local: u32, ends: bool, came: Prepared) -> Receipt
         requires { verdict self.old came ≡ verdicts.Extend local ends }
         ensures { IsReceipt self.old came result self.new }
@@ -368,7 +368,7 @@ impl Book {
         }
     }
 
-    /// Does with a message what the first line says that fits it.
+    /// Does with a message what the first matching rule of receipt says.
     fn receive(&mut self, alloc: Global, came: Prepared) -> Receipt
         ensures receipt { IsReceipt self.old came result self.new }
         ensures sound { Sound self.old }
@@ -383,22 +383,24 @@ impl Book {
         }
     }
 
-    /// Takes a message, or refuses it; the first matching one of these lines applies.
+    /// Takes a message, or refuses it; the first matching one of these rules applies.
     ///
     /// 1. The link is down: `Discarded`.
     /// 2. It is a Unidirectional: `Discarded`.
     /// 3. Memory ran out as it was read: cause 4 for a Begin and for a Continue of an admitted dialogue, cause 1 for
     ///    another Continue, none for an End or an Abort; the admitted dialogue is closed. An unknown tag: as line 4.
-    /// 4. Octets that are no message that is taken: cause 0 for an unknown tag, else 2; the admitted dialogue is closed.
+    /// 4. Octets that are no message that is taken: cause 0 for an unknown tag, else 2; the admitted dialogue is
+    ///    closed.
     /// 5. A Continue, an End or an Abort that names no admitted dialogue: cause 1 for a Continue, else `Discarded`.
     /// 6. A Begin, a Continue or an End with more than 16 elements in its component portion, for which no further
-    /// dialogue may be held, with which more than 64 entries of the dialogue would wait, or after the last entry that
-    /// the link takes: cause 4, and the dialogue is closed. If memory runs out as a message is accepted, it gets what
-    /// line 3 says.
+    ///    dialogue may be held, with which more than 64 entries of the dialogue would wait, or after the last entry
+    ///    that the link takes: cause 4, and the dialogue is closed. If memory runs out as a message is accepted, it
+    ///    gets what line 3 says.
     /// 7. Else `Opened` or `Accepted`.
     ///
     /// If a cause is named, the sender gave its identifier, and fewer than 64 Aborts of the provider wait, one more
-    /// waits, and the answer is `Aborted`; else it is `Ended` if a dialogue was closed, and `Discarded` if none was. (ITU-T Q.774, 3.3.4 and 3.3.5.)
+    /// waits, and the answer is `Aborted`; else it is `Ended` if a dialogue was closed, and `Discarded` if none was.
+    /// (ITU-T Q.774, 3.3.4 and 3.3.5.)
     pub fn post(&mut self, alloc: Global, came: Prepared) -> Posted
         ensures posts { Posts self.old came result self.new }
         ensures totals { self.new.totals ≡ posted_totals self.old.totals came result }
@@ -407,8 +409,8 @@ impl Book {
         self.post_with_receipt(alloc, came).posted
     }
 
-    /// Takes a message, or refuses it, as [`Book::post`], and says besides how many of its components were accepted, and
-    /// whether memory ran out in this call.
+    /// Takes a message, or refuses it, as [`Book::post`], and says besides how many of its components were accepted,
+    /// and whether memory ran out in this call.
     pub fn post_with_receipt(&mut self, alloc: Global, came: Prepared) -> Receipt
         ensures receipt { IsReceipt self.old came result self.new }
         ensures posts { Posts self.old came result.posted self.new }

@@ -48,7 +48,7 @@ impl ReadyQueue {
         self.locals.len()
     }
 
-    /// Puts an identifier behind the others. There are fewer than [`ReadyQueue::MOST`]. Takes no memory.
+    /// Puts an identifier after the others. There are fewer than [`ReadyQueue::MOST`]. Takes no memory.
     pub fn join(&mut self, local: u32)
         requires room { length self.old < Self.MOST }
         ensures { self.new ≡ self.old ++ local ∷ [] }
@@ -71,7 +71,7 @@ impl ReadyQueue {
         self.locals.pop_front()
     }
 
-    /// Takes an identifier out, wherever it stands, and keeps the order of the others. Takes no memory.
+    /// Takes an identifier out, wherever it is, and keeps the order of the others. Takes no memory.
     pub fn leave(&mut self, local: u32)
         ensures { self.new ≡ filter (is_other local) self.old }
     {

@@ -49,7 +49,7 @@ impl Book {
     }
 
     /// Takes the parcel back that was sent: a frame counts as one more that its dialogue sent, an Abort of the provider
-    /// isn't counted. A strange parcel, of another link or not the one that is out, comes back, and nothing changes.
+    /// isn't counted. A foreign parcel, of another link or not the one that is out, comes back, and nothing changes.
     /// Takes no memory.
     pub fn sent(&mut self, parcel: Parcel) -> Result<(), Parcel>
         ensures ok { OnOk result (Sends self.old parcel.content self.new) }
@@ -62,7 +62,7 @@ impl Book {
         let dialogue = parcel.dialogue();
         match self.outbox.take_back(self.link, parcel) {
             Ok(()) => {}
-            Err(strange) => return Err(strange),
+            Err(foreign) => return Err(foreign),
         }
         let Some(local) = dialogue else {
             self.log.add(LoggedStep::Sent { local: 0 });
@@ -75,7 +75,7 @@ impl Book {
     }
 
     /// Takes the parcel back that couldn't be sent: the link goes down, as by [`Book::down`], and its frame counts as
-    /// not sent. A strange parcel comes back, and nothing changes. Takes no memory.
+    /// not sent. A foreign parcel comes back, and nothing changes. Takes no memory.
     pub fn unsent(&mut self, parcel: Parcel) -> Result<(), Parcel>
         ensures ok { OnOk result (Unsends self.old parcel self.new) }
         ensures err { IfErr result (λ back. (back ≡ parcel) × (self.new ≡ self.old)) }
@@ -86,7 +86,7 @@ impl Book {
         let local = parcel.local();
         match self.outbox.take_back(self.link, parcel) {
             Ok(()) => {}
-            Err(strange) => return Err(strange),
+            Err(foreign) => return Err(foreign),
         }
         close_all(&mut self.rows, &mut self.deadlines, &self.outbox);
         self.ready.clear();

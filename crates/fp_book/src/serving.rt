@@ -24,7 +24,7 @@ pub(crate) fn set_deadline(deadlines: &mut Deadlines, local: u32, deadline: Opti
     }
 }
 
-/// Puts a dialogue behind the others that are ready, where it has become so. Takes no memory.
+/// Puts a dialogue after the others that are ready, if it has become so. Takes no memory.
 pub(crate) fn join(ready: &mut ReadyQueue, local: u32, is_ready: bool)
     requires { IsTrue is_ready → length ready.old < ReadyQueue.MOST }
     ensures { ready.new ≡ ready.old ++ joins local is_ready }
@@ -34,7 +34,7 @@ pub(crate) fn join(ready: &mut ReadyQueue, local: u32, is_ready: bool)
     }
 }
 
-/// Puts the frame of a request behind the others that wait, where there is one to be sent. Takes no memory.
+/// Puts the frame of a request after the others that wait, if there is one to be sent. Takes no memory.
 fn queue(outbox: &mut Outbox, local: u32, requested: Requested) -> Given
     requires { length outbox.old.frames < Outbox.MOST_FRAMES }
     ensures value { outbox.new ≡ record outbox.old { frames = outbox.old.frames ++ waiting_in local requested } }
@@ -53,7 +53,7 @@ fn queue(outbox: &mut Outbox, local: u32, requested: Requested) -> Given
 impl Book {
     /// Hands out the turn of the dialogue that has been ready longest. `Nothing`: no dialogue is ready. `NoRoom`: all
     /// 8,192 places for frames are held, by frames that wait, by the one that is being sent, and by turns that are out.
-    /// `Memory`: memory for a copy of the entry was wanting. In these cases nothing changes.
+    /// `Memory`: memory ran out for a copy of the entry. In these cases nothing changes.
     pub fn take(&mut self) -> Taken
         ensures takes { Takes self.old result self.new }
         ensures none { NoneReady result self.old }
@@ -76,10 +76,10 @@ impl Book {
         Taken::Turn(turn)
     }
 
-    /// Takes a turn back that was served: its entry counts as served. `Queued`: the frame of its request waits behind
+    /// Takes a turn back that was served: its entry counts as served. `Queued`: the frame of its request waits after
     /// the others. `Silent`: it requests nothing. `Dropped`: the dialogue was ended from outside, so its request isn't
-    /// accepted. A strange turn, one whose identifiers, position, entry or core before aren't those of a turn that is
-    /// out, comes back, and nothing changes. Takes no memory.
+    /// accepted. A stale or foreign turn, one whose identifiers, position, entry or core before aren't those of a turn
+    /// that is out, comes back, and nothing changes. Takes no memory.
     pub fn give(&mut self, done: Done) -> Result<Given, Done>
         ensures ok { IfOk result (λ given. GivesDone self.old done given self.new) }
         ensures err { IfErr result (λ back. (back ≡ done) × (self.new ≡ self.old)) }
@@ -91,7 +91,7 @@ impl Book {
         let position = done.turn().position();
         let served = match dialogues::give(&mut self.rows, done) {
             Ok(served) => served,
-            Err(strange) => return Err(strange),
+            Err(foreign) => return Err(foreign),
         };
         self.turns -= 1;
         self.totals.served += 1;
@@ -107,8 +107,8 @@ impl Book {
     }
 
     /// Takes a turn back that wasn't served: its entry is the next one of its dialogue again, which joins those that
-    /// are ready behind the others; or it is dropped, where the dialogue was closed meanwhile. A strange turn comes
-    /// back, and nothing changes. Takes no memory.
+    /// are ready after the others; or it is dropped, if the dialogue was closed meanwhile. A stale or foreign turn
+    /// comes back, and nothing changes. Takes no memory.
     pub fn put_back(&mut self, turn: Turn) -> Result<(), Turn>
         ensures ok { OnOk result (PutsTurnBack self.old turn self.new) }
         ensures err { IfErr result (λ back. (back ≡ turn) × (self.new ≡ self.old)) }
@@ -120,7 +120,7 @@ impl Book {
         let position = turn.position();
         let is_ready = match dialogues::put_back(&mut self.rows, turn) {
             Ok(is_ready) => is_ready,
-            Err(strange) => return Err(strange),
+            Err(foreign) => return Err(foreign),
         };
         self.turns -= 1;
         join(&mut self.ready, local, is_ready);

@@ -12,6 +12,6 @@ pub enum Taken {
     Nothing,
     /// All places for frames are held.
     NoRoom,
-    /// Memory for a copy of the entry was wanting.
+    /// Memory ran out for a copy of the entry.
     Memory,
 }

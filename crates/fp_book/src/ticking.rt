@@ -17,7 +17,7 @@ use fp_row::Rows;
 use fp_timers::Deadlines;
 
 /// Gives the dialogue with the earliest deadline that is due at a moment a Clock, the one with the smallest identifier
-/// among those, and says so. Where none is due, or memory is wanting, nothing changes.
+/// among those, and says so. If none is due, or memory runs out, nothing changes.
 fn clock_first(
     rows: &mut Rows,
     deadlines: &mut Deadlines,
@@ -51,7 +51,7 @@ fn count_due(rows: &Rows, deadlines: &Deadlines, moment: Moment) -> u32
 }
 
 /// Gives each dialogue that is due at a moment a Clock, the one with the earliest deadline first, and the one with the
-/// smallest identifier among those. It ends where memory is wanting: the others stay due.
+/// smallest identifier among those. It ends if memory runs out: the others stay due.
 fn clock_all(
     rows: &mut Rows,
     deadlines: &mut Deadlines,
@@ -86,8 +86,8 @@ fn log_tick(log: &mut Log, moment: Moment, ticked: Ticked)
 
 impl Book {
     /// Time goes by: each dialogue whose deadline is at or before this moment is given a Clock, the one with the
-    /// earliest deadline first, and the one with the smallest identifier among those. Where memory is wanting for one,
-    /// it and those behind it are left, and stay due. None is due once the link accepted [`Book::ALL_ENTRIES`].
+    /// earliest deadline first, and the one with the smallest identifier among those. If memory runs out for one, it
+    /// and those after it are left out, and stay due. None is due once the link accepted [`Book::ALL_ENTRIES`].
     pub fn tick(&mut self, moment: Moment) -> Ticked
         ensures ticks { Ticks self.old moment result.added result.wanting self.new }
         ensures sound { Sound self.new }

@@ -1,5 +1,8 @@
 //! What is to be done with a message.
 
+ghost use Rattle.std.specs.Prelude.{◌≡◌};
+ghost use Rattle.fp_book.specs.Holding.{is_over_a_limit, is_taken, names_a_cause};
+
 use fp_q773::{AbortCause, Tid};
 
 /// What is to be done with a message that is posted, by the dialogues that there are.
@@ -26,4 +29,33 @@ pub enum Verdict {
         /// Whether the dialogue ends with it.
         ends: bool,
     },
+}
+
+impl Verdict {
+    /// Whether it is a refusal that names a cause.
+    pub(crate) fn names_a_cause(&self) -> bool
+        ensures { result ≡ names_a_cause self.now }
+    {
+        matches!(self, Verdict::Refuse { cause: Some(_), .. })
+    }
+
+    /// Whether the message is taken: it opens a dialogue, or a dialogue accepts it.
+    pub(crate) fn is_taken(&self) -> bool
+        ensures { result ≡ is_taken self.now }
+    {
+        matches!(self, Verdict::Open { .. } | Verdict::Extend { .. })
+    }
+
+    /// Whether it is a refusal because a limit was reached.
+    pub(crate) fn is_over_a_limit(&self) -> bool
+        ensures { result ≡ is_over_a_limit self.now }
+    {
+        matches!(
+            self,
+            Verdict::Refuse {
+                cause: Some(AbortCause::ResourceLimitation),
+                ..
+            }
+        )
+    }
 }

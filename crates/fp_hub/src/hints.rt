@@ -75,9 +75,10 @@ impl HintChannel {
     /// Sends a hint, unless as many wait as there are workers. `false`: the channel is closed, or memory ran out.
     ///
     /// A hint that waits is as good as a new one: it says that there may be a turn, and no more. Each worker that takes
-    /// it takes turns until none is ready, there is no place for a frame, or memory runs out (what ends either of these
-    /// hints anew), and does so after this call, so it finds what was ready before it. If as many hints wait as there are
-    /// workers, each worker has yet to do so, and a further hint would wake nobody else. That needs no lock to be seen.
+    /// it takes turns until none is ready, there is no place for a frame, or memory runs out (a sent frame or the next tick
+    /// hints again), and does so after this call, so it finds what was ready before it. If as many hints wait as there
+    /// are workers, each worker has yet to do so, and a further hint would wake nobody else. That needs no lock to be
+    /// seen.
     pub(crate) fn hint<R: Wait>(&self, rt: &R) -> bool {
         if !self.is_open.load(Ordering::SeqCst) {
             return false;

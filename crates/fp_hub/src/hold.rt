@@ -2,10 +2,13 @@
 
 use crate::Kept;
 use crate::resting::Resting;
+use std::rt::Clock;
 use std::sync::ledger::Ledger;
-use std::sync::{Condvar, MutexGuard, Wait};
+use std::sync::{Condvar, CondvarTimeouts, MutexGuard, Wait};
+use std::time::Duration;
 
-/// The lock of a link, held. When it is released, those that don't hold it learn how full the log is then.
+/// The lock of a link, held. Its release publishes how full the log is, and wakes the resting thread if the lines of
+/// this hold made it [`LINES_OF_A_REST`](crate::LINES_OF_A_REST).
 pub(crate) struct Hold<'a, A: Ledger, B: Ledger, C: Ledger> {
     pub(crate) kept: MutexGuard<'a, Kept<A, B, C>>,
     // How many lines the log had when the lock was taken.
@@ -36,6 +39,23 @@ impl<'a, A: Ledger, B: Ledger, C: Ledger> Hold<'a, A, B, C> {
         } = self;
         Hold::new(moved.wait(rt, kept), resting)
     }
+
+    /// Releases the lock until the next notification, for this time at most, and takes it again. No line was added
+    /// since the lock was taken.
+    pub(crate) fn wait_timeout<R: Wait + Clock>(
+        self,
+        rt: &R,
+        moved: &Condvar,
+        most: Duration,
+    ) -> Hold<'a, A, B, C> {
+        let Hold {
+            kept,
+            line_count: _,
+            resting,
+        } = self;
+        let (kept, _) = moved.wait_timeout(rt, kept, most);
+        Hold::new(kept, resting)
+    }
 }
 
 impl<A: Ledger, B: Ledger, C: Ledger> Drop for Hold<'_, A, B, C> {
@@ -45,10 +65,10 @@ impl<A: Ledger, B: Ledger, C: Ledger> Drop for Hold<'_, A, B, C> {
             line_count,
             resting,
         } = self;
-        let is_half_full = resting.publish(line_count, kept.line_count());
+        let is_to_wake = resting.publish(line_count, kept.line_count());
         // Nobody waits for the lock while the resting thread is woken.
         drop(kept);
-        if is_half_full {
+        if is_to_wake {
             resting.wake();
         }
     }

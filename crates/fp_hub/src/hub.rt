@@ -8,7 +8,7 @@ use crate::hints::HintChannel;
 use crate::hold::Hold;
 use crate::next::Next;
 use crate::resting::Resting;
-use crate::waiting::take_lock;
+use crate::waiting::{Patience, take_lock};
 use crate::{Hints, Kept, Looks, Seat};
 use fp_book::{Given, Line, Parcel, Picked, Posted, Taken, Ticked};
 use fp_digits::Moment;
@@ -16,16 +16,20 @@ use fp_entry::Prepared;
 use fp_row::{Done, Turn};
 use fp_tids::LocalIds;
 use std::alloc::{AllocError, Global};
+use std::rt::Clock;
 use std::sync::atomic::{AtomicBool, Ordering};
 use std::sync::ledger::{Blank, Ledger};
 use std::sync::{Condvar, Mutex, Wait};
 use std::thread;
 use std::time::Duration;
 
+/// How many seconds a thread that awaits room sleeps at most before it looks again.
+const SECONDS_FOR_ROOM: u64 = 1;
+
 /// The book of a link under its lock, which all threads of the link share.
 ///
-/// After [`Hub::new`] only [`Hub::post`], [`Hub::tick`], [`Hub::take`], [`Hub::hints`] and [`Hub::hint`] take memory,
-/// and [`Hub::await_parcel`] if it hints.
+/// After [`Hub::new`] only [`Hub::post`], [`Hub::post_unless_held_back`], [`Hub::tick`], [`Hub::take`], [`Hub::hints`]
+/// and [`Hub::hint`] take memory, and [`Hub::await_parcel`] if it hints.
 #[derive(Drop)]
 pub struct Hub<A: Ledger, B: Ledger, C: Ledger> {
     kept: Mutex<Kept<A, B, C>>,
@@ -35,6 +39,12 @@ pub struct Hub<A: Ledger, B: Ledger, C: Ledger> {
     is_moved: AtomicBool,
     // The sending thread sleeps here until then.
     moved: Condvar,
+    // A thread may sleep until there is room, or quiet. It is set and cleared under the lock, so that a thread that
+    // looked and found neither misses no call after its look.
+    awaits_room: AtomicBool,
+    // The threads that await room or quiet sleep here until a turn comes back, a parcel is handed out or reported, or
+    // the link goes down.
+    room_came: Condvar,
     hints: HintChannel,
     // A take found no place for a frame, and no worker was hinted for it since.
     lacks_room: AtomicBool,
@@ -47,8 +57,8 @@ fn take_mark(mark: &AtomicBool) -> bool {
 }
 
 impl<A: Ledger, B: Ledger, C: Ledger> Hub<A, B, C> {
-    /// The hub of a link, 0 to 7, which is up, and its first seat, which has all parts. `looks` says how often its threads
-    /// look again before they sleep. If memory runs out, the blanks are spent.
+    /// The hub of a link, 0 to 7, which is up, and its first seat, which has all parts. `looks` says how often its
+    /// threads look again before they sleep. If memory runs out, the blanks are spent.
     pub fn new(
         alloc: Global,
         link: u8,
@@ -66,6 +76,8 @@ impl<A: Ledger, B: Ledger, C: Ledger> Hub<A, B, C> {
             looks,
             is_moved: AtomicBool::new(false),
             moved: Condvar::new(),
+            awaits_room: AtomicBool::new(false),
+            room_came: Condvar::new(),
             hints,
             lacks_room: AtomicBool::new(false),
             resting: Resting::new(),
@@ -76,6 +88,15 @@ impl<A: Ledger, B: Ledger, C: Ledger> Hub<A, B, C> {
     /// Takes the lock of the link.
     fn hold<R: Wait>(&self, rt: &R) -> Hold<'_, A, B, C> {
         Hold::new(take_lock(rt, &self.kept, self.looks), &self.resting)
+    }
+
+    /// Releases the lock after a call by which there may be room, or quiet, and wakes the threads that await it.
+    fn release_and_wake(&self, hold: Hold<'_, A, B, C>) {
+        let is_awaited = take_mark(&self.awaits_room);
+        drop(hold);
+        if is_awaited {
+            self.room_came.notify_all();
+        }
     }
 
     /// Wakes the sending thread: there may be a parcel to pick, or the link went down.
@@ -107,6 +128,25 @@ impl<A: Ledger, B: Ledger, C: Ledger> Hub<A, B, C> {
         answer
     }
 
+    /// Posts a message, as [`Hub::post`], unless it is held back ([`Book::holds_back`](fp_book::Book::holds_back)):
+    /// then it comes back, and nothing changes; [`Hub::await_room`] waits until it may be posted.
+    pub fn post_unless_held_back<R: Wait>(
+        &self,
+        rt: &R,
+        alloc: Global,
+        seat: &mut Seat<A, B, C>,
+        came: Prepared,
+    ) -> Result<Posted, Prepared>
+        ensures grows { IfOk result (λ posted. seat.new ≡ after_post seat.old came posted) }
+        ensures back { IfErr result (λ back. (back ≡ came) × (seat.new ≡ seat.old)) }
+    {
+        let posted = self.hold(rt).kept.post_unless_held_back(alloc, seat, came);
+        if let Ok(Posted::Aborted(_)) = &posted {
+            self.notify();
+        }
+        posted
+    }
+
     /// Time goes by, as for [`Kept::tick`].
     pub fn tick<R: Wait>(&self, rt: &R, moment: Moment) -> Ticked {
         self.hold(rt).kept.tick(moment)
@@ -122,13 +162,15 @@ impl<A: Ledger, B: Ledger, C: Ledger> Hub<A, B, C> {
         taken
     }
 
-    /// Takes back a turn that was served, as [`Kept::give`]: the seat grows by one served entry. A stale or foreign turn
-    /// comes back, and nothing changes; the caller has to spend it, as by [`Done::abandon`]. Takes no memory.
+    /// Takes back a turn that was served, as [`Kept::give`]: the seat grows by one served entry. A stale or foreign
+    /// turn comes back, and nothing changes; the caller has to spend it, as by [`Done::abandon`]. Takes no memory.
     pub fn give<R: Wait>(&self, rt: &R, seat: &mut Seat<A, B, C>, done: Done) -> Result<Given, Done>
         ensures same { IfErr result (λ back. back ≡ done) }
         ensures grows { seat.new ≡ after_give seat.old result }
     {
-        let given = self.hold(rt).kept.give(seat, done);
+        let mut hold = self.hold(rt);
+        let given = hold.kept.give(seat, done);
+        self.release_and_wake(hold);
         if let Ok(Given::Queued) = &given {
             self.notify();
         }
@@ -140,12 +182,21 @@ impl<A: Ledger, B: Ledger, C: Ledger> Hub<A, B, C> {
     pub fn put_back<R: Wait>(&self, rt: &R, turn: Turn) -> Result<(), Turn>
         ensures { IfErr result (λ back. back ≡ turn) }
     {
-        self.hold(rt).kept.put_back(turn)
+        let mut hold = self.hold(rt);
+        let back = hold.kept.put_back(turn);
+        self.release_and_wake(hold);
+        back
     }
 
     /// Hands out what is sent next, as [`Kept::pick`]. Takes no memory.
     pub fn pick<R: Wait>(&self, rt: &R) -> Picked {
-        self.hold(rt).kept.pick()
+        let mut hold = self.hold(rt);
+        let picked = hold.kept.pick();
+        match &picked {
+            Picked::Parcel(_) => self.release_and_wake(hold),
+            Picked::Busy | Picked::Nothing => drop(hold),
+        }
+        picked
     }
 
     /// Takes back the parcel that was sent, as [`Kept::sent`]: the seat grows by one sent frame if it is that of a
@@ -160,7 +211,9 @@ impl<A: Ledger, B: Ledger, C: Ledger> Hub<A, B, C> {
         ensures same { IfErr result (λ back. back ≡ parcel) }
         ensures grows { seat.new ≡ after_sent seat.old parcel result }
     {
-        let sent = self.hold(rt).kept.sent(seat, parcel);
+        let mut hold = self.hold(rt);
+        let sent = hold.kept.sent(seat, parcel);
+        self.release_and_wake(hold);
         if sent.is_ok() {
             self.notify();
         }
@@ -172,7 +225,9 @@ impl<A: Ledger, B: Ledger, C: Ledger> Hub<A, B, C> {
     pub fn unsent<R: Wait>(&self, rt: &R, parcel: Parcel) -> Result<(), Parcel>
         ensures { IfErr result (λ back. back ≡ parcel) }
     {
-        let unsent = self.hold(rt).kept.unsent(parcel);
+        let mut hold = self.hold(rt);
+        let unsent = hold.kept.unsent(parcel);
+        self.release_and_wake(hold);
         if unsent.is_ok() {
             self.notify_down();
         }
@@ -181,7 +236,9 @@ impl<A: Ledger, B: Ledger, C: Ledger> Hub<A, B, C> {
 
     /// The link goes down, as by [`Kept::down`]. Takes no memory.
     pub fn down<R: Wait>(&self, rt: &R) {
-        self.hold(rt).kept.down();
+        let mut hold = self.hold(rt);
+        hold.kept.down();
+        self.release_and_wake(hold);
         self.notify_down();
     }
 
@@ -198,22 +255,68 @@ impl<A: Ledger, B: Ledger, C: Ledger> Hub<A, B, C> {
         self.hold(rt).kept.is_down()
     }
 
-    /// Rests for this time, or until half of the places for lines of the log are taken, or the link goes down. It may
-    /// return sooner. The line that takes the half wakes it: if a drain leaves more, no later line does. One thread at a
-    /// time may rest, the one that runs the clock and drains the log; if none rests, the next rest ends at once. Doesn't
-    /// take the lock of the link.
+    /// How many entries the dialogues that are held keep, as [`Kept::entry_count`]. Goes through all of them.
+    pub fn entry_count<R: Wait>(&self, rt: &R) -> u64 {
+        self.hold(rt).kept.entry_count()
+    }
+
+    /// Waits until this message isn't held back any more, or the link is down. It looks under the lock before each
+    /// sleep, and again each second. Each call that gives or puts back a turn, hands out or reports a parcel, or takes
+    /// the link down wakes it, so it misses none of them. A post, which may also make room, doesn't: only the thread
+    /// that posts awaits room. A caller that held a turn or a parcel meanwhile might wait for itself.
+    pub fn await_room<R: Wait + Clock>(&self, rt: &R, came: &Prepared) {
+        let most = Duration::from_secs(SECONDS_FOR_ROOM);
+        let mut hold = self.hold(rt);
+        for _ in rt.forever() {
+            if !hold.kept.holds_back(came) {
+                break;
+            }
+            self.awaits_room.store(true, Ordering::SeqCst);
+            hold = hold.wait_timeout(rt, &self.room_came, most);
+        }
+    }
+
+    /// Waits until the book is quiet or the link is down, and says so; at most for this time. It is woken as
+    /// [`Hub::await_room`] is.
+    pub fn await_quiet<R: Wait + Clock>(&self, rt: &R, most: Duration) -> bool {
+        let patience = Patience::new(rt, most);
+        let mut hold = self.hold(rt);
+        for _ in rt.forever() {
+            if hold.kept.is_quiet() || hold.kept.is_down() {
+                return true;
+            }
+            let Some(left) = patience.left(rt) else {
+                return false;
+            };
+            self.awaits_room.store(true, Ordering::SeqCst);
+            hold = hold.wait_timeout(rt, &self.room_came, left);
+        }
+        unreachable!()
+    }
+
+    /// Rests for this time, or until [`LINES_OF_A_REST`](crate::LINES_OF_A_REST) lines of the log wait, or the link
+    /// goes down. It may return sooner. The line that makes it as many wakes it: if a drain leaves as many, no later
+    /// line does. One thread at a time may rest, the one that runs the clock and drains the log; if none rests, the
+    /// next rest ends at once. Doesn't take the lock of the link.
     pub fn rest<R: Wait>(&self, rt: &R, time: Duration) {
         self.resting.rest(rt, time);
     }
 
     /// Whether five eighths of the places for lines of the log are taken, so that a thread that adds lines had better
-    /// drain some. Doesn't take the lock of the link: it is as the lock was last released.
+    /// drain some if that needs no wait. Doesn't take the lock of the link: it is as the lock was last released.
     pub fn is_log_filling(&self) -> bool {
         self.resting.is_log_filling()
     }
 
-    /// A worker's end of the hint channel. The ends of all workers are to be taken before the first hint: at most as many
-    /// hints wait as there are workers then.
+    /// Whether seven eighths of the places for lines of the log are taken, so that a thread that adds lines had better
+    /// drain some, even if it has to wait for that. Doesn't take the lock of the link: it is as the lock was last
+    /// released.
+    pub fn is_log_nearly_full(&self) -> bool {
+        self.resting.is_log_nearly_full()
+    }
+
+    /// A worker's end of the hint channel. The ends of all workers are to be taken before the first hint: at most as
+    /// many hints wait as there are workers then.
     pub fn hints(&self) -> Result<Hints, AllocError> {
         self.hints.listen()
     }
@@ -230,18 +333,20 @@ impl<A: Ledger, B: Ledger, C: Ledger> Hub<A, B, C> {
         self.hints.close(rt);
     }
 
-    /// Waits until there is something to be sent, and hands it out. `None`: the link is down. If a take found no place for
-    /// a frame, a worker is hinted first: what was sent before may have freed one.
+    /// Waits until there is something to be sent, and hands it out. `None`: the link is down. If a take found no place
+    /// for a frame, a worker is hinted first: what was sent before may have freed one.
     pub fn await_parcel<R: Wait>(&self, rt: &R) -> Option<Parcel> {
         if take_mark(&self.lacks_room) {
             self.hint(rt);
         }
         for _ in 0..self.looks.for_parcel() {
             if take_mark(&self.is_moved) {
-                // The lock is released before the answer is looked at.
-                let next = self.hold(rt).kept.next();
-                match next {
-                    Next::Parcel(parcel) => return Some(parcel),
+                let mut hold = self.hold(rt);
+                match hold.kept.next() {
+                    Next::Parcel(parcel) => {
+                        self.release_and_wake(hold);
+                        return Some(parcel);
+                    }
                     Next::Down => return None,
                     Next::Nothing => {}
                 }
@@ -256,7 +361,10 @@ impl<A: Ledger, B: Ledger, C: Ledger> Hub<A, B, C> {
         let mut hold = self.hold(rt);
         for _ in rt.forever() {
             match hold.kept.next() {
-                Next::Parcel(parcel) => return Some(parcel),
+                Next::Parcel(parcel) => {
+                    self.release_and_wake(hold);
+                    return Some(parcel);
+                }
                 Next::Down => return None,
                 Next::Nothing => {}
             }

@@ -1,9 +1,10 @@
 //! What the lock of a link keeps.
 
-ghost use Rattle.std.specs.Prelude.{◌≡◌, ◌↔◌, ◌<◌, ◌-◌, Some, IfErr, IfOk, IsOk, OnOk, length, vec_capacity, vec_len};
+ghost use Rattle.std.specs.Prelude.{◌≡◌, ◌↔◌, ◌<◌, ◌-◌, false, Some, IfErr, IfOk, IsOk, IsTrue, OnOk, length, vec_capacity, vec_len};
 ghost use Rattle.std.specs.FinMap.{get};
 ghost use Rattle.fp_book.specs.declared.line.LoggedStep.TheVariants as line;
 ghost use Rattle.fp_book.specs.Calls.{DrainsBook, GivesDone, GoesDown, Hands, IsOut, NoneReady, Posts, PutsTurnBack, Sends, Takes, Ticks, Unsends, posted_totals, turn_of};
+ghost use Rattle.fp_book.specs.Holding.{IsQuiet, entries_kept, holds_back};
 ghost use Rattle.fp_book.specs.Shelf.{Sound, empty_shelf};
 ghost use Rattle.fp_hub.specs.Next.{Finds};
 ghost use Rattle.fp_hub.specs.Shares.{AreBlanks, Whole, Within, after_give, after_post, after_sent, amounts, blank};
@@ -24,8 +25,9 @@ use std::sync::ledger::{Blank, Ledger};
 /// entries that it served and the frames that it sent. Its type keeps that the totals of these three are those of the
 /// book. Contracts see it as its book.
 ///
-/// Each call is the book's call of the same name, and says of the book what that says. Three of them are lent the seat
-/// of the calling thread: what the book counts in such a call, the seat's share counts too.
+/// A call with the name of one of the book's is that call, and says of the book what that says;
+/// [`Kept::post_unless_held_back`] is two of them. Those that are lent the seat of the calling thread compare it with the
+/// totals, and what the book counts in such a call, the seat's share counts too.
 #[derive(Drop)]
 pub struct Kept<A: Ledger, B: Ledger, C: Ledger> {
     book: Book,
@@ -108,6 +110,53 @@ impl<A: Ledger, B: Ledger, C: Ledger> Kept<A, B, C> {
         self.accepted
             .add(&mut seat.accepted, u64::from(receipt.components));
         receipt.posted
+    }
+
+    /// Posts a message, as [`Book::post`], unless it is held back ([`Book::holds_back`]): then it comes back, and
+    /// nothing changes.
+    pub fn post_unless_held_back(
+        &mut self,
+        alloc: Global,
+        seat: &mut Seat<A, B, C>,
+        came: Prepared,
+    ) -> Result<Posted, Prepared>
+        ensures ok { IfOk result (λ posted. Posts self.old came posted self.new) }
+        ensures totals { IfOk result (λ posted. self.new.totals ≡ posted_totals self.old.totals came posted) }
+        ensures grows { IfOk result (λ posted. seat.new ≡ after_post seat.old came posted) }
+        ensures err { IfErr result (λ back. (back ≡ came) × (self.new ≡ self.old) × (seat.new ≡ seat.old)) }
+        ensures known { IsOk result ↔ (holds_back self.old came ≡ false) }
+        ensures sound { Sound self.new }
+        ensures within { Within seat.old self.old.totals }
+    {
+        self.compare(seat);
+        if self.book.holds_back(&came) {
+            return Err(came);
+        }
+        Ok(self.post(alloc, seat, came))
+    }
+
+    /// Whether a message is held back, as [`Book::holds_back`].
+    pub fn holds_back(&self, came: &Prepared) -> bool
+        ensures value { result ≡ holds_back self.now came.now }
+        ensures sound { Sound self.now }
+    {
+        self.book.holds_back(came)
+    }
+
+    /// Whether nothing is left to be served or sent, as [`Book::is_quiet`].
+    pub fn is_quiet(&self) -> bool
+        ensures value { IsTrue result ↔ IsQuiet self.now }
+        ensures sound { Sound self.now }
+    {
+        self.book.is_quiet()
+    }
+
+    /// How many entries the dialogues that are held keep, as [`Book::entry_count`].
+    pub fn entry_count(&self) -> u64
+        ensures value { result ≡ entries_kept self.now }
+        ensures sound { Sound self.now }
+    {
+        self.book.entry_count()
     }
 
     /// Time goes by, as for [`Book::tick`].

@@ -1,41 +1,51 @@
 //! The book of a link under its lock, which all threads of the link share.
 //!
 //! The layer is handed what its threads bring (frames that were prepared, moments, turns that were served and word of
-//! what was sent) and asks the system only for memory, locks and sleep. It starts no thread and knows no socket and no
-//! clock: the layer above does.
+//! what was sent) and asks the system only for memory, locks and sleep, and, if a wait has a bound, how much time went
+//! by. It starts no thread and knows no socket and no time of day: the layer above does.
 //!
 //! * [`Hub`] is the book of one link under its lock. Each of its ten calls that change the book, [`Hub::post`],
 //!   [`tick`](Hub::tick), [`take`](Hub::take), [`give`](Hub::give), [`put_back`](Hub::put_back), [`pick`](Hub::pick),
 //!   [`sent`](Hub::sent), [`unsent`](Hub::unsent), [`down`](Hub::down) and [`drain`](Hub::drain), takes the lock once,
-//!   makes the one call of the book of that name, and releases it.
+//!   makes the one call of the book of that name, and releases it. [`Hub::post_unless_held_back`] asks the book whether
+//!   it holds the message back, and posts it in the same hold of the lock.
 //! * [`Kept`] is what the lock keeps: the book, and the books of three ledgers (of components accepted, entries served
 //!   and frames sent), whose totals its type keeps equal to the book's.
-//! * `Hold` (`src/hold.rt`) is the lock while it is held. Its release publishes whether the log is filling, and wakes the
-//!   clock if the lines of this hold made it half full.
-//! * [`Seat`] is what a thread has of the three ledgers. The first one has all 64 parts. It is split among the threads of
-//!   the link, each of which counts what it does in its own, and joined again when they have ended.
+//! * `Hold` (`src/hold.rt`) is the lock while it is held. Its release publishes whether the log is filling, or nearly
+//!   full, and wakes the clock if the lines of this hold made it [`LINES_OF_A_REST`].
+//! * [`Seat`] is what a thread has of the three ledgers. The first one has all 64 parts. It is split among the threads
+//!   of the link, each of which counts what it does in its own, and joined again when they have ended.
 //! * [`worker`] serves turns: it waits for a hint, and then takes, serves and gives until no turn is ready. Between
 //!   taking and serving it passes a [`Gate`], with no lock held.
 //! * [`finish`] returns what the link counted, if all parts came back.
 //!
 //! | Thread | Calls | Waits for |
 //! |---|---|---|
-//! | receiving | [`Hub::post`] and then [`Hub::hint`] for each frame | the socket |
+//! | receiving | [`Hub::post_unless_held_back`] and then [`Hub::hint`] for each frame | the socket; room, by [`Hub::await_room`]; at the end of the input quiet, by [`Hub::await_quiet`] |
 //! | worker | [`Hub::take`], [`Turn::serve`](fp_row::Turn::serve), [`Hub::give`] and then [`Hub::hint`] | a hint |
 //! | sending | [`Hub::await_parcel`], then [`Hub::sent`] or [`Hub::unsent`] | a parcel |
-//! | clock | [`Hub::rest`], then [`Hub::tick`] and [`Hub::hint`], [`Hub::drain`] | the time, half of the log, or the end of the link |
+//! | clock | [`Hub::rest`], then [`Hub::tick`] and [`Hub::hint`], [`Hub::drain`] | the time, [`LINES_OF_A_REST`] lines of the log, or the end of the link |
 //!
-//! Each of them waits for the lock too, which is held for one call of the book and never while a turn is served or a
-//! frame is sent. Each looks again a number of times before it sleeps ([`Looks`]), by the number of threads and of
-//! processors (`src/waiting.rt`).
+//! | Wait | Who wakes it |
+//! |---|---|
+//! | for a hint | [`Hub::hint`], also by [`Hub::await_parcel`] after a take found no place; [`Hub::close`] |
+//! | for a parcel | a post that queued an Abort of the provider, a give that queued a frame, sent, unsent, down |
+//! | for room, for quiet | each give, also of a turn that requests nothing or whose request is dropped, and put_back, a pick that hands out a parcel, sent, unsent, down |
+//! | of the clock | the time, [`LINES_OF_A_REST`] lines of the log, unsent, down |
+//!
+//! A thread that awaits room looks again each second, and one that awaits quiet has a bound that the caller gives.
+//!
+//! Each of them waits for the lock too, which is held for one or two calls of the book and never while a turn is served
+//! or a frame is sent. For the lock, a hint and a parcel each looks again a number of times before it sleeps
+//! ([`Looks`]), by the number of threads and of processors (`src/waiting.rt`).
 //!
 //! The layer above may rely on this. The book that a lock keeps is sound at each hold (`Sound` of `fp_book`), and each
 //! call of [`Kept`] makes of it what the book's call says. A seat grows by exactly what the book counts in the call to
-//! which the seat is lent: the message's components if it was accepted, one entry if the turn doesn't come back, one frame
-//! if a dialogue's parcel doesn't come back. The book's totals are never less than a seat's amounts. A split moves no
-//! amount, a join adds both. So what [`finish`] returns is the totals of the book, and the sums of what the threads
-//! counted. No contract says that a call of a [`Hub`] makes the book's call, since no clause names what another thread may
-//! have changed: the tests in `tests_hub` show it.
+//! which the seat is lent: the message's components if it was accepted, one entry if the turn doesn't come back, one
+//! frame if a dialogue's parcel doesn't come back. The book's totals are never less than a seat's amounts. A split
+//! moves no amount, a join adds both. So what [`finish`] returns is the totals of the book, and the sums of what the
+//! threads counted. No contract says that a call of a [`Hub`] makes the book's call, since no clause names what another
+//! thread may have changed: the tests in `tests_hub` show it.
 #![tactic(auto)]
 
 mod finishing;
@@ -55,6 +65,7 @@ pub use gate::{Gate, OpenGate};
 pub use hints::Hints;
 pub use hub::Hub;
 pub use kept::Kept;
+pub use resting::LINES_OF_A_REST;
 pub use seat::{PARTS, Seat};
 pub use waiting::Looks;
 pub use workers::worker;

@@ -8,18 +8,30 @@ use std::sync::atomic::{AtomicBool, Ordering};
 use std::thread::Parker;
 use std::time::Duration;
 
-/// The number of lines at which the resting thread is woken: half as many as the log has places.
-const LINES_OF_A_REST: usize = Log::MOST / 2;
+/// The number of lines of the log at which the resting thread is woken, so that few wait and it hands on few at a time.
+pub const LINES_OF_A_REST: usize = 512;
 
-/// The number of lines from which the log is filling: five eighths as many as it has places.
+/// The number of lines from which the log is filling: five eighths of its places.
 const LINES_OF_A_FILLING_LOG: usize = Log::MOST / 8 * 5;
 
-/// Where the thread rests that runs the clock of a link and drains its log, and whether that log is filling.
+/// The number of lines from which the log is nearly full: seven eighths of its places.
+const LINES_OF_A_NEARLY_FULL_LOG: usize = Log::MOST / 8 * 7;
+
+/// Where the thread rests that runs the clock of a link and drains its log, and how full that log is.
 #[derive(Drop)]
 pub(crate) struct Resting {
-    // As it was when the lock of the link was last released.
+    // Both are as they were when the lock of the link was last released.
     is_log_filling: AtomicBool,
+    is_log_nearly_full: AtomicBool,
     parker: Parker,
+}
+
+/// Sets the mark that the log has at least `lines` lines, if the number of its lines went past that.
+fn publish_mark(mark: &AtomicBool, lines: usize, before: usize, now: usize) {
+    let is_reached = now >= lines;
+    if is_reached != (before >= lines) {
+        mark.store(is_reached, Ordering::SeqCst);
+    }
 }
 
 impl Resting {
@@ -27,26 +39,35 @@ impl Resting {
     pub(crate) fn new() -> Resting {
         Resting {
             is_log_filling: AtomicBool::new(false),
+            is_log_nearly_full: AtomicBool::new(false),
             parker: Parker::new(),
         }
     }
 
-    /// Publishes whether the log is filling, before the lock of the link is released: it had so many lines when the
-    /// lock was taken, and has so many now. `true`: half of the places are taken now, and weren't before, so the resting
-    /// thread is to be woken.
+    /// Publishes how full the log is, before the lock of the link is released: it had `before` lines when the lock was
+    /// taken, and has `now`. `true`: it has [`LINES_OF_A_REST`] now, and hadn't before, so the resting thread is to be
+    /// woken. A mark is written only if it changes.
     pub(crate) fn publish(&self, before: usize, now: usize) -> bool
-        ensures { IsTrue result ↔ ((before < 4096) × (4096 ≤ now)) }
+        ensures { IsTrue result ↔ ((before < 512) × (512 ≤ now)) }
     {
-        let is_log_filling = now >= LINES_OF_A_FILLING_LOG;
-        if is_log_filling != (before >= LINES_OF_A_FILLING_LOG) {
-            self.is_log_filling.store(is_log_filling, Ordering::SeqCst);
-        }
+        publish_mark(&self.is_log_filling, LINES_OF_A_FILLING_LOG, before, now);
+        publish_mark(
+            &self.is_log_nearly_full,
+            LINES_OF_A_NEARLY_FULL_LOG,
+            before,
+            now,
+        );
         before < LINES_OF_A_REST && now >= LINES_OF_A_REST
     }
 
     /// Whether five eighths of the places are taken.
     pub(crate) fn is_log_filling(&self) -> bool {
         self.is_log_filling.load(Ordering::SeqCst)
+    }
+
+    /// Whether seven eighths of the places are taken.
+    pub(crate) fn is_log_nearly_full(&self) -> bool {
+        self.is_log_nearly_full.load(Ordering::SeqCst)
     }
 
     /// Wakes the thread that rests, or the next one that does.

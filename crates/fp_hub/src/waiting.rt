@@ -1,14 +1,16 @@
 //! How a thread waits: it looks again a bounded number of times, and lets others run each time, before it sleeps, since
-//! to sleep and to be woken costs more than a call of the book. If there are more threads than processors, each look costs
-//! another thread its time, and the thread that looks loses its processor for a while; one that sleeps gets it back when
-//! it is woken. So such threads have bounds of their own, with no looks for hints and parcels. What each look brings is in
-//! `docs/performance.md`.
+//! to sleep and to be woken costs more than a call of the book. If there are more threads than processors, each look
+//! costs another thread its time, and the thread that looks loses its processor for a while; one that sleeps gets it
+//! back when it is woken. So such threads have bounds of their own, with no looks for hints and parcels. What each look
+//! brings is in `docs/performance.md`.
 
 ghost use Rattle.std.specs.Prelude.{◌≡◌, nat_le, if◌then◌else◌};
 
 use crossbeam_channel::{Receiver, TryRecvError};
+use std::rt::Clock;
 use std::sync::{Mutex, MutexGuard, Wait};
 use std::thread;
+use std::time::{Duration, Instant};
 
 /// How often a worker looks for a hint before it sleeps, if it has a processor of its own.
 const LOOKS_FOR_A_HINT: u32 = 100;
@@ -22,8 +24,8 @@ const LOOKS_FOR_A_PARCEL: u32 = 100;
 /// How often it does so if there are more threads than processors: not at all.
 const FEW_LOOKS_FOR_A_PARCEL: u32 = 0;
 
-/// How often a lock is tried before it is waited for, if each thread has a processor of its own: once a thread sleeps on
-/// it, each release wakes one.
+/// How often a lock is tried before it is waited for, if each thread has a processor of its own: once a thread sleeps
+/// on it, each release wakes one.
 const TRIES_OF_A_LOCK: u32 = 20;
 
 /// How often it is tried if there are more threads than processors.
@@ -70,6 +72,30 @@ impl Looks {
     /// How often the sending thread looks for a parcel.
     pub(crate) fn for_parcel(&self) -> u32 {
         self.parcel
+    }
+}
+
+/// How long a thread waits at most, in one sleep or several.
+#[derive(Clone, Copy)]
+pub(crate) struct Patience {
+    // `None`: the clock gives no time.
+    start: Option<Instant>,
+    most: Duration,
+}
+
+impl Patience {
+    /// This time from now on.
+    pub(crate) fn new<R: Clock>(rt: &R, most: Duration) -> Patience {
+        Patience {
+            start: Instant::now(rt).ok(),
+            most,
+        }
+    }
+
+    /// What is left of it. `None`: it is up, or the clock gives no time.
+    pub(crate) fn left<R: Clock>(&self, rt: &R) -> Option<Duration> {
+        let left = self.most.checked_sub(self.start?.elapsed(rt).ok()?)?;
+        if left.is_zero() { None } else { Some(left) }
     }
 }
 

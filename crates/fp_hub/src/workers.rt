@@ -9,8 +9,8 @@ use std::alloc::Global;
 use std::sync::Wait;
 use std::sync::ledger::Ledger;
 
-/// Serves a turn and gives it back, and hints that its dialogue may be ready again. `false`: memory ran out, and the turn
-/// went back unserved.
+/// Serves a turn and gives it back, and hints that its dialogue may be ready again. `false`: memory ran out, and the
+/// turn went back unserved.
 fn serve<R: Wait, G: Gate, A: Ledger, B: Ledger, C: Ledger>(
     rt: &R,
     alloc: Global,
@@ -63,8 +63,8 @@ fn serve_ready<R: Wait, G: Gate, A: Ledger, B: Ledger, C: Ledger>(
     }
 }
 
-/// Serves turns of a link: at each hint takes and serves turns until none is ready, or places or memory run out. Returns
-/// its seat once the hub is closed and no hint waits.
+/// Serves turns of a link: at each hint takes and serves turns until none is ready, or places or memory run out.
+/// Returns its seat once the hub is closed and no hint waits.
 pub fn worker<R: Wait, G: Gate, A: Ledger, B: Ledger, C: Ledger>(
     rt: &R,
     alloc: Global,

@@ -10,12 +10,12 @@ use Rattle.fp_streams.specs.Reads.{IsEnd, IsPiece, joined}
 use Rattle.fp_linkio.specs.declared.ended.Ended.{Ended}
 use Rattle.fp_linkio.specs.declared.ended.Ended.TheVariants.{EndOfInput, BadFrame, ReadFault, WriteFault, TurnLimit, Memory}
 
--- why it went no further: after so many reads of which each gave octets, the last one besides, and with this rest behind
+-- why it went no further: after so many reads of which each gave octets, the last one too, and with this rest after
 -- the frames that were handed on
 abbrev pub ReceiveEnds : Ended → ℕ → ℕ → Option (List ℕ) → List (List ℕ) → List ℕ → Type 0
 -- the input is at its end, and nothing is left of it
 ReceiveEnds EndOfInput turns count left last rest = IsEnd turns count left last × (rest ≡ [])
--- a length stands next that no frame has; or the input is at its end, inside a frame
+-- a length comes next that no frame has; or the input is at its end, inside a frame
 ReceiveEnds BadFrame turns count left last rest =
     (IsBad rest × (last ≡ []) × (count ≤ turns)) ⊎ (IsEnd turns count left last × IsIncomplete rest × (0 < length rest))
 -- no whole frame is left, and one more read was made, which failed
@@ -40,7 +40,7 @@ pub record Receives (turns : ℕ) (had left : Option (List ℕ)) (before after o
   pub frames : Frames (joined pieces) messages rest
   pub end : ReceiveEnds ended turns (length pieces) left last rest
 
--- the failures of the reader: it failed where that is told, and not elsewhere
+-- the failures of the reader: it failed if that is reported, and not otherwise
 abbrev pub ReaderFailed : Ended → ℕ → ℕ → Type 0
 ReaderFailed EndOfInput old new = new ≡ old
 ReaderFailed BadFrame old new = new ≡ old
@@ -49,7 +49,7 @@ ReaderFailed WriteFault old new = ⊥
 ReaderFailed TurnLimit old new = new ≡ old
 ReaderFailed Memory old new = new ≡ old
 
--- why no more frames were handed on: none is whole; or a length stands next that no frame has; or memory was wanting
+-- why no more frames were handed on: none is whole; or a length comes next that no frame has; or memory ran out
 abbrev pub HandingEnds : {A : Type 0} → Result A FrameFault → List ℕ → Type 0
 HandingEnds (Ok done) rest = IsIncomplete rest
 HandingEnds (Err faults.BadFrameLength) rest = IsBad rest

@@ -32,7 +32,7 @@ pub record EndsUnsent (old new : Option (List ℕ)) (before after : Option (List
   pub wrote : Appends old new (octets_of_all parcels ++ front)
   pub calls : Grows before after (each_sent parcels ++ picks (Some parcel) ∷ reports_unsent parcel ∷ [])
 
--- why it went no further, behind the parcels that were sent, so many at most
+-- why it went no further, after the parcels that were sent, so many at most
 abbrev pub SendEnds : Ended → ℕ → Option (List ℕ) → Option (List ℕ) → Option (List OutletCall) → Option (List OutletCall) → List Parcel → Type 0
 -- the outlet has no more
 SendEnds EndOfInput turns old new before after parcels = Writes old new before after parcels (no_more ∷ []) × (length parcels < turns)
@@ -48,7 +48,7 @@ SendEnds Memory turns old new before after parcels = ⊥
 abbrev pub Sends : ℕ → Option (List ℕ) → Option (List ℕ) → Option (List OutletCall) → Option (List OutletCall) → Ended → Type 0
 Sends turns old new before after ended = (parcels : List Parcel) × SendEnds ended turns old new before after parcels
 
--- the failures of the writer: it failed where that is told, and not elsewhere
+-- the failures of the writer: it failed if that is reported, and not otherwise
 abbrev pub WriterFailed : Ended → ℕ → ℕ → Type 0
 WriterFailed EndOfInput old new = new ≡ old
 WriterFailed BadFrame old new = ⊥

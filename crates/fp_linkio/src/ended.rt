@@ -11,8 +11,8 @@ pub enum Ended {
     ReadFault,
     /// The writer failed in this call.
     WriteFault,
-    /// As many reads were made, or parcels sent, as may be.
+    /// The limit on reads, or on parcels, was reached.
     TurnLimit,
-    /// Memory was wanting.
+    /// An allocation failed.
     Memory,
 }

@@ -1,13 +1,13 @@
-//! Who takes the frames of a link.
+//! What takes the frames of a link.
 
 ghost use Rattle.std.specs.Prelude.{ℕ, List, [], ◌∷◌, Option, None};
 ghost use Rattle.fp_streams.specs.Grows.{Grows};
 
 use fp_frames::Frame;
 
-/// Who takes the frames of a link, in their order.
+/// What takes the frames of a link, in their order.
 pub trait Inbox {
-    // The messages that were handed on, in their order, where they are told.
+    // The messages that were handed on, in their order, if it reports them.
     ghost messages: { Self → Option (List (List ℕ)) } = { λ _. None };
 
     /// Takes the next frame.

@@ -1,4 +1,4 @@
-//! The two loops of a link: frames from a reader to whoever takes them, parcels from whoever has them to a writer.
+//! The two loops of a link: from a reader to frames, and from parcels to a writer.
 //!
 //! The layer is handed the devices, a bound on the number of reads or parcels, and an [`Inbox`] or an [`Outlet`]. It
 //! asks the system for nothing but memory.
@@ -8,13 +8,13 @@
 //! * [`Ended`] says why a loop went no further.
 //! * [`LinkRead`] and [`LinkWrite`] are the devices, whose failures are counted.
 //!
-//! The layer above may rely on this, where a device, an inbox or an outlet tells what went through it: each read gave an
-//! octet, but the last one at the end of the input; the frames that were handed on are those at the front of what was
-//! read, in their order, all of them but after want of memory (`specs/Receiving.antt`); and what was written are the
-//! octets of the parcels, each whole and then reported sent, but of the last, where the device failed, only a front, and
-//! it was reported unsent (`specs/Sending.antt`). A failure of a device is told exactly where it failed in that call.
-//! That a frame is handed on before the next read is made, and that a parcel takes one write where the device takes it,
-//! no contract says: worked cases show it.
+//! The layer above may rely on this, if a device, an inbox or an outlet reports what went through it: each read gave
+//! an octet, but the last one at the end of the input; the frames that were handed on are those at the front of what
+//! was read, in their order, all of them unless memory ran out (`specs/Receiving.antt`); and what was written are the
+//! octets of the parcels, each whole and then reported sent, but of the last, where the device failed, only a front,
+//! and it was reported unsent (`specs/Sending.antt`). A failure of a device is reported exactly if it failed in that
+//! call. That a frame is handed on before the next read is made, and that a parcel takes one write where the device
+//! takes it, no contract says: worked cases show it.
 #![tactic(auto)]
 
 mod ended;

@@ -1,4 +1,4 @@
-//! Who has the parcels of a link.
+//! What has the parcels of a link.
 
 ghost use Rattle.std.specs.Prelude.{◌≡◌, List, [], ◌∷◌, Option, None, IfErr};
 ghost use Rattle.fp_streams.specs.Grows.{Grows};
@@ -6,9 +6,9 @@ ghost use Rattle.fp_linkio.specs.Calls.{OutletCall, picks, reports_sent, reports
 
 use fp_book::Parcel;
 
-/// Who has the parcels of a link, and is told what became of each.
+/// What has the parcels of a link, and learns what became of each.
 pub trait Outlet {
-    // The calls that were made of it, in their order, where they are told.
+    // The calls that were made of it, in their order, if it reports them.
     ghost calls: { Self → Option (List OutletCall) } = { λ _. None };
 
     /// The parcel that is sent next, or `None` where there is no more.

@@ -12,11 +12,10 @@ const MOST_READ: usize = 65_536;
 /// Reads a link, in reads of up to 65,536 octets, and hands each frame to the inbox, in their order: all that a read
 /// completed before the next read is made (shown by cases). It makes at most `turns` reads.
 ///
-/// It ends with [`Ended::EndOfInput`] where the input ends between two frames; with [`Ended::BadFrame`] where it ends
-/// inside one, or a length comes that no frame has; with [`Ended::ReadFault`] where the reader failed; with
-/// [`Ended::TurnLimit`] where the last read that may be made gave octets; and with [`Ended::Memory`] where memory was
-/// wanting for the octets of a read or for a frame. All frames of what was read were handed on, but after want of
-/// memory, where some may be left.
+/// It ends with [`Ended::EndOfInput`] if the input ends between two frames; with [`Ended::BadFrame`] if it ends inside
+/// one, or a length comes that no frame has; with [`Ended::ReadFault`] if the reader failed; with [`Ended::TurnLimit`]
+/// if the last read that may be made gave octets; and with [`Ended::Memory`] if memory ran out for the octets of a read
+/// or for a frame. All frames of what was read were handed on; only after [`Ended::Memory`] some may be missing.
 pub fn receive<R: LinkRead, I: Inbox>(
     alloc: Global,
     reader: &mut R,

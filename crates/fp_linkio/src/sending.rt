@@ -11,11 +11,11 @@ use crate::{Ended, LinkWrite, Outlet};
 use fp_book::Parcel;
 use fp_streams::{WriteFault, write_all};
 
-/// Writes each parcel of an outlet, its head included, in one write where the device takes it (shown by cases), and then
-/// reports it sent. It sends at most `turns` parcels. It doesn't flush: hand it a writer that keeps nothing back.
+/// Writes each parcel of an outlet, its head included, in one write where the device takes it (shown by cases), and
+/// then reports it sent. It sends at most `turns` parcels. It doesn't flush: hand it a writer that keeps nothing back.
 ///
-/// It ends with [`Ended::EndOfInput`] where the outlet has no more; with [`Ended::WriteFault`] where the writer failed:
-/// a front of that parcel was written and not the whole, and it is reported unsent; and with [`Ended::TurnLimit`] behind
+/// It ends with [`Ended::EndOfInput`] if the outlet has no more; with [`Ended::WriteFault`] if the writer failed: a
+/// prefix of that parcel was written and not the whole, and it is reported unsent; and with [`Ended::TurnLimit`] after
 /// the last parcel that may be sent. A parcel that comes back from its report is abandoned.
 pub fn send_loop<W: LinkWrite, O: Outlet>(writer: &mut W, turns: u64, outlet: &mut O) -> Ended
     ensures sends { Sends turns (W.contents writer.old) (W.contents writer.new)
@@ -27,9 +27,9 @@ pub fn send_loop<W: LinkWrite, O: Outlet>(writer: &mut W, turns: u64, outlet: &m
             return Ended::EndOfInput;
         };
         match write_parcel(writer, &parcel) {
-            Ok(()) => abandon_strange(outlet.sent(parcel)),
+            Ok(()) => abandon_foreign(outlet.sent(parcel)),
             Err(WriteFault) => {
-                abandon_strange(outlet.unsent(parcel));
+                abandon_foreign(outlet.unsent(parcel));
                 return Ended::WriteFault;
             }
         }
@@ -37,8 +37,8 @@ pub fn send_loop<W: LinkWrite, O: Outlet>(writer: &mut W, turns: u64, outlet: &m
     Ended::TurnLimit
 }
 
-/// Writes the octets of a parcel and nothing else. After a fault, in which the writer failed, a front of them was written
-/// and not the whole.
+/// Writes the octets of a parcel and nothing else. After a fault, in which the writer failed, a prefix of them was
+/// written and not the whole.
 fn write_parcel<W: LinkWrite>(writer: &mut W, parcel: &Parcel) -> Result<(), WriteFault>
     ensures written { OnOk result (Appends (W.contents writer.old) (W.contents writer.new) (octets_in parcel.now)) }
     ensures part { OnErr result (AppendsPart (W.contents writer.old) (W.contents writer.new) (octets_in parcel.now)) }
@@ -48,8 +48,8 @@ fn write_parcel<W: LinkWrite>(writer: &mut W, parcel: &Parcel) -> Result<(), Wri
 }
 
 /// Abandons a parcel that came back from its report.
-fn abandon_strange(reported: Result<(), Parcel>) {
-    if let Err(strange) = reported {
-        strange.abandon();
+fn abandon_foreign(reported: Result<(), Parcel>) {
+    if let Err(foreign) = reported {
+        foreign.abandon();
     }
 }

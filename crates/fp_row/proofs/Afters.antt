@@ -1,13 +1,12 @@
 -- Which identifier comes next, and what stays where a row is put back.
-use Rattle.std.proofs.Common.{◌≡◌, ℕ, ◌+◌, ◌<◌, ◌≤◌, Bool, true, false, cond, eqb, is_some, IsTrue, Box, List, length, slice_index, slice_index_or, Option, Some, None, refl, sym, ap, subst, ◌∙◌, arith}
+use Rattle.std.proofs.Common.{◌≡◌, ℕ, ◌+◌, ◌<◌, ◌≤◌, Bool, true, false, cond, eqb, is_some, IsTrue, List, length, slice_index, slice_index_or, Option, Some, None, refl, sym, ap, subst, ◌∙◌, arith}
 use Rattle.std.proofs.lemmas.Bool.{eqb-true}
 use Rattle.std.specs.Ordering.{nat_cmp}
-use Rattle.std.specs.Cmp.{nat_cmp_total}
 use Rattle.std.specs.FinMap as map
 use Rattle.fp_row.specs.declared.row.Row.{Row}
-use Rattle.fp_row.specs.Keys.{keys_of, IsInOrder, IsAt, IsGapFor, IsAbove, IsFirstAbove}
-use Rattle.fp_row.specs.Rows.{IsAfter, AfterIsOne, PuttingBackChangesNothing}
-use Rattle.fp_row.proofs.Maps.{eq_by_cmp-eqb, found, get-map_of-at, map_of}
+use Rattle.fp_row.specs.Keys.{keys_of, IsInOrder, IsAt, IsGapFor, IsAbove, IsFirstAbove, IsNext}
+use Rattle.fp_row.specs.Rows.{AfterIsOne, PuttingBackChangesNothing}
+use Rattle.fp_row.proofs.Maps.{found, get-map_of-at, inserted, map_of, same}
 use Rattle.fp_row.proofs.Order.{key_at, length-keys_of}
 
 -- behind the place of a key, and from the place of its gap on, the keys are above it
@@ -29,7 +28,7 @@ first_above_gap ks k place gap = record {
 pub first_above_none : (ks : List ℕ) → IsFirstAbove ks None 0
 first_above_none ks = record { in_range = omega arith; none_before = λ i lt above. absurd (omega (arith, lt)); above_after = λ i le lt. tt }
 
-module _ {A : Type 0} (l : List (ℕ × Box Row A)) (sorted : IsInOrder (keys_of l)) (local : Option ℕ) (place : ℕ) (first : IsFirstAbove (keys_of l) local place) where
+module _ {X : Type 0} (l : List (ℕ × X)) (sorted : IsInOrder (keys_of l)) (local : Option ℕ) (place : ℕ) (first : IsFirstAbove (keys_of l) local place) where
   -- a key that has a row and is above stands at the place or behind it
   from_place : (other : ℕ) → IsTrue (map.contains_key (map_of l) other) → IsAbove local other → (at : ℕ) × IsAt (keys_of l) other at × (place ≤ at)
   from_place other has above =
@@ -38,16 +37,16 @@ module _ {A : Type 0} (l : List (ℕ × Box Row A)) (sorted : IsInOrder (keys_of
       (f.0, f.1, omega (arith, behind))
 
   -- no place is left: no key is above
-  pub after_none : length l ≤ place → IsAfter (map_of l) local None
+  pub after_none : length l ≤ place → IsNext (map.contains_key (map_of l)) local None
   after_none le other has above =
       let f = from_place other has above in
       absurd (omega (arith, f.1.in_range, f.2, le, length-keys_of l))
 
   -- the key at the place is the least above
-  pub after_some : (entry : ℕ × Box Row A) → place < length l → entry ≡ slice_index_or l place entry → IsAfter (map_of l) local (Some entry.0)
+  pub after_some : (entry : ℕ × X) → place < length l → entry ≡ slice_index_or l place entry → IsNext (map.contains_key (map_of l)) local (Some entry.0)
   after_some entry lt is =
       let in_keys : place < length (keys_of l) = omega (arith, lt, length-keys_of l) in
-      let is_key : slice_index (keys_of l) place ≡ entry.0 = sym (key_at l place entry in_keys) ∙ ap (λ (e : ℕ × Box Row A). e.0) (sym is) in (
+      let is_key : slice_index (keys_of l) place ≡ entry.0 = sym (key_at l place entry in_keys) ∙ ap (λ (e : ℕ × X). e.0) (sym is) in (
         ap is_some (get-map_of-at l sorted entry.0 place (record { in_range = in_keys; has_key = is_key }) entry is),
         subst (IsAbove local) is_key (first.above_after place (omega arith) in_keys),
         λ other has above.
@@ -65,10 +64,7 @@ after_is_one rows local (Some x) (Some y) a b = ap (λ n. Some n) (let same : x 
 -- what was there is what is there again
 same_again : (rows : map.FinMap nat_cmp Row) (local : ℕ) (row : Row) → map.get rows local ≡ Some row → (q : ℕ) (b : Bool) → eqb q local ≡ b → cond b (Some row) (map.get rows q) ≡ map.get rows q
 same_again rows local row is q true same = sym (ap (map.get rows) (eqb-true q local same) ∙ is)
-same_again rows local row is q false same = refl
+same_again rows local row is q false other = refl
 
 pub putting_back_changes_nothing : PuttingBackChangesNothing
-putting_back_changes_nothing rows local row is = map.same_map nat_cmp_total map.nat_cmp-IsAntisymmetric _ _ (λ q.
-    map.get-insert nat_cmp_total rows local row q
-    ∙ ap (λ b. cond b (Some row) (map.get rows q)) (eq_by_cmp-eqb q local)
-    ∙ same_again rows local row is q (eqb q local) refl)
+putting_back_changes_nothing rows local row is = same _ _ (λ q. inserted rows local row q ∙ same_again rows local row is q (eqb q local) refl)

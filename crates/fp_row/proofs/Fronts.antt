@@ -1,4 +1,4 @@
--- Fronts of lists, and what stays of them where a list grows at its end.
+-- Fronts of lists, and what stays of them if a list grows at its end.
 use Rattle.std.proofs.Common.{◌≡◌, ℕ, zero, suc, ◌+◌, ◌≤◌, ◌<◌, Bool, true, false, cond, Some, List, [], ◌∷◌, ◌++◌, length, take, drop, refl, sym, ◌∙◌, ap, arith, append-nil, length-append}
 use Rattle.std.proofs.lemmas.List.{take_more, take-take, take-append-le, take-append-drop, take_all, length-take-le}
 use Rattle.std.proofs.lemmas.Option.{slice_get_within, get_or_from_slice_get}
@@ -18,14 +18,14 @@ taken n old new more grown within = ap (take n) grown ∙ take-append-le n old m
 pub shorter_front : {A : Type 0} (xs : List A) (m n : ℕ) → m ≤ n → IsPrefix (take m xs) (take n xs)
 shorter_front xs m n le = (drop m (take n xs), ap (λ front. front ++ drop m (take n xs)) (sym (take-take m n xs le)) ∙ take-append-drop m (take n xs))
 
--- what stands behind a front is the next element
+-- what comes after a front is the next element
 pub one_more : {A : Type 0} (xs : List A) (m n : ℕ) (x : A) (rest : List A) → m < n → m ≤ length xs → take m xs ++ x ∷ rest ≡ take n xs → take (m + 1) xs ≡ take m xs ++ x ∷ []
 one_more xs m n x rest less within is =
     sym (take-take (m + 1) n xs (omega arith)) ∙ ap (take (m + 1)) (sym is)
     ∙ ap (λ k. take (k + 1) (take m xs ++ x ∷ rest)) (sym (length-take-le m xs within))
     ∙ take-append-add (take m xs) (x ∷ rest) 1
 
--- what is added behind the part that counts: nothing, or all where the whole list counts
+-- what is added after the part that counts: nothing, or all if the whole list counts
 pub more_counted : {A : Type 0} (drops : Bool) (xs more : List A) (n : ℕ) → n ≤ length xs → (drops ≡ false → n ≡ length xs) → take (n + length (cond drops [] more)) (xs ++ more) ≡ take n xs ++ cond drops [] more
 more_counted true xs more n within whole = ap (λ k. take k (xs ++ more)) (let e : n + 0 ≡ n = omega arith in e) ∙ take-append-le n xs more within ∙ sym (append-nil (take n xs))
 more_counted false xs more n within whole =

@@ -1,5 +1,5 @@
--- What stays of a row where its entries grow, and which turn is out.
-use Rattle.std.proofs.Common.{◌≡◌, ◌≢◌, ℕ, ◌≤◌, ◌<◌, Bool, true, false, not, ◌&&◌, cond, nat_lt, nat_le, nat_eq, Option, Some, None, List, ◌++◌, length, take, map, refl, sym, ◌∙◌, ap, arith, length-append}
+-- What stays of a row if its entries grow, and which turn is out.
+use Rattle.std.proofs.Common.{◌≡◌, ◌≢◌, ℕ, ◌≤◌, ◌<◌, Bool, true, false, not, ◌&&◌, cond, nat_lt, nat_eq, Option, Some, None, List, ◌++◌, length, take, map, refl, sym, ◌∙◌, ap, arith, length-append}
 use Rattle.std.proofs.lemmas.Bool.Decides.{nat_tests}
 use Rattle.std.proofs.lemmas.List.{length-map}
 use Rattle.std.specs.Prelude.{option_map, slice_get}
@@ -9,7 +9,7 @@ use Rattle.fp_reply.specs.Reply.{frame_of}
 use Rattle.fp_row.proofs.Fronts.{slice_get_append, slice_get_some, taken}
 use Rattle.fp_row.specs.declared.row.Row.{Row}
 use Rattle.fp_row.specs.declared.turn.Turn.{Turn}
-use Rattle.fp_row.specs.Row.{frames_of, requests_of, start_of, turn_of, turn_out}
+use Rattle.fp_row.specs.Row.{frames_of, has_turn_out, requests_of, start_of, turn_of, turn_out}
 use Rattle.fp_service.specs.declared.request.Request.{Request}
 use Rattle.fp_service.specs.Fold.{requests}
 
@@ -36,41 +36,49 @@ sent_within row = omega (arith, queued_within row, row.kept_within, row.sent_wit
 pub frames_stay : (row : Row) (accepted more : List Entry) → accepted ≡ row.accepted ++ more → frames_from row (take row.served accepted) ≡ frames_of row
 frames_stay row accepted more grown = ap (frames_from row) (taken row.served row.accepted accepted more grown row.served_within)
 
--- where a turn is out, an entry is left
-pub next_within : (is_out : Bool) (n m : ℕ) → (is_out && nat_le m n) ≡ false → is_out ≡ true → n < m
-next_within is_out n m left out = grind (arith, nat_tests)
+-- if a turn is out, one entry is
+one_by : (k : ℕ) → k ≤ 1 → nat_lt 0 k ≡ true → k ≡ 1
+one_by k most out = grind (arith, nat_tests)
+
+one_out : (row : Row) → has_turn_out row ≡ true → row.out ≡ 1
+one_out row = one_by row.out row.out_most
+
+-- and it is left to be served
+next_within : (row : Row) → has_turn_out row ≡ true → row.served < length row.accepted
+next_within row out = omega (arith, row.out_within, one_out row out)
 
 -- more entries don't change the turn that is out
-turn_by : {A B : Type 0} (is_out : Bool) (f : A → B) (xs more : List A) (n : ℕ) → (is_out && nat_le (length xs) n) ≡ false
+turn_by : {A B : Type 0} (is_out : Bool) (f : A → B) (xs more : List A) (n : ℕ) → (is_out ≡ true → n < length xs)
     → cond is_out (option_map f (slice_get (xs ++ more) n)) None ≡ cond is_out (option_map f (slice_get xs n)) None
-turn_by true f xs more n left = ap (option_map f) (slice_get_append xs more n (next_within true n (length xs) left refl))
-turn_by false f xs more n left = refl
+turn_by true f xs more n within = ap (option_map f) (slice_get_append xs more n (within refl))
+turn_by false f xs more n within = refl
 
 pub turn_stays : (row : Row) (accepted more : List Entry) → accepted ≡ row.accepted ++ more
-    → cond row.is_out (option_map (turn_of row) (slice_get accepted row.served)) None ≡ turn_out row
+    → cond (has_turn_out row) (option_map (turn_of row) (slice_get accepted row.served)) None ≡ turn_out row
 turn_stays row accepted more grown =
-    ap (λ xs. cond row.is_out (option_map (turn_of row) (slice_get xs row.served)) None) grown
-    ∙ turn_by row.is_out (turn_of row) row.accepted more row.served row.out_is_next
+    ap (λ xs. cond (has_turn_out row) (option_map (turn_of row) (slice_get xs row.served)) None) grown
+    ∙ turn_by (has_turn_out row) (turn_of row) row.accepted more row.served (next_within row)
 
--- a dialogue that is ready stays so where entries are added
+-- a dialogue that is ready stays so if entries are added
 pub ready_stays : (a b c : Bool) (n : ℕ) (xs more ys : List Entry) → ys ≡ xs ++ more → (a && (b && (c && nat_lt n (length xs)))) ≡ true
     → (a && (b && (c && nat_lt n (length ys)))) ≡ true
 ready_stays a b c n xs more ys grown ready =
     let count = ap length grown ∙ length-append xs more in
     grind (arith, nat_tests)
 
--- where a row says that a turn is out, there is one
+-- if a row says that a turn is out, there is one
 some_by : {A B : Type 0} (is_out : Bool) (f : A → B) (o : Option A) (x : A) → is_out ≡ true → o ≡ Some x → cond is_out (option_map f o) None ≢ None
 some_by is_out f o x out at none = grind (arith, nat_tests)
 
-pub turn_is_next : (row : Row) → row.is_out ≡ true → turn_out row ≢ None
+pub turn_is_next : (row : Row) → has_turn_out row ≡ true → turn_out row ≢ None
 turn_is_next row out =
-    let at = slice_get_some row.accepted row.served (next_within row.is_out row.served (length row.accepted) row.out_is_next out) in
-    some_by row.is_out (turn_of row) (slice_get row.accepted row.served) at.0 out at.1
+    let at = slice_get_some row.accepted row.served (next_within row out) in
+    some_by (has_turn_out row) (turn_of row) (slice_get row.accepted row.served) at.0 out at.1
 
 -- the turn that is out, in its parts
 pub record IsOut (row : Row) (turn : Turn) : Type 0 where
-  pub is_out : row.is_out ≡ true
+  pub is_out : has_turn_out row ≡ true
+  pub one_out : row.out ≡ 1
   pub at : slice_get row.accepted row.served ≡ Some turn.entry
   pub turn_is : turn_of row turn.entry ≡ turn
 
@@ -82,15 +90,15 @@ parts_of false f o y e = absurd (cc)
 
 pub known_turn : (row : Row) (turn : Turn) → turn_out row ≡ Some turn → IsOut row turn
 known_turn row turn e =
-    let parts = parts_of row.is_out (turn_of row) (slice_get row.accepted row.served) turn e in
+    let parts = parts_of (has_turn_out row) (turn_of row) (slice_get row.accepted row.served) turn e in
     let same : parts.0 ≡ turn.entry = ap (λ (t : Turn). t.entry) parts.3 in
-    record { is_out = parts.1; at = parts.2 ∙ ap Some same; turn_is = ap (turn_of row) (sym same) ∙ parts.3 }
+    record { is_out = parts.1; one_out = one_out row parts.1; at = parts.2 ∙ ap Some same; turn_is = ap (turn_of row) (sym same) ∙ parts.3 }
 
 -- a turn that is out is of a dialogue that isn't over
 pub going : (is_out over : Bool) → (is_out && over) ≡ false → is_out ≡ true → over ≡ false
 going is_out over live out = grind (arith, nat_tests)
 
--- which requests are kept where nothing ended the dialogue from outside: all
+-- which requests are kept if nothing ended the dialogue from outside: all
 pub all_of : (ended : Bool) (m n : ℕ) → (not ended && not (nat_eq m n)) ≡ false → ended ≡ false → m ≡ n
 all_of ended m n all free = grind (arith, nat_tests)
 

@@ -1,4 +1,5 @@
 mod Afters
+mod LedTo
 mod Maps
 mod Order
 mod Searches

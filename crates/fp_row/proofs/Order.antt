@@ -1,7 +1,6 @@
 -- The keys of entries, and edits that keep them in order.
-use Rattle.std.proofs.Common.{◌≡◌, ℕ, zero, suc, ◌+◌, ◌-◌, ◌<◌, ◌≤◌, Bool, true, false, if◌then◌else◌, List, [], ◌∷◌, length, set, slice_index, slice_index_or, refl, sym, ap, subst, ◌∙◌, arith}
+use Rattle.std.proofs.Common.{◌≡◌, ℕ, zero, suc, ◌+◌, ◌-◌, ◌<◌, ◌≤◌, List, [], ◌∷◌, length, slice_index, slice_index_or, Result, Ok, Err, OnOk, OnErr, refl, sym, ap, subst, ◌∙◌, arith}
 use Rattle.std.specs.List.{insert, remove}
-use Rattle.std.proofs.Math.Seq.{map-set_same}
 use Rattle.std.proofs.lemmas.List.{get_or-map, length-map}
 use Rattle.std.proofs.lemmas.List.Edits.{length-insert, get_or-insert_below, get_or-insert_at, get_or-insert_above, length-remove, get_or-remove_below, get_or-remove_above}
 use Rattle.fp_row.specs.Keys.{keys_of, IsInOrder, IsAt, IsGapFor}
@@ -49,15 +48,10 @@ module _ {X : Type 0} where
   keys-remove (e ∷ l) zero = refl
   keys-remove (e ∷ l) (suc i) = ap (λ ks. e.0 ∷ ks) (keys-remove l i)
 
-  -- a value is written over
-  pub in_order-set : (l : List (ℕ × X)) → IsInOrder (keys_of l) → (i : ℕ) (found : ℕ × X) (v : X) → found ≡ slice_index_or l i found → IsInOrder (keys_of (set l i (found.0, v)))
-  in_order-set l sorted i found v is =
-      subst IsInOrder (sym (map-set_same (λ (e : ℕ × X). e.0) l i (found.0, v) found (ap (λ (e : ℕ × X). e.0) is))) sorted
-
-  -- an entry is added in the gap for it, or for want of memory none is
-  pub in_order-added : (l new : List (ℕ × X)) → IsInOrder (keys_of l) → (k at : ℕ) (v : X) → IsGapFor (keys_of l) k at → (is_added : Bool) → new ≡ (if is_added then insert l at (k, v) else l) → IsInOrder (keys_of new)
-  in_order-added l new sorted k at v gap true is = subst IsInOrder (sym (ap (λ l. keys_of l) is ∙ keys-insert l at k v)) (in_order_insert _ sorted k at gap)
-  in_order-added l new sorted k at v gap false is = subst IsInOrder (sym (ap (λ l. keys_of l) is)) sorted
+  -- an entry is added in the gap for it, or if memory runs out none is
+  pub in_order-added : {A E : Type 0} (r : Result A E) (l new : List (ℕ × X)) → IsInOrder (keys_of l) → (k at : ℕ) (v : X) → IsGapFor (keys_of l) k at → OnOk r (new ≡ insert l at (k, v)) → OnErr r (new ≡ l) → IsInOrder (keys_of new)
+  in_order-added (Ok a) l new sorted k at v gap added same = subst IsInOrder (sym (ap (λ l. keys_of l) added ∙ keys-insert l at k v)) (in_order_insert _ sorted k at gap)
+  in_order-added (Err e) l new sorted k at v gap added same = subst IsInOrder (sym (ap (λ l. keys_of l) same)) sorted
 
   -- an entry is removed
   pub in_order-removed : (l new : List (ℕ × X)) → IsInOrder (keys_of l) → (k at : ℕ) → IsAt (keys_of l) k at → new ≡ remove l at → IsInOrder (keys_of new)

@@ -13,7 +13,7 @@ use Rattle.fp_row.specs.declared.row.Row.{Row}
 use Rattle.fp_row.specs.declared.turn.Turn.{Turn}
 use Rattle.fp_row.specs.Calls.{frames_in, requested_of}
 use Rattle.fp_row.proofs.Waiting.{waiting_served}
-use Rattle.fp_row.specs.Row.{frames_of, is_closed, kept_of, queued_of, requests_of, sent_of, served_of, start_of, turn_out, waiting_of}
+use Rattle.fp_row.specs.Row.{frames_of, has_turn_out, is_closed, kept_of, queued_of, requests_of, sent_of, served_of, start_of, turn_out, waiting_of}
 use Rattle.fp_row.specs.Turn.{frame_for}
 use Rattle.fp_service.specs.declared.request.Request.{Request}
 use Rattle.fp_service.specs.Dialogue.{is_over}
@@ -57,7 +57,7 @@ module _ (row : Row) (done : Done) (requested : Requested) (count : ℕ) (s : Se
   out = known_turn row done.turn s.out
 
   live : is_over row.core ≡ false
-  live = going row.is_out (is_over row.core) row.out_is_live out.is_out
+  live = going (has_turn_out row) (is_over row.core) row.out_is_live out.is_out
 
   one_served : served_then row ≡ served_of row ++ done.turn.entry ∷ []
   one_served = more_taken row.accepted row.served done.turn.entry out.at
@@ -107,7 +107,7 @@ module _ (row : Row) (done : Done) (requested : Requested) (count : ℕ) (s : Se
   pub queued_fits : row.queued + count ≤ length (requests (start_of row) (served_then row))
   queued_fits = omega (arith, count_then, count_is, at_most (is_some row.ended) (option_to_list done.frame), row.queued_within)
 
-  -- where nothing ended the dialogue from outside, all are kept
+  -- if nothing ended the dialogue from outside, all are kept
   kept_all : is_some row.ended ≡ false → row.kept ≡ length (frames_of row)
   kept_all free = all_of (is_some row.ended) row.kept (length (requests_of row)) row.all_kept free ∙ sym (frames_count row)
 
@@ -115,7 +115,7 @@ module _ (row : Row) (done : Done) (requested : Requested) (count : ℕ) (s : Se
   all_kept = all_by (is_some row.ended) (row.kept + count) (length (requests (start_of row) (served_then row))) (λ free.
       omega (arith, count_then, count_is, ap (λ drops. length (cond drops [] (option_to_list done.frame))) free, kept_all free, frames_count row))
 
-  -- a front that is whole where all are kept grows by what is to be sent
+  -- a front that is whole if all are kept grows by what is to be sent
   front_then : (n : ℕ) → n ≤ length (frames_of row) → (is_some row.ended ≡ false → n ≡ length (frames_of row)) → take (n + count) (frames_from row (served_then row)) ≡ take n (frames_of row) ++ frames_in requested
   front_then n within whole =
       ap (take (n + count)) frames_are
@@ -134,4 +134,4 @@ module _ (row : Row) (done : Done) (requested : Requested) (count : ℕ) (s : Se
 
   -- the entries that wait then
   pub waiting_then : cond (is_closed row.ended || is_over done.after) [] (drop (row.served + 1) row.accepted) ≡ cond (is_over done.after) [] (waiting_of row)
-  waiting_then = waiting_served (is_closed row.ended) (is_over row.core) (is_over done.after) row.is_out row.accepted row.served out.is_out live
+  waiting_then = waiting_served (is_closed row.ended) (is_over row.core) (is_over done.after) row.accepted row.served row.out out.one_out live

@@ -1,5 +1,5 @@
--- What the calls of a row do. Each record says of all that a row has what it is then; what follows for the frames
--- stands behind it.
+-- What the calls of a row do. Each record says of all that a row has what it is then, and after that what follows for
+-- the turn, the entries that wait and the frames.
 use Rattle.std.specs.Prelude.{◌≡◌, ℕ, ◌+◌, Bool, true, false, List, [], ◌∷◌, ◌++◌, Option, Some, None, min, length, take, nat_lt, option_to_list, if◌then◌else◌}
 use Rattle.fp_entry.specs.declared.entry.Entry.{Entry}
 use Rattle.fp_entry.specs.declared.entry.EntryKind.TheVariants.{Clock}
@@ -47,15 +47,15 @@ pub record Opens (local : ℕ) (peer : Tid) (birth moment : ℕ) (row : Row) : T
   pub queued : row.queued ≡ 0
   pub kept : row.kept ≡ 0
   pub sent : row.sent ≡ 0
-  pub is_out : row.is_out ≡ false
+  pub out : row.out ≡ 0
   pub ended : row.ended ≡ None
 
--- these entries stand behind the others
+-- these entries come after the others
 pub record Extends (old : Row) (entries : List Entry) (new : Row) : Type 0 where
   pub same : IsSame old new
   pub accepted : new.accepted ≡ old.accepted ++ entries
   pub stay : FramesStay old new
-  pub is_out : new.is_out ≡ old.is_out
+  pub out : new.out ≡ old.out
   pub ended : new.ended ≡ old.ended
   pub turn : turn_out new ≡ turn_out old
   pub waiting : is_admitted old ≡ true → waiting_of new ≡ waiting_of old ++ entries
@@ -79,7 +79,7 @@ pub record HandsOut (old : Row) (turn : Turn) (new : Row) : Type 0 where
   pub same : IsSame old new
   pub accepted : new.accepted ≡ old.accepted
   pub stay : FramesStay old new
-  pub is_out : new.is_out ≡ true
+  pub out : new.out ≡ 1
   pub ended : new.ended ≡ old.ended
   pub waiting : waiting_of old ≡ turn.entry ∷ waiting_of new
   pub deadline : deadline_of new ≡ deadline_of old
@@ -112,7 +112,7 @@ pub record Gives (old : Row) (done : Done) (requested : Requested) (new : Row) :
   pub queued : new.queued ≡ old.queued + length (frames_in requested)
   pub kept : new.kept ≡ old.kept + length (frames_in requested)
   pub sent : new.sent ≡ old.sent
-  pub is_out : new.is_out ≡ false
+  pub out : new.out ≡ 0
   pub ended : new.ended ≡ old.ended
   pub turn : turn_out new ≡ None
   pub waiting : waiting_of new ≡ (if is_over done.after then [] else waiting_of old)
@@ -127,7 +127,7 @@ pub record PutsBack (old : Row) (turn : Turn) (new : Row) : Type 0 where
   pub same : IsSame old new
   pub accepted : new.accepted ≡ old.accepted
   pub stay : FramesStay old new
-  pub is_out : new.is_out ≡ false
+  pub out : new.out ≡ 0
   pub ended : new.ended ≡ old.ended
   pub no_turn : turn_out new ≡ None
   pub waiting : waiting_of new ≡ (if is_closed old.ended then [] else turn.entry ∷ waiting_of old)
@@ -143,7 +143,7 @@ pub record SendsOne (old new : Row) : Type 0 where
   pub queued : new.queued ≡ old.queued
   pub kept : new.kept ≡ old.kept
   pub sent : new.sent ≡ old.sent + 1
-  pub is_out : new.is_out ≡ old.is_out
+  pub out : new.out ≡ old.out
   pub ended : new.ended ≡ old.ended
   pub turn : turn_out new ≡ turn_out old
   pub waiting : waiting_of new ≡ waiting_of old
@@ -179,7 +179,7 @@ pub record Ends (ending : Ending) (is_sending : Bool) (old new : Row) : Type 0 w
   pub queued : new.queued ≡ old.queued
   pub kept : new.kept ≡ min old.kept (old.sent + sending is_sending)
   pub sent : new.sent ≡ old.sent
-  pub is_out : new.is_out ≡ old.is_out
+  pub out : new.out ≡ old.out
   pub ended : new.ended ≡ ended_by ending old.ended
   pub turn : turn_out new ≡ turn_out old
   pub waiting : waiting_of new ≡ (if is_closed new.ended then [] else waiting_of old)

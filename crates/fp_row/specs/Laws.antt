@@ -4,7 +4,7 @@ use mathlib.Core.List.{IsPrefix}
 use Rattle.fp_row.specs.declared.done.Done.{Done}
 use Rattle.fp_row.specs.declared.row.Row.{Row}
 use Rattle.fp_row.specs.declared.turn.Turn.{Turn}
-use Rattle.fp_row.specs.Row.{entry_out, frames_of, is_closed, kept_of, queued_of, sent_of, served_of, start_of, turn_out, waiting_of}
+use Rattle.fp_row.specs.Row.{entry_out, frames_of, has_turn_out, is_closed, kept_of, queued_of, sent_of, served_of, start_of, turn_out, waiting_of}
 use Rattle.fp_row.specs.Turn.{frame_for}
 use Rattle.fp_service.specs.Dialogue.{is_over}
 use Rattle.fp_service.specs.Fold.{core_after, cut}
@@ -24,15 +24,16 @@ pub record KeepsOrder (row : Row) : Type 0 where
   pub queued_count : length (queued_of row) ≡ row.queued
   pub kept_count : length (kept_of row) ≡ row.kept
   pub sent_count : length (sent_of row) ≡ row.sent
+  pub out_count : length (entry_out row) ≡ row.out
   -- no entry requests more than one frame
   pub few_frames : length (frames_of row) ≤ row.served
-  -- behind what was served stand the entry that is out and those that wait
+  -- after what was served come the entry that is out and those that wait
   pub parts : IsPrefix (served_of row ++ (entry_out row ++ waiting_of row)) row.accepted
   pub whole : is_closed row.ended ≡ false → is_over row.core ≡ false → served_of row ++ (entry_out row ++ waiting_of row) ≡ row.accepted
   -- a turn that is out is of the next entry, of a dialogue that isn't over
-  pub next : row.is_out ≡ true → turn_out row ≢ None
+  pub next : has_turn_out row ≡ true → turn_out row ≢ None
   pub turn : (turn : Turn) → turn_out row ≡ Some turn → entry_out row ≡ turn.entry ∷ []
-  pub live : row.is_out ≡ true → is_over row.core ≡ false
+  pub live : has_turn_out row ≡ true → is_over row.core ≡ false
   -- the core is one of this dialogue
   pub birth : row.core.birth ≡ row.birth
 

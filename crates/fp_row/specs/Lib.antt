@@ -1,7 +1,7 @@
-pub mod Boxed
 pub mod Calls
 pub mod Keys
 pub mod Laws
+pub mod Leads
 pub mod Row
 pub mod Rows
 pub mod Turn

@@ -22,7 +22,7 @@ start_of row = fresh row.birth row.opened
 abbrev pub served_of : Row → List Entry
 served_of row = take row.served row.accepted
 
--- the others; where a turn is out, its entry is the first of them
+-- the others; if a turn is out, its entry is the first of them
 abbrev pub unserved : Row → List Entry
 unserved row = drop row.served row.accepted
 
@@ -60,25 +60,25 @@ is_admitted row = not (is_some row.ended) && not (is_over row.core)
 abbrev pub waits : Row → Bool
 waits row = not (is_closed row.ended) && (not (is_over row.core) && nat_lt row.served (length row.accepted))
 
+-- whether a turn is out: whether any entry is
+abbrev pub has_turn_out : Row → Bool
+has_turn_out row = nat_lt 0 row.out
+
 -- whether an entry waits and no turn is out
 abbrev pub is_ready : Row → Bool
-is_ready row = not row.is_out && waits row
+is_ready row = not (has_turn_out row) && waits row
 
 -- whether something of it is left
 abbrev pub is_held : Row → Bool
-is_held row = is_admitted row || (row.is_out || (waits row || nat_lt row.sent row.kept))
-
--- how many entries are out: that of the turn
-abbrev pub out_count : Row → ℕ
-out_count row = if row.is_out then 1 else 0
+is_held row = is_admitted row || (has_turn_out row || (waits row || nat_lt row.sent row.kept))
 
 -- the entry of the turn that is out
 abbrev pub entry_out : Row → List Entry
-entry_out row = take (out_count row) (unserved row)
+entry_out row = take row.out (unserved row)
 
--- the entries that wait: those behind the one that is out, and none where the dialogue was closed or its core is over
+-- the entries that wait: those after the one that is out, and none if the dialogue was closed or its core is over
 abbrev pub waiting_of : Row → List Entry
-waiting_of row = if is_closed row.ended || is_over row.core then [] else drop (out_count row) (unserved row)
+waiting_of row = if is_closed row.ended || is_over row.core then [] else drop row.out (unserved row)
 
 -- how many entries that weren't served take a place
 abbrev pub places_taken : Row → ℕ
@@ -102,7 +102,7 @@ turn_of row entry = record { local = row.local; peer = row.peer; position = row.
 
 -- the turn that is out
 abbrev pub turn_out : Row → Option Turn
-turn_out row = if row.is_out then option_map (turn_of row) (slice_get row.accepted row.served) else None
+turn_out row = if has_turn_out row then option_map (turn_of row) (slice_get row.accepted row.served) else None
 
 -- the turn is of this dialogue, at its next position and core
 pub record IsFromHere (row : Row) (turn : Turn) : Type 0 where

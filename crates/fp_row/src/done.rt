@@ -10,8 +10,8 @@ use crate::{RequestFrame, Turn};
 use fp_service::Core;
 
 /// A turn that was served, with the core after its entry and the frame of what was requested. Its type keeps that these
-/// are what the service step makes of the turn, the frame under the turn's own identifiers, whoever served it. It is
-/// given back or abandoned.
+/// are what the service step makes of the turn, the frame under the turn's own identifiers, whichever thread served it.
+/// It is given back or abandoned.
 #[must_use]
 #[derive(Debug)]
 pub struct Done {
@@ -34,8 +34,7 @@ impl Done {
         &self.turn
     }
 
-    /// Spends a turn that was served in vain. The dialogue whose turn is out and was abandoned stays held. Takes no
-    /// memory.
+    /// Gives up a turn that was served. Its dialogue stays held forever. Takes no memory.
     pub fn abandon(self) {
         let Done {
             turn,

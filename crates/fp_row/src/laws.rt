@@ -6,8 +6,8 @@ ghost use Rattle.fp_row.specs.Rows.{AfterIsOne, PuttingBackChangesNothing};
 use fp_service::{births_stay, entries_ask_once_at_most, folds_along_a_grown_list};
 
 /// Of each row: the entries served are the first of those that its service logic serves of the accepted ones, and its
-/// core is that after them. Behind them stand the entry of the turn that is out and the entries that wait: together all
-/// that was accepted, or the front of it where the dialogue was closed or its core is over. No more frames were sent
+/// core is that after them. After them come the entry of the turn that is out and the entries that wait: together all
+/// that was accepted, or a prefix of it if the dialogue was closed or its core is over. No more frames were sent
 /// than are kept, kept than were accepted for sending, and accepted than the entries served request; all of these are
 /// kept where nothing ended the dialogue from outside. Each count is of these.
 pub fn rows_keep_their_order()
@@ -30,7 +30,7 @@ pub fn after_is_one()
     ensures { AfterIsOne }
 {}
 
-/// To put a row under the identifier under which it stands changes nothing.
+/// To put a row under the identifier that it has changes nothing.
 #[tactic(auto, using(crate::proofs::Afters::putting_back_changes_nothing))]
 pub fn putting_back_changes_nothing()
     ensures { PuttingBackChangesNothing }

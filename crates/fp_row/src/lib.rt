@@ -5,8 +5,9 @@
 //! is then. No call of a row runs the service logic: a [`Turn`] is taken out, served anywhere, and its [`Done`] given
 //! back. It asks the system for nothing but memory.
 //!
-//! * [`Row`] is one dialogue: all entries that it accepted, in order, and how many of them were served; its core after
-//!   those; how many of its requests were accepted for sending, how many of these are kept, and how many were sent.
+//! * [`Row`] is one dialogue: all entries that it accepted, in order, how many of them were served, and how many are
+//!   out as a turn, at most one; its core after those that were served; how many of its requests were accepted for
+//!   sending, how many of these are kept, and how many were sent.
 //! * [`Turn`] is the next entry of a dialogue, one at a time, and [`Done`] what came of it: the core after it,
 //!   and the frame that it requests. Both must be spent: neither may be dropped, so that no entry gets lost unseen.
 //! * [`Rows`] is a finite map from local transaction identifier to row. [`after_is_one`] and
@@ -20,15 +21,16 @@
 //! | held | it is admitted, or an entry waits, or a turn is out, or a request is kept that wasn't sent |
 //!
 //! The layer above may rely on this: the type of a [`Row`] keeps that the entries served are the first of those
-//! accepted, none behind the one that ends the dialogue; that its core is what the service step makes of them; that its
+//! accepted, none after the one that ends the dialogue; that its core is what the service step makes of them; that its
 //! counts are of the requests of those entries; and that a turn that is out is of the next entry. The type of a
 //! [`Done`] keeps that its core is what the service step makes of its turn, and its frame that of the step's request,
-//! under the turn's own identifiers. What these keep is told by [`rows_keep_their_order`] and
+//! under the turn's own identifiers. What these keep is said by [`rows_keep_their_order`] and
 //! [`turns_are_served_by_the_step`].
 #![tactic(auto)]
 
 mod done;
 mod ending;
+mod index;
 mod laws;
 mod request_frame;
 mod requested;

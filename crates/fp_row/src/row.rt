@@ -1,6 +1,6 @@
 //! One dialogue.
 
-ghost use Rattle.std.specs.Prelude.{◌≡◌, ◌≢◌, [], ◌≤◌, ◌<◌, ◌+◌, ◌^◌, ◌&&◌, ◌↔◌, nat_eq, nat_le, nat_lt, not, false, true, Some, is_some, length, min, slice_get, take, IsTrue, IfOk, IfErr, IsOk, OnErr, OnOk};
+ghost use Rattle.std.specs.Prelude.{◌≡◌, ◌≢◌, [], ◌≤◌, ◌<◌, ◌+◌, ◌^◌, ◌&&◌, ◌↔◌, nat_eq, nat_lt, not, false, true, Some, is_some, length, min, slice_get, take, IsTrue, IfOk, IfErr, IsOk, OnErr, OnOk};
 ghost use Rattle.std.specs.Coded.{Coded-set};
 ghost use Rattle.fp_service.specs.Dialogue.{fresh, is_over};
 ghost use Rattle.fp_service.specs.Fold.{core_after, cut, requests};
@@ -34,8 +34,8 @@ pub struct Row {
     pub(crate) kept: usize,
     // How many were sent.
     pub(crate) sent: usize,
-    // Whether the turn of the next entry is out.
-    pub(crate) is_out: bool,
+    // How many of the entries that weren't served are out as a turn: none, or the next one.
+    pub(crate) out: usize,
     pub(crate) ended: Option<Ending>,
 
     // What was served is the front of what was accepted.
@@ -44,7 +44,7 @@ pub struct Row {
     // The core is that after the entries that were served.
     pub ghost core_is: { core ≡ core_after (fresh birth opened) (take served accepted) } by { Coded-set core-code _ _ },
 
-    // None of them is behind the one that ends the dialogue.
+    // None of them comes after the one that ends the dialogue.
     pub ghost cut_is: { cut (fresh birth opened) (take served accepted) ≡ take served accepted },
 
     // Each request is one of those entries'.
@@ -55,13 +55,14 @@ pub struct Row {
     // All of them are kept until the dialogue is ended from outside.
     pub ghost all_kept: { (not (is_some ended) && not (nat_eq kept (length (requests (fresh birth opened) (take served accepted))))) ≡ false },
 
-    // A turn that is out is of the next entry.
-    pub ghost out_is_live: { (is_out && is_over core) ≡ false },
-    pub ghost out_is_next: { (is_out && nat_le (length accepted) served) ≡ false },
+    // What is out is the next entry, of a dialogue that isn't over.
+    pub ghost out_most: { out ≤ 1 },
+    pub ghost out_within: { served + out ≤ length accepted },
+    pub ghost out_is_live: { (nat_lt 0 out && is_over core) ≡ false },
 }
 
 impl Row {
-    ghost use Rattle.fp_row.specs.Row.{IsFromHere, deadline_of, has_clock, is_admitted, is_due, is_held, is_ready, places_taken, turn_out, unserved, waits};
+    ghost use Rattle.fp_row.specs.Row.{IsFromHere, deadline_of, has_clock, has_turn_out, is_admitted, is_due, is_held, is_ready, places_taken, turn_out, unserved, waits};
     ghost use Rattle.fp_row.specs.Calls.{Accepts, Clocks, Ends, Gives, Opens, PutsBack, Sends, Takes, sending};
 
     /// The dialogue that a Begin opens at this moment: this end knows it by `local`, its peer by `peer`, and it is the
@@ -80,7 +81,7 @@ impl Row {
             queued: 0,
             kept: 0,
             sent: 0,
-            is_out: false,
+            out: 0,
             ended: None,
         }
     }
@@ -129,11 +130,18 @@ impl Row {
             && self.served < self.accepted.len()
     }
 
+    /// Whether a turn is out.
+    fn has_turn_out(&self) -> bool
+        ensures { result ≡ has_turn_out self.now }
+    {
+        self.out > 0
+    }
+
     /// Whether an entry waits, and no turn is out.
     pub fn is_ready(&self) -> bool
         ensures { result ≡ is_ready self.now }
     {
-        !self.is_out && self.waits()
+        !self.has_turn_out() && self.waits()
     }
 
     /// Whether something of it is left: it is admitted, an entry waits, a turn is out, or a request is kept that wasn't
@@ -141,7 +149,7 @@ impl Row {
     pub fn is_held(&self) -> bool
         ensures { result ≡ is_held self.now }
     {
-        self.is_admitted() || self.is_out || self.waits() || self.sent < self.kept
+        self.is_admitted() || self.has_turn_out() || self.waits() || self.sent < self.kept
     }
 
     /// How many of the entries that weren't served, that of the turn that is out among them, take a place of the
@@ -183,9 +191,9 @@ impl Row {
         }
     }
 
-    /// Puts the entries of a message behind the others, and says so. A dialogue that isn't admitted takes none, and
-    /// nothing changes; nor does it where memory is wanting, which it never is for no entries. In both cases the entries
-    /// are gone. Whoever hands in the peer's end or abort ends the dialogue too ([`Row::end`]).
+    /// Puts the entries of a message after the others, and says so. A dialogue that isn't admitted takes none, and
+    /// nothing changes; nor does it if memory runs out, which it never does for no entries. In both cases the entries
+    /// are gone. A caller that hands in the peer's end or abort also ends the dialogue ([`Row::end`]).
     pub fn accept(&mut self, entries: Entries) -> Result<bool, AllocError>
         ensures ok { IfOk result (λ taken. (taken ≡ is_admitted self.old) × Accepts taken self.old entries self.new) }
         ensures err { OnErr result (self.new ≡ self.old) }
@@ -201,8 +209,8 @@ impl Row {
         Ok(true)
     }
 
-    /// Puts a Clock of this moment behind the entries, and says so. A dialogue that isn't due takes none, and nothing
-    /// changes; nor does it where memory is wanting.
+    /// Puts a Clock of this moment after the entries, and says so. A dialogue that isn't due takes none, and nothing
+    /// changes; nor does it if memory runs out.
     pub fn accept_clock(&mut self, moment: Moment) -> Result<bool, AllocError>
         ensures ok { IfOk result (λ taken. (taken ≡ is_due self.old moment) × Clocks taken self.old moment self.new) }
         ensures err { OnErr result (self.new ≡ self.old) }
@@ -216,8 +224,8 @@ impl Row {
         Ok(true)
     }
 
-    /// Hands out the turn of the next entry: `None` exactly where the dialogue isn't ready. Then, and where memory for
-    /// a copy of the entry is wanting, nothing changes. A row hands out one turn at a time.
+    /// Hands out the turn of the next entry: `None` exactly if the dialogue isn't ready. Then, and if memory runs out
+    /// for a copy of the entry, nothing changes. A row hands out one turn at a time.
     pub fn take(&mut self) -> Result<Option<Turn>, AllocError>
         ensures ok { IfOk result (λ taken. Takes self.old taken self.new) }
         ensures err { OnErr result (self.new ≡ self.old) }
@@ -228,7 +236,7 @@ impl Row {
         }
         births_stay();
         let entry = self.accepted.as_slice()[self.served].try_clone()?;
-        self.is_out = true;
+        self.out = 1;
         Ok(Some(Turn {
             local: self.local,
             peer: self.peer,
@@ -273,12 +281,12 @@ impl Row {
         ensures value { IsTrue result ↔ (turn_out self.now ≡ Some turn.now) }
         ensures fits { IsTrue result → self.now.served + 1 < 2 ^ 64 }
     {
-        self.is_out && self.is_from_here(turn) && self.is_next(&turn.entry)
+        self.has_turn_out() && self.is_from_here(turn) && self.is_next(&turn.entry)
     }
 
     /// Takes back the turn that is out, served: its entry counts as served, and its request is to be sent unless the
-    /// dialogue was ended from outside. A strange turn, one whose identifiers, position, entry or core before aren't
-    /// those of the turn that is out, comes back, and nothing changes. Takes no memory.
+    /// dialogue was ended from outside. A stale or foreign turn, one whose identifiers, position, entry or core before
+    /// aren't those of the turn that is out, comes back, and nothing changes. Takes no memory.
     pub fn give(&mut self, done: Done) -> Result<Requested, Done>
         ensures ok { IfOk result (λ requested. Gives self.old done requested self.new) }
         ensures err { IfErr result (λ back. (back ≡ done) × (self.new ≡ self.old)) }
@@ -297,12 +305,12 @@ impl Row {
         self.core = after;
         self.queued += count;
         self.kept += count;
-        self.is_out = false;
+        self.out = 0;
         Ok(requested)
     }
 
-    /// Takes back the turn that is out, not served: its entry is the next one again. A strange turn comes back, and
-    /// nothing changes. Takes no memory.
+    /// Takes back the turn that is out, not served: its entry is the next one again. A stale or foreign turn
+    /// comes back, and nothing changes. Takes no memory.
     pub fn put_back(&mut self, turn: Turn) -> Result<(), Turn>
         ensures ok { OnOk result (PutsBack self.old turn self.new) }
         ensures err { IfErr result (λ back. (back ≡ turn) × (self.new ≡ self.old)) }
@@ -312,7 +320,7 @@ impl Row {
             return Err(turn);
         }
         turn.spend();
-        self.is_out = false;
+        self.out = 0;
         Ok(())
     }
 
@@ -340,9 +348,9 @@ impl Row {
         }
     }
 
-    /// Ends the dialogue from outside: requests that wait to be sent are dropped, but the one that is being sent now
-    /// where `is_sending`, and where it is closed the entries that wait too. A dialogue that was closed stays so. Says
-    /// whether a request was dropped. Takes no memory.
+    /// Ends the dialogue from outside. Requests that wait to be sent are dropped; if `is_sending`, except the one that is
+    /// being sent now. By [`Ending::Closed`] the entries that wait are dropped too. A dialogue that was closed stays
+    /// closed. Says whether a request was dropped. Takes no memory.
     pub fn end(&mut self, ending: Ending, is_sending: bool) -> bool
         ensures ends { Ends ending is_sending self.old self.new }
         ensures drops { result ≡ nat_lt self.new.kept self.old.kept }

@@ -1,6 +1,6 @@
 //! Rows by local identifier.
 
-ghost use Rattle.std.specs.Prelude.{◌≡◌, IfOk, IfErr, IsOk, IsTrue, OnOk};
+ghost use Rattle.std.specs.Prelude.{◌≡◌, ◌<◌, ◌^◌, IfErr, IsOk, IsTrue, OnOk};
 ghost use Rattle.std.specs.Option.{option_copied, option_copied_mut};
 ghost use Rattle.std.specs.Borrow.{LendsIf, sem};
 ghost use Rattle.std.specs.Ordering.{nat_cmp};
@@ -8,11 +8,13 @@ ghost use Rattle.std.specs.FinMap as map;
 ghost use Rattle.fp_row.specs.contracts.rows.Rows.{the_row};
 ghost use Rattle.fp_row.specs.contracts.row.Row as row_type;
 ghost use Rattle.fp_row.specs.declared.row.Row.{Row};
-ghost use Rattle.fp_row.specs.Rows.{IsAfter, count_due};
-ghost use Rattle.fp_row.specs.Keys.{keys_of, IsInOrder, IsAt, IsGapFor, IsFirstAbove};
+ghost use Rattle.fp_row.specs.Leads.{accepted_at, is_due_at};
+ghost use Rattle.fp_row.specs.Rows.{IsAfter, count_due, entry_count};
 
 use crate::Row;
+use crate::index::Index;
 use fp_digits::Moment;
+use slab::Slab;
 use std::alloc::Global;
 use std::marker::Model;
 
@@ -20,9 +22,11 @@ use std::marker::Model;
 /// as a finite map.
 #[derive(Debug, Drop)]
 pub struct Rows {
-    // In the order of the identifiers, which stand beside the rows: a row that is lent may be changed in any way. A row
-    // takes some hundreds of octets, and stays where it is while others come and go.
-    rows: Vec<(u32, Box<Row>)>,
+    // Each row stays where it is while others come and go. Its identifier is beside it: a row that is lent may be
+    // changed in any way.
+    rows: Slab<(u32, Row)>,
+    // Leads from each identifier to its row.
+    index: Index,
 }
 
 impl Model for Rows {
@@ -31,37 +35,33 @@ impl Model for Rows {
     ghost use Rattle.std.specs.Coded.{coded_ℕ};
     ghost use Rattle.fp_row.specs.contracts.row.Row as row_type;
     ghost use Rattle.fp_row.specs.declared.row.Row.{Row};
-    ghost use Rattle.fp_row.specs.Keys.{keys_of, IsInOrder};
-    ghost use Rattle.fp_row.specs.Boxed.{unboxed};
+    ghost use Rattle.fp_row.specs.Leads.{Leads, values_led_to};
 
     ghost Value = { map.FinMap nat_cmp Row };
 
     ghost coded = { map.code coded_ℕ row_type.the_row.coded };
 
-    ghost view = { λ rows. map.from_entries (unboxed rows.rows.items) };
+    ghost view = { λ rows. values_led_to rows.index rows.rows };
 
-    ghost invariant = { λ rows. IsInOrder (keys_of rows.rows.items) };
+    ghost invariant = { λ rows. Leads rows.index rows.rows };
 }
 
-/// The place of the identifier's row, or, where it has none, the place at which one would go.
-fn place_of(rows: &[(u32, Box<Row>)], local: u32) -> Result<usize, usize>
-    requires { IsInOrder (keys_of rows.now) }
-    ensures found { IfOk result (IsAt (keys_of rows.now) local) }
-    ensures missing { IfErr result (IsGapFor (keys_of rows.now) local) }
+/// Whether the row of a key is due at a moment.
+fn is_due_at(rows: &Slab<(u32, Row)>, key: usize, moment: Moment) -> bool
+    ensures { result ≡ is_due_at rows.now key moment }
 {
-    rows.binary_search_by_key(&local, |entry| entry.0)
+    match rows.get(key) {
+        Some(entry) => entry.1.is_due(moment),
+        None => false,
+    }
 }
 
-/// The place of the first row whose identifier is above this one: of the first of all for `None`.
-fn place_after(rows: &[(u32, Box<Row>)], local: Option<u32>) -> usize
-    requires { IsInOrder (keys_of rows.now) }
-    ensures { IsFirstAbove (keys_of rows.now) local result }
+/// How many entries the row of a key keeps.
+fn accepted_at(rows: &Slab<(u32, Row)>, key: usize) -> u64
+    ensures { result ≡ accepted_at rows.now key }
 {
-    match local {
-        Some(local) => match place_of(rows, local) {
-            Ok(place) => place + 1,
-            Err(place) => place,
-        },
+    match rows.get(key) {
+        Some(entry) => entry.1.accepted.len() as u64,
         None => 0,
     }
 }
@@ -72,7 +72,8 @@ impl Rows {
         ensures { result ≡ map.empty }
     {
         Rows {
-            rows: Vec::new(alloc),
+            rows: Slab::new(alloc),
+            index: Index::new(alloc),
         }
     }
 
@@ -80,54 +81,51 @@ impl Rows {
     pub fn len(&self) -> usize
         ensures { result ≡ map.len self.now }
     {
-        self.rows.len()
+        self.index.len()
     }
 
-    /// Puts a row under an identifier, in place of any that was there: then it takes no memory. Where memory is
-    /// wanting, the row is handed back, and nothing changes.
+    /// Puts a row under an identifier, in place of any that was there: then it takes no memory. If memory runs
+    /// out, the row is handed back, and nothing changes.
     pub fn insert(&mut self, local: u32, row: Row) -> Result<(), Row>
         ensures ok { OnOk result (self.new ≡ map.insert self.old local row) }
         ensures err { IfErr result (λ back. (back ≡ row) × (self.new ≡ self.old)) }
         ensures replaces { IsTrue (map.contains_key self.old local) → IsOk result }
     {
-        match place_of(&self.rows, local) {
-            Ok(place) => {
-                *self.rows[place].1 = row;
-                Ok(())
-            }
-            Err(place) => {
-                let row = match Box::new(*self.rows.allocator(), row) {
-                    Ok(row) => row,
-                    Err(failed) => return Err(failed.value),
-                };
-                match self.rows.insert(place, (local, row)) {
-                    Ok(()) => Ok(()),
-                    Err(failed) => Err(Box::into_inner(failed.value.1)),
-                }
-            }
+        if let Some(key) = self.index.get(local) {
+            self.rows[key].1 = row;
+            return Ok(());
         }
+        if self.rows.reserve(1).is_err() {
+            return Err(row);
+        }
+        let key = self.rows.vacant_key();
+        if self.index.add(local, key).is_err() {
+            return Err(row);
+        }
+        self.rows.insert_reserved((local, row));
+        Ok(())
     }
 
     /// Gives the row under an identifier, if there is one.
     pub fn get(&self, local: u32) -> Option<&Row>
         ensures { option_copied result ≡ map.get self.now local }
     {
-        let Ok(place) = place_of(&self.rows, local) else {
+        let Some(key) = self.index.get(local) else {
             return None;
         };
-        Some(&*self.rows[place].1)
+        Some(&self.rows[key].1)
     }
 
-    /// Lends the row under an identifier, to be changed, if there is one: what is left behind the reference then stands
+    /// Lends the row under an identifier, to be changed, if there is one: what the reference holds in the end is then
     /// under the identifier.
     pub fn get_mut(&mut self, local: u32) -> Option<&mut Row>
         ensures* writes_back { sem 𝓛 (LendsIf the_row row_type.the_row self.entry result (λ (w : Row). map.insert self.old local w) self.old) }
         ensures value { option_copied_mut result ≡ map.get self.old local }
     {
-        let Ok(place) = place_of(&self.rows, local) else {
+        let Some(key) = self.index.get(local) else {
             return None;
         };
-        Some(&mut *self.rows[place].1)
+        Some(&mut self.rows[key].1)
     }
 
     /// Takes the row under an identifier out and hands it over, if there is one. Takes no memory.
@@ -135,27 +133,37 @@ impl Rows {
         ensures row { result ≡ map.get self.old local }
         ensures others { self.new ≡ map.remove self.old local }
     {
-        let Ok(place) = place_of(&self.rows, local) else {
+        let Some(key) = self.index.remove(local) else {
             return None;
         };
-        Some(Box::into_inner(self.rows.remove(place).1))
+        Some(self.rows.remove(key).1)
     }
 
-    /// Gives the least identifier above this one under which a row stands, or the least of all for `None`: `None` where
-    /// there is none.
+    /// Gives the least identifier above this one that has a row, or the least of all for `None`: `None` if there is
+    /// none.
     pub fn after(&self, local: Option<u32>) -> Option<u32>
         ensures { IsAfter self.now local result }
     {
-        let place = place_after(&self.rows, local);
-        let entry = self.rows.get(place)?;
-        Some(entry.0)
+        self.index.after(local)
     }
 
     /// How many of the dialogues are due at a moment.
     pub fn count_due(&self, moment: Moment) -> usize
         ensures { result ≡ count_due self.now moment }
     {
-        let due = self.rows.iter().filter(|entry| entry.1.is_due(moment));
+        let rows = &self.rows;
+        let keys = self.index.iter();
+        let due = keys.filter(|entry| is_due_at(rows, entry.1, moment));
         due.count()
+    }
+
+    /// How many entries the dialogues keep: all that each of them accepted. Goes through all of them.
+    pub fn entry_count(&self) -> u64
+        requires { entry_count self.now < 2 ^ 64 }
+        ensures { result ≡ entry_count self.now }
+    {
+        let rows = &self.rows;
+        let keys = self.index.iter();
+        keys.map(|entry| accepted_at(rows, entry.1)).sum()
     }
 }

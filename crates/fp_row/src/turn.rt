@@ -61,8 +61,8 @@ impl Turn {
         self.position as u64
     }
 
-    /// Serves the entry: makes the step of the service logic, and the frame of what that requests. Where memory for the
-    /// frame is wanting the turn comes back as it was; so it never does where nothing is requested.
+    /// Serves the entry: makes the step of the service logic, and the frame of what that requests. If memory runs out
+    /// for the frame, the turn comes back unchanged; so it never does if nothing is requested.
     pub fn serve(self, alloc: Global) -> Result<Done, Turn>
         ensures turn { IfOk result (λ done. done.turn ≡ self) }
         ensures same { IfErr result (λ turn. turn ≡ self) }
@@ -85,7 +85,7 @@ impl Turn {
         })
     }
 
-    /// Spends a turn that nobody serves. The dialogue whose turn is out and was abandoned stays held. Takes no memory.
+    /// Gives up a turn without serving it. Its dialogue stays held forever. Takes no memory.
     pub fn abandon(self) {
         self.spend();
     }

@@ -4,6 +4,7 @@ use Rattle.fp_steps.proofs.HeldDialogues.{Held, held_of, none_named, same_local,
 use Rattle.fp_steps.proofs.SumsOverBirths.{many_is}
 use Rattle.fp_steps.proofs.TieAtMessages.{admits_is}
 use Rattle.fp_steps.proofs.TieAtParcels.{out_there}
+use Rattle.fp_row.specs.Row.{has_turn_out}
 
 -- a frame of a dialogue is among those
 
@@ -85,6 +86,6 @@ held_is law {h} {s} t k l =
     let own : IsOwn s (local_of h d) row = k.own (local_of h d) row was in
     let y = has_frame h d || frame_is_out h d in
     let admits_so : admits h d ≡ is_admitted row = admits_is d t k ∙ ap (λ o. option_map_or is_admitted o false) was in
-    let left = some_left (is_admitted row) row.is_out (row_waits row) (nat_lt row.sent row.kept) y own.is_left (λ less. left_at law d row t k l first last was less) in
+    let left = some_left (is_admitted row) (has_turn_out row) (row_waits row) (nat_lt row.sent row.kept) y own.is_left (λ less. left_at law d row t k l first last was less) in
     ap (λ b. cond {A = ℕ} b 1 0) (sym left) ∙ (λ i. cond {A = ℕ} (sym admits_so i || (sym g.outs i || (sym (waits_tied g) i || y))) 1 0))
     (t.rows d)) ∙ sym (len-sum s.rows)

@@ -2,6 +2,7 @@
 use Rattle.fp_steps.proofs.Names.{Beginning, Bool, Ending, Entry, Event, IsGone, IsOwn, IsPrefix, IsSame, IsStraight, IsTied, KeepsOrder, List, None, NotHeld, OneChanges, Opened, Option, Output, Prepared, Row, RowsKeepTheirOrder, Shelf, Some, Sound, Step, Story, Tied, TiedAt, [], accepted, accepted_in, add-one, admits, and_left, and_right, ap, append-nil, append_assoc, arith, asked_in, began_with, beginning, beginning_of, births, by_held, by_local, cond, core_after, core_in, course, cut, ending, ending_in, eq-eqb, eqb, eqb-false, false, for_one, frame_from, frames_of, fresh, get, get_or_from_slice_get, in_places, insert, inserted, is_admitted, is_closed, is_one, is_over, is_some, keep, kept, left_of, length, length-append, length-take-le, local_of, lt-leb, map_list as map, named, nat_le, nat_lt, nat_tests, ne_eqb, not, not_held, numbers, octets_of, option_map_or, option_to_list, position_in, positions, queued, queued_in, queued_of, refl, requests, row_waits as waits, sent, sent_in, sent_of, served_in, served_of, slice_get, start_in, start_of, story, subst, suc, sym, take, take_more, true, turn_after, turn_out, waits_in, zero, ℕ, ◌&&◌, ◌++◌, ◌<◌, ◌∙◌, ◌∷◌, ◌≡◌, ◌≤◌}
 use Rattle.std.proofs.lemmas.List.Concat.{flat_map-append}
 use Rattle.fp_row.proofs.Fronts.{slice_get_some}
+use Rattle.fp_row.specs.Row.{has_turn_out}
 
 abbrev pub event : Step → Option Prepared → Output → Event
 event step came output = record { step = step; came = came; output = output }
@@ -142,7 +143,7 @@ same_beginning same =
 
 -- the same dialogue, of which nothing else changed that its story tells
 pub tied_same : {d : ℕ} {t : Story} (x : Bool) {before after : Row} → IsTied d t before → IsSame before after → after.accepted ≡ before.accepted → after.served ≡ before.served → queued_of after ≡ queued_of before
-    → sent_of after ≡ sent_of before → after.core ≡ before.core → after.ended ≡ before.ended → after.is_out ≡ x → IsTied d (record t { out = x }) after
+    → sent_of after ≡ sent_of before → after.core ≡ before.core → after.ended ≡ before.ended → has_turn_out after ≡ x → IsTied d (record t { out = x }) after
 tied_same x k same accepted served queued sent core ended out = let begins = k.begins ∙ ap Some (sym (same_beginning same)) in grind arith
 
 -- A book and its dialogues

@@ -3,6 +3,7 @@ use Rattle.fp_steps.proofs.Names.{All-filter, All-from_recursion, AllByRecursion
 use Rattle.fp_steps.proofs.HeldDialogues.{Held, core_tied, held_at, held_of, waits_tied, by_option}
 use Rattle.fp_steps.proofs.TieAtTicks.{among}
 use Rattle.fp_steps.proofs.OpenedDialogues.{births_grow, place_stays}
+use Rattle.fp_row.specs.Row.{has_turn_out}
 
 -- lists
 
@@ -71,14 +72,14 @@ pub record InQueue (h : List Event) (s : Shelf) (l : ℕ) : Type 0 where
   pub was : get s.rows l ≡ Some row
   pub held : Held h l row.birth row
   pub stands : is_ready h row.birth ≡ true
-  pub free : row.is_out ≡ false
+  pub free : has_turn_out row ≡ false
 
 pub queued_at : {h : List Event} {s : Shelf} (l : ℕ) → Tied h s → Sound s → 0 < count l s.ready → InQueue h s l
 queued_at {h} {s} l t k stands = by_option (λ o. 0 < amount ready o → InQueue h s l) (get s.rows l) (λ was c. absurd (omega (arith, c)))
     (λ row was c.
     let held : Held h l row.birth row = held_of l row t k was in
     let is : row_is_ready row ≡ true = true_from_ne_false (row_is_ready row) (λ e. let none : one_if (row_is_ready row) ≡ 0 = ap one_if e in omega (arith, c, none)) in
-    record { row = row; was = was; held = held; stands = ready_by (births h) row.birth h (Some row) held.tied ∙ is; free = not-true row.is_out (and_parts (not row.is_out) (row_waits row) is).0 })
+    record { row = row; was = was; held = held; stands = ready_by (births h) row.birth h (Some row) held.tied ∙ is; free = not-true (has_turn_out row) (and_parts (not (has_turn_out row)) (row_waits row) is).0 })
     (subst (λ n. 0 < n) (k.ready l ∙ count_is (get s.rows l)) stands)
 
 -- who isn't ready hasn't been so at all; who is has been so for a while
@@ -92,7 +93,7 @@ a_while (e ∷ h) d r = let x : ready_for (e ∷ h) d ≡ suc (ready_for h d) = 
 
 -- no core changes but that of a dialogue whose turn is out
 abbrev pub CoresStay : Rows → Rows → Type 0
-CoresStay rows then = (l : ℕ) (before after : Row) → get rows l ≡ Some before → get then l ≡ Some after → before.is_out ≡ false → after.core ≡ before.core
+CoresStay rows then = (l : ℕ) (before after : Row) → get rows l ≡ Some before → get then l ≡ Some after → has_turn_out before ≡ false → after.core ≡ before.core
 
 -- the queue then: those that stay, and those that join it
 pub record Joins (h : List Event) (e : Event) (old new : Shelf) : Type 0 where
@@ -119,7 +120,7 @@ pub record Same (h : List Event) (e : Event) (y : ℕ) : Type 0 where
   pub due : due_of (e ∷ h) birth ≡ due_of h birth
 
 pub same_dialogue : {h : List Event} (e : Event) {old new : Shelf} (y : ℕ) (before : Row) → Tied h old → Sound old → Tied (e ∷ h) new → Sound new → new.link ≡ old.link → CoresStay old.rows new.rows
-    → get old.rows y ≡ Some before → before.is_out ≡ false → 0 < count y new.ready → Same h e y
+    → get old.rows y ≡ Some before → has_turn_out before ≡ false → 0 < count y new.ready → Same h e y
 same_dialogue {h} e {old} {new} y before t k u m link cores was free c =
     let b = before.birth in let a : Held h y b before = held_of y before t k was in
     let q : InQueue (e ∷ h) new y = queued_at y u m c in
@@ -189,12 +190,12 @@ pub cores_same : (rows : Rows) → CoresStay rows rows
 cores_same rows l before after was is free = ap (λ (r : Row). r.core) (same_Some after before (sym is ∙ was))
 
 -- one changes
-cores_one : {rows then : Rows} {local : ℕ} (row : Row) {left : Option Row} → OneChanges rows then local (Some row) left → ((after : Row) → left ≡ Some after → row.is_out ≡ false → after.core ≡ row.core) → CoresStay rows then
+cores_one : {rows then : Rows} {local : ℕ} (row : Row) {left : Option Row} → OneChanges rows then local (Some row) left → ((after : Row) → left ≡ Some after → has_turn_out row ≡ false → after.core ≡ row.core) → CoresStay rows then
 cores_one {rows} {then} {local} row one same l before after was is free =
     by_local l local (λ l. get rows l ≡ Some before → get then l ≡ Some after → after.core ≡ before.core)
     (λ w i.
     let b : row ≡ before = same_Some row before (sym one.was ∙ w) in
-    same after (sym one.there ∙ i) (ap (λ (r : Row). r.is_out) b ∙ free) ∙ ap (λ (r : Row). r.core) b)
+    same after (sym one.there ∙ i) (ap (λ (r : Row). has_turn_out r) b ∙ free) ∙ ap (λ (r : Row). r.core) b)
     (λ ne w i. ap (λ (r : Row). r.core) (same_Some after before (sym i ∙ one.others l ne ∙ w)))
     was is
 
@@ -215,7 +216,7 @@ pub cores_put : (rows : Rows) (local : ℕ) (before after : Row) → get rows lo
 cores_put rows local before after was same =
     cores_one before (inserted rows local (Some before) after was) (λ then e free. ap (λ (r : Row). r.core) (sym (same_Some after then e)) ∙ same)
 
-pub cores_left : (rows : Rows) (local : ℕ) (before after : Row) → get rows local ≡ Some before → (before.is_out ≡ false → after.core ≡ before.core) → CoresStay rows (keep rows local after)
+pub cores_left : (rows : Rows) (local : ℕ) (before after : Row) → get rows local ≡ Some before → (has_turn_out before ≡ false → after.core ≡ before.core) → CoresStay rows (keep rows local after)
 cores_left rows local before after was same = cores_one before (kept rows local (Some before) after was) (λ then e free. left_core after before then (same free) e)
 
 -- a dialogue stands once in a queue at most

@@ -10,15 +10,17 @@ use Rattle.fp_steps.proofs.TieAtTicks.{due_at_is}
 use Rattle.fp_steps.proofs.TieAtTurns.{IsTurn, out_by, turn_is}
 use Rattle.fp_steps.proofs.TokensKept.{follows_untouched}
 use Rattle.fp_steps.proofs.WaitingAtSteps.{First, aborts_wait, first_of}
+use Rattle.fp_row.specs.Row.{has_turn_out}
+use Rattle.fp_book.proofs.Changes.{turns_are}
 
 -- no turn of a dialogue is out where the book has none
-no_turn : RowsKeepTheirOrder → (row : Row) (b : Bool) → row.is_out ≡ b → row_turn row ≡ None → b ≡ false
+no_turn : RowsKeepTheirOrder → (row : Row) (b : Bool) → has_turn_out row ≡ b → row_turn row ≡ None → b ≡ false
 no_turn law row true out none = let k : KeepsOrder row = law row in absurd (k.next out none)
 no_turn law row false out none = refl
 
 none_out : RowsKeepTheirOrder → {h : List Event} {s : Shelf} (local d : ℕ) → Tied h s → named h local ≡ Some d → turn_of (get s.rows local) ≡ None → turn_out h d ≡ false
 none_out law {h} {s} local d t name none = by_option (λ o. TiedAt (births h) d (story h d) o → turn_of o ≡ None → turn_out h d ≡ false) (get s.rows (local_of h d))
-    (λ was tied no. tied.outs) (λ row was tied no. tied.outs ∙ no_turn law row row.is_out refl no)
+    (λ was tied no. tied.outs) (λ row was tied no. tied.outs ∙ no_turn law row (has_turn_out row) refl no)
     (t.rows d) (ap (λ l. turn_of (get s.rows l)) (sym (t.opened.names local d name).0) ∙ none)
 
 -- GIVE
@@ -59,7 +61,7 @@ gave_done {h} {old} {done} {given} t k line g =
     ∙ sym (given_by g.before.ended (request_of done.turn.before done.turn.entry) frame)
     ∙ ap (λ f. given_of (requested_of g.before.ended f)) (sym done.frame_is)
     ∙ sym (g.given_is ∙ ap given_of g.gives.requested_is) in
-    let there : turn_out h b ≡ true = held.tied.outs ∙ out_by g.before.is_out _ done.turn g.gives.was_out in
+    let there : turn_out h b ≡ true = held.tied.outs ∙ out_by (has_turn_out g.before) _ done.turn g.gives.was_out in
     sym (ap (gave h l) held.name
     ∙ (λ i. cond (there i) (Output.Gave l (place i) (given_is i)) Output.Nothing))
 
@@ -72,7 +74,7 @@ back_none law {h} local t none = by_option (λ o. Output.Nothing ≡ put_back h 
 pub back_done : {h : List Event} {old new : Shelf} {turn : Turn} → Tied h old → Sound old → PutsTurnBack old turn new → Output.WentBack ≡ put_back h (named h turn.local)
 back_done {h} {turn} t k g =
     let held : Held h turn.local g.before.birth g.before = held_of turn.local g.before t k g.was in
-    sym (ap (put_back h) held.name ∙ ap (λ x. cond x Output.WentBack Output.Nothing) (held.tied.outs ∙ out_by g.before.is_out _ turn g.puts.was_out))
+    sym (ap (put_back h) held.name ∙ ap (λ x. cond x Output.WentBack Output.Nothing) (held.tied.outs ∙ out_by (has_turn_out g.before) _ turn g.puts.was_out))
 
 -- SENT, UNSENT
 
@@ -106,7 +108,7 @@ out_place (Some (Content.Frame w)) t k is =
 
 turn_place : (n d : ℕ) (h : List Event) (o : Option Row) → TiedAt n d (story h d) o → amount turns_of o ≡ cond {A = ℕ} (turn_out h d) 1 0
 turn_place n d h None k = ap (λ b. cond {A = ℕ} b 1 0) (sym k.outs)
-turn_place n d h (Some row) k = ap (λ b. cond {A = ℕ} b 1 0) (sym k.outs)
+turn_place n d h (Some row) k = turns_are row (turn_out h d) (sym k.outs)
 
 pub places_are : {h : List Event} {s : Shelf} → Tied h s → Sound s → Lined h s → places h ≡ places_held s
 places_are {h} {s} t k l =

@@ -270,7 +270,7 @@ Tied-opens {h} step {came} components {old} {new} {peer} t k orig g =
       queues = sym (g.extends.stay.queued_frames ∙ ap (λ n. take n (frames_of g.opened)) g.opens.queued);
       sends = sym (g.extends.stay.sent_frames ∙ ap (λ n. take n (frames_of g.opened)) g.opens.sent);
       ends = sym (g.extends.ended ∙ g.opens.ended);
-      outs = sym (g.extends.is_out ∙ g.opens.is_out);
+      outs = sym (ap (nat_lt 0) (g.extends.out ∙ g.opens.out));
     } in
     let one : OneChanges old.rows rows l (get old.rows l) (Some g.after) = inserted old.rows l (get old.rows l) g.after refl in
     let opened : OpenedAs old.link (e ∷ h) = opened_after (Some l) (Some came) t.opened place in

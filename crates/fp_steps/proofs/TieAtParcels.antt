@@ -107,7 +107,7 @@ Tied-sends law {h} came {old} new (Content.Frame w) t k g =
       sends = ap (λ o. sent h b ++ frame_for o b) was ∙ ap (λ xs. sent h b ++ xs) (for_own (named h l) b (w.frame ∷ []) held.name)
           ∙ ap (λ xs. xs ++ w.frame ∷ []) before.sends ∙ sym (g.sends.one_more w.frame waits_for all);
       ends = before.ends ∙ sym g.sends.ended;
-      outs = before.outs ∙ sym g.sends.is_out;
+      outs = before.outs ∙ sym (ap (nat_lt 0) g.sends.out);
     } in subst (Tied (e ∷ h)) (sym g.new_is)
     (Tied-left law l g.before t k (sent_rest came _ t refl refl refl refl refl refl) g.was refl tied
     (λ d ne. stays e h d refl refl refl refl (ap (λ o. frame_for o d) was ∙ for_other (named h l) d b (w.frame ∷ []) held.name ne) refl refl))

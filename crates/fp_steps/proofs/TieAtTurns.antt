@@ -1,6 +1,7 @@
 -- Steps of turns keep the tie between a book and its history.
-use Rattle.fp_steps.proofs.Names.{Bool, Done, Ending, Entry, Event, Given, GivesDone, IsTied, List, None, Option, Output, Prepared, PutsTurnBack, Row, RowsKeepTheirOrder, Shelf, Some, Sound, Step, TakesTurn, Tied, Turn, [], accepted, add-one, add-zero, ap, append-nil, arith, beginning, cond, core_of, ending, entry_count, false, frame_at, frame_from, frames_in, given_of, if_queued, named, nat_tests, numbers, octets_of, option_and_then, option_map, option_to_list, positions, queued, queued_in, refl, request_of, requested_of, row_turn, row_turn_of as turn_of, rules, sent, slice_get, story, subst, sym, true, turn_out, ℕ, ◌++◌, ◌∙◌, ◌∷◌, ◌≡◌}
+use Rattle.fp_steps.proofs.Names.{Bool, Done, Ending, Entry, Event, Given, GivesDone, IsTied, List, None, Option, Output, Prepared, PutsTurnBack, Row, RowsKeepTheirOrder, Shelf, Some, Sound, Step, TakesTurn, Tied, Turn, [], accepted, add-one, add-zero, ap, append-nil, arith, beginning, cond, core_of, ending, entry_count, false, frame_at, frame_from, frames_in, given_of, if_queued, named, nat_lt, nat_tests, numbers, octets_of, option_and_then, option_map, option_to_list, positions, queued, queued_in, refl, request_of, requested_of, row_turn, row_turn_of as turn_of, rules, sent, slice_get, story, subst, sym, true, turn_out, ℕ, ◌++◌, ◌∙◌, ◌∷◌, ◌≡◌}
 use Rattle.fp_row.specs.Turn.{frame_for}
+use Rattle.fp_row.specs.Row.{has_turn_out}
 use Rattle.fp_steps.proofs.HeldDialogues.{Held, becomes, core_tied, event, for_other, for_own, held_of, is_other, is_own, same_beginning, stays, tied_same}
 use Rattle.fp_steps.proofs.TieNext.{quiet, Tied-left, Tied-put}
 
@@ -24,7 +25,7 @@ Tied-takes {h} came {turn} t k g =
     subst (Tied (e ∷ h)) (sym g.new_is)
     (Tied-put l g.before t k (quiet e _ t refl (add-zero (entry_count h) ∙ t.entries_are) refl refl refl refl refl refl refl refl) g.was refl
     (subst (λ s. IsTied b s g.after) (sym told)
-    (tied_same true held.tied g.takes.same g.takes.accepted g.takes.stay.served g.takes.stay.queued_frames g.takes.stay.sent_frames g.takes.stay.core g.takes.ended g.takes.is_out))
+    (tied_same true held.tied g.takes.same g.takes.accepted g.takes.stay.served g.takes.stay.queued_frames g.takes.stay.sent_frames g.takes.stay.core g.takes.ended (ap (nat_lt 0) g.takes.out)))
     (λ d ne. stays e h d refl refl refl refl refl refl (ap (λ x. cond x true (turn_out h d)) (is_other (named h l) d b held.name ne))))
 
 -- a turn is put back
@@ -39,7 +40,7 @@ Tied-puts_back law {h} came {turn} t k g =
     subst (Tied (e ∷ h)) (sym g.new_is)
     (Tied-left law l g.before t k (quiet e _ t refl (add-zero (entry_count h) ∙ t.entries_are) refl refl refl refl refl refl refl refl) g.was refl
     (subst (λ s. IsTied b s g.after) (sym told)
-    (tied_same false held.tied g.puts.same g.puts.accepted g.puts.stay.served g.puts.stay.queued_frames g.puts.stay.sent_frames g.puts.stay.core g.puts.ended g.puts.is_out))
+    (tied_same false held.tied g.puts.same g.puts.accepted g.puts.stay.served g.puts.stay.queued_frames g.puts.stay.sent_frames g.puts.stay.core g.puts.ended (ap (nat_lt 0) g.puts.out)))
     (λ d ne. stays e h d refl refl refl refl refl refl (ap (λ x. cond x false (turn_out h d)) (is_other (named h l) d b held.name ne))))
 
 -- the turn that is out is that of the next entry
@@ -57,7 +58,7 @@ turn_from row turn true (Some entry) at e =
     let is : turn_of row entry ≡ turn = cc in subst (IsTurn row) is (search rules)
 
 pub turn_is : (row : Row) (turn : Turn) → row_turn row ≡ Some turn → IsTurn row turn
-turn_is row turn e = turn_from row turn row.is_out (slice_get row.accepted row.served) refl e
+turn_is row turn e = turn_from row turn (has_turn_out row) (slice_get row.accepted row.served) refl e
 
 -- the request is accepted for sending where the frame is queued
 pub queued_by : (ended : Option Ending) (frame : Option (List ℕ)) → if_queued (given_of (requested_of ended frame)) (option_to_list frame) ≡ frames_in (requested_of ended frame)
@@ -105,7 +106,7 @@ Tied-gives law {h} came {done} {given} t k g =
       queues = ap (λ fs. queued h b ++ fs) (queued_asked t k g) ∙ ap (λ fs. fs ++ frames_in g.asked) before.queues ∙ sym g.gives.queued_frames;
       sends = append-nil (sent h b) ∙ before.sends ∙ sym g.gives.sent_frames;
       ends = before.ends ∙ sym g.gives.ended;
-      outs = ap (λ x. cond x false (turn_out h b)) (is_own (named h l) b name) ∙ sym g.gives.is_out;
+      outs = ap (λ x. cond x false (turn_out h b)) (is_own (named h l) b name) ∙ sym (ap (nat_lt 0) g.gives.out);
     } in subst (Tied (e ∷ h)) (sym g.new_is)
     (Tied-left law l g.before t k (quiet e _ t refl (add-zero (entry_count h) ∙ t.entries_are) refl refl refl refl refl refl refl refl) g.was refl tied
     (λ d ne. stays e h d refl refl (for_other (named h l) d b (p ∷ []) name ne)

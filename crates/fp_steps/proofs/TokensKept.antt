@@ -1,6 +1,7 @@
 -- The tokens that a run keeps are those that its book handed out.
 use Rattle.fp_steps.proofs.Names.{AbortCause, Answers, Bool, ClosesOne, Content, Done, EndsDialogue, ExtendsDialogue, FinMap, Follows, Given, GivesDone, Holds, IsOwn, List, LoggedStep, None, OneChanges, OpensDialogue, Option, Parcel, ParcelIs, Posted, Prepared, PutsTurnBack, Refuses, Row, Sends, Shelf, Some, Sound, TakesFirst, TakesOut, TakesTurn, Tid, Turn, Verdict, [], abort_for, add-one, and_parts, ap, append-nil, arith, arrival_of, by_held, by_local, common_remove as remove, cond, cond_some, drop, eq-eqb, eqb, eqb-true, false, filter, filter-append, find, get, identifier, inserted, kept, left_of, length, ltb-false, ltb-true, nat_cmp, nat_lt, nat_tests, not, not-true, not_held, option_map, option_to_list, passes_at_first, position, position_or_len, refl, row_turn as turn_out, row_waits as waits, rules, slice_get, slice_index_or, split_at_first, subst, suc, sym, take, take_all, true, turn_of, turns_at, ℕ, ◌++◌, ◌+◌, ◌<◌, ◌∙◌, ◌∷◌, ◌≡◌, ◌≤◌}
 use Rattle.fp_row.specs.Row as row
+use Rattle.fp_row.specs.Row.{has_turn_out}
 use Rattle.fp_steps.proofs.HeldDialogues.{one_put, by_option, eqb_swap}
 
 -- nothing is done with the turns and the parcel that are out
@@ -29,7 +30,7 @@ pub untouched_then : {a b c : Shelf} → Untouched a b → Untouched b c → Unt
 untouched_then u v = grind arith
 
 -- where no turn is out none is told
-no_turn : (r : Row) → r.is_out ≡ false → turn_out r ≡ None
+no_turn : (r : Row) → has_turn_out r ≡ false → turn_out r ≡ None
 no_turn r e = ap (λ b. cond b (option_map (row.turn_of r) (slice_get r.accepted r.served)) None) e
 
 -- what goes has no turn out
@@ -65,7 +66,7 @@ opens_untouched : {old new : Shelf} {peer : Tid} {came : Prepared} {answer : Pos
 opens_untouched {old} k g =
     let l = identifier old.link (old.given + 1) in let none : get old.rows l ≡ None = fresh_at k in
     subst (Untouched old) (sym g.new_is)
-    (let stays = one_turn (inserted old.rows l None g.after none) (g.extends.turn ∙ no_turn g.opened g.opens.is_out) in search rules)
+    (let stays = one_turn (inserted old.rows l None g.after none) (g.extends.turn ∙ no_turn g.opened (ap (nat_lt 0) g.opens.out)) in search rules)
 
 extends_untouched : {old new : Shelf} {local : ℕ} {came : Prepared} {answer : Posted} → ExtendsDialogue old local came answer new → Untouched old new
 extends_untouched {old} {local} g = subst (Untouched old) (sym g.new_is)
@@ -111,7 +112,7 @@ pub holds_takes : {turns : List Turn} {parcel : Option Parcel} {old new : Shelf}
 holds_takes {turns} {parcel} {old} {new} {turn} g k =
     let l = turn.local in
     let one = one_put old new l (Some g.before) g.after g.was (ap (λ (s : Shelf). s.rows) g.new_is) in
-    let free : turn_out g.before ≡ None = no_turn g.before (not-true g.before.is_out (and_parts (not g.before.is_out) (waits g.before) g.takes.was_ready).0) in
+    let free : turn_out g.before ≡ None = no_turn g.before (not-true (has_turn_out g.before) (and_parts (not (has_turn_out g.before)) (waits g.before) g.takes.was_ready).0) in
     record {
       turns_are = λ d. filter-append (λ (t : Turn). eqb t.local d) turns (turn ∷ [])
           ∙ by_local d l (λ d. turns_at d turns ++ turns_at d (turn ∷ []) ≡ option_to_list (turn_of (get new.rows d)))

@@ -1,6 +1,7 @@
 -- Steps of turns and parcels, and the end of a link, keep what waits in a book as its history tells.
 use Rattle.fp_steps.proofs.Names.{AbortsTied, ByAge, Content, Done, Ending, Event, Given, GivesDone, GoesDown, Lined, List, LoggedStep, None, Option, Output, PicksParcel, Prepared, PutsTurnBack, QueuedFrame, Sends, Shelf, Some, Sorted, Sound, Step, TakesTurn, Tied, Turn, Waiting, [], abort_out, aborts, aborts_sent, aborts_waiting, ap, append_assoc, arith, as_waiting, cond, cond_both, count, count-cons, drop, drop_at, ending, eq-eqb, eqb-true, false, false_from_ne_true, filter, filter-append, filter_agree, frame_octets, frames, frames_by, frames_in, is_down, is_ended, is_one, is_sending, is_some, is_waiting, le-leb, length, length-append, local_of, map-append, map_list, named, nat_le, nat_tests, none-some, not, out, parcel_local, picked, queued, refl, requested_of, row_is_ready, subst, suc, sym, true, true≢false, waiting, waiting_in, ℕ, ◌&&◌, ◌++◌, ◌+◌, ◌<◌, ◌||◌, ◌∙◌, ◌∷◌, ◌≡◌, ◌≤◌}
 use Rattle.fp_row.specs.declared.requested.Requested.{Requested}
+use Rattle.fp_row.specs.Row.{has_turn_out}
 use Rattle.fp_steps.proofs.FramesInOrder.{Goes, bump, counted, first_goes, made_of, n_of, numbered, waits_by, zero_of}
 use Rattle.fp_steps.proofs.HeldDialogues.{Held, event, held_of, none_named, same_local}
 use Rattle.fp_steps.proofs.QueueInOrder.{Joins, Order-next, cores_closed, cores_same, joins_none, joins_one, joins_same, cores_left, cores_put}
@@ -85,7 +86,7 @@ moves_gave {h} step came {old} {done} {given} l t k m g =
     (ap (map_list (as_waiting h)) (filter-append (is_waiting h) (frames h) (frames_by (named h lo) output h))
     ∙ map-append (as_waiting h) (waiting h) (filter (is_waiting h) (frames_by (named h lo) output h))
     ∙ (λ i. l.frames i ++ more i)) (joins_one lo (row_is_ready g.after) m refl refl
-    (cores_left old.rows lo g.before g.after g.was (λ free. absurd (true≢false (sym (out_by g.before.is_out _ done.turn g.gives.was_out) ∙ free)))) l.order)) m
+    (cores_left old.rows lo g.before g.after g.was (λ free. absurd (true≢false (sym (out_by (has_turn_out g.before) _ done.turn g.gives.was_out) ∙ free)))) l.order)) m
 
 -- what was being sent was
 pub moves_sent : {h : List Event} (step : Step) (came : Option Prepared) {old : Shelf} (new : Shelf) (content : Content) → Lined h old → Sends old content new → Moves h (event step came Output.Sent) old new

@@ -1,9 +1,10 @@
 -- A tick keeps what waits in a book as its history tells: those that become ready stand in the order of their deadlines.
-use Rattle.fp_steps.proofs.Names.{All, All-map, AllPairs, Bool, ByAge, ClocksAt, ComesFirst, Core, Due, Event, IsDue, IsReadyBefore, Lined, List, None, Option, Output, Prepared, Row, Shelf, Some, Sorted, Sound, Step, Ticks, Tied, [], ap, arith, cond, cond_some, count, count-append, due_of, false, filter, get, has_clock, inr, is_admitted, is_idle, local_of, map_list, named, next_due, not, ready_for, recursion_from_All, refl, same_Some, subst, suc, sym, true, ℕ, ◌&&◌, ◌++◌, ◌<◌, ◌∙◌, ◌∷◌, ◌≡◌}
+use Rattle.fp_steps.proofs.Names.{All, All-map, AllPairs, Bool, ByAge, ClocksAt, ComesFirst, Core, Due, Event, IsDue, IsReadyBefore, Lined, List, None, Option, Output, Prepared, Row, Shelf, Some, Sorted, Sound, Step, Ticks, Tied, [], ap, arith, cond, cond_some, count, count-append, due_of, false, filter, get, has_clock, inr, is_admitted, is_idle, local_of, map_list, named, nat_lt, next_due, not, ready_for, recursion_from_All, refl, same_Some, subst, suc, sym, true, ℕ, ◌&&◌, ◌++◌, ◌<◌, ◌∙◌, ◌∷◌, ◌≡◌}
 use Rattle.fp_steps.proofs.HeldDialogues.{Held, core_tied, event, held_of}
 use Rattle.fp_steps.proofs.QueueInOrder.{InQueue, Joins, Same, aged, anew_by, cores_ticked, due_by, newly, queued_at, same_dialogue, sorted_filter, sorted_same}
 use Rattle.fp_steps.proofs.TieAtTicks.{among}
 use Rattle.fp_steps.proofs.WaitingAtSteps.{Moves, moves_to}
+use Rattle.fp_row.specs.Row.{has_turn_out}
 
 -- the identifiers of those that are due
 abbrev locals_of : List Due → List ℕ
@@ -40,10 +41,10 @@ due_sorted h s moment (d ∷ due) t k order are = (
   due_sorted h s moment due t k (λ i j x less within. order (suc i) (suc j) x (omega (arith, less)) (omega (arith, within))) (λ i x within. are (suc i) x (omega (arith, within))),
 )
 
-clocked_before : (x : Bool) (moment : ℕ) (o : Option Row) (after : Row) → ClocksAt x moment o (Some after) → (before : Row) × (o ≡ Some before) × (after.is_out ≡ before.is_out)
+clocked_before : (x : Bool) (moment : ℕ) (o : Option Row) (after : Row) → ClocksAt x moment o (Some after) → (before : Row) × (o ≡ Some before) × (has_turn_out after ≡ has_turn_out before)
 clocked_before false moment o after c = (after, sym c, refl)
 clocked_before true moment None after c = absurd c
-clocked_before true moment (Some before) after c = (before, refl, c.is_out)
+clocked_before true moment (Some before) after c = (before, refl, ap (nat_lt 0) c.out)
 
 -- those that join the queue have become ready at the same tick
 joins_ticked : {h : List Event} (e : Event) {old new : Shelf} {moment added wanting : ℕ} → Tied h old → Sound old → Tied (e ∷ h) new → Sound new → Lined h old → Ticks old moment added wanting new → Joins h e old new

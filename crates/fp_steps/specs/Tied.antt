@@ -11,7 +11,7 @@ use Rattle.fp_q773.specs.Tid.{octets_of as octets_of_tid}
 use Rattle.fp_reply.specs.ProviderAbort.{frame_octets}
 use Rattle.fp_row.specs.declared.ending.Ending.{Ending}
 use Rattle.fp_row.specs.declared.row.Row.{Row}
-use Rattle.fp_row.specs.Row.{is_closed, queued_of, sent_of}
+use Rattle.fp_row.specs.Row.{is_closed, queued_of, sent_of, has_turn_out}
 use Rattle.fp_service.specs.declared.dialogue.Core.{Core}
 use Rattle.fp_service.specs.Dialogue.{fresh, is_over}
 use Rattle.fp_service.specs.Fold.{core_after, cut, requests}
@@ -87,7 +87,7 @@ pub record IsTied (d : ℕ) (t : Story) (row : Row) : Type 0 where
   pub queues : t.queues ≡ queued_of row
   pub sends : t.sends ≡ sent_of row
   pub ends : t.ended ≡ row.ended
-  pub outs : t.out ≡ row.is_out
+  pub outs : t.out ≡ has_turn_out row
 
 -- nothing is left of it, or it isn't opened yet
 pub record IsGone (births : ℕ) (d : ℕ) (t : Story) : Type 0 where

@@ -7,7 +7,7 @@ use std::io::{ErrorKind, Read, Write};
 
 /// A reader or a writer, and how often it failed. The count wraps after 2^64 - 1.
 ///
-/// A call that was interrupted is made again, and is no failure, up to 2^64 - 1 times.
+/// A call that was interrupted is repeated, and is no failure, up to 2^64 - 1 times.
 #[derive(Drop)]
 pub struct Counted<D> {
     /// The reader or the writer.

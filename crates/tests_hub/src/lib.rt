@@ -1,14 +1,15 @@
 //! Tests of `fp_hub`, for those who change it: threads that share the hub of a link, over memory.
 //!
-//! No contract of `fp_hub` can say that each call of a hub makes the book's call of that name, or that hints and parcels
-//! reach the threads that wait for them, since no clause names what another thread may have changed. These tests show
-//! it. They are in a crate of their own so that `fp_hub` is proved once.
+//! No contract of `fp_hub` can say that each call of a hub makes the book's call of that name, or that hints and
+//! parcels reach the threads that wait for them, since no clause names what another thread may have changed. These
+//! tests show it. They are in a crate of their own so that `fp_hub` is proved once.
 //!
 //! * `walks`: one thread makes each call in turn; what the calls answer is compared word by word.
 //! * `relays`: one thread posts messages, workers serve them, another thread sends; the answers are compared octet by
 //!   octet.
 //! * `messages`: the records, the messages and what answers them.
-//! * [`SecondFirst`] is a gate that holds a turn until another dialogue was answered. The tests of `fp_serve` use it, too.
+//! * [`SecondFirst`] is a gate that holds a turn until another dialogue was answered. The tests of `fp_serve` use it,
+//!   too.
 #![tactic(auto)]
 
 mod second_first;

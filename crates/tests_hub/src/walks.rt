@@ -3,6 +3,7 @@
 ghost use Rattle.fp_hub.specs.Shares.{AreBlanks};
 
 mod caller;
+mod holding;
 
 use crate::messages::RECORDS;
 use caller::make_walk;
@@ -16,6 +17,7 @@ use std::rt::Clock;
 use std::sync::Wait;
 use std::sync::ledger::{Blank, Ledger};
 use std::test::Fail;
+use std::thread::Threads;
 
 /// The calls that are made.
 #[derive(Clone, Copy)]
@@ -26,6 +28,10 @@ enum Walk {
     AllPlaces,
     /// Hints to three workers, before the hub is closed and after.
     Hints,
+    /// Messages that are held back at each limit, and taken once there is room.
+    Holds,
+    /// Threads that sleep until there is room, or the link is quiet or down.
+    Wakes,
 }
 
 /// What the calls of a walk answered, word by word, and what was counted.
@@ -36,13 +42,12 @@ struct Walked {
 }
 
 /// Makes the calls of a walk with a hub whose ledgers are these.
-fn walk_over<R: Wait + Clock, A: Ledger, B: Ledger, C: Ledger>(
-    rt: &R,
-    alloc: Global,
-    blanks: (Blank, Blank, Blank),
-    table: &Table,
-    walk: Walk,
-) -> Option<Walked>
+fn walk_over<
+    R: Threads + Wait + Clock + Sync,
+    A: Ledger + Send + Sync,
+    B: Ledger + Send + Sync,
+    C: Ledger + Send + Sync,
+>(rt: &R, alloc: Global, blanks: (Blank, Blank, Blank), table: &Table, walk: Walk) -> Option<Walked>
     requires { AreBlanks blanks A.name A.parts B.name B.parts C.name C.parts }
 {
     let (hub, seat) = Hub::<A, B, C>::new(alloc, 0, Looks::FEW, blanks).ok()?;
@@ -54,13 +59,18 @@ fn walk_over<R: Wait + Clock, A: Ledger, B: Ledger, C: Ledger>(
 }
 
 /// Makes the calls of a walk, and finishes the link. `None`: out of memory.
-fn walk_link<R: Wait + Clock>(rt: &R, alloc: Global, table: &Table, walk: Walk) -> Option<Walked> {
+fn walk_link<R: Threads + Wait + Clock + Sync>(
+    rt: &R,
+    alloc: Global,
+    table: &Table,
+    walk: Walk,
+) -> Option<Walked> {
     let blanks = (Blank::new(PARTS), Blank::new(PARTS), Blank::new(PARTS));
     walk_over::<R, Brand, Brand, Brand>(rt, alloc, blanks, table, walk)
 }
 
 /// Asserts that the calls of a walk answer these words, and that as much is counted.
-fn assert_walk<R: Wait + Clock + Abort>(
+fn assert_walk<R: Threads + Wait + Clock + Sync + Abort>(
     rt: &R,
     alloc: Global,
     walk: Walk,
@@ -75,12 +85,13 @@ fn assert_walk<R: Wait + Clock + Abort>(
 }
 
 /// Each call of a hub makes its step: a call that is answered, then one that is held until its time is over and whose
-/// Abort can't be sent, which takes the link down and wakes the thread that rests. 4,096 lines wake it too, each time
-/// after the log was drained, and fewer don't; with 5,120 the log is filling, also if a drain left them.
+/// Abort can't be sent, which takes the link down and wakes the thread that rests. 512 lines wake it too, each time
+/// after the log was drained, and fewer don't; with 5,120 the log is filling, and with 7,168 nearly full, also if a
+/// drain left some of them.
 #[test]
 fn each_call_makes_its_step(rt: HostRuntime) -> Result<(), Fail> {
     let words =
-        "opened back silent queued nothing sent nothing opened silent none due nothing one due queued up unsent down discarded nothing none due nothing woken all discarded rested all discarded woken drained all discarded woken all discarded not filling all discarded filling drained not filling all discarded filling drained not filling woken ";
+        "opened back silent queued nothing sent nothing opened silent none due nothing one due queued up unsent down discarded nothing none due nothing woken all discarded rested all discarded woken drained all discarded woken all discarded not filling all discarded filling drained not filling all discarded filling all discarded nearly full drained filling drained not filling woken ";
     let totals = Totals {
         accepted: 1,
         served: 4,
@@ -112,4 +123,34 @@ fn hints_wait_for_each_worker(rt: HostRuntime) -> Result<(), Fail> {
         sent: 0,
     };
     assert_walk(&rt, rt.alloc(), Walk::Hints, words, totals)
+}
+
+/// Messages are held back if 7,168 places for frames are held, 64 entries of their dialogue or 64 Aborts of the
+/// provider wait, or 4,096 dialogues are held of which one is busy; and taken after one is sent or served. What is
+/// refused all the same isn't held back: a message that gets no Abort, and a Begin if all dialogues are quiet.
+#[test]
+fn messages_are_held_back(rt: HostRuntime) -> Result<(), Fail> {
+    let words =
+        "opened silent accepted accepted accepted accepted held back silent accepted nothing all aborted held back discarded discarded opened sent aborted nothing all sent quiet all opened nothing discarded held back sent accepted nothing all sent quiet all opened nothing opened held back silent queued held back sent opened silent aborted ";
+    let totals = Totals {
+        accepted: 7_236,
+        served: 11_334,
+        sent: 7_170,
+    };
+    assert_walk(&rt, rt.alloc(), Walk::Holds, words, totals)
+}
+
+/// A thread that sleeps until there is room is woken by a turn that is given, by a parcel that is handed out, and by
+/// one that couldn't be sent, which ends the link; without them it sleeps on, also after a second. One that sleeps
+/// until the link is quiet is woken when the last parcel was sent, and by the last turn.
+#[test]
+fn waiting_threads_are_woken(rt: HostRuntime) -> Result<(), Fail> {
+    let words =
+        "opened silent accepted accepted accepted accepted woken accepted waited accepted nothing all aborted woken aborted not quiet all sent quiet accepted quiet accepted accepted accepted accepted aborted woken quiet discarded ";
+    let totals = Totals {
+        accepted: 131,
+        served: 68,
+        sent: 0,
+    };
+    assert_walk(&rt, rt.alloc(), Walk::Wakes, words, totals)
 }

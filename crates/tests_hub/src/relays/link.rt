@@ -72,7 +72,8 @@ impl Plan {
 /// What came of a link.
 #[derive(Drop)]
 pub(crate) struct Relayed {
-    // Whether each message opened the dialogue that it should, with a hint, and no hint was given once the hub was closed.
+    // Whether each message opened the dialogue that it should, with a hint, and no hint was given once the hub was
+    // closed.
     pub(crate) are_opened: bool,
     // What was sent, in its order.
     pub(crate) answers: Vec<Vec<u8>>,

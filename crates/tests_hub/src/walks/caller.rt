@@ -13,16 +13,20 @@ use std::alloc::Global;
 use std::rt::Clock;
 use std::sync::Wait;
 use std::sync::ledger::Ledger;
+use std::thread::Threads;
 use std::time::{Duration, Instant};
 
 /// Noon of 6 May 2024.
-const NOON: u64 = 1_714_996_800_000;
+pub(super) const NOON: u64 = 1_714_996_800_000;
 
-/// Half of the places for lines of the log.
-const HALF: usize = 4096;
+/// How many lines of the log wake the thread that rests.
+const WAKING: usize = 512;
 
-/// An eighth of them.
-const EIGHTH: usize = 1024;
+/// With how many the log is filling: five eighths of the places for them.
+const FILLING_LOG: usize = 5120;
+
+/// With how many the log is nearly full: seven eighths of the places for them.
+const NEARLY_FULL_LOG: usize = 7168;
 
 /// How many Begins fill all places for frames, and one more.
 const FILLING: usize = Outbox::MOST_FRAMES / CALLS_COUNT + 1;
@@ -32,40 +36,47 @@ const LONG: u64 = 100_000;
 
 /// What the calls of a walk answered, word by word.
 #[derive(Drop)]
-struct Words {
+pub(super) struct Words {
     text: String,
 }
 
 impl Words {
     /// Puts a word after the others.
-    fn say(&mut self, word: &str) {
+    pub(super) fn say(&mut self, word: &str) {
         let _ = self.text.push_str(word);
         let _ = self.text.push_str(" ");
     }
 }
 
+/// The word for what became of a message.
+pub(super) fn word_of(posted: Posted) -> &'static str {
+    match posted {
+        Posted::Opened(_) => "opened",
+        Posted::Accepted(_) => "accepted",
+        Posted::Aborted(_) => "aborted",
+        Posted::Ended => "ended",
+        Posted::Discarded => "discarded",
+    }
+}
+
 /// What the thread has at hand.
 #[derive(Drop)]
-struct Caller<'a, R: Wait + Clock, A: Ledger, B: Ledger, C: Ledger> {
-    rt: &'a R,
-    alloc: Global,
-    hub: &'a Hub<A, B, C>,
-    seat: Seat<A, B, C>,
-    table: &'a Table,
+pub(super) struct Caller<'a, R: Wait + Clock, A: Ledger, B: Ledger, C: Ledger> {
+    pub(super) rt: &'a R,
+    pub(super) alloc: Global,
+    pub(super) hub: &'a Hub<A, B, C>,
+    pub(super) seat: Seat<A, B, C>,
+    pub(super) table: &'a Table,
 }
 
 impl<R: Wait + Clock, A: Ledger, B: Ledger, C: Ledger> Caller<'_, R, A, B, C> {
     /// Posts a frame.
-    fn post(&mut self, frame: Option<Frame>) -> &'static str {
+    pub(super) fn post(&mut self, frame: Option<Frame>) -> &'static str {
         let (Some(frame), Some(moment)) = (frame, Moment::new(NOON)) else {
             return "no frame";
         };
         let came = Prepared::read(self.alloc, self.table, &[], frame, moment);
-        match self.hub.post(self.rt, self.alloc, &mut self.seat, came) {
-            Posted::Opened(_) => "opened",
-            Posted::Discarded => "discarded",
-            Posted::Accepted(_) | Posted::Aborted(_) | Posted::Ended => "else",
-        }
+        word_of(self.hub.post(self.rt, self.alloc, &mut self.seat, came))
     }
 
     /// Posts so many messages that are discarded.
@@ -99,7 +110,7 @@ impl<R: Wait + Clock, A: Ledger, B: Ledger, C: Ledger> Caller<'_, R, A, B, C> {
     }
 
     /// Takes the next turn, which has this position, and serves it or puts it back.
-    fn turn(&mut self, position: u64, is_served: bool) -> &'static str {
+    pub(super) fn turn(&mut self, position: u64, is_served: bool) -> &'static str {
         let turn = match self.hub.take(self.rt) {
             Taken::Turn(turn) => turn,
             Taken::Nothing => return "nothing",
@@ -123,7 +134,7 @@ impl<R: Wait + Clock, A: Ledger, B: Ledger, C: Ledger> Caller<'_, R, A, B, C> {
     }
 
     /// Takes and serves turns until none is handed out.
-    fn serve_all(&mut self) -> &'static str {
+    pub(super) fn serve_all(&mut self) -> &'static str {
         for _ in 0..100_000 {
             match self.hub.take(self.rt) {
                 Taken::Turn(turn) => self.serve(turn),
@@ -136,7 +147,7 @@ impl<R: Wait + Clock, A: Ledger, B: Ledger, C: Ledger> Caller<'_, R, A, B, C> {
     }
 
     /// Picks what is sent next, and picks once more, which finds it out; then reports it sent or unsent.
-    fn send(&mut self, is_sent: bool) -> &'static str {
+    pub(super) fn send(&mut self, is_sent: bool) -> &'static str {
         let parcel = match self.hub.pick(self.rt) {
             Picked::Parcel(parcel) => parcel,
             Picked::Busy => return "busy",
@@ -228,12 +239,13 @@ impl<R: Wait + Clock, A: Ledger, B: Ledger, C: Ledger> Caller<'_, R, A, B, C> {
         }
     }
 
-    /// Whether the log is filling.
-    fn filling(&self) -> &'static str {
-        if self.hub.is_log_filling() {
-            "filling"
-        } else {
-            "not filling"
+    /// How full the log is.
+    fn fullness(&self) -> &'static str {
+        match (self.hub.is_log_filling(), self.hub.is_log_nearly_full()) {
+            (false, false) => "not filling",
+            (true, false) => "filling",
+            (true, true) => "nearly full",
+            (false, true) => "else",
         }
     }
 
@@ -281,34 +293,38 @@ impl<R: Wait + Clock, A: Ledger, B: Ledger, C: Ledger> Caller<'_, R, A, B, C> {
         words.say(self.send(true));
     }
 
-    /// Rests behind so many lines of the log: it is woken where the link went down, and where half of the places are
-    /// taken, and else rests its time. Where five eighths are taken the log is filling, and not before; lines that a drain
-    /// leaves are still counted.
+    /// Rests after so many lines of the log: it is woken if the link went down, and if 512 lines wait, and else rests
+    /// its time. If five eighths of the places are taken the log is filling, and not before, and if seven eighths are
+    /// it is nearly full; lines that a drain leaves are still counted.
     fn rest_often(&mut self, line_count: usize, words: &mut Words) {
         words.say(self.rest(LONG));
-        words.say(self.post_many(HALF.saturating_sub(line_count).saturating_sub(1)));
+        words.say(self.post_many(WAKING.saturating_sub(line_count).saturating_sub(1)));
         words.say(self.rest(20));
         words.say(self.post_many(1));
         words.say(self.rest(LONG));
-        words.say(self.drain(HALF));
-        words.say(self.post_many(HALF));
+        words.say(self.drain(WAKING));
+        words.say(self.post_many(WAKING));
         words.say(self.rest(LONG));
-        words.say(self.post_many(EIGHTH - 1));
-        words.say(self.filling());
+        words.say(self.post_many(FILLING_LOG - WAKING - 1));
+        words.say(self.fullness());
         words.say(self.post_many(1));
-        words.say(self.filling());
+        words.say(self.fullness());
         words.say(self.drain_into(1, 1));
-        words.say(self.filling());
+        words.say(self.fullness());
+        words.say(self.post_many(NEARLY_FULL_LOG - FILLING_LOG));
+        words.say(self.fullness());
         words.say(self.post_many(1));
-        words.say(self.filling());
-        words.say(self.drain(HALF + EIGHTH));
-        words.say(self.filling());
+        words.say(self.fullness());
+        words.say(self.drain_into(1, 1));
+        words.say(self.fullness());
+        words.say(self.drain(NEARLY_FULL_LOG - 1));
+        words.say(self.fullness());
         self.hub.down(self.rt);
         words.say(self.rest(LONG));
     }
 
-    /// Fills all places for frames behind a parcel that was sent. Two workers listen, and one of them is hinted, where
-    /// the next parcel is awaited.
+    /// Fills all places for frames after a parcel was sent. Two workers listen, and one of them is hinted when the next
+    /// parcel is awaited.
     fn fill_places(&mut self, words: &mut Words) {
         let (Ok(hints), Ok(others)) = (self.hub.hints(), self.hub.hints()) else {
             return;
@@ -352,7 +368,13 @@ impl<R: Wait + Clock, A: Ledger, B: Ledger, C: Ledger> Caller<'_, R, A, B, C> {
 }
 
 /// Makes the calls of a walk, and gives their words and the seat.
-pub(crate) fn make_walk<'x, R: Wait + Clock, A: Ledger, B: Ledger, C: Ledger>(
+pub(crate) fn make_walk<
+    'x,
+    R: Threads + Wait + Clock + Sync,
+    A: Ledger + Send + Sync,
+    B: Ledger + Send + Sync,
+    C: Ledger + Send + Sync,
+>(
     rt: &'x R,
     alloc: Global,
     hub: &'x Hub<A, B, C>,
@@ -377,6 +399,8 @@ pub(crate) fn make_walk<'x, R: Wait + Clock, A: Ledger, B: Ledger, C: Ledger>(
         }
         Walk::AllPlaces => caller.fill_places(&mut words),
         Walk::Hints => caller.hint_workers(&mut words),
+        Walk::Holds => caller.hold_back(&mut words),
+        Walk::Wakes => caller = caller.wake(&mut words),
     }
     let Caller { seat, .. } = caller;
     let Words { text } = words;

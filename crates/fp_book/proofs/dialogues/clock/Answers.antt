@@ -1,8 +1,4 @@
-use Rattle.std.proofs.Common.{◌≡◌, true, not, ◌&&◌, Some, sym, ap, subst, ◌∙◌, refl}
-use Rattle.std.specs.FinMap.{get}
-use Rattle.fp_book.specs.Dialogues.{is_due_at}
-use Rattle.fp_row.specs.Calls.{Clocks}
-use Rattle.fp_row.specs.Row.{is_due, is_ready}
+use Rattle.fp_book.proofs.Names.{Clocks, Some, ap, get, is_due, is_due_at, is_ready, not, refl, subst, sym, true, ◌&&◌, ◌∙◌, ◌≡◌}
 use Rattle.fp_book.proofs.dialogues.clock.Goals as goal
 
 -- the dialogue is due, so its Clock is taken

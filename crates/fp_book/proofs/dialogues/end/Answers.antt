@@ -1,4 +1,4 @@
-use Rattle.std.proofs.Common.{sym}
+use Rattle.fp_book.proofs.Names.{sym}
 use Rattle.fp_book.proofs.Closes.{dropped_at}
 use Rattle.fp_book.proofs.Sums.{keep_after}
 use Rattle.fp_book.proofs.dialogues.end.Goals as goal

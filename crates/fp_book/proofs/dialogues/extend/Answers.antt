@@ -1,13 +1,11 @@
-use Rattle.std.proofs.Common.{◌≡◌, ◌&&◌, sym, refl}
-use Rattle.fp_book.specs.Dialogues.{Grows, drops_frames}
-use Rattle.fp_row.specs.Calls.{Extends}
+use Rattle.fp_book.proofs.Names.{Extends, Grows, drops_frames, refl, sym, ◌&&◌, ◌≡◌}
 use Rattle.fp_book.proofs.Closes.{drops_ended, drops_of}
 use Rattle.fp_book.proofs.Grows.{extended_by}
 use Rattle.fp_book.proofs.Sums.{keep_after}
 use Rattle.fp_book.proofs.dialogues.extend.Goals.{then-ends, else-ends}
 use Rattle.fp_book.proofs.dialogues.extend.Goals as goal
 
--- the dialogue has the entries behind its others, if there was memory
+-- the dialogue has the entries after its others, if there was memory
 extends : (c : goal.After-keep) → Extends c.in-Some.row.now c.args.entries c.accept.new.self
 extends c =
     let taken = c.in_ok-accept.ensures.ok in

@@ -1,8 +1,6 @@
-use Rattle.std.proofs.Common.{◌≡◌, sym, ◌∙◌, ap}
+use Rattle.fp_book.proofs.Names.{Turn, ap, keep, sym, ◌∙◌, ◌≡◌}
 use Rattle.std.specs.FinMap as map
 use Rattle.fp_book.proofs.Sums.{keep_after}
-use Rattle.fp_book.specs.Shelf.{keep}
-use Rattle.fp_row.specs.declared.turn.Turn.{Turn}
 use Rattle.fp_book.proofs.dialogues.give.Goals as goal
 
 pub returns-clause-ok : goal.returns-clause-ok

@@ -2,7 +2,7 @@ use Rattle.fp_book.proofs.Grows.{opened_at}
 use Rattle.fp_book.proofs.dialogues.open.Goals.{in-Ok, in-Err}
 use Rattle.fp_book.proofs.dialogues.open.Goals as goal
 
--- the new dialogue stands among the others, if there was memory
+-- the new dialogue is among the others, if there was memory
 pub returns-clause-ok : goal.returns-clause-ok
 returns-clause-ok c =
     let taken = c.in_ok-accept.ensures.ok in

@@ -1,5 +1,4 @@
-use Rattle.std.proofs.Common.{sym}
-use Rattle.std.specs.FinMap.{get}
+use Rattle.fp_book.proofs.Names.{get, sym}
 use Rattle.fp_book.proofs.Closes.{one_sent}
 use Rattle.fp_book.proofs.Sums.{keep_after}
 use Rattle.fp_book.proofs.dialogues.sent.Goals as goal

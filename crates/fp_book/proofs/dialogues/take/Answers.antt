@@ -1,5 +1,5 @@
-use Rattle.std.proofs.Common.{sym, subst}
-use Rattle.fp_row.specs.Calls.{HandsOut, Takes}
+use Rattle.fp_book.proofs.Names.{HandsOut, ap, nat_lt, subst, sym}
+use Rattle.fp_row.specs.Calls.{Takes}
 use Rattle.fp_book.proofs.Sums.{put_held}
 use Rattle.fp_book.proofs.Turns.{held_out}
 use Rattle.fp_book.proofs.dialogues.take.Goals as goal
@@ -12,5 +12,5 @@ returns-clause-ok c =
       after = c.take.new.self;
       was = sym c.in-Some.ensures.value;
       does = takes;
-      rows = put_held _ _ _ (held_out c.take.new.self takes.is_out);
+      rows = put_held _ _ _ (held_out c.take.new.self (ap (nat_lt 0) takes.out));
     }

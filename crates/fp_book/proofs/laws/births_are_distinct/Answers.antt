@@ -1,6 +1,4 @@
-use Rattle.std.proofs.Common.{sym, ◌∙◌, ap}
-use Rattle.fp_book.specs.Laws.{BirthsAreDistinct}
-use Rattle.fp_tids.specs.Identifiers.{identifier}
+use Rattle.fp_book.proofs.Names.{BirthsAreDistinct, ap, identifier, sym, ◌∙◌}
 use Rattle.fp_book.proofs.laws.births_are_distinct.Goals as goal
 
 -- each has the identifier of its birth

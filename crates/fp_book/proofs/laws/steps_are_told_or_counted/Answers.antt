@@ -1,4 +1,4 @@
-use Rattle.std.proofs.Common.{length, nat_lt}
+use Rattle.fp_book.proofs.Names.{length, nat_lt}
 use Rattle.fp_book.proofs.Accounts.{step_accounted, step_told}
 use Rattle.fp_book.proofs.laws.steps_are_told_or_counted.Goals as goal
 

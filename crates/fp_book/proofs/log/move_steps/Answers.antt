@@ -1,5 +1,4 @@
-use Rattle.std.proofs.Common.{◌≡◌, ◌-◌, ◌<◌, length, min, ap, ◌∙◌, arith}
-use Rattle.std.proofs.lemmas.List.{length-drop}
+use Rattle.fp_book.proofs.Names.{ap, arith, length, length-drop, min, ◌-◌, ◌<◌, ◌∙◌, ◌≡◌}
 use Rattle.fp_book.proofs.Accounts.{all_moved, one_moved}
 use Rattle.fp_book.proofs.log.move_steps.Goals.{in-Some, in_default}
 use Rattle.fp_book.proofs.log.move_steps.Goals as goal

@@ -1,6 +1,4 @@
-use Rattle.std.proofs.Common.{◌≡◌, ◌+◌, vec_capacity, vec_len}
-use Rattle.std.specs.VecDeque.{deque_capacity}
-use Rattle.fp_book.specs.Log.{Drains}
+use Rattle.fp_book.proofs.Names.{Drains, deque_capacity, vec_capacity, vec_len, ◌+◌, ◌≡◌}
 use Rattle.fp_book.proofs.log.move_steps.Given as goal
 
 abbrev pub invariant-loop-moved : goal.invariant-loop-moved

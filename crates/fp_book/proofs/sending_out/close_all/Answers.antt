@@ -1,4 +1,4 @@
-use Rattle.std.proofs.Common.{Some, subst, arith}
+use Rattle.fp_book.proofs.Names.{Some, arith, subst}
 use Rattle.fp_book.proofs.Closes.{ClosedBelow, less_ahead, none_closed, one_closed}
 use Rattle.fp_book.proofs.sending_out.close_all.Goals as goal
 

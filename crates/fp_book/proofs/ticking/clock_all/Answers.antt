@@ -1,4 +1,4 @@
-use Rattle.std.proofs.Common.{◌≤◌, arith}
+use Rattle.fp_book.proofs.Names.{arith, ◌≤◌}
 use Rattle.fp_book.proofs.Ticks.{begins, few_added, fewer, one_more, same_still}
 use Rattle.fp_book.proofs.ticking.clock_all.Goals as goal
 
@@ -22,7 +22,7 @@ loop-added-preserved c =
     one_more c.args.moment c.args.rows.now c.args.ready.now c.loop-added.rows c.loop-added.deadlines c.loop-added.ready c.loop-added.added c.clock_first.new.rows c.clock_first.new.deadlines c.clock_first.new.ready
     c.loop-added.invariant c.loop-added-test.ensures
 
--- nothing changed where no further one was given a Clock
+-- nothing changed if no further one was given a Clock
 pub returns-clause-clocks : goal.returns-clause-clocks
 returns-clause-clocks c =
     same_still c.args.moment c.args.rows.now c.args.ready.now c.loop-added.rows c.loop-added.deadlines c.loop-added.ready c.loop-added.added c.clock_first.new.rows c.clock_first.new.deadlines c.clock_first.new.ready

@@ -1,5 +1,4 @@
-use Rattle.std.specs.FinMap.{len}
-use Rattle.fp_book.specs.Clocking.{Clocking}
+use Rattle.fp_book.proofs.Names.{Clocking, len}
 use Rattle.fp_book.proofs.ticking.clock_all.Given as goal
 
 -- so many were given a Clock so far

@@ -1,7 +1,5 @@
-use Rattle.std.proofs.Common.{not, sym, ◌∙◌}
-use Rattle.std.proofs.lemmas.Bool.{and_parts, not-true}
+use Rattle.fp_book.proofs.Names.{and_parts, is_ready, not, not-true, sym, ◌∙◌}
 use Rattle.fp_book.proofs.Kept.{place_of_idle}
-use Rattle.fp_row.specs.Row.{is_ready}
 use Rattle.fp_book.proofs.ticking.clock_first.Goals as goal
 
 -- the dialogue wasn't ready, so there is a place for it

@@ -1,4 +1,4 @@
-use Rattle.std.proofs.Common.{arith}
+use Rattle.fp_book.proofs.Names.{arith}
 use Rattle.fp_book.proofs.Ticks.{due_most, none_found}
 use Rattle.fp_book.proofs.ticking.count_due.Goals as goal
 

@@ -3,8 +3,8 @@ use Rattle.std.proofs.lemmas.List.{length-take-le, take-append-drop, take_all}
 use Rattle.std.specs.Prelude.{is_some}
 use Rattle.fp_row.proofs.Fronts.{shorter_front}
 use Rattle.fp_row.proofs.Keeping.{all_of, frames_count, going, queued_within, sent_within, turn_is_next}
-use Rattle.fp_row.proofs.Waiting.{entry_is_out, parts_by, whole_by}
-use Rattle.fp_row.specs.Row.{frames_of, is_closed, out_count, requests_of, served_of, start_of, unserved}
+use Rattle.fp_row.proofs.Waiting.{entry_is_out, out_count, parts_by, whole_by}
+use Rattle.fp_row.specs.Row.{frames_of, has_turn_out, is_closed, requests_of, served_of, start_of, unserved}
 use Rattle.fp_service.specs.declared.dialogue.Core.{Core}
 use Rattle.fp_service.specs.Dialogue.{is_over}
 use Rattle.fp_service.specs.Fold.{core_after, cut}
@@ -33,14 +33,15 @@ returns c = λ row.
       queued_count = length-take-le row.queued (frames_of row) (queued_within row);
       kept_count = length-take-le row.kept (frames_of row) (omega (arith, queued_within row, row.kept_within));
       sent_count = length-take-le row.sent (frames_of row) (sent_within row);
+      out_count = out_count row.accepted row.served row.out row.out_within;
       few_frames =
           let few : length (requests_of row) ≤ length (served_of row) = c.entries_ask_once_at_most.ensures (start_of row) (served_of row) in
           let frames = frames_count row in
           omega arith;
-      parts = parts_by (is_closed row.ended || is_over row.core) row.accepted row.served (out_count row);
-      whole = λ unclosed live. whole_by (is_closed row.ended) (is_over row.core) row.accepted row.served (out_count row) unclosed live;
+      parts = parts_by (is_closed row.ended || is_over row.core) row.accepted row.served row.out;
+      whole = λ unclosed live. whole_by (is_closed row.ended) (is_over row.core) row.accepted row.served row.out unclosed live;
       next = turn_is_next row;
       turn = entry_is_out row;
-      live = going row.is_out (is_over row.core) row.out_is_live;
+      live = going (has_turn_out row) (is_over row.core) row.out_is_live;
       birth = ap (λ (core : Core). core.birth) row.core_is ∙ c.births_stay.ensures.core_after_has_birth (start_of row) (served_of row);
     }

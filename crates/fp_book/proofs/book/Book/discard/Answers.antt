@@ -1,4 +1,4 @@
-use Rattle.fp_book.specs.Views.{shelf_of}
+use Rattle.fp_book.proofs.Names.{shelf_of}
 use Rattle.fp_book.proofs.Posts.{Sound-logs}
 use Rattle.fp_book.proofs.book.Book.discard.Goals as goal
 

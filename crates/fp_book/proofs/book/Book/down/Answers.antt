@@ -1,8 +1,7 @@
 use Rattle.fp_book.proofs.Kept.{Leaves}
 use Rattle.fp_book.proofs.Downs.{down_book, gone_down}
 use Rattle.fp_book.specs.declared.line.LoggedStep.TheVariants as line
-use Rattle.fp_book.specs.Calls.{GoesDown}
-use Rattle.fp_book.specs.Views.{shelf_of}
+use Rattle.fp_book.proofs.Names.{GoesDown, shelf_of}
 use Rattle.fp_book.proofs.book.Book.down.Goals as goal
 
 leaves : (c : goal.After-add) → Leaves (down_book c.self.inside c.close_all.new.rows c.close_all.new.deadlines c.clear.new.self c.clear-2.new.self c.add.new.self)

@@ -1,5 +1,5 @@
 use Rattle.fp_book.proofs.Posts.{Sound-logs}
-use Rattle.fp_book.specs.Views.{shelf_of}
+use Rattle.fp_book.proofs.Names.{shelf_of}
 use Rattle.fp_book.proofs.book.Book.drain.Goals as goal
 
 -- but for the log all stays

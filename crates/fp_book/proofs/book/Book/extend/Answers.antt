@@ -1,19 +1,5 @@
-use Rattle.std.proofs.Common.{◌≡◌, ℕ, Bool, ◌≤◌, ◌+◌, ◌++◌, cond, length, inl, refl, sym, ◌∙◌, ap, subst, arith}
-use Rattle.fp_book.specs.declared.answers.Posted.TheVariants.{Accepted}
-use Rattle.fp_book.specs.declared.book.Book.TheInside.{Inside}
-use Rattle.fp_book.specs.declared.dialogues.Left.{Left}
+use Rattle.fp_book.proofs.Names.{Accepted, Bool, Extend, ExtendsAt, Follows, Inside, Left, Message, Prepared, Shelf, ap, are_some, arith, arrival_of, entries_in, gone_with, inl, is_frame_of, joins, length, logged, more_accepted, refl, shelf_of, subst, sym, verdict, with_deadline, ℕ, ◌++◌, ◌+◌, ◌∙◌, ◌≡◌, ◌≤◌}
 use Rattle.fp_book.specs.declared.line.LoggedStep.TheVariants as line
-use Rattle.fp_book.specs.declared.verdict.Verdict.TheVariants.{Extend}
-use Rattle.fp_book.specs.Calls.{Follows, are_some, entries_in, joins, more_accepted}
-use Rattle.fp_book.specs.Dialogues.{ExtendsAt, with_deadline}
-use Rattle.fp_book.specs.Log.{logged}
-use Rattle.fp_book.specs.Sending.{is_frame_of}
-use Rattle.fp_book.specs.Shelf.{Shelf, gone_with}
-use Rattle.fp_book.specs.Lines.{verdict}
-use Rattle.fp_book.specs.Views.{shelf_of}
-use Rattle.fp_entry.specs.declared.prepared.Prepared.{Prepared}
-use Rattle.fp_entry.specs.declared.prepared.Prepared.TheVariants.{Message}
-use Rattle.fp_entry.specs.Prepared.{arrival_of}
 use Rattle.fp_book.proofs.Closes.{drops_as}
 use Rattle.fp_book.proofs.Fits.{can_extend}
 use Rattle.fp_book.proofs.Grows.{grown_out, grown_shelf, was_idle}
@@ -30,7 +16,7 @@ extend-requires c = (can_extend (shelf_of c.self.inside) c.args.self.now c.args.
 pub set_deadline-requires : goal.set_deadline-requires
 set_deadline-requires c = let h = c.in-Ok.ensures.ok in room_for _ _ _ h.before c.self.invariant.timed h.was c.self.invariant.sound.held
 
--- and for it among those that are ready, where it has become so
+-- and for it among those that are ready, if it has become so
 pub join-requires : goal.join-requires
 join-requires c is = let h = c.in-Ok.ensures.ok in place_to_join _ _ h.before c.self.invariant.sound h.was (was_idle h.before h.after c.in-Ok.extended.left _ h.does.1 is)
 
@@ -84,7 +70,7 @@ extended c =
     (c.drop_frames_if.ensures ∙ drops_as s local h.before ends c.in-Ok.extended.drops_frames (frames_at s local _ k.sound h.was) (rw (← c.is_sending-is_sending.ensures) drops))
     (c.add.ensures ∙ ap (λ n. logged b.log (line.Post c.in-Message.arrival.moment c.in-Message.arrival.frame (Accepted n))) c.len-count.ensures))))
     k.links
-    (turns_by b.turns b.turns h k.turns (omega (arith, ap (λ b. cond {A = ℕ} b 1 0) (grown_out c.in-Message.incoming.entries ends (is_frame_of local b.outbox.out) h.before h.after h.does.0))))
+    (turns_by b.turns b.turns h k.turns (omega (arith, grown_out c.in-Message.incoming.entries ends (is_frame_of local b.outbox.out) h.before h.after h.does.0)))
     (timed_by b.deadlines c.set_deadline.new.deadlines h k.timed (c.set_deadline.ensures ∙ ap (λ (x : Left). with_deadline b.deadlines local x.deadline) h.does.1))
 
 pub invariant_of-self-2 : goal.invariant_of-self-2

@@ -1,16 +1,7 @@
-use Rattle.std.proofs.Common.{◌≡◌, ◌++◌, ◌-◌, sym, ◌∙◌, ap, subst, arith}
-use Rattle.fp_book.specs.declared.book.Book.TheInside.{Inside}
-use Rattle.fp_book.specs.declared.dialogues.Left.{Left}
+use Rattle.fp_book.proofs.Names.{GivesAt, GivesDone, HasRoom, Inside, Left, Turn, ap, arith, gone_with, joins, logged, nat_lt, one_served, shelf_of, subst, sym, waiting_in, with_deadline, ◌++◌, ◌-◌, ◌∙◌, ◌≡◌}
 use Rattle.fp_book.specs.declared.line.LoggedStep.TheVariants as line
 use Rattle.fp_book.proofs.Kept.{Leaves, few_entries, few_served, leaves, place_to_join, place_to_queue, room_for, same_parts, timed_by}
 use Rattle.fp_book.proofs.Turns.{fewer_turns, is_out, not_ready_out, turn_there}
-use Rattle.fp_book.specs.Calls.{GivesDone, joins, one_served, waiting_in}
-use Rattle.fp_book.specs.Dialogues.{GivesAt, with_deadline}
-use Rattle.fp_book.specs.Log.{logged}
-use Rattle.fp_book.specs.Shelf.{gone_with}
-use Rattle.fp_book.specs.Views.{shelf_of}
-use Rattle.fp_row.specs.declared.turn.Turn.{Turn}
-use Rattle.fp_timers.specs.Deadlines.{HasRoom}
 use Rattle.fp_book.proofs.book.Book.give.Goals as goal
 
 pub overflow_sub-self : goal.overflow_sub-self
@@ -78,7 +69,7 @@ given c =
           (c.add.ensures ∙ ap (λ l. logged b.log (line.Give l c.position-position.result c.queue-given.result)) here ∙ ap (λ p. logged b.log (line.Give l p c.queue-given.result)) place);
     })
     c.self.invariant.links
-    (fewer_turns b h c.self.invariant (is_out h.before done.turn h.does.0.was_out).is_out h.does.0.is_out)
+    (fewer_turns b h c.self.invariant (is_out h.before done.turn h.does.0.was_out).is_out (ap (nat_lt 0) h.does.0.out))
     (timed_by b.deadlines c.set_deadline.new.deadlines h c.self.invariant.timed
     (c.set_deadline.ensures ∙ ap (λ l. with_deadline b.deadlines l left.deadline) here ∙ ap (λ (x : Left). with_deadline b.deadlines l x.deadline) h.does.1))
 

@@ -1,21 +1,5 @@
-use Rattle.std.proofs.Common.{◌≡◌, ◌≤◌, ◌+◌, ◌++◌, ℕ, cond, length, Some, inl, refl, sym, ap, subst, ◌∙◌, arith}
+use Rattle.fp_book.proofs.Names.{Follows, Gives, Inside, Left, LocalIds, Message, Open, Opened, Opens, OpensAt, OpensDialogue, Prepared, Some, ap, arith, arrival_of, entries_in, identifier, inl, is_ready, joins, length, more_accepted, refl, shelf_of, subst, sum_of, sym, turns_of, verdict, ◌++◌, ◌+◌, ◌∙◌, ◌≡◌, ◌≤◌}
 use Rattle.std.specs.FinMap as map
-use Rattle.fp_book.specs.declared.answers.Posted.TheVariants.{Opened}
-use Rattle.fp_book.specs.declared.book.Book.TheInside.{Inside}
-use Rattle.fp_book.specs.declared.dialogues.Left.{Left}
-use Rattle.fp_book.specs.declared.verdict.Verdict.TheVariants.{Open}
-use Rattle.fp_book.specs.Calls.{Follows, OpensDialogue, entries_in, joins, more_accepted}
-use Rattle.fp_book.specs.Dialogues.{OpensAt}
-use Rattle.fp_book.specs.Shelf.{turns_of}
-use Rattle.fp_book.specs.Totals.{sum_of}
-use Rattle.fp_book.specs.Lines.{verdict}
-use Rattle.fp_book.specs.Views.{shelf_of}
-use Rattle.fp_entry.specs.declared.prepared.Prepared.{Prepared}
-use Rattle.fp_entry.specs.declared.prepared.Prepared.TheVariants.{Message}
-use Rattle.fp_entry.specs.Prepared.{arrival_of}
-use Rattle.fp_row.specs.Calls.{Opens}
-use Rattle.fp_row.specs.Row.{is_ready}
-use Rattle.fp_tids.specs.Identifiers.{Gives, LocalIds, identifier}
 use Rattle.fp_book.proofs.Extends.{is_fresh}
 use Rattle.fp_book.proofs.Fits.{can_open}
 use Rattle.fp_book.proofs.Kept.{Leaves, leaves, place_for_new, room_for_new, same_parts, timed_inserted}
@@ -82,7 +66,7 @@ opened c =
       }) rows (c.join.ensures ∙ ap (λ (x : Left). b.ready ++ joins local x.is_ready) h.left_is ∙ ap (λ x. b.ready ++ joins x (is_ready h.after)) same) refl c.add.ensures);
     })
     (ap (λ (i : LocalIds). i.link) gives.2 ∙ k.links)
-    (omega (arith, k.turns, ap (sum_of turns_of) rows, (inserted b.rows l _ h.after (is_fresh s k.sound)).sums turns_of, ap (λ b. cond {A = ℕ} b 1 0) (h.extends.is_out ∙ h.opens.is_out)))
+    (omega (arith, k.turns, ap (sum_of turns_of) rows, (inserted b.rows l _ h.after (is_fresh s k.sound)).sums turns_of, h.extends.out, h.opens.out))
     (rw (h.rows, c.set_deadline.ensures, h.left_is) (timed_inserted b.deadlines b.rows local (map.get b.rows local) h.after refl k.timed))
 
 pub invariant_of-self-2 : goal.invariant_of-self-2

@@ -1,12 +1,7 @@
-use Rattle.std.proofs.Common.{refl, ◌∙◌, ap, subst}
+use Rattle.fp_book.proofs.Names.{Hands, Inside, Picks, ap, logged, refl, shelf_of, subst, ◌∙◌}
 use Rattle.fp_book.proofs.Kept.{Leaves, leaves, same_parts}
-use Rattle.fp_book.specs.declared.book.Book.TheInside.{Inside}
 use Rattle.fp_book.specs.declared.line.LoggedStep.TheVariants as line
 use Rattle.fp_book.specs.declared.parcel.Picked.TheVariants as answers
-use Rattle.fp_book.specs.Calls.{Hands}
-use Rattle.fp_book.specs.Log.{logged}
-use Rattle.fp_book.specs.Outbox.{Picks}
-use Rattle.fp_book.specs.Views.{shelf_of}
 use Rattle.fp_book.proofs.book.Book.pick.Goals as goal
 
 -- the parts of the book then

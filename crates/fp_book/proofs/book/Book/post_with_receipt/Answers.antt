@@ -1,8 +1,8 @@
-use Rattle.fp_book.specs.Calls.{Posts}
+use Rattle.fp_book.proofs.Names.{Posts}
 use Rattle.fp_book.proofs.Counts.{posted_counts, receipt_posts}
 use Rattle.fp_book.proofs.book.Book.post_with_receipt.Goals as goal
 
--- what is told of a message says how it was posted
+-- the receipt of a message says how it was posted
 pub returns : goal.returns
 returns c =
     let posts : Posts c.args.self.now c.args.came c.receive.result.posted c.receive.new.self = receipt_posts c.args.self.now c.receive.new.self c.args.came c.receive.result c.receive.ensures.receipt in

@@ -1,13 +1,7 @@
-use Rattle.std.proofs.Common.{◌++◌, ◌-◌, refl, ◌∙◌, ap}
-use Rattle.fp_book.specs.declared.book.Book.TheInside.{Inside}
+use Rattle.fp_book.proofs.Names.{Inside, PutsBackAt, PutsTurnBack, ap, gone_with, joins, logged, nat_lt, refl, shelf_of, ◌++◌, ◌-◌, ◌∙◌}
 use Rattle.fp_book.specs.declared.line.LoggedStep.TheVariants as line
 use Rattle.fp_book.proofs.Kept.{Leaves, leaves, place_to_join, same_parts, timed_still}
 use Rattle.fp_book.proofs.Turns.{fewer_turns, is_out, not_ready_out, turn_there}
-use Rattle.fp_book.specs.Calls.{PutsTurnBack, joins}
-use Rattle.fp_book.specs.Dialogues.{PutsBackAt}
-use Rattle.fp_book.specs.Log.{logged}
-use Rattle.fp_book.specs.Shelf.{gone_with}
-use Rattle.fp_book.specs.Views.{shelf_of}
 use Rattle.fp_book.proofs.book.Book.put_back.Goals as goal
 
 pub overflow_sub-self : goal.overflow_sub-self
@@ -42,7 +36,7 @@ put c =
           ∙ ap (λ p. logged b.log (line.PutBack turn.local p)) c.position-position.ensures);
     })
     c.self.invariant.links
-    (fewer_turns b h c.self.invariant (is_out h.before turn h.does.0.was_out).is_out h.does.0.is_out)
+    (fewer_turns b h c.self.invariant (is_out h.before turn h.does.0.was_out).is_out (ap (nat_lt 0) h.does.0.out))
     (timed_still b.deadlines h c.self.invariant.timed h.does.0.deadline)
 
 pub invariant_of-self-2 : goal.invariant_of-self-2

@@ -1,6 +1,5 @@
-use Rattle.std.proofs.Common.{refl, sym, ◌∙◌}
+use Rattle.fp_book.proofs.Names.{Discard, Refuse, refl, sym, ◌∙◌}
 use Rattle.fp_book.proofs.Counts.{receipt_away}
-use Rattle.fp_book.specs.declared.verdict.Verdict.TheVariants.{Discard, Refuse}
 use Rattle.fp_book.proofs.book.Book.receive.Goals as goal
 
 pub returns-in-Refuse-clause-receipt : goal.returns-in-Refuse-clause-receipt

@@ -1,12 +1,4 @@
-use Rattle.std.proofs.Common.{◌≡◌, length, sym, ◌∙◌, ap, subst}
-use Rattle.fp_book.specs.Calls.{Refuses, abort_for}
-use Rattle.fp_book.specs.Dialogues.{AnsweredBy, EndsAt}
-use Rattle.fp_book.specs.Log.{logged}
-use Rattle.fp_book.specs.Lines.{verdict}
-use Rattle.fp_book.specs.Views.{shelf_of}
-use Rattle.fp_book.specs.declared.verdict.Verdict.TheVariants.{Refuse}
-use Rattle.fp_entry.specs.Prepared.{arrival_of}
-use Rattle.fp_row.specs.declared.ending.Ending.TheVariants.{Closed}
+use Rattle.fp_book.proofs.Names.{AnsweredBy, Closed, EndsAt, Refuse, Refuses, abort_for, ap, arrival_of, length, logged, shelf_of, subst, sym, verdict, ◌∙◌, ◌≡◌}
 use Rattle.fp_book.proofs.Closes.{left_outbox, left_queue}
 use Rattle.fp_book.proofs.Kept.{Leaves}
 use Rattle.fp_book.proofs.Grows.{ClosedAs, is_there, none_closed, one_closed, refused_book}
@@ -17,7 +9,7 @@ use Rattle.fp_book.proofs.book.Book.refuse.Goals as goal
 pub end-dropped-requires : goal.end-dropped-requires
 end-dropped-requires c = is_there c.self.inside c.args.self.now c.args.came c.args.cause c.args.closes c.in-Some.local c.self.view_is c.requires c.in-Some.is
 
--- the parts of the book where it is closed
+-- the parts of the book if it is closed
 closing : (c : goal.After-add) → ClosedAs c.self.inside c.match-closes.self-inside c.args.closes
 closing c =
     elim c.match-closes.branch [

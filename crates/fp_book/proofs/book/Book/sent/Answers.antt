@@ -1,11 +1,6 @@
-use Rattle.std.proofs.Common.{cond, ℕ, refl, ap, arith}
+use Rattle.fp_book.proofs.Names.{Inside, Sends, SendsAt, arith, gone_with, one_sent, refl, shelf_of}
 use Rattle.fp_book.proofs.Kept.{Leaves, leaves, same_parts, timed_still, turns_by}
 use Rattle.fp_book.proofs.Downs.{abort_sends, frame_sends, sent_fits, unsent_out}
-use Rattle.fp_book.specs.declared.book.Book.TheInside.{Inside}
-use Rattle.fp_book.specs.Calls.{Sends, one_sent}
-use Rattle.fp_book.specs.Dialogues.{SendsAt}
-use Rattle.fp_book.specs.Shelf.{gone_with}
-use Rattle.fp_book.specs.Views.{shelf_of}
 use Rattle.fp_book.proofs.book.Book.sent.Goals as goal
 
 -- an Abort comes back: the parts of the book then
@@ -44,7 +39,7 @@ frame c =
     (frame_sends s _ c.args.parcel.content c.in-Some.local c.sent.new.rows c.in-Some.ensures (c.in-Ok.ensures.known.0 refl).1 h
     (same_parts (record s { totals = one_sent b.totals; gone = gone_with s.gone h.after }) h.rows refl c.in-Ok.ensures.ok c.add-2.ensures))
     c.self.invariant.links
-    (turns_by b.turns b.turns h c.self.invariant.turns (omega (arith, ap (λ b. cond {A = ℕ} b 1 0) h.does.is_out)))
+    (turns_by b.turns b.turns h c.self.invariant.turns (omega (arith, h.does.out)))
     (timed_still b.deadlines h c.self.invariant.timed h.does.deadline)
 
 pub invariant_of-self-2 : goal.invariant_of-self-2

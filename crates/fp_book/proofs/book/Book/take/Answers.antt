@@ -1,15 +1,10 @@
-use Rattle.std.proofs.Common.{◌≡◌, true, false, ◌<◌, ◌+◌, ◌∷◌, refl, sym, ◌∙◌, ap, subst, arith}
-use Rattle.fp_book.specs.declared.book.Book.TheInside.{Inside}
+use Rattle.fp_book.proofs.Names.{HandsOutAt, Inside, TakesTurn, ap, arith, false, logged, nat_lt, places_held, refl, shelf_of, subst, sym, ◌+◌, ◌<◌, ◌∙◌, ◌∷◌, ◌≡◌}
 use Rattle.fp_book.specs.declared.line.LoggedStep.TheVariants as line
 use Rattle.fp_book.specs.declared.taken.Taken.TheVariants.{Turn as ATurn}
+use Rattle.fp_book.proofs.Changes.{turns_are}
 use Rattle.fp_book.proofs.Kept.{Leaves, leaves, same_parts, timed_still, turns_by}
-use Rattle.fp_book.proofs.Turns.{first_is, first_is_ready, held_out, idle, turn_is_of, turns_are}
+use Rattle.fp_book.proofs.Turns.{first_is, first_is_ready, held_out, idle, turn_is_of}
 use Rattle.fp_book.proofs.Sums.{put_held}
-use Rattle.fp_book.specs.Calls.{TakesTurn}
-use Rattle.fp_book.specs.Dialogues.{HandsOutAt}
-use Rattle.fp_book.specs.Log.{logged}
-use Rattle.fp_book.specs.Shelf.{places_held}
-use Rattle.fp_book.specs.Views.{shelf_of}
 use Rattle.fp_book.proofs.book.Book.take.Goals as goal
 
 pub take-requires : goal.take-requires
@@ -35,11 +30,11 @@ taken c =
       takes = h.does;
       first = first_is b.ready c.next.new.self c.in-Some.local c.next.result (sym c.first.ensures ∙ c.in-Some.is) c.next.ensures.taken c.next.ensures.none ∙ ap (λ l. l ∷ c.next.new.self) (sym here);
       room = subst (λ n. n < 8192) (c.places_held.ensures ∙ sym (ap places_held c.self.view_is)) c.if-places_held-ge-MOST_FRAMES.false;
-      new_is = same_parts (shelf_of b) (h.rows ∙ sym (put_held b.rows turn.local h.after (held_out h.after h.does.is_out))) refl refl
+      new_is = same_parts (shelf_of b) (h.rows ∙ sym (put_held b.rows turn.local h.after (held_out h.after (ap (nat_lt 0) h.does.out)))) refl refl
           (c.add.ensures ∙ ap (λ l. logged b.log (line.Take l c.position-position.result)) (sym here) ∙ ap (λ p. logged b.log (line.Take turn.local p)) c.position-position.ensures);
     })
     c.self.invariant.links
-    (turns_by b.turns (b.turns + 1) h c.self.invariant.turns (omega (arith, turns_are h.before false (idle h.before h.does.was_ready), turns_are h.after true h.does.is_out)))
+    (turns_by b.turns (b.turns + 1) h c.self.invariant.turns (omega (arith, turns_are h.before false (idle h.before h.does.was_ready), h.does.out)))
     (timed_still b.deadlines h c.self.invariant.timed h.does.deadline)
 
 pub invariant_of-self-2 : goal.invariant_of-self-2

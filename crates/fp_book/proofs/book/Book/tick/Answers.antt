@@ -1,10 +1,6 @@
-use Rattle.std.proofs.Common.{◌+◌, sym, ◌∙◌, ap}
+use Rattle.fp_book.proofs.Names.{Inside, Ticks, ap, is_full, shelf_of, sym, ◌+◌, ◌∙◌}
 use Rattle.fp_book.proofs.Kept.{Leaves, leaves}
 use Rattle.fp_book.proofs.Ticks.{none_ticks, ticks}
-use Rattle.fp_book.specs.declared.book.Book.TheInside.{Inside}
-use Rattle.fp_book.specs.Calls.{Ticks}
-use Rattle.fp_book.specs.Lines.{is_full}
-use Rattle.fp_book.specs.Views.{shelf_of}
 use Rattle.fp_book.proofs.book.Book.tick.Goals as goal
 
 -- the parts of the book then

@@ -1,14 +1,7 @@
-use Rattle.std.proofs.Common.{None, refl, ◌∙◌, ap, subst}
+use Rattle.fp_book.proofs.Names.{ClosesAt, GoesDown, None, ap, get, is_frame_of, local_of, logged, refl, shelf_of, subst, without_waiting, ◌∙◌}
 use Rattle.fp_book.proofs.Kept.{Leaves}
 use Rattle.fp_book.proofs.Downs.{down_book, gone_down}
 use Rattle.fp_book.specs.declared.line.LoggedStep.TheVariants as line
-use Rattle.fp_book.specs.Calls.{ClosesAt, GoesDown}
-use Rattle.fp_book.specs.Log.{logged}
-use Rattle.fp_book.specs.Outbox.{without_waiting}
-use Rattle.fp_book.specs.Parcel.{local_of}
-use Rattle.fp_book.specs.Sending.{is_frame_of}
-use Rattle.fp_book.specs.Views.{shelf_of}
-use Rattle.std.specs.FinMap.{get}
 use Rattle.fp_book.proofs.book.Book.unsent.Goals as goal
 
 leaves : (c : goal.After-add) → Leaves (down_book c.self.inside c.close_all.new.rows c.close_all.new.deadlines c.clear.new.self c.clear-2.new.self c.add.new.self)

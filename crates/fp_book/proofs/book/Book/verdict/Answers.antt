@@ -1,5 +1,4 @@
-use Rattle.std.proofs.Common.{◌≡◌, ◌∙◌, rules}
-use Rattle.fp_book.specs.Verdict.{judged}
+use Rattle.fp_book.proofs.Names.{judged, rules, ◌∙◌, ◌≡◌}
 use Rattle.fp_book.proofs.Lines.{first_line_decides}
 use Rattle.fp_book.proofs.book.Book.verdict.Goals as goal
 

@@ -1,7 +1,4 @@
-use Rattle.std.proofs.Common.{◌≡◌, List, filter, ap, ◌∙◌, rules}
-use Rattle.std.proofs.lemmas.Fn.{filter_same}
-use Rattle.fp_book.specs.declared.parcel.Waiting.{Waiting}
-use Rattle.fp_book.specs.Outbox.{Outbox, is_of_other, without_frames_of}
+use Rattle.fp_book.proofs.Names.{List, Outbox, Waiting, ap, filter, filter_same, is_of_other, rules, without_frames_of, ◌∙◌, ◌≡◌}
 use Rattle.fp_book.proofs.outbox.Outbox.drop_frames.Goals as goal
 
 -- the closure keeps the frames of each other dialogue

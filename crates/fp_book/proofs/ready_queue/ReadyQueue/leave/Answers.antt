@@ -1,6 +1,4 @@
-use Rattle.std.proofs.Common.{ap, ◌∙◌, filter, rules}
-use Rattle.std.proofs.lemmas.Fn.{filter_same}
-use Rattle.fp_book.specs.ReadyQueue.{is_other}
+use Rattle.fp_book.proofs.Names.{ap, filter, filter_same, is_other, rules, ◌∙◌}
 use Rattle.fp_book.proofs.ready_queue.ReadyQueue.leave.Goals as goal
 
 -- the closure keeps each other identifier

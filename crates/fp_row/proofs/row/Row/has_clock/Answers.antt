@@ -9,7 +9,7 @@ use Rattle.fp_entry.specs.Entries.{is_clock}
 use Rattle.fp_row.specs.Row.{unserved}
 use Rattle.fp_row.proofs.row.Row.has_clock.Goals as goal
 
--- one passes where some are counted
+-- one passes if some are counted
 any_counted : {A : Type 0} (p : A → Bool) (xs : List A) → list_any p xs ≡ nat_lt 0 (count_by p xs)
 any_counted p [] = refl
 any_counted p (x ∷ xs) = let rest = any_counted p xs in grind (arith, nat_tests, common_steps)

@@ -1,33 +1,39 @@
-use Rattle.std.proofs.Common.{◌≡◌, Some, sym, ap, subst, ◌∙◌}
+use Rattle.std.proofs.Common.{◌≡◌, None, Some, sym, ap, subst, ◌∙◌}
 use Rattle.std.specs.FinMap as map
-use Rattle.fp_row.specs.Keys.{keys_of, IsAt, IsGapFor}
-use Rattle.fp_row.proofs.Maps.{map_of, get-map_of-at, get-map_of-gap, map_of-remove, map_of-remove_absent}
-use Rattle.fp_row.proofs.Order.{in_order-removed}
+use Rattle.fp_row.specs.Leads.{Leads, values_led_to}
+use Rattle.fp_row.proofs.LedTo.{found, leads_removed, missing, taken_out}
+use Rattle.fp_row.proofs.Maps.{remove_absent}
 use Rattle.fp_row.proofs.rows.Rows.remove.Goals as goal
-use Rattle.fp_row.proofs.rows.Rows.remove.Goals.{In_default}
+use Rattle.fp_row.proofs.rows.Rows.remove.Goals.{After-remove-2, In_default}
 
--- the entry found has the identifier
-is_at : (c : goal.After-into_inner) → IsAt (keys_of c.self.inside.rows.items) c.args.local c.in-Ok.place
-is_at c = subst (λ l. IsAt (keys_of l) c.args.local c.in-Ok.place) c.deref.ensures.value c.in-Ok.ensures.found
+-- the identifier leads to an entry, and goes with it
+there : (c : After-remove-2) → map.get c.self.inside.index c.args.local ≡ Some c.in-Some.key
+there c = sym c.remove.ensures.key ∙ c.in-Some.is
 
--- no entry has it
-gap : (c : In_default) → IsGapFor (keys_of c.self.inside.rows.items) c.args.local c.in_default.field-0
-gap c = subst (λ l. IsGapFor (keys_of l) c.args.local c.in_default.field-0) c.deref.ensures.value c.in_default.ensures.missing
+pub invariant_of-self-2 : goal.invariant_of-self-2
+invariant_of-self-2 c = subst (λ m. Leads m c.remove-2.new.self) (sym c.remove.ensures.others) (leads_removed _ _ c.self.invariant _ _ (there c) _ c.remove-2.ensures.updates)
 
--- the other entries stay in order
-pub invariant_of-self : goal.invariant_of-self
-invariant_of-self c = in_order-removed _ _ c.self.invariant _ _ (is_at c) c.remove.ensures.items
-
--- the row is that of the entry found, and goes with it
 pub returns-clause-row : goal.returns-clause-row
-returns-clause-row c = ap Some c.into_inner.ensures ∙ sym (get-map_of-at _ c.self.invariant _ _ (is_at c) _ c.remove.ensures.value) ∙ ap (λ m. map.get m c.args.local) c.self.view_is
+returns-clause-row c = found _ _ c.self.invariant _ _ _ (there c) c.remove-2.ensures.value ∙ ap (λ m. map.get m c.args.local) c.self.view_is
 
 pub returns-clause-others : goal.returns-clause-others
-returns-clause-others c = ap map_of c.remove.ensures.items ∙ map_of-remove _ c.self.invariant _ _ (is_at c) ∙ ap (λ m. map.remove m c.args.local) c.self.view_is
+returns-clause-others c =
+    ap (λ m. values_led_to m c.remove-2.new.self) c.remove.ensures.others
+    ∙ taken_out _ _ c.self.invariant _ _ (there c) _ c.remove-2.ensures.updates
+    ∙ ap (λ m. map.remove m c.args.local) c.self.view_is
 
--- nothing is taken out
+-- it leads nowhere, and all stays
+absent : (c : In_default) → map.get c.self.inside.index c.args.local ≡ None
+absent c = sym c.remove.ensures.key ∙ c.in_default.is
+
+index_stays : (c : In_default) → c.remove.new.self ≡ c.self.inside.index
+index_stays c = c.remove.ensures.others ∙ sym (remove_absent _ _ (absent c))
+
+pub invariant_of-self : goal.invariant_of-self
+invariant_of-self c = subst (λ m. Leads m c.self.inside.rows) (sym (index_stays c)) c.self.invariant
+
 pub returns-in_default-clause-row : goal.returns-in_default-clause-row
-returns-in_default-clause-row c = sym (get-map_of-gap _ _ _ (gap c)) ∙ ap (λ m. map.get m c.args.local) c.self.view_is
+returns-in_default-clause-row c = missing _ _ c.self.invariant _ (absent c) ∙ ap (λ m. map.get m c.args.local) c.self.view_is
 
 pub returns-in_default-clause-others : goal.returns-in_default-clause-others
-returns-in_default-clause-others c = subst (λ m. m ≡ map.remove m c.args.local) c.self.view_is (map_of-remove_absent _ _ _ (gap c))
+returns-in_default-clause-others c = ap (λ m. values_led_to m c.self.inside.rows) (index_stays c) ∙ c.self.view_is ∙ remove_absent _ _ (sym (returns-in_default-clause-row c))

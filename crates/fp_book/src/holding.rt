@@ -1,0 +1,100 @@
+//! When a message is held back, and when a link is quiet. Nothing here takes memory.
+
+ghost use Rattle.std.specs.Prelude.{◌≡◌, ◌↔◌, IsTrue, nat_lt};
+ghost use Rattle.fp_book.specs.Holding.{IsQuiet, busy_count, entries_kept, gets_room, holds_back, is_owed_an_abort, lacks_only_room};
+ghost use Rattle.fp_book.specs.Lines.{verdict};
+ghost use Rattle.fp_book.specs.Shelf.{Sound};
+
+use crate::Book;
+use crate::posting::too_many;
+use crate::verdict::Verdict;
+use fp_entry::Prepared;
+use fp_q773::Kind;
+
+impl Book {
+    /// From how many places for frames that are held no message is taken: seven eighths of them.
+    pub const MANY_PLACES: usize = 7168;
+
+    /// Whether a dialogue is busy: a turn of it is out, an entry of it waits, or a frame of it is to be sent.
+    fn has_busy(&self) -> bool
+        ensures { result ≡ nat_lt 0 (busy_count self.now) }
+    {
+        let place_count = self.places_held();
+        let ready_count = self.ready.len();
+        place_count > 0 || ready_count > 0
+    }
+
+    /// Whether an Abort of the provider is to answer a message that has this verdict.
+    fn is_owed_an_abort(&self, found: &Verdict, came: &Prepared) -> bool
+        requires { found.now ≡ verdict self.now came.now }
+        ensures { result ≡ is_owed_an_abort self.now came.now }
+    {
+        found.names_a_cause() && came.arrival().ids.orig.is_some()
+    }
+
+    /// Whether all a message lacks is room: it is readable, and neither has too many elements nor comes after the last
+    /// entry that the link takes.
+    fn lacks_only_room(&self, came: &Prepared) -> bool
+        ensures { result ≡ lacks_only_room self.now came.now }
+    {
+        match came {
+            Prepared::Message { incoming, .. } => !too_many(incoming) && !self.is_full(),
+            Prepared::Refused { .. } | Prepared::Lost { .. } => false,
+        }
+    }
+
+    /// Whether there will be room for a message that lacks only room.
+    fn gets_room(&self, came: &Prepared) -> bool
+        ensures { result ≡ gets_room self.now came.now }
+    {
+        match came.arrival().ids.kind {
+            Kind::Begin => self.ids.next().is_some() && self.has_busy(),
+            _ => true,
+        }
+    }
+
+    /// Whether a message is better posted later: posted now it would be refused, or what it brings would wait, for a
+    /// cause that goes away as turns are served and frames are sent. On a link that is up, a message is held back
+    ///
+    /// * if it would be taken while [`Book::MANY_PLACES`] for frames are held;
+    /// * if an Abort of the provider is to answer it, and [`Outbox::MOST_ABORTS`](crate::Outbox::MOST_ABORTS) wait;
+    /// * if it is a readable Continue or End with which more than [`Book::MOST_ENTRIES`] of its dialogue would wait;
+    /// * if it is a readable Begin while [`Book::MOST_DIALOGUES`] are held, one of which is busy, and a serial is left.
+    ///
+    /// The last two only with at most [`Book::MOST_ELEMENTS`] elements, on a link that takes more entries. Any other
+    /// message is posted at once: it is accepted, or refused for a cause that serving and sending don't take away. So
+    /// is one for which memory runs out at the post. Doesn't go through all dialogues.
+    pub fn holds_back(&self, came: &Prepared) -> bool
+        ensures value { result ≡ holds_back self.now came.now }
+        ensures sound { Sound self.now }
+    {
+        if self.is_down {
+            return false;
+        }
+        let verdict = self.verdict(came);
+        if self.places_held() >= Self::MANY_PLACES && verdict.is_taken() {
+            return true;
+        }
+        if self.is_owed_an_abort(&verdict, came) && self.outbox.has_all_aborts() {
+            return true;
+        }
+        verdict.is_over_a_limit() && self.lacks_only_room(came) && self.gets_room(came)
+    }
+
+    /// Whether nothing is left to be served or sent: no turn is out, no dialogue is ready, and no frame and no Abort of
+    /// the provider waits or is being sent. Goes through no dialogues.
+    pub fn is_quiet(&self) -> bool
+        ensures value { IsTrue result ↔ IsQuiet self.now }
+        ensures sound { Sound self.now }
+    {
+        !self.has_busy() && self.outbox.is_empty()
+    }
+
+    /// How many entries the dialogues that are held keep: all that each of them accepted. Goes through all of them.
+    pub fn entry_count(&self) -> u64
+        ensures value { result ≡ entries_kept self.now }
+        ensures sound { Sound self.now }
+    {
+        self.rows.entry_count()
+    }
+}
