@@ -4,7 +4,6 @@ use crate::link::Link;
 use fp_book::Parcel;
 use fp_hub::Seat;
 use fp_linkio::{Counted, Outlet, send_loop};
-use fp_streams::LinkWrite;
 use std::rt::Clock;
 use std::sync::Wait;
 use std::sync::ledger::Ledger;
@@ -14,15 +13,14 @@ const MOST_PARCELS: u64 = 1 << 40;
 
 /// Takes the parcels of a link out of its book, and reports to it what became of each.
 #[derive(Drop)]
-struct Departures<'x, R, L: LinkWrite + Drop, A: Ledger, B: Ledger, C: Ledger> {
-    link: Link<'x, R, L, A, B, C>,
+struct Departures<'x, R, A: Ledger, B: Ledger, C: Ledger> {
+    link: Link<'x, R, A, B, C>,
     seat: Seat<A, B, C>,
 }
 
-impl<R: Wait + Clock, L: LinkWrite + Drop, A: Ledger, B: Ledger, C: Ledger> Outlet
-    for Departures<'_, R, L, A, B, C> {
+impl<R: Wait + Clock, A: Ledger, B: Ledger, C: Ledger> Outlet for Departures<'_, R, A, B, C> {
     fn pick(&mut self) -> Option<Parcel> {
-        self.link.write_lines_if_many();
+        self.link.move_lines_if_many();
         self.link.hub.await_parcel(self.link.rt)
     }
 
@@ -36,17 +34,15 @@ impl<R: Wait + Clock, L: LinkWrite + Drop, A: Ledger, B: Ledger, C: Ledger> Outl
 }
 
 /// Sends until the link ends. Returns the seat, with what was counted.
-pub(crate) fn send_all<R: Wait + Clock, L: LinkWrite + Drop, A: Ledger, B: Ledger, C: Ledger>(
-    link: Link<'_, R, L, A, B, C>,
+pub(crate) fn send_all<R: Wait + Clock, A: Ledger, B: Ledger, C: Ledger>(
+    link: Link<'_, R, A, B, C>,
     seat: Seat<A, B, C>,
 ) -> Seat<A, B, C> {
     let mut departures = Departures { link, seat };
-    send_loop(
-        &mut Counted::new(link.stream),
-        MOST_PARCELS,
-        &mut departures,
-    );
-    link.end();
+    let mut writer = Counted::new(link.traced_stream());
+    let ended = send_loop(&mut writer, MOST_PARCELS, &mut departures);
+    // If the outlet has no more, the link is down already, and the reason of that came before.
+    link.end(writer.device.last.why(ended));
     let Departures { seat, .. } = departures;
     seat
 }

@@ -8,7 +8,7 @@ use thiserror::Error;
 /// Why a run ended otherwise than by the end of its links. All links went down.
 #[derive(Clone, Copy, Debug, PartialEq, Eq, Error)]
 pub enum ServeFault {
-    /// The address could not be told, or a connection could not be accepted.
+    /// The bound address is not known, or a connection could not be accepted.
     #[error("listen: cannot listen")]
     NoConnection,
     /// A thread could not be made.
@@ -20,10 +20,10 @@ pub enum ServeFault {
     /// The log could not be written.
     #[error("log: cannot be written")]
     UnwrittenLog,
-    /// What is told of the links could not be written.
+    /// The report could not be written.
     #[error("output: cannot be written")]
     WriteFault,
-    /// Memory was wanting.
+    /// An allocation failed.
     #[error("out of memory")]
     Memory,
 }

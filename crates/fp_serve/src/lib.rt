@@ -1,13 +1,15 @@
 //! The links of a server: connections that are awaited, and on each the threads that receive, serve and send.
 //!
-//! The layer is handed the records, a listener, a writer for the log and one for the report on the links. It asks the
-//! system for connections, threads, the time, locks, sleep and memory; it opens no file and binds no address.
+//! The layer is handed the records, a listener, writers for the log, for the report on the links and for events. It
+//! asks the system for connections, threads, the time, locks, sleep and memory; it opens no file and binds no address.
 //!
 //! * [`serve`] awaits one connection for each link, runs them all, and returns when all are down.
 //! * [`serve_through`] is the same with a gate that each worker passes before it serves a turn; tests wait there.
 //!   [`Service`] is what the messages are answered from.
-//! * [`Settings`] says how many links there are, and how many workers each has.
+//! * [`Settings`] says how many links there are, how many workers each has, how many entries its dialogues may keep,
+//!   and what is done when the log can't be written ([`WhenLogFails`]).
 //! * [`ServeFault`] says why a run failed.
+//! * [`Events`] are lines on which link came or went and why, if they are asked for.
 //!
 //! ```text
 //!                        serve: accepts, then joins
@@ -18,39 +20,51 @@
 //!   workers --take, give, hint--> | (the book) |
 //!   clock  --tick, hint---------> +------------+
 //!     |                             |drain
-//!     \------- once a second ------>v
-//!                               LinkLog ----> Log (one lock for all links)
+//!     \-- once a second, or 512 --->v
+//!                                LinkLog (one for each link)
+//!                                   |the text of all that wait, at once
+//!                                   v
+//!                                LogWriter --> the log (one thread of the run, which belongs to no scope)
 //! ```
 //!
-//! If many lines wait in a book, the clock is woken, and the other threads write some of them too.
+//! If lines wait in a book, the clock is woken, and if many do the other threads move some of them too. Only the
+//! writing thread waits for the device of the log.
 //!
 //! | File | What it has |
 //! |---|---|
-//! | `serving.rt` | the run: the connections, a thread for each link, and the report |
-//! | `service.rt`, `settings.rt` | what the messages are answered from, and how many links and workers there are |
-//! | `link.rt` | a link: what its threads share, its end, and what it counted |
+//! | `serving.rt` | the run: a thread for each link, and the report |
+//! | `connections.rt`, `keep_alive.rt` | how connections are awaited, and how the system watches them |
+//! | `service.rt`, `settings.rt` | what messages are answered from; how many links, workers and entries there are |
+//! | `link.rt`, `ending.rt` | a link: what its threads share, its end and the reason of it, and what it counted |
 //! | `threads.rt` | the threads of a link: their start and their end |
 //! | `arrivals.rt`, `departures.rt` | the receiving and the sending thread |
-//! | `ticking.rt`, `moment.rt` | the clock of a link |
-//! | `log_gate.rt` | a worker, and its part in writing the log |
-//! | `log.rt`, `link_log.rt` | the log of the run, and the way of a link's lines there |
+//! | `traced_stream.rt` | the connection of a link, and how the last call of these threads ended |
+//! | `ticking.rt`, `moment.rt` | the clock of a link, which takes it down if its dialogues keep too many entries |
+//! | `turns.rt` | a worker, and its part in moving lines |
+//! | `log.rt` | what the links and the run share with the thread that writes the log, and how long each waits for it |
+//! | `link_log.rt`, `log_writer.rt` | the lines of a link that wait, and the thread that writes them |
+//! | `events.rt` | the events of a run, and the thread that writes them |
 //! | `stop.rt` | why all links are to go down |
-//! | `report.rt` | what is written of the links |
+//! | `report.rt` | the address, and what is written of the links in the end |
 //!
 //! The layer above may rely on this: if [`serve`] returns without a fault it wrote the address and one line for each
 //! link, and nothing else (`specs/Report.antt`). What a link's book, seats and hub keep is said in `fp_hub`; what of a
 //! stream is handed on and what of the parcels is written in `fp_linkio`. No contract says what the sockets and the log
-//! hold, that the threads get on, or that each does what the picture says: the tests of `tests_serve`, over loopback, show
-//! it.
+//! hold, that the threads get on, or that each does what the picture says: the tests of `tests_serve`, over loopback,
+//! show it.
 #![tactic(auto)]
 
 mod arrivals;
+mod connections;
 mod departures;
+mod ending;
+mod events;
 mod fault;
+mod keep_alive;
 mod link;
 mod link_log;
 mod log;
-mod log_gate;
+mod log_writer;
 mod moment;
 mod report;
 mod service;
@@ -59,8 +73,11 @@ mod settings;
 mod stop;
 mod threads;
 mod ticking;
+mod traced_stream;
+mod turns;
 
+pub use events::{Event, Events, Wanted, Why};
 pub use fault::ServeFault;
 pub use service::Service;
 pub use serving::{serve, serve_through};
-pub use settings::Settings;
+pub use settings::{Settings, WhenLogFails};

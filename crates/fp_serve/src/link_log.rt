@@ -1,158 +1,177 @@
-//! The way of a link's lines to the log.
+//! The lines of a link that wait for the thread that writes the log.
 
-use crate::log::Log;
 use fp_book::Line;
 use fp_hub::Hub;
 use fp_replay::write_line;
-use fp_streams::LinkWrite;
 use std::alloc::{AllocError, Global};
-use std::rt::Clock;
-use std::sync::atomic::{AtomicBool, Ordering};
+use std::mem;
 use std::sync::ledger::Ledger;
 use std::sync::{Mutex, Wait};
-use std::thread;
-use std::time::Duration;
 
-/// How many lines are moved out of the book at once, an eighth of its places: the lock of the link is held for as long
-/// as that takes.
-const LINES_AT_ONCE: usize = 1_024;
+/// How many lines are moved out of the book at once: the lock of the link is held for as long as that takes.
+const LINES_AT_ONCE: usize = 256;
 
-/// How many lines are moved before they become text: as many as the book has places.
-const MOST_LINES: usize = fp_book::Log::MOST;
+/// How many times lines are moved in one turn at most, four times as many lines as the book has places.
+const MOST_MOVES: usize = fp_book::Log::MOST / LINES_AT_ONCE * 4;
 
-/// How often the book is emptied before the clock of the link is looked at again.
-const MOST_ROUNDS: u32 = 8;
-
-/// How many octets of text are written at once, or one line more.
-const TEXT_AT_ONCE: usize = 65_536;
+/// From how many octets of text that wait no more lines are moved while the link is up. At 100 calls a second, of seven
+/// lines each, a device that takes nothing fills them in five minutes.
+const MOST_OCTETS: usize = 6 << 20;
 
 /// More octets than any line has, with its line feed.
 const LONGER_THAN_A_LINE: usize = 8_301;
 
-/// How many milliseconds a thread waits for another one that writes lines, before it assumes that the device hangs:
-/// longer than a thread waits for a processor.
-const MOST_WAITS: u32 = 500;
-
-/// Room in which lines become text.
+/// Lines of a log, as text.
 #[derive(Drop)]
-struct Room {
-    // What was moved out of the book at once.
-    moved: Vec<Line>,
-    lines: Vec<Line>,
-    text: Vec<u8>,
+pub(crate) struct LogText {
+    // Whole lines, each with its line feed.
+    pub(crate) octets: Vec<u8>,
+    pub(crate) line_count: u64,
 }
 
-impl Room {
-    /// Moves all lines that a book has now, or many of them, to the log. The book is emptied before the first of them
-    /// becomes text, so that it has its places again soon.
-    fn write<R: Wait, L: LinkWrite + Drop, A: Ledger, B: Ledger, C: Ledger>(
-        &mut self,
-        rt: &R,
-        hub: &Hub<A, B, C>,
-        log: &Log<L>,
-    ) {
-        for _ in 0..MOST_ROUNDS {
-            self.empty(rt, hub);
-            let is_last = self.lines.len() < LINES_AT_ONCE;
-            self.put(rt, log);
-            if is_last {
-                break;
-            }
-        }
-        log.write(rt, self.text.as_slice());
-        self.text.clear();
-    }
-
-    /// Moves all lines that a book has now here, or as many as there are places for.
-    fn empty<R: Wait, A: Ledger, B: Ledger, C: Ledger>(&mut self, rt: &R, hub: &Hub<A, B, C>) {
-        for _ in 0..MOST_LINES / LINES_AT_ONCE {
-            hub.drain(rt, &mut self.moved);
-            let is_last = self.moved.len() < LINES_AT_ONCE;
-            if self.lines.append(&mut self.moved).is_err() || is_last {
-                break;
-            }
-        }
-    }
-
-    /// Adds the lines that are here to the text, and writes that when it is long enough.
-    fn put<R: Wait, L: LinkWrite + Drop>(&mut self, rt: &R, log: &Log<L>) {
-        for line in self.lines.iter() {
-            if write_line(line, &mut self.text).is_err() {
-                log.write(rt, self.text.as_slice());
-                self.text.clear();
-                log.close(rt);
-                break;
-            }
-            if self.text.len() >= TEXT_AT_ONCE {
-                log.write(rt, self.text.as_slice());
-                self.text.clear();
-            }
-        }
-        self.lines.clear();
-    }
-}
-
-/// The way of a link's lines to the log. Its clock writes them once a second, and when half of the places for them are
-/// taken. If that isn't enough, since the clock has to wait for a processor, the threads that add lines write some.
-#[derive(Drop)]
-pub(crate) struct LinkLog {
-    // Its room is allocated once, so that writing needs no memory while calls are served. Its lock is held from the time
-    // that lines are moved out of the book until they are written, so that they stay in their order.
-    room: Mutex<Room>,
-    // Whether a thread waited in vain for another one to write its lines: the device may hang.
-    is_held_up: AtomicBool,
-}
-
-impl LinkLog {
-    /// A way on which no line is.
-    pub(crate) fn new(alloc: Global) -> Result<LinkLog, AllocError> {
-        let room = Room {
-            moved: Vec::with_capacity(alloc, LINES_AT_ONCE)?,
-            lines: Vec::with_capacity(alloc, MOST_LINES)?,
-            text: Vec::with_capacity(alloc, TEXT_AT_ONCE + LONGER_THAN_A_LINE)?,
-        };
-        Ok(LinkLog {
-            room: Mutex::new(room),
-            is_held_up: AtomicBool::new(false),
+impl LogText {
+    /// No line, in room for as many as may wait, so that adding lines needs no memory while calls are served.
+    pub(crate) fn new(alloc: Global) -> Result<LogText, AllocError> {
+        Ok(LogText {
+            octets: Vec::with_capacity(alloc, MOST_OCTETS + LINES_AT_ONCE * LONGER_THAN_A_LINE)?,
+            line_count: 0,
         })
     }
 
-    /// Writes the lines that the book of the link has. Waits while another thread writes some.
-    pub(crate) fn write<R: Wait, L: LinkWrite + Drop, A: Ledger, B: Ledger, C: Ledger>(
+    /// Adds a line.
+    pub(crate) fn add(&mut self, line: &Line) -> Result<(), AllocError> {
+        write_line(line, &mut self.octets)?;
+        self.line_count = self.line_count.saturating_add(1);
+        Ok(())
+    }
+
+    /// No line is left.
+    pub(crate) fn clear(&mut self) {
+        self.octets.clear();
+        self.line_count = 0;
+    }
+}
+
+/// What came of moving lines.
+#[derive(Clone, Copy)]
+pub(crate) struct Moved {
+    /// How many were moved.
+    pub(crate) line_count: u64,
+    /// Memory ran out for their text, so that others are lost.
+    pub(crate) is_out_of_memory: bool,
+}
+
+/// What the lock of a link's lines keeps.
+#[derive(Drop)]
+struct Waiting {
+    // What was moved out of the book at once.
+    moved: Vec<Line>,
+    text: LogText,
+}
+
+impl Waiting {
+    /// Adds the lines that were moved to the text.
+    fn add_moved(&mut self) -> Result<(), AllocError> {
+        for line in self.moved.iter() {
+            self.text.add(line)?;
+        }
+        Ok(())
+    }
+
+    /// Moves the lines that a book has now here, while fewer than `most` octets wait.
+    fn move_lines<R: Wait, A: Ledger, B: Ledger, C: Ledger>(
+        &mut self,
+        rt: &R,
+        hub: &Hub<A, B, C>,
+        most: usize,
+    ) -> Moved {
+        let before = self.text.line_count;
+        let mut is_out_of_memory = false;
+        for _ in 0..MOST_MOVES {
+            if self.text.octets.len() >= most {
+                break;
+            }
+            hub.drain(rt, &mut self.moved);
+            let is_last = self.moved.len() < LINES_AT_ONCE;
+            is_out_of_memory = self.add_moved().is_err();
+            self.moved.clear();
+            if is_last || is_out_of_memory {
+                break;
+            }
+        }
+        Moved {
+            line_count: self.text.line_count.saturating_sub(before),
+            is_out_of_memory,
+        }
+    }
+}
+
+/// The lines of a link that wait for the thread that writes the log, in the order of its steps.
+///
+/// A thread of the link, nearly always its clock, moves lines here and makes their text, so that the writing thread, the
+/// only one of the run, has nothing to do but to write. It takes all text at once. The lock is never held while the
+/// device of the log is written; the lock of the link is taken under it. If nothing is taken for long, lines stay in the
+/// book of the link, which counts those that find no place there in a gap.
+#[derive(Drop)]
+pub(crate) struct LinkLog {
+    waiting: Mutex<Waiting>,
+}
+
+impl LinkLog {
+    /// No line waits.
+    pub(crate) fn new(alloc: Global) -> Result<LinkLog, AllocError> {
+        let waiting = Waiting {
+            moved: Vec::with_capacity(alloc, LINES_AT_ONCE)?,
+            text: LogText::new(alloc)?,
+        };
+        Ok(LinkLog {
+            waiting: Mutex::new(waiting),
+        })
+    }
+
+    /// Moves the lines that the book of the link has here, while there is room.
+    pub(crate) fn move_lines<R: Wait, A: Ledger, B: Ledger, C: Ledger>(
         &self,
         rt: &R,
         hub: &Hub<A, B, C>,
-        log: &Log<L>,
-    ) {
-        let mut room = self.room.lock(rt);
-        self.is_held_up.store(false, Ordering::SeqCst);
-        room.write(rt, hub, log);
+    ) -> Moved {
+        self.waiting.lock(rt).move_lines(rt, hub, MOST_OCTETS)
     }
 
-    /// Writes lines if five eighths of the places for them are taken. Waits while another thread writes some, but not for
-    /// longer than half a second, and then no more until a thread has written its lines: calls are answered though the
-    /// device hangs, and the lines that find no place are counted in a gap.
-    pub(crate) fn write_if_many<
-        R: Wait + Clock,
-        L: LinkWrite + Drop,
-        A: Ledger,
-        B: Ledger,
-        C: Ledger,
-    >(&self, rt: &R, hub: &Hub<A, B, C>, log: &Log<L>) {
-        for _ in 0..MOST_WAITS {
-            if !hub.is_log_filling() {
-                return;
-            }
-            if let Some(mut room) = self.room.try_lock() {
-                self.is_held_up.store(false, Ordering::SeqCst);
-                room.write(rt, hub, log);
-                return;
-            }
-            if self.is_held_up.load(Ordering::SeqCst) {
-                return;
-            }
-            thread::sleep(rt, Duration::from_millis(1));
+    /// Moves lines if five eighths of their places in the book are taken, unless another thread is moving some: it
+    /// waits for that thread only if seven eighths are taken. So lines find no place in the book only if there is no
+    /// room here either.
+    pub(crate) fn move_lines_if_many<R: Wait, A: Ledger, B: Ledger, C: Ledger>(
+        &self,
+        rt: &R,
+        hub: &Hub<A, B, C>,
+    ) -> Moved {
+        let none = Moved {
+            line_count: 0,
+            is_out_of_memory: false,
+        };
+        if !hub.is_log_filling() {
+            return none;
         }
-        self.is_held_up.store(true, Ordering::SeqCst);
+        match self.waiting.try_lock() {
+            Some(mut waiting) => waiting.move_lines(rt, hub, MOST_OCTETS),
+            None if hub.is_log_nearly_full() => self.move_lines(rt, hub),
+            None => none,
+        }
+    }
+
+    /// Moves all lines that the book of the link has here, once the link is down and no thread adds any.
+    pub(crate) fn move_last_lines<R: Wait, A: Ledger, B: Ledger, C: Ledger>(
+        &self,
+        rt: &R,
+        hub: &Hub<A, B, C>,
+    ) -> Moved {
+        self.waiting.lock(rt).move_lines(rt, hub, usize::MAX)
+    }
+
+    /// Takes all lines that wait: exchanges their text for this one, which is empty.
+    pub(crate) fn take<R: Wait>(&self, rt: &R, taken: &mut LogText) {
+        let mut waiting = self.waiting.lock(rt);
+        mem::swap(&mut waiting.text, taken);
     }
 }

@@ -1,71 +1,205 @@
-//! The log of a run.
+//! The log of a run, as its links and the run itself see it. One thread writes it (`log_writer.rt`).
+//!
+//! | Thread | Waits for | Is woken by | At most |
+//! |---|---|---|---|
+//! | the run, before it accepts connections | the first line, written or failed | the writing thread | a second |
+//! | the writing thread | lines, or that no more come | a thread of a link that moved some; the run | a second |
+//! | the writing thread | the device | the device | without a limit |
+//! | the writing thread, with gaps, after a write that failed | the next try | nobody | a second |
+//! | the run, at its end | the last line, written or failed | the writing thread | five idle seconds, a minute in all |
 
-use crate::ServeFault;
+use crate::events::{Event, Events};
+use crate::link_log::LinkLog;
 use crate::stop::Stop;
-use fp_book::Line;
-use fp_replay::write_line;
-use fp_streams::{LinkWrite, write_all};
+use crate::{ServeFault, Settings};
 use std::alloc::{AllocError, Global};
-use std::sync::{Mutex, Wait};
+use std::rt::Clock;
+use std::sync::atomic::{AtomicBool, AtomicU64, Ordering};
+use std::sync::{Arc, Condvar, CondvarTimeouts, Mutex, Wait};
+use std::thread::Parker;
+use std::time::Duration;
 
-/// What the lock of a log keeps.
-#[derive(Drop)]
-struct Kept<L: Drop> {
-    writer: L,
-    // Whether the log ends here: a write failed, or a line had no room.
-    is_closed: bool,
+/// How many seconds the run waits for the first line to be written before it accepts connections all the same.
+const SECONDS_FOR_THE_HEAD: u64 = 1;
+
+/// How many seconds the writing thread sleeps before it looks for lines by itself.
+const SECONDS_OF_A_REST: u64 = 1;
+
+/// For how many seconds an ending run waits for the last lines although none is written meanwhile.
+const SECONDS_WITHOUT_PROGRESS: u64 = 5;
+
+/// For how many seconds it waits for them in all.
+const SECONDS_FOR_THE_END: u64 = 60;
+
+/// How far the writing thread has come.
+#[derive(Clone, Copy, PartialEq, Eq)]
+enum Progress {
+    /// The first line isn't written yet.
+    Begins,
+    /// It is.
+    GoesOn,
+    /// All was written, or a write failed. The thread writes no more.
+    Ended,
 }
 
-/// The log of a run, which all links write to, each whole lines at a time, and why they are to go down.
+/// What the links of a run, the run and the thread that writes its log share.
 #[derive(Drop)]
-pub(crate) struct Log<L: LinkWrite + Drop> {
-    kept: Mutex<Kept<L>>,
+pub(crate) struct Log {
+    // One for each link, in their order.
+    links: Vec<LinkLog>,
     pub(crate) stop: Stop,
+    events: Events,
+    // How many lines were moved out of the books, the head among them, and aren't written yet.
+    unwritten: AtomicU64,
+    // The writing thread rests here: lines were moved, or no more come.
+    came: Parker,
+    // No more lines come.
+    is_over: AtomicBool,
+    // The run waits no longer for the last lines.
+    is_given_up: AtomicBool,
+    progress: Mutex<Progress>,
+    // The run waits here for the next progress.
+    advanced: Condvar,
 }
 
-impl<L: LinkWrite + Drop> Log<L> {
-    /// The log that goes to this writer.
-    pub(crate) fn new(writer: L) -> Log<L> {
-        let kept = Kept {
-            writer,
-            is_closed: false,
-        };
-        Log {
-            kept: Mutex::new(kept),
-            stop: Stop::new(),
-        }
-    }
-
-    /// Writes the first line, which tells how many links there are, 1 to 8.
-    pub(crate) fn begin<R: Wait>(
-        &self,
-        rt: &R,
+impl Log {
+    /// A log for this number of links, whose head is still to be written.
+    pub(crate) fn new(
         alloc: Global,
-        links: u8,
-    ) -> Result<(), AllocError> {
-        let mut text = Vec::new(alloc);
-        write_line(&Line::Head { links }, &mut text)?;
-        self.write(rt, text.as_slice());
-        Ok(())
+        settings: Settings,
+        events: Events,
+    ) -> Result<Arc<Log>, AllocError> {
+        let mut links = Vec::with_capacity(alloc, usize::from(settings.links))?;
+        for _ in 0..settings.links {
+            links.push(LinkLog::new(alloc)?)?;
+        }
+        let log = Log {
+            links,
+            stop: Stop::new(),
+            events,
+            unwritten: AtomicU64::new(1),
+            came: Parker::new(),
+            is_over: AtomicBool::new(false),
+            is_given_up: AtomicBool::new(false),
+            progress: Mutex::new(Progress::Begins),
+            advanced: Condvar::new(),
+        };
+        Ok(Arc::new(alloc, log)?)
     }
 
-    /// Writes the text of whole lines, with no line of another link between them, unless the log is closed. Where that
-    /// fails the log is closed, and all links are to go down.
-    pub(crate) fn write<R: Wait>(&self, rt: &R, text: &[u8]) {
-        let mut guard = self.kept.lock(rt);
-        let kept = &mut *guard;
-        if kept.is_closed {
-            return;
+    /// Where the lines of a link wait. `None`: the run has no such link.
+    pub(crate) fn lines_of(&self, link: usize) -> Option<&LinkLog> {
+        self.links.get(link)
+    }
+
+    /// Reports an event.
+    pub(crate) fn report<R: Wait + Clock>(&self, rt: &R, event: Event) {
+        self.events.report(rt, event);
+    }
+
+    /// Wakes the writing thread if lines were moved, this number of them. Doesn't wait.
+    pub(crate) fn add(&self, count: u64) {
+        if count > 0 {
+            self.unwritten.fetch_add(count, Ordering::SeqCst);
+            self.came.unpark();
         }
-        if write_all(&mut kept.writer, text).is_err() || kept.writer.flush().is_err() {
-            kept.is_closed = true;
+    }
+
+    /// This number of lines was written.
+    pub(crate) fn take_off(&self, count: usize) {
+        // A number of lines in memory.
+        let count = u64::try_from(count).unwrap_or(u64::MAX);
+        self.unwritten.fetch_sub(count, Ordering::SeqCst);
+    }
+
+    /// The writing thread rests until lines were moved or no more come, a second at most.
+    pub(crate) fn rest<R: Wait>(&self, rt: &R) {
+        self.came
+            .park_timeout(rt, Duration::from_secs(SECONDS_OF_A_REST));
+    }
+
+    /// Whether no more lines come.
+    pub(crate) fn is_over(&self) -> bool {
+        self.is_over.load(Ordering::SeqCst)
+    }
+
+    /// Whether nobody waits for what is still to be written.
+    pub(crate) fn is_given_up(&self) -> bool {
+        self.is_given_up.load(Ordering::SeqCst)
+    }
+
+    /// The writing thread has written the head.
+    pub(crate) fn begin<R: Wait>(&self, rt: &R) {
+        self.advance(rt, Progress::GoesOn);
+    }
+
+    /// The writing thread writes no more.
+    pub(crate) fn end<R: Wait>(&self, rt: &R) {
+        self.advance(rt, Progress::Ended);
+    }
+
+    /// The writing thread has come this far. Wakes the run.
+    fn advance<R: Wait>(&self, rt: &R, progress: Progress) {
+        *self.progress.lock(rt) = progress;
+        self.advanced.notify_all();
+    }
+
+    /// Waits until the head was written, or couldn't be, a second at most: a log that can't be written is known before
+    /// a connection is accepted, unless its device hangs.
+    pub(crate) fn await_head<R: Wait + Clock>(&self, rt: &R) {
+        let patience = Duration::from_secs(SECONDS_FOR_THE_HEAD);
+        let progress = self.progress.lock(rt);
+        let _ = self
+            .advanced
+            .wait_timeout_while(rt, progress, patience, |progress| {
+                *progress == Progress::Begins
+            });
+    }
+
+    /// Waits until the writing thread writes no more, a second at most. `false`: it goes on.
+    fn await_end<R: Wait + Clock>(&self, rt: &R) -> bool {
+        let progress = self.progress.lock(rt);
+        let (progress, _) = self
+            .advanced
+            .wait_timeout_while(rt, progress, Duration::from_secs(1), |progress| {
+                *progress != Progress::Ended
+            });
+        *progress == Progress::Ended
+    }
+
+    /// Waits until the writing thread writes no more, or has written nothing for five seconds; a minute at most.
+    fn await_last_lines<R: Wait + Clock>(&self, rt: &R) {
+        let mut unwritten = self.unwritten.load(Ordering::SeqCst);
+        let mut idle_seconds: u64 = 0;
+        for _ in 0..SECONDS_FOR_THE_END {
+            if self.await_end(rt) {
+                return;
+            }
+            let lines = self.unwritten.load(Ordering::SeqCst);
+            idle_seconds = if lines < unwritten {
+                0
+            } else {
+                idle_seconds.saturating_add(1)
+            };
+            if idle_seconds >= SECONDS_WITHOUT_PROGRESS {
+                return;
+            }
+            unwritten = lines;
+        }
+    }
+
+    /// Ends the log, once all links have moved their last lines: waits until these were written, or none of them for
+    /// five seconds, a minute at most. Lines that weren't written then are lost, and reported as such; the log can't be
+    /// written.
+    pub(crate) fn finish<R: Wait + Clock>(&self, rt: &R) {
+        self.is_over.store(true, Ordering::SeqCst);
+        self.came.unpark();
+        self.await_last_lines(rt);
+        self.is_given_up.store(true, Ordering::SeqCst);
+        let lines = self.unwritten.load(Ordering::SeqCst);
+        if lines > 0 {
             self.stop.ask_for(rt, ServeFault::UnwrittenLog);
+            self.report(rt, Event::LogLost { lines });
         }
-    }
-
-    /// Closes the log: a line found no memory, so that nothing may follow. All links are to go down.
-    pub(crate) fn close<R: Wait>(&self, rt: &R) {
-        self.kept.lock(rt).is_closed = true;
-        self.stop.ask_for(rt, ServeFault::Memory);
     }
 }

@@ -7,8 +7,8 @@ use fp_digits::Moment;
 use std::rt::Clock;
 use std::time::{Duration, SystemTime, UNIX_EPOCH};
 
-/// The moment that it is now. Before 1970, or where the clock gives no time, it is the first that there is, and from the
-/// year 2100 on the last.
+/// The present moment. Before 1970, or if the clock gives no time, it is the first that there is, and from the year
+/// 2100 on the last.
 pub(crate) fn now<R: Clock>(rt: &R) -> Moment {
     let Ok(time) = SystemTime::now(rt) else {
         return moment_after(Duration::ZERO);
@@ -16,7 +16,7 @@ pub(crate) fn now<R: Clock>(rt: &R) -> Moment {
     moment_after(time.duration_since(UNIX_EPOCH).unwrap_or(Duration::ZERO))
 }
 
-/// The moment so long after 1970-01-01T00:00:00Z, parts of a millisecond dropped; or the last that there is, where that
+/// The moment this long after 1970-01-01T00:00:00Z, parts of a millisecond dropped; or the last that there is, if that
 /// is later.
 fn moment_after(since: Duration) -> Moment
     ensures { result ≡ min (as_nanos since / 1000000) (Moment.END - 1) }

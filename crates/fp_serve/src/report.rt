@@ -1,4 +1,4 @@
-//! What is told of the links.
+//! The address and the report on the links.
 
 ghost use Rattle.std.specs.Prelude.{◌≡◌, IfOk, OnOk, string_bytes};
 ghost use Rattle.std.specs.Io.KnownBytes.{Appends};

@@ -1,14 +1,30 @@
-//! How many links a run has, and how many workers.
+//! How many links a run has, how many workers and entries each of them, and what the run does when its log can't be
+//! written.
 
 ghost use Rattle.std.specs.Prelude.{◌≡◌, ◌≤◌, IfSome, IsSome, ◌↔◌};
+ghost use Rattle.fp_serve.specs.declared.settings.WhenLogFails.TheVariants.{EndRun, LeaveGap};
 
-/// How many links a run has, 1 to 8, and how many workers each of them, 1 to 8.
+/// What a run does when its log can't be written.
+#[derive(Clone, Copy, Debug, PartialEq, Eq)]
+pub enum WhenLogFails {
+    /// All links go down, and the run ends.
+    EndRun,
+    /// Calls go on, and writing is tried again each second. Lines that find no place meanwhile are counted in a gap.
+    LeaveGap,
+}
+
+/// How many links a run has, 1 to 8, how many workers each of them, 1 to 8, how many entries the dialogues of a link
+/// may keep, and what the run does when its log can't be written.
 #[derive(Clone, Copy, Debug, PartialEq, Eq)]
 pub struct Settings {
     /// How many links there are.
     pub links: u8,
     /// How many workers each link has.
     pub workers: u8,
+    /// How many entries the dialogues of a link may keep: one whose dialogues keep more goes down.
+    pub most_entries: u64,
+    /// What is done when the log can't be written.
+    pub when_log_fails: WhenLogFails,
     ghost some_link: { 1 ≤ links },
     ghost few_links: { links ≤ 8 },
     ghost some_worker: { 1 ≤ workers },
@@ -19,14 +35,51 @@ impl Settings {
     /// The most links, and the most workers of a link.
     pub const MOST: u8 = 8;
 
-    /// So many links with so many workers each, or `None` where one of the two isn't 1 to 8.
+    /// How many entries the dialogues of a link may keep, unless [`Settings::with_most_entries`] says it. A dialogue
+    /// keeps all that it accepted until it is no longer held, so without this bound one dialogue that never ends could
+    /// take all memory. It is four times what 4,096 dialogues have with 64 entries each.
+    pub const MOST_ENTRIES: u64 = 1_048_576;
+
+    /// This number of links with this number of workers each, of a run that ends when its log can't be written; or
+    /// `None` if one of the two isn't 1 to 8.
     pub fn new(links: u8, workers: u8) -> Option<Settings>
         ensures some { IsSome result ↔ (((1 ≤ links) × (links ≤ 8)) × ((1 ≤ workers) × (workers ≤ 8))) }
         ensures value { IfSome result (λ settings. (settings.links ≡ links) × (settings.workers ≡ workers)) }
+        ensures entries { IfSome result (λ settings. settings.most_entries ≡ 1048576) }
+        ensures fails { IfSome result (λ settings. settings.when_log_fails ≡ EndRun) }
     {
         if links == 0 || links > Self::MOST || workers == 0 || workers > Self::MOST {
             return None;
         }
-        Some(Settings { links, workers })
+        Some(Settings {
+            links,
+            workers,
+            most_entries: Self::MOST_ENTRIES,
+            when_log_fails: WhenLogFails::EndRun,
+        })
+    }
+
+    /// The same settings, of a run that goes on when its log can't be written.
+    pub fn with_log_gaps(self) -> Settings
+        ensures { result ≡ record self { when_log_fails = LeaveGap } }
+    {
+        Settings {
+            links: self.links,
+            workers: self.workers,
+            most_entries: self.most_entries,
+            when_log_fails: WhenLogFails::LeaveGap,
+        }
+    }
+
+    /// The same settings, with this number of entries that the dialogues of a link may keep.
+    pub fn with_most_entries(self, most_entries: u64) -> Settings
+        ensures { result ≡ record self { most_entries = most_entries } }
+    {
+        Settings {
+            links: self.links,
+            workers: self.workers,
+            most_entries,
+            when_log_fails: self.when_log_fails,
+        }
     }
 }

@@ -5,11 +5,10 @@ ghost use Rattle.fp_hub.specs.Shares.{Whole};
 use crate::arrivals::receive_all;
 use crate::departures::send_all;
 use crate::link::Link;
-use crate::log_gate::serve_turns;
 use crate::ticking::keep_time;
-use crate::{ServeFault, Service};
+use crate::turns::serve_turns;
+use crate::{ServeFault, Service, Why};
 use fp_hub::{Gate, Seat};
-use fp_streams::LinkWrite;
 use std::alloc::Global;
 use std::rt::Clock;
 use std::sync::Wait;
@@ -23,13 +22,12 @@ struct Starting<
     's,
     E: 's,
     R: 's,
-    L: LinkWrite + Send + Drop + 's,
     A: Ledger + Send + Sync + 's,
     B: Ledger + Send + Sync + 's,
     C: Ledger + Send + Sync + 's,
 > {
     scope: &'s Scope<'s, E>,
-    link: Link<'s, R, L, A, B, C>,
+    link: Link<'s, R, A, B, C>,
     // What is left of the seat of the link: each thread but the clock gets a part of it.
     seat: Seat<A, B, C>,
     // The threads that have a seat.
@@ -42,20 +40,19 @@ impl<
     's,
     E: 's,
     R: Threads + Wait + Clock + Sync + 's,
-    L: LinkWrite + Send + Drop + 's,
     A: Ledger + Send + Sync + 's,
     B: Ledger + Send + Sync + 's,
     C: Ledger + Send + Sync + 's,
-> Starting<'s, E, R, L, A, B, C> {
+> Starting<'s, E, R, A, B, C> {
     /// None was started, and there is room for the handles of this number of workers, the sending and the receiving
     /// thread.
     fn new(
         scope: &'s Scope<'s, E>,
-        link: Link<'s, R, L, A, B, C>,
+        link: Link<'s, R, A, B, C>,
         alloc: Global,
         workers: u8,
         seat: Seat<A, B, C>,
-    ) -> Starting<'s, E, R, L, A, B, C> {
+    ) -> Starting<'s, E, R, A, B, C> {
         let mut handles = Vec::new(alloc);
         let fault = match handles.reserve(usize::from(workers) + 2) {
             Ok(()) => None,
@@ -77,7 +74,8 @@ impl<
         }
     }
 
-    /// Keeps a thread to be joined, if it was started.
+    /// Keeps a thread to be joined, if it was started. There is room for its handle, unless memory ran out for that:
+    /// then the link is ended anyway.
     fn keep(&mut self, handle: Option<JoinHandle<Seat<A, B, C>>>) {
         match handle {
             Some(handle) => {
@@ -149,13 +147,12 @@ impl<
 pub(crate) fn run_threads<
     'x,
     R: Threads + Wait + Clock + Sync,
-    L: LinkWrite + Send + Drop,
     G: Gate + Sync,
     A: Ledger + Send + Sync,
     B: Ledger + Send + Sync,
     C: Ledger + Send + Sync,
 >(
-    link: Link<'x, R, L, A, B, C>,
+    link: Link<'x, R, A, B, C>,
     service: Service<'x>,
     workers: u8,
     gate: &'x G,
@@ -185,7 +182,7 @@ pub(crate) fn run_threads<
             } = starting;
             if let Some(fault) = fault {
                 link.log.stop.ask_for(link.rt, fault);
-                link.end();
+                link.end(Why::after(fault));
             }
             for handle in handles {
                 seat.join(handle.join(link.rt));

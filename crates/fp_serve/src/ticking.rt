@@ -1,8 +1,8 @@
 //! The clock of a link.
 
+use crate::Why;
 use crate::link::Link;
 use crate::moment::now;
-use fp_streams::LinkWrite;
 use std::rt::Clock;
 use std::sync::Wait;
 use std::sync::ledger::Ledger;
@@ -16,13 +16,13 @@ fn time_since<R: Clock>(rt: &R, last: Option<Instant>) -> Option<Duration> {
     last?.elapsed(rt).ok()
 }
 
-/// Ticks once a second, and hints to a worker then; writes the lines of the link once a second, and when half of their
-/// places are taken; and takes the link down if all links are to go down. Returns once the link is down. A device that
-/// takes no lines holds up the ticks.
+/// Ticks once a second, and hints to a worker then; hands the lines of the link to the thread that writes the log once
+/// a second, and when 512 wait in the book; and takes the link down if all links are to go down, or if its dialogues
+/// keep more entries than they may. Returns once the link is down.
 ///
 /// If the clock gives no time, it ticks each time that it wakes.
-pub(crate) fn keep_time<R: Wait + Clock, L: LinkWrite + Drop, A: Ledger, B: Ledger, C: Ledger>(
-    link: Link<'_, R, L, A, B, C>,
+pub(crate) fn keep_time<R: Wait + Clock, A: Ledger, B: Ledger, C: Ledger>(
+    link: Link<'_, R, A, B, C>,
 ) {
     let Link { rt, hub, log, .. } = link;
     let second = Duration::from_secs(SECONDS);
@@ -34,11 +34,13 @@ pub(crate) fn keep_time<R: Wait + Clock, L: LinkWrite + Drop, A: Ledger, B: Ledg
             last = Instant::now(rt).ok();
             hub.tick(rt, now(rt));
             hub.hint(rt);
-            if log.stop.fault(rt).is_some() {
-                link.end();
+            if let Some(fault) = log.stop.fault(rt) {
+                link.end(Why::after(fault));
+            } else if hub.entry_count(rt) > link.most_entries {
+                link.end(Why::Entries);
             }
         }
-        link.write_lines();
+        link.move_lines();
         if hub.is_down(rt) {
             break;
         }

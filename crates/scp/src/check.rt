@@ -1,4 +1,4 @@
-//! What a records file holds, told in one line.
+//! What a records file holds, in one line.
 
 ghost use Rattle.std.specs.Prelude.{◌≡◌, ◌⊎◌, IfErr, IfOk, OnOk, string_bytes};
 ghost use Rattle.std.specs.Io.KnownBytes.{Appends};
@@ -20,7 +20,7 @@ pub fn check<W: Write>(alloc: Global, table: &Table, output: &mut W) -> Result<(
     write_text(text.as_str(), output)
 }
 
-/// The line that tells what a table has.
+/// The line that says what a table has.
 fn text_of(alloc: Global, table: &Table) -> Result<String, AllocError>
     ensures { IfOk result (λ text. string_bytes text ≡ counts_line table.now) }
 {

@@ -5,9 +5,9 @@ ghost use Rattle.jiff.specs.Words.{parse_timestamp};
 ghost use Rattle.scp.specs.Instant.{moment_in};
 
 use clap::error::ErrorKind;
-use clap::{Arg, ArgMatches, Command, Error, value_parser};
+use clap::{Arg, ArgAction, ArgMatches, Command, Error, value_parser};
 use fp_digits::Moment;
-use fp_serve::Settings;
+use fp_serve::{Settings, Wanted};
 use jiff::Timestamp;
 use std::alloc::{AllocError, Global};
 
@@ -25,16 +25,16 @@ pub enum Asked<'a> {
         records: &'a str,
         /// The text of the moment, which has not been read.
         moment: &'a str,
-        /// The text of the list of application contexts, which has not been read, where there is one.
+        /// The text of the list of application contexts, which has not been read, if there is one.
         contexts: Option<&'a str>,
     },
-    /// The steps of a log made again, from the records of a file.
+    /// A replay of the steps of a log, from the records of a file.
     Replay {
         /// The path of the file.
         records: &'a str,
         /// The path of the log.
         log: &'a str,
-        /// The text of the list of application contexts, which has not been read, where there is one.
+        /// The text of the list of application contexts, which has not been read, if there is one.
         contexts: Option<&'a str>,
     },
     /// Links over connections, answered from the records of a file.
@@ -47,12 +47,14 @@ pub enum Asked<'a> {
         settings: Settings,
         /// The path of the log that is written.
         log: &'a str,
-        /// The text of the list of application contexts, which has not been read, where there is one.
+        /// Which events are written, if any are.
+        events: Option<Wanted>,
+        /// The text of the list of application contexts, which has not been read, if there is one.
         contexts: Option<&'a str>,
     },
     /// The help or the version: this text.
     Help(String),
-    /// Nothing that there is: this text says so.
+    /// Nothing that the program does: this text says so.
     Refused(String),
 }
 
@@ -65,7 +67,7 @@ const VERSION: &str = "0.9.0";
 /// The name of the subcommand that counts.
 const CHECK: &str = "check";
 
-/// The name of the subcommand that makes the steps of a log again.
+/// The name of the subcommand that replays a log.
 const REPLAY: &str = "replay";
 
 /// The name of the subcommand that serves links.
@@ -120,12 +122,29 @@ fn serve_asked<'a>(
     let Some(settings) = Settings::new(links, workers) else {
         return Asked::Refused(String::new(alloc));
     };
+    let has_log_gaps = chosen.get_flag("log-gaps");
     Asked::Serve {
         records,
         listen: chosen.get_str("listen").unwrap_or(""),
-        settings,
+        settings: if has_log_gaps {
+            settings.with_log_gaps()
+        } else {
+            settings
+        },
         log: chosen.get_str("log").unwrap_or(""),
+        events: wanted_events(chosen.get_flag("events"), has_log_gaps),
         contexts,
+    }
+}
+
+/// Which events are written: all if they are asked for; if the log may have gaps, at least when it can't be written.
+fn wanted_events(events: bool, log_gaps: bool) -> Option<Wanted> {
+    if events {
+        Some(Wanted::All)
+    } else if log_gaps {
+        Some(Wanted::LogFaults)
+    } else {
+        None
     }
 }
 
@@ -142,7 +161,7 @@ fn told_by<'a>(alloc: Global, error: &Error) -> Result<Asked<'a>, AllocError> {
     }
 }
 
-/// What to type, told behind the help of the program and of its subcommands.
+/// What to type, after the help of the program and of its subcommands.
 const CHECK_EXAMPLE: &str = "Example:
   scp check examples/freephone.csv";
 
@@ -155,15 +174,15 @@ Each message that is sent is a line of standard output, written before the next 
 const REPLAY_EXAMPLE: &str = "Example:
   scp replay examples/freephone.csv examples/calls.log
 
-Makes each step of the log again, and tells of each link how many components it accepted, how many
-entries it served and how many frames it sent. The first line at which the log can't be followed is told.";
+Replays each step of the log, and prints for each link how many components it accepted, how many
+entries it served and how many frames it sent. The first line that can't be replayed is reported.";
 
 const SERVE_EXAMPLE: &str = "Example:
   scp serve examples/freephone.csv --listen 127.0.0.1:14700 --log run.log
 
-Prints the address where it listens, answers each connection as one link, and tells in the end of each
-link what it did. Each message stands behind its length in four octets. FILE is emptied first, and gets
-each step of the links: scp replay makes them again.";
+Prints the address where it listens, answers each connection as one link, and prints what each link did
+once all of them are down. Each message follows its length, which has four octets. FILE is emptied first,
+and gets each step of the links: scp replay replays them.";
 
 const EXAMPLES: &str = "Examples:
   scp check examples/freephone.csv
@@ -189,7 +208,7 @@ fn contexts<'a>(alloc: Global) -> Arg<'a> {
 /// The subcommand that counts.
 fn check_command<'a>(alloc: Global) -> Result<Command<'a>, AllocError> {
     Command::new(alloc, CHECK)
-        .about("Reads a file of records and tells how many numbers and rules it has")
+        .about("Validates a file of records and counts its numbers and rules")
         .after_help(CHECK_EXAMPLE)
         .arg(records(alloc))
 }
@@ -207,13 +226,13 @@ fn ask_command<'a>(alloc: Global) -> Result<Command<'a>, AllocError> {
         .arg(contexts(alloc))
 }
 
-/// The subcommand that makes the steps of a log again.
+/// The subcommand that replays a log.
 fn replay_command<'a>(alloc: Global) -> Result<Command<'a>, AllocError> {
     let log = Arg::new(alloc, "LOG")
         .required(true)
         .help("The log of a run");
     Command::new(alloc, REPLAY)
-        .about("Makes the steps of a log again, and tells what each link did")
+        .about("Replays the steps of a log, and prints what each link did")
         .after_help(REPLAY_EXAMPLE)
         .arg(records(alloc))?
         .arg(log)?
@@ -227,6 +246,14 @@ fn up_to_eight<'a>(alloc: Global, name: &'a str, default: &'a str, help: &'a str
         .value_name("N")
         .value_parser(value_parser!(u8).range(1..=8))
         .default_value(default)
+        .help(help)
+}
+
+/// An option that is given or not.
+fn flag<'a>(alloc: Global, name: &'a str, help: &'a str) -> Arg<'a> {
+    Arg::new(alloc, name)
+        .long(name)
+        .action(ArgAction::SetTrue)
         .help(help)
 }
 
@@ -260,7 +287,17 @@ fn serve_command<'a>(alloc: Global) -> Result<Command<'a>, AllocError> {
             "1",
             "How many connections are accepted, 1 to 8",
         ))?
-        .arg(contexts(alloc))
+        .arg(contexts(alloc))?
+        .arg(flag(
+            alloc,
+            "events",
+            "Write a line on standard error for the records, each link that comes or goes, and a log that fails",
+        ))?
+        .arg(flag(
+            alloc,
+            "log-gaps",
+            "Go on if the log can't be written, leave a gap in it, and report that on standard error",
+        ))
 }
 
 /// The command line that there is.
@@ -280,7 +317,7 @@ fn command<'a>(alloc: Global) -> Result<Command<'a>, AllocError> {
 /// The moment that a text names: milliseconds since 1970-01-01T00:00:00Z, parts of a millisecond
 /// dropped towards the past.
 ///
-/// `None` where the text names no instant, or one before 1970 or after 2099.
+/// `None`: the text names no instant, or one before 1970 or after 2099.
 pub fn moment_of(text: &str) -> Option<Moment>
     ensures { result ≡ moment_in (parse_timestamp text.now) }
 {

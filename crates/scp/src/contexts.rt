@@ -11,7 +11,7 @@ use std::alloc::{AllocError, Global};
 /// How many names a list may have.
 const MOST: usize = 16;
 
-/// The names that a text lists, or `None` where it is no list of names.
+/// The names that a text lists. `None`: it is no list of names.
 ///
 /// A list has 1 to 16 names with commas between them. Each is the hexadecimal text, in digits of either case, of the 1
 /// to 64 octets of an object identifier, without tag and length. A name may stand twice.
@@ -33,7 +33,7 @@ fn pieces_of<'a>(alloc: Global, text: &'a str) -> Result<Vec<&'a str>, AllocErro
     text.split(',').collect(alloc)
 }
 
-/// The names of these texts, or `None` where one of them is the text of none.
+/// The names of these texts. `None`: one of them is the text of none.
 fn names_of(alloc: Global, texts: &[&str]) -> Result<Option<Vec<Name>>, AllocError>
     ensures { IfOk result (λ names. MatchOption names
         ((list : List (List ℕ)) → AllZip IsNameText (map (λ text. text.now) texts.now) list → ⊥)
@@ -49,7 +49,7 @@ fn names_of(alloc: Global, texts: &[&str]) -> Result<Option<Vec<Name>>, AllocErr
     Ok(Some(names))
 }
 
-/// The name of a text, or `None` where it is the text of none.
+/// The name of a text. `None`: it is the text of none.
 fn name_of(alloc: Global, text: &str) -> Result<Option<Name>, AllocError>
     ensures { IfOk result (λ name. MatchOption name
         ((octets : List ℕ) → IsNameText text.now octets → ⊥) (λ octets. IsNameText text.now octets)) }

@@ -1,22 +1,22 @@
 //! The program `scp` without its `main`: a service control point for freephone numbers, which answers TCAP messages
 //! from a file of number translation records.
 //!
-//! `scp check RECORDS` tells how many numbers and rules a file of records has. `scp ask RECORDS MOMENT` reads messages
+//! `scp check RECORDS` prints how many numbers and rules a file of records has. `scp ask RECORDS MOMENT` reads messages
 //! and waits from standard input, one a line, and holds the dialogues that they open: each message that is sent is one
-//! line of standard output. `scp serve RECORDS --listen A --log FILE` answers connections, each as one link, and writes a
-//! log. `scp replay RECORDS LOG` makes the steps of a log again, and tells of each link what it did. Standard error has
-//! at most one line, which says why the run ended. The status is 0 where all went well, 1 behind such a line, and 2 where
-//! the command line was refused.
+//! line of standard output. `scp serve RECORDS --listen A --log FILE` answers connections, each as one link, and writes
+//! a log. `scp replay RECORDS LOG` replays the steps of a log, and prints what each link did. Standard error
+//! has at most one line, which says why the run ended, and before it the events of a run that was asked for them. The
+//! status is 0 if all went well, 1 after such a line, and 2 if the command line was refused.
 //!
-//! The layer is handed the words of the command line, a reader, two writers and what opens files and awaits connections;
-//! `scp_main` gives it those of the system.
+//! The layer is handed the words of the command line, a reader, three writers and what opens files and awaits
+//! connections; `scp_main` gives it those of the system.
 //!
 //! * [`program`] takes one run from the words to the status, over any files, reader and writers; and
 //!   [`program_with_links`] one that may serve links.
 //! * [`ask`] answers the lines of an input, and [`serve`] the connections to a listener. They are those of `fp_ask` and
 //!   `fp_serve`, with their contracts.
 //! * `command` reads the words of the command line, and the moment among them; `contexts` the list of names.
-//! * `check` tells what the records hold.
+//! * `check` prints what the records hold.
 //! * `output` writes a text.
 //! * `fault` has the faults of a run and their texts.
 //!
@@ -34,6 +34,6 @@ mod run;
 mod with_links;
 
 pub use fp_ask::{AskFault, ask};
-pub use fp_serve::{ServeFault, Settings, serve};
+pub use fp_serve::{Events, ServeFault, Settings, serve};
 pub use run::{program, refuse_words};
 pub use with_links::program_with_links;

@@ -28,10 +28,10 @@ const TURNS: u64 = 1_099_511_627_776;
 
 /// Runs the program with these words, of which the first names it, and returns its status.
 ///
-/// 0: all was answered, or help was asked for and written to `output`. 2: the words were refused, and a text on `errors`
-/// says why. 1: one line on `errors` names the fault. Faults are found in this order: the words, the moment, the
-/// application contexts, the records, the opening of the log, then those of the lines. What cannot be written to `errors`
-/// is left out, and the status stays.
+/// 0: all was answered, or help was asked for and written to `output`. 2: the words were refused, and a text on
+/// `errors` says why. 1: one line on `errors` names the fault. Faults are found in this order: the words, the moment,
+/// the application contexts, the records, the opening of the log, then those of the lines. What cannot be written to
+/// `errors` is left out, and the status stays.
 ///
 /// It is handed no network. So words that ask for `serve` and aren't refused get status 1 and the line
 /// `listen: cannot listen`, before the application contexts, the records and the log are looked at:
@@ -213,9 +213,15 @@ pub(crate) fn accepted(
 }
 
 /// The table in a file.
-pub(crate) fn table_in<H: Files + AllocGlobal>(rt: &H, path: &str) -> Result<Table, RunFault> {
+fn table_in<H: Files + AllocGlobal>(rt: &H, path: &str) -> Result<Table, RunFault> {
+    let text = records_in(rt, path)?;
+    Ok(Table::read(rt.alloc(), text.as_slice())?)
+}
+
+/// The octets of a file of records.
+pub(crate) fn records_in<H: Files + AllocGlobal>(rt: &H, path: &str) -> Result<Vec<u8>, RunFault> {
     match fs::read(rt, path) {
-        Ok(text) => Ok(Table::read(rt.alloc(), text.as_slice())?),
+        Ok(text) => Ok(text),
         Err(error) if error.kind() == ErrorKind::OutOfMemory => {
             Err(RunFault::Ask(AskFault::Memory))
         }

@@ -7,31 +7,39 @@ ghost use Rattle.scp.specs.declared.fault.RunFault.TheVariants.{Serve, UnopenedL
 
 use crate::command::{Asked, asked_by};
 use crate::fault::RunFault;
-use crate::run::{accepted, run_asked, status_of, table_in};
+use crate::run::{accepted, records_in, run_asked, status_of};
 use fp_apdu::Name;
 use fp_records::Table;
-use fp_serve::{ServeFault, Settings, serve};
+use fp_serve::{Event, Events, ServeFault, Settings, Wanted, serve};
 use fp_streams::Counted;
-use std::fs::{File, OpenFile, OpenOptions};
+use sha2::{Digest, Sha256};
+use std::fs;
+use std::fs::{File, OpenFile, OpenOptions, TryLockError};
 use std::io::{ErrorKind, Read, Write};
 use std::net::{Net, SocketAddr, TcpListener, TcpStream};
+use std::os::unix::fs::{MetadataExt, OpenOptionsExt};
 use std::rt::{Clock, Files};
 use std::sync::Wait;
 use std::thread::Threads;
 
 /// Runs the program as [`program`](crate::program) does, and serves links if the words ask for that. Faults of `serve`
 /// are found in this order: the words, the application contexts, the records, the opening of the log, the address, the
-/// emptying of the log, then those of the run.
+/// lock and the emptying of the log, then those of the run.
 ///
-/// A log that can't be opened is reported before the address is looked at, as `log: cannot be opened`. One that can't be
-/// emptied is reported after it, as one that can't be written: `log: cannot be written`. A text that is no address, and an
-/// address where no connections can be awaited, are `listen: cannot listen`.
-pub fn program_with_links<H, R, W, E>(
+/// A log that can't be opened, or that is the records file, is reported before the address is looked at, as `log:
+/// cannot be opened`. So is, after it, one that another run holds. One that can't be emptied is reported as one that
+/// can't be written: `log: cannot be written`. A text that is no address, and an address where no connections can be
+/// awaited, are `listen: cannot listen`.
+///
+/// The events of the run that the words ask for go to `event_lines`, by a thread that may still wait there when this
+/// returns.
+pub fn program_with_links<H, R, W, E, V>(
     rt: &H,
     words: &[String],
     input: R,
     output: &mut W,
     errors: &mut E,
+    event_lines: V,
 ) -> u8
 where
     H: Files<File = File>
@@ -40,10 +48,14 @@ where
         + Threads
         + Wait
         + Clock
-        + Sync,
+        + Copy
+        + Send
+        + Sync
+        + 'static,
     R: Read + Drop,
     W: Write,
     E: Write,
+    V: Write + Send + Drop + 'static,
     ensures { result ≤ 2 }
 {
     match asked_by(rt.alloc(), words) {
@@ -53,25 +65,41 @@ where
                 listen,
                 settings,
                 log,
+                events,
                 contexts,
             },
         ) => {
-            let outcome = serve_file(rt, records, listen, settings, log, contexts, output);
-            status_of(outcome, errors)
+            let asked = Run {
+                records,
+                listen,
+                settings,
+                log,
+                events,
+                contexts,
+            };
+            status_of(serve_file(rt, asked, output, event_lines), errors)
         }
         asked => run_asked(rt, asked, input, output, errors),
     }
 }
 
-/// Serves links from the records of a file.
-fn serve_file<H, W>(
-    rt: &H,
-    records: &str,
-    listen: &str,
+/// What the words ask `serve` for, as [`Asked::Serve`] has it.
+#[derive(Clone, Copy)]
+struct Run<'a> {
+    records: &'a str,
+    listen: &'a str,
     settings: Settings,
-    log: &str,
-    contexts: Option<&str>,
+    log: &'a str,
+    events: Option<Wanted>,
+    contexts: Option<&'a str>,
+}
+
+/// Serves links from the records of a file.
+fn serve_file<H, W, V>(
+    rt: &H,
+    asked: Run<'_>,
     output: &mut W,
+    event_lines: V,
 ) -> Result<(), RunFault>
 where
     H: Files<File = File>
@@ -80,39 +108,105 @@ where
         + Threads
         + Wait
         + Clock
-        + Sync,
+        + Copy
+        + Send
+        + Sync
+        + 'static,
     W: Write,
+    V: Write + Send + Drop + 'static,
 {
-    let Some(contexts) = accepted(rt.alloc(), contexts)? else {
+    let Some(contexts) = accepted(rt.alloc(), asked.contexts)? else {
         return Err(RunFault::NoContexts);
     };
-    let table = table_in(rt, records)?;
-    let file = opened_log(rt, log)?;
-    let listener = listener_at(rt, listen)?;
+    let text = records_in(rt, asked.records)?;
+    let table = Table::read(rt.alloc(), text.as_slice())?;
+    let file = opened_log(rt, asked.log, asked.records)?;
+    let listener = listener_at(rt, asked.listen)?;
+    lock(&file)?;
     empty(&file)?;
-    serve_links(
+    let events = started_events(rt, asked.events, text.as_slice(), event_lines)?;
+    drop(text);
+    let outcome = serve_links(
         rt,
         &table,
         contexts.as_slice(),
-        settings,
-        &listener,
+        asked.settings,
+        listener,
         Counted::new(file),
+        &events,
         &mut Counted::new(output),
-    )?;
+    );
+    events.finish(rt);
+    outcome?;
     Ok(())
 }
 
-/// Opens the log to write it. What it holds stays until the address is bound, so that a second run which is refused the
-/// address of the first leaves its log alone.
-fn opened_log<H: Files<File = File>>(rt: &H, path: &str) -> Result<File, RunFault>
+/// The events that are asked for, of which the first has the digest of the records.
+fn started_events<H, V>(
+    rt: &H,
+    wanted: Option<Wanted>,
+    records: &[u8],
+    event_lines: V,
+) -> Result<Events, ServeFault>
+where
+    H: AllocGlobal + Threads + Wait + Clock + Copy + Send + 'static,
+    V: Write + Send + Drop + 'static,
+{
+    let Some(wanted) = wanted else {
+        return Ok(Events::none());
+    };
+    let events = Events::start(rt, rt.alloc(), wanted, event_lines)?;
+    if wanted == Wanted::All {
+        let digest = Sha256::digest(records);
+        events.report(rt, Event::Records { digest });
+    }
+    Ok(events)
+}
+
+/// The permissions of a log that is created: it has the numbers of callers.
+const LOG_MODE: u32 = 0o640;
+
+/// Opens the log to write it, unless it is the file of the records. What it holds stays until the address is bound, so
+/// that a second run which is refused the address of the first leaves its log alone.
+fn opened_log<H: Files<File = File>>(rt: &H, path: &str, records: &str) -> Result<File, RunFault>
     ensures fault { IfErr result (λ fault. (fault ≡ UnopenedLog) ⊎ (fault ≡ Serve Memory)) }
 {
-    match OpenOptions::new().write(true).create(true).open(rt, path) {
+    let mut options = OpenOptions::new();
+    options.write(true).create(true).mode(LOG_MODE);
+    match options.open(rt, path) {
+        Ok(file) if is_same_file(rt, &file, records) => Err(RunFault::UnopenedLog),
         Ok(file) => Ok(file),
         Err(error) if error.kind() == ErrorKind::OutOfMemory => {
             Err(RunFault::Serve(ServeFault::Memory))
         }
         Err(_) => Err(RunFault::UnopenedLog),
+    }
+}
+
+/// Whether a file is the one at a path.
+fn is_same_file<H: Files>(rt: &H, file: &File, path: &str) -> bool {
+    let (Ok(one), Ok(other)) = (file.metadata(), fs::metadata(rt, path)) else {
+        return false;
+    };
+    one.dev() == other.dev() && one.ino() == other.ino()
+}
+
+/// Locks the log, so that no other run writes it meanwhile: a second one is refused what the first holds. The lock ends
+/// with the run. Only a regular file is locked, since the lock of a device is the whole machine's; and if the system
+/// can't lock a file, the run goes on without.
+fn lock(file: &File) -> Result<(), RunFault>
+    ensures fault { IfErr result (λ fault. fault ≡ UnopenedLog) }
+{
+    let is_regular = match file.metadata() {
+        Ok(known) => known.is_file(),
+        Err(_) => false,
+    };
+    if !is_regular {
+        return Ok(());
+    }
+    match file.try_lock() {
+        Err(TryLockError::WouldBlock) => Err(RunFault::UnopenedLog),
+        Ok(()) | Err(TryLockError::Error(_)) => Ok(()),
     }
 }
 
@@ -153,12 +247,13 @@ fn serve_links<H, W>(
     table: &Table,
     contexts: &[Name],
     settings: Settings,
-    listener: &TcpListener,
+    listener: TcpListener,
     log: Counted<File>,
+    events: &Events,
     output: &mut Counted<W>,
 ) -> Result<(), ServeFault>
 where
-    H: AllocGlobal + Threads + Wait + Clock + Sync,
+    H: AllocGlobal + Threads + Wait + Clock + Copy + Send + Sync + 'static,
     W: Write,
     ensures { OnOk result (TellsLinks settings.links (W.contents output.old.device) (W.contents output.new.device)) }
 {
@@ -170,6 +265,7 @@ where
         settings,
         listener,
         log,
+        events,
         output,
     )
 }

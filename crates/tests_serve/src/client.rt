@@ -1,12 +1,58 @@
 //! Clients of a server.
 
+use libc::net::{SO_SNDBUF, SOL_SOCKET, setsockopt};
 use std::alloc::Global;
 use std::io::{Read, Write};
-use std::net::{Net, SocketAddr, TcpStream};
+use std::net::{Net, Shutdown, SocketAddr, TcpListener, TcpStream};
+use std::os::fd::AsRawFd;
+use std::rt::Clock;
+use std::sync::Wait;
+use std::thread;
 use std::time::Duration;
 
 /// How many seconds an answer is waited for.
 const MOST_SECONDS: u64 = 30;
+
+/// How often it is looked in a second whether connections are refused.
+const LOOKS: u32 = 100;
+
+/// How many octets that were written the system keeps for a connection with a small buffer, until its client takes
+/// them.
+const SMALL_BUFFER: i32 = 32_768;
+
+/// How many octets the value of an option has.
+const OCTETS_OF_A_NUMBER: u32 = 4;
+
+/// Gives the connections that a listener accepts from now on a small buffer for what is written, so that some 4,500
+/// answers that aren't read block it: without that it is 80,000 to 120,000.
+pub(crate) fn shrink_buffers(listener: &TcpListener) {
+    let mut size = [0u8; 16];
+    size[..4].copy_from_slice(&SMALL_BUFFER.to_ne_bytes());
+    // SAFETY: it is an option of its level whose value is a number.
+    unsafe {
+        setsockopt(
+            listener.as_raw_fd(),
+            SOL_SOCKET,
+            SO_SNDBUF,
+            &size,
+            OCTETS_OF_A_NUMBER,
+        );
+    }
+}
+
+/// Whether connections to this address are refused within a second.
+pub(crate) fn is_refused<R: Net<Stream = TcpStream> + Wait + Clock>(
+    rt: &R,
+    address: SocketAddr,
+) -> bool {
+    for _ in 0..LOOKS {
+        if TcpStream::connect(rt, address).is_err() {
+            return true;
+        }
+        thread::sleep(rt, Duration::from_millis(10));
+    }
+    false
+}
 
 /// A connection to a server.
 #[derive(Drop)]
@@ -37,6 +83,11 @@ impl Client {
         self.write(octets.as_slice())
     }
 
+    /// Closes its sending side.
+    pub(crate) fn end_input(&self) -> Option<()> {
+        self.stream.shutdown(Shutdown::Write).ok()
+    }
+
     /// Reads so many octets, and gives their hexadecimal text, in upper case.
     fn read_text(&mut self, alloc: Global, count: usize) -> Option<String> {
         let mut octets = Vec::new(alloc);
@@ -52,7 +103,17 @@ impl Client {
         self.read_text(alloc, usize::try_from(count).ok()?)
     }
 
-    /// Reads on, and tells whether the server ended the connection before anything more came.
+    /// Reads this number of frames. `None`: fewer come, or one with another message.
+    pub(crate) fn messages(&mut self, alloc: Global, count: u32, wanted: &str) -> Option<()> {
+        for _ in 0..count {
+            if self.message(alloc)?.as_str() != wanted {
+                return None;
+            }
+        }
+        Some(())
+    }
+
+    /// Reads on, and returns whether the server ended the connection before anything more came.
     pub(crate) fn is_at_end(&mut self) -> bool {
         let mut octet = [0u8; 1];
         match self.stream.read(&mut octet) {

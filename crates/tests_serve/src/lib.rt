@@ -6,8 +6,8 @@
 //! what its links counted. They are in a crate of their own so that `fp_serve` and `scp` are proved once.
 //!
 //! * `links`: runs of `fp_serve`; clients connect, write and read.
-//! * `program`: runs of `scp serve` from the words of a command line, over the files of a folder of their own: the order
-//!   of the faults, and the links and the log that the words ask for.
+//! * `program`: runs of `scp serve` from the words of a command line, over the files of a folder of their own: the
+//!   order of the faults, and the links and the log that the words ask for.
 //! * `client`, `memory` and `talk` serve both: connections, the outputs of a run, and what clients say.
 #![tactic(auto)]
 

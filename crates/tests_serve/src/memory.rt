@@ -9,8 +9,8 @@ use std::time::Duration;
 use std::{io, str, thread};
 use tests_hub::MOST_WAITS;
 
-/// A writer to a text that other threads share. What it was given is there once it was flushed. It takes so many octets,
-/// and then fails.
+/// A writer to a text that other threads share. What it was given is there once it was flushed. It takes so many
+/// octets, and then fails.
 #[derive(Drop)]
 pub(crate) struct Shared<'x, R: Wait> {
     rt: &'x R,

@@ -3,16 +3,21 @@
 mod calls;
 mod runs;
 
-use crate::memory::Shared;
+use crate::client::Client;
+use crate::memory::{Shared, awaited_address};
+use crate::talk::begin;
 use calls::make_calls;
-use runs::{Ended, enter_folder, old_log, run, want, words_of};
+use runs::{Ended, enter_folder, old_log, run, run_with_events, want, words_of};
+use std::alloc::Global;
 use std::fs::File;
+use std::io::Read;
 use std::net::{Net, SocketAddr, TcpListener, TcpStream};
+use std::os::unix::fs::MetadataExt;
 use std::rt::{Clock, Files};
 use std::sync::{Mutex, Wait};
 use std::test::Fail;
 use std::thread::Threads;
-use std::{fs, process, str, thread};
+use std::{fs, io, process, str, thread};
 
 /// Command lines, each with all faults that come after the one that is told, and what comes of each: the status, the
 /// output and the errors. At `USED` connections are awaited already.
@@ -21,10 +26,24 @@ serve none.csv --listen x --log none/run.log --contexts 2A030 => 1, , contexts: 
 serve none.csv --listen x --log none/run.log --contexts 2A0304 => 1, , records: cannot be read
 serve bad.csv --listen x --log none/run.log => 1, , record 2: BadDays
 serve good.csv --listen x --log none/run.log => 1, , log: cannot be opened
+serve good.csv --listen x --log ./good.csv => 1, , log: cannot be opened
 serve good.csv --listen x --log old.log => 1, , listen: cannot listen
 serve good.csv --listen 127.0.0.1 --log old.log => 1, , listen: cannot listen
 serve good.csv --listen localhost:0 --log old.log => 1, , listen: cannot listen
 serve good.csv --listen USED --log old.log => 1, , listen: cannot listen
+";
+
+/// The events of three links, of which one is closed between two frames, one inside a frame, and one gets a length that
+/// no frame has: without their moments and the ports of the clients, in alphabetical order. The digest is that of the
+/// records, by `sha256sum`.
+const EVENTS: &str = "\
+link 0 down peer closed
+link 0 up 127.0.0.1
+link 1 down closed inside a frame
+link 1 up 127.0.0.1
+link 2 down bad frame length
+link 2 up 127.0.0.1
+records 1e925dc5549ebae979bccbac61d9898176e6dd0be9560b9f692eaca6e69a4bdc
 ";
 
 /// Command lines that are refused.
@@ -101,6 +120,142 @@ fn links_are_served(rt: HostRuntime) -> Result<(), Fail> {
     Ok(())
 }
 
+/// A run has its log alone: a second one at another address is refused it, and leaves it alone.
+#[test]
+fn a_log_is_of_one_run(rt: HostRuntime) -> Result<(), Fail> {
+    let alloc = rt.alloc();
+    let folder = enter_folder(&rt, process::id(rt.process()))?;
+    let words = words_of(alloc, ONE_LINK.serve, "")?;
+    let shown = Mutex::new(Vec::new(alloc));
+    let (ended, second) = thread::join(
+        &rt,
+        || run(
+            &rt,
+            words.as_slice(),
+            &mut Shared::new(&rt, alloc, &shown, usize::MAX),
+        ),
+        || second_run(&rt, &shown),
+    );
+    let (refused, told) = second.ok_or("no address")?;
+    want(
+        refused.text(alloc, told.as_slice())?.as_str(),
+        "1, , log: cannot be opened\n",
+    )?;
+    let output = shown.into_inner();
+    let given = ended.text(alloc, output.as_slice())?;
+    let (_, after) = given.as_str().split_once('\n').ok_or("no address")?;
+    want(after, "link 0 accepted 0 served 0 sent 0\n, ")?;
+    let log = fs::read(&rt, "old.log")?;
+    assert_eq!(rt; str::from_utf8(log.as_slice())?, "fplog 1 1\n0 N\n");
+    fs::remove_dir_all(&rt, folder.as_str())?;
+    Ok(())
+}
+
+/// What comes of a second run on the log of a first one, which is ended afterwards, and the output of the second.
+fn second_run<H>(rt: &H, output: &Mutex<Vec<u8>>) -> Option<(Ended, Vec<u8>)>
+where
+    H: Files<File = File>
+        + AllocGlobal
+        + Net<Listener = TcpListener, Stream = TcpStream>
+        + Threads
+        + Wait
+        + Clock
+        + Copy
+        + Send
+        + Sync
+        + 'static,
+{
+    let alloc = rt.alloc();
+    let address = awaited_address(rt, output)?;
+    let words = words_of(alloc, ONE_LINK.serve, "").ok()?;
+    let mut told = Vec::new(alloc);
+    let ended = run(rt, words.as_slice(), &mut told);
+    drop(Client::connect(rt, address));
+    Some((ended, told))
+}
+
+/// With `--events` each link that comes or goes has a line, and the records have one; and a log that is created can be
+/// read by its owner and group alone.
+#[test]
+fn events_are_written(rt: HostRuntime) -> Result<(), Fail> {
+    let alloc = rt.alloc();
+    let folder = enter_folder(&rt, process::id(rt.process()))?;
+    let line = "serve good.csv --listen 127.0.0.1:0 --log new.log --links 3 --events";
+    let words = words_of(alloc, line, "")?;
+    let shown = Mutex::new(Vec::new(alloc));
+    let (mut reader, writer) = io::pipe(&rt)?;
+    let (ended, made) = thread::join(
+        &rt,
+        || run_with_events(
+            &rt,
+            words.as_slice(),
+            &mut Shared::new(&rt, alloc, &shown, usize::MAX),
+            writer,
+        ),
+        || end_three_links(&rt, alloc, &shown),
+    );
+    made.ok_or("no answer")?;
+    let output = shown.into_inner();
+    let given = ended.text(alloc, output.as_slice())?;
+    let (_, after) = given.as_str().split_once('\n').ok_or("no address")?;
+    let told = "link 0 accepted 1 served 2 sent 1
+link 1 accepted 0 served 0 sent 0
+link 2 accepted 0 served 0 sent 0
+, ";
+    want(after, told)?;
+    let mut text = Vec::new(alloc);
+    reader.read_to_end(&mut text)?;
+    want(
+        sorted_events(alloc, str::from_utf8(text.as_slice())?)?.as_str(),
+        EVENTS,
+    )?;
+    let mode = fs::metadata(&rt, "new.log")?.mode();
+    assert_eq!(rt; mode & 0o137, 0);
+    fs::remove_dir_all(&rt, folder.as_str())?;
+    Ok(())
+}
+
+/// Makes a call whose answer it reads once it closed its sending side, closes a second connection inside a frame, and
+/// sends a length of 0 on a third one.
+fn end_three_links<R: Net<Stream = TcpStream> + Wait + Clock>(
+    rt: &R,
+    alloc: Global,
+    output: &Mutex<Vec<u8>>,
+) -> Option<()> {
+    let address = awaited_address(rt, output)?;
+    let mut first = Client::connect(rt, address)?;
+    let mut second = Client::connect(rt, address)?;
+    let mut third = Client::connect(rt, address)?;
+    first.write_text(alloc, begin(alloc, 0x2A).ok()?.as_str())?;
+    first.end_input()?;
+    first.message(alloc)?;
+    second.write_text(alloc, "0000002F622D4804")?;
+    third.write_text(alloc, "00000000")?;
+    Some(())
+}
+
+/// The lines of events without their moments and without the ports of the clients, in alphabetical order.
+fn sorted_events(alloc: Global, text: &str) -> Result<String, Fail> {
+    let mut events = Vec::new(alloc);
+    for line in text.lines() {
+        let (moment, event) = line.split_once(' ').ok_or("no moment")?;
+        if moment.len() != "2024-05-06T12:00:00.000Z".len() || !moment.ends_with('Z') {
+            return Err(Fail::new(line));
+        }
+        events.push(match event.split_once(':') {
+            Some((event, _port)) => event,
+            None => event,
+        })?;
+    }
+    events.sort_unstable();
+    let mut sorted = String::new(alloc);
+    for event in &events {
+        sorted.push_str(event)?;
+        sorted.push('\n')?;
+    }
+    Ok(sorted)
+}
+
 /// Runs the program with the words of each line, while connections are awaited at this address.
 fn tell_faults<H>(rt: &H, used: SocketAddr) -> Result<(), Fail>
 where
@@ -110,7 +265,10 @@ where
         + Threads
         + Wait
         + Clock
-        + Sync,
+        + Copy
+        + Send
+        + Sync
+        + 'static,
 {
     let alloc = rt.alloc();
     let address = format!(in alloc; "{used}")?;
@@ -131,7 +289,10 @@ where
         + Threads
         + Wait
         + Clock
-        + Sync,
+        + Copy
+        + Send
+        + Sync
+        + 'static,
 {
     for line in REFUSED.lines() {
         let given = ran(rt, line, "")?;
@@ -161,7 +322,10 @@ where
         + Threads
         + Wait
         + Clock
-        + Sync,
+        + Copy
+        + Send
+        + Sync
+        + 'static,
 {
     let given = ran(
         rt,
@@ -181,7 +345,10 @@ where
         + Threads
         + Wait
         + Clock
-        + Sync,
+        + Copy
+        + Send
+        + Sync
+        + 'static,
 {
     let alloc = rt.alloc();
     let words = words_of(alloc, line, used)?;
@@ -205,7 +372,10 @@ where
         + Threads
         + Wait
         + Clock
-        + Sync,
+        + Copy
+        + Send
+        + Sync
+        + 'static,
 {
     let alloc = rt.alloc();
     let told = plan.told;

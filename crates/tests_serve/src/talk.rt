@@ -12,7 +12,8 @@ pub(crate) const RECORDS: &str = "key,100,60
 800123459,,1234567,00:00,24:00,1,pass
 ";
 
-/// What each Connect asks to be told of, where another place may follow: no route, busy, no answer, the answer, the end.
+/// What each Connect asks to be told of, where another place may follow: no route, busy, no answer, the answer, the
+/// end.
 const EVENTS: &str =
     "A041300B800104810100A203800102300B800105810100A203800102300B800106810100A203800102300B800107810101A203800102300B80010A810101A203800101";
 
@@ -62,6 +63,37 @@ pub(crate) const LATE_ERROR: &str = "00000018651648040000002A4904400000016C08A30
 /// The message that refuses it once the time of that invocation is over: a Reject, unrecognized invocation.
 pub(crate) const LATE_ERROR_REFUSED: &str = "651648044000000149040000002A6C08A406020102830100";
 
+/// The frame of a Continue from 104 to a dialogue that link 0 doesn't have.
+pub(crate) const UNKNOWN: &str = "0000000E650C480400000104490400000009";
+
+/// The message that aborts it: unrecognized transaction identifier.
+pub(crate) const ABORTED: &str = "67094904000001044A0101";
+
+/// The frame of an End of the first dialogue of link 0.
+pub(crate) const END: &str = "000000086406490400000001";
+
+/// A component in which the peer reports an error of invocation 85, which no dialogue has.
+pub(crate) const ERROR: &str = "A306020155020106";
+
+/// The message that refuses it in the first dialogue of link 0: a Reject, unrecognized invocation.
+pub(crate) const ERROR_REFUSED: &str = "651648040000000149040000002A6C08A406020155830100";
+
+/// A component that rejects an error that nobody reported. Nothing answers it.
+pub(crate) const REJECT: &str = "A406020102830100";
+
+/// The frames of this number of Continues from 2A to the first dialogue of link 0, each with 16 times this component,
+/// which has 8 octets.
+pub(crate) fn continues(alloc: Global, component: &str, count: u32) -> Result<String, AllocError> {
+    let mut text = String::new(alloc);
+    for _ in 0..count {
+        text.push_str("0000009265818F48040000002A4904000000016C8180")?;
+        for _ in 0..16 {
+            text.push_str(component)?;
+        }
+    }
+    Ok(text)
+}
+
 /// The frame of a Continue from 101 to this dialogue, with an EventReportBCSM in this invocation of this event.
 fn report(alloc: Global, local: &str, invocation: &str, event: &str) -> Result<String, AllocError> {
     format!(in alloc;
@@ -69,8 +101,8 @@ fn report(alloc: Global, local: &str, invocation: &str, event: &str) -> Result<S
     )
 }
 
-/// The message of a Continue from this dialogue to 101 that asks for events in one invocation and connects to this place
-/// in another.
+/// The message of a Continue from this dialogue to 101 that asks for events in one invocation and connects to this
+/// place in another.
 fn connection(
     alloc: Global,
     local: &str,
@@ -92,9 +124,7 @@ fn open_four(alloc: Global, client: &mut Client) -> Option<String> {
             .push_str(begin_for(alloc, identifier, last).ok()?.as_str())
             .ok()?;
     }
-    frames
-        .push_str("0000000E650C480400000104490400000009")
-        .ok()?;
+    frames.push_str(UNKNOWN).ok()?;
     client.write_text(alloc, frames.as_str())?;
     let mut messages = Vec::new(alloc);
     for _ in 0..5 {
@@ -110,7 +140,7 @@ fn open_four(alloc: Global, client: &mut Client) -> Option<String> {
         refused,
         answer(alloc, 0x100).ok()?,
         connection(alloc, local, "01", "02", "4304").ok()?,
-        String::from_str(alloc, "67094904000001044A0101").ok()?,
+        String::from_str(alloc, ABORTED).ok()?,
     ];
     let are_wanted = messages
         .iter()

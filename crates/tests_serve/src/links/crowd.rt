@@ -1,28 +1,39 @@
 //! Clients with many calls.
 
-use super::run::Told;
+use super::trial::Trial;
 use crate::client::Client;
-use crate::talk::{answer, begin};
+use crate::talk::{
+    ABORTED, END, ERROR, ERROR_REFUSED, UNKNOWN, answer, begin, continues, long_begin,
+};
 use std::alloc::Global;
 use std::net::{Net, SocketAddr, TcpStream};
 use std::rt::Clock;
 use std::sync::Wait;
 use std::time::Instant;
 
-/// The octets of the Begins from so many identifiers on.
-fn begins(alloc: Global, first: u32, count: u32) -> Option<Vec<u8>> {
+/// Writes the Begins from this number of identifiers at once, from this one on.
+pub(crate) fn write_begins(
+    alloc: Global,
+    client: &mut Client,
+    first: u32,
+    count: u32,
+) -> Option<()> {
     let mut text = String::new(alloc);
     for number in 0..count {
         text.push_str(begin(alloc, first.wrapping_add(number)).ok()?.as_str())
             .ok()?;
     }
-    hex::decode(alloc, text.as_str()).ok()
+    client.write_text(alloc, text.as_str())
 }
 
-/// Makes so many calls at once, from this identifier on, and tells whether each was answered once, under its own
-/// identifier. `None`: no.
-fn make_calls(alloc: Global, client: &mut Client, first: u32, count: u32) -> Option<()> {
-    client.write(begins(alloc, first, count)?.as_slice())?;
+/// Reads the answers to the Begins from this number of identifiers, from this one on. `None`: one wasn't answered once,
+/// under its own identifier.
+pub(crate) fn read_answers(
+    alloc: Global,
+    client: &mut Client,
+    first: u32,
+    count: u32,
+) -> Option<()> {
     let mut messages = Vec::new(alloc);
     for _ in 0..count {
         messages.push(client.message(alloc)?).ok()?;
@@ -35,6 +46,13 @@ fn make_calls(alloc: Global, client: &mut Client, first: u32, count: u32) -> Opt
         }
     }
     Some(())
+}
+
+/// Makes this number of calls at once, from this identifier on. `None`: one wasn't answered once, under its own
+/// identifier.
+pub(crate) fn make_calls(alloc: Global, client: &mut Client, first: u32, count: u32) -> Option<()> {
+    write_begins(alloc, client, first, count)?;
+    read_answers(alloc, client, first, count)
 }
 
 /// Makes 40 calls one after the other on a connection of its own, and gives how many seconds they took; and then 5,000,
@@ -56,19 +74,24 @@ pub(crate) fn make_all_calls<R: Net<Stream = TcpStream> + Clock>(
     Some(seconds)
 }
 
-/// Makes 10,000 calls on one connection and reads no answer, and then one call on another connection. Gives its answer.
-pub(crate) fn never_read<R: Net<Stream = TcpStream> + Wait + Clock>(
+/// Writes more at once than a link holds, three times: 80 errors of invocations that there aren't for one dialogue,
+/// 8,000 Begins, and 20,000 messages for a dialogue that there isn't. `None`: one wasn't answered.
+pub(crate) fn write_bursts<R: Net<Stream = TcpStream> + Wait + Clock>(
     rt: &R,
     alloc: Global,
-    told: &Told,
-) -> Option<String> {
-    let address = told.address(rt)?;
-    let mut first = Client::connect(rt, address)?;
-    let mut second = Client::connect(rt, address)?;
-    let thousand = begins(alloc, 0, 1_000)?;
-    for _ in 0..10 {
-        first.write(thousand.as_slice())?;
+    trial: &Trial,
+) -> Option<()> {
+    let mut client = Client::connect(rt, trial.address(rt)?)?;
+    client.write_text(alloc, long_begin(alloc).ok()?.as_str())?;
+    client.message(alloc)?;
+    client.write_text(alloc, continues(alloc, ERROR, 5).ok()?.as_str())?;
+    client.messages(alloc, 80, ERROR_REFUSED)?;
+    client.write_text(alloc, END)?;
+    make_calls(alloc, &mut client, 0x100, 8_000)?;
+    let mut unknown = String::new(alloc);
+    for _ in 0..20_000 {
+        unknown.push_str(UNKNOWN).ok()?;
     }
-    second.write_text(alloc, begin(alloc, 0x2A).ok()?.as_str())?;
-    second.message(alloc)
+    client.write_text(alloc, unknown.as_str())?;
+    client.messages(alloc, 20_000, ABORTED)
 }

@@ -8,8 +8,8 @@ use std::net::{Net, SocketAddr, TcpStream};
 use std::rt::Clock;
 use std::sync::{Mutex, Wait};
 
-/// Makes a call on a connection of its own, which names the application context 2A0304 or none, and gives whether it was
-/// answered as it has to be. `None`: it wasn't answered.
+/// Makes a call on a connection of its own, which names the application context 2A0304 or none, and gives whether it
+/// was answered as it has to be. `None`: it wasn't answered.
 fn is_answered<R: Net<Stream = TcpStream>>(
     rt: &R,
     alloc: Global,

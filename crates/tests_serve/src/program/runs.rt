@@ -73,7 +73,7 @@ impl Ended {
     }
 }
 
-/// Runs the program with these words and no input.
+/// Runs the program with these words and no input. Events are left out.
 pub(crate) fn run<H, W>(rt: &H, words: &[String], output: &mut W) -> Ended
 where
     H: Files<File = File>
@@ -82,12 +82,39 @@ where
         + Threads
         + Wait
         + Clock
-        + Sync,
+        + Copy
+        + Send
+        + Sync
+        + 'static,
     W: Write,
+{
+    run_with_events(rt, words, output, Vec::new(rt.alloc()))
+}
+
+/// Runs the program with these words and no input. The lines of its events are written here.
+pub(crate) fn run_with_events<H, W, V>(
+    rt: &H,
+    words: &[String],
+    output: &mut W,
+    event_lines: V,
+) -> Ended
+where
+    H: Files<File = File>
+        + AllocGlobal
+        + Net<Listener = TcpListener, Stream = TcpStream>
+        + Threads
+        + Wait
+        + Clock
+        + Copy
+        + Send
+        + Sync
+        + 'static,
+    W: Write,
+    V: Write + Send + Drop + 'static,
 {
     let mut errors = Vec::new(rt.alloc());
     let input: &[u8] = &[];
-    let status = program_with_links(rt, words, input, output, &mut errors);
+    let status = program_with_links(rt, words, input, output, &mut errors, event_lines);
     Ended { status, errors }
 }
 

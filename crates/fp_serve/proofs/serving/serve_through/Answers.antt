@@ -11,6 +11,6 @@ returns g c = record {
   totals = c.in_ok-counted.counted.items;
   each = search rules;
   wrote = Appends-trans _ _ _ _ _ c.in_ok-write_address.ensures
-      (subst (λ ts. Appends (g.W.LinkWrite.contents c.write_address.new.output) (g.W.LinkWrite.contents c.write_report-told.new.output) (lines_from 0 ts))
-      c.as_slice.ensures.value c.in_ok-told.ensures);
+      (subst (λ ts. Appends (g.W.LinkWrite.contents c.write_address.new.output) (g.W.LinkWrite.contents c.write_report-reported.new.output) (lines_from 0 ts))
+      c.as_slice.ensures.value c.in_ok-reported.ensures);
 }

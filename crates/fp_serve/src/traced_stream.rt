@@ -1,0 +1,114 @@
+//! A connection that remembers how its last read or write ended.
+
+use crate::Why;
+use crate::ending::Ending;
+use fp_linkio::Ended;
+use std::io;
+use std::io::{ErrorKind, Read, Write};
+use std::net::TcpStream;
+use std::sync::Wait;
+
+/// How a read or a write ended.
+#[derive(Clone, Copy, Debug, PartialEq, Eq)]
+pub(crate) enum LastCall {
+    /// It moved octets, or was interrupted and is made again.
+    Moved,
+    /// It moved none: the input is at its end.
+    AtEnd,
+    /// The peer acknowledged nothing for too long, or can't be reached.
+    PeerGone,
+    /// It failed otherwise.
+    Failed,
+}
+
+impl LastCall {
+    /// How a call ended. The system reports a peer that acknowledges nothing as unreachable if it knows that, as that
+    /// no machine of its network has its address, and else as timed out.
+    fn of(answer: &io::Result<usize>) -> LastCall {
+        match answer {
+            Ok(0) => LastCall::AtEnd,
+            Ok(_) => LastCall::Moved,
+            Err(error) => match error.kind() {
+                ErrorKind::Interrupted => LastCall::Moved,
+                ErrorKind::TimedOut
+                | ErrorKind::HostUnreachable
+                | ErrorKind::NetworkUnreachable
+                | ErrorKind::NetworkDown => LastCall::PeerGone,
+                _ => LastCall::Failed,
+            },
+        }
+    }
+
+    /// Why a link goes down whose receiving or sending loop ended so, after this last call.
+    pub(crate) fn why(self, ended: Ended) -> Why {
+        match (ended, self) {
+            (Ended::BadFrame, LastCall::AtEnd) => Why::ClosedInsideFrame,
+            (Ended::BadFrame, _) => Why::BadFrameLength,
+            (Ended::ReadFault | Ended::WriteFault, LastCall::PeerGone) => Why::PeerGone,
+            (Ended::ReadFault, _) => Why::ReadFault,
+            (Ended::WriteFault, _) => Why::WriteFault,
+            (Ended::EndOfInput, _) => Why::PeerClosed,
+            (Ended::TurnLimit, _) => Why::Limit,
+            (Ended::Memory, _) => Why::Memory,
+        }
+    }
+}
+
+/// The connection of a link, and how the last read or write through it ended.
+///
+/// A call that fails notes the reason at once. The system reports a fault of the connection to one thread only, and the
+/// other one then finds the end of the input, or a broken pipe: that comes later, and the first reason counts.
+#[derive(Drop)]
+pub(crate) struct TracedStream<'x, R> {
+    rt: &'x R,
+    stream: &'x TcpStream,
+    ending: &'x Ending<'x>,
+    pub(crate) last: LastCall,
+}
+
+impl<'x, R: Wait> TracedStream<'x, R> {
+    /// A connection that was neither read nor written.
+    pub(crate) fn new(
+        rt: &'x R,
+        stream: &'x TcpStream,
+        ending: &'x Ending<'x>,
+    ) -> TracedStream<'x, R> {
+        TracedStream {
+            rt,
+            stream,
+            ending,
+            last: LastCall::Moved,
+        }
+    }
+
+    /// A call ended so. If it failed, a loop that makes such calls ends like this.
+    fn trace(&mut self, last: LastCall, ended: Ended) {
+        self.last = last;
+        match last {
+            LastCall::PeerGone | LastCall::Failed => self.ending.note(self.rt, last.why(ended)),
+            LastCall::Moved | LastCall::AtEnd => {}
+        }
+    }
+}
+
+impl<R: Wait> Read for TracedStream<'_, R> {
+    fn read(&mut self, octets: &mut [u8]) -> io::Result<usize> {
+        let mut stream = self.stream;
+        let answer = stream.read(octets);
+        self.trace(LastCall::of(&answer), Ended::ReadFault);
+        answer
+    }
+}
+
+impl<R: Wait> Write for TracedStream<'_, R> {
+    fn write(&mut self, octets: &[u8]) -> io::Result<usize> {
+        let mut stream = self.stream;
+        let answer = stream.write(octets);
+        self.trace(LastCall::of(&answer), Ended::WriteFault);
+        answer
+    }
+
+    fn flush(&mut self) -> io::Result<()> {
+        Ok(())
+    }
+}

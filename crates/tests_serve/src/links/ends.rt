@@ -1,0 +1,217 @@
+//! What ends a link: its client, which may read nothing, its dialogues, or the log.
+
+use super::crowd::{make_calls, read_answers, write_begins};
+use super::device::Mood;
+use super::trial::{Trial, await_text};
+use crate::client::{Client, shrink_buffers};
+use crate::talk::{REJECT, UNKNOWN, continues, long_begin};
+use fp_hub::OpenGate;
+use fp_serve::{ServeFault, Settings, Wanted};
+use std::alloc::Global;
+use std::net::{Net, TcpListener, TcpStream};
+use std::rt::Clock;
+use std::sync::Wait;
+use std::test::Fail;
+use std::thread::Threads;
+use std::time::Instant;
+use std::{str, thread};
+
+/// What ends link 0, whose client has made calls and read no answer.
+#[derive(Clone, Copy, PartialEq, Eq)]
+enum Cause {
+    /// The client closes its sending side, and reads the answers.
+    EndOfInput,
+    /// It closes its sending side, and reads nothing.
+    UnreadAnswers,
+    /// It goes.
+    ClientGone,
+    /// The log can't be written any more.
+    LogFault,
+    /// One dialogue keeps more entries than the dialogues of a link may.
+    Entries,
+}
+
+/// A way in which link 0 ends.
+#[derive(Clone, Copy)]
+struct Row {
+    /// How many calls its client makes first.
+    calls: u32,
+    /// What its log has in it before the cause comes.
+    log: &'static str,
+    cause: Cause,
+    /// The seconds from the cause to the end, at least.
+    least_seconds: u64,
+    /// Its event: this one or the other.
+    event: &'static str,
+    other_event: &'static str,
+    /// What the run reports of it begins so.
+    told: &'static str,
+    fault: Option<ServeFault>,
+}
+
+/// The line of the log that says that the last of 7,000 calls is served. So many answers block the sending thread. Of
+/// 10,000 calls some are held back then: 4,096 dialogues wait for their answers to be sent.
+const SERVED_7000: &str = "\n0 T 00001B58 1\n";
+
+/// The ways in which link 0 ends.
+const ROWS: [Row; 5] = [
+    Row {
+        calls: 500,
+        log: "",
+        cause: Cause::EndOfInput,
+        least_seconds: 0,
+        event: " link 0 down peer closed\n",
+        other_event: " link 0 down peer closed\n",
+        told: "link 0 accepted 500 served 1000 sent 500\n",
+        fault: None,
+    },
+    Row {
+        calls: 6_500,
+        log: "",
+        cause: Cause::UnreadAnswers,
+        least_seconds: 2,
+        event: " link 0 down peer closed\n",
+        other_event: " link 0 down peer closed\n",
+        told: "link 0 accepted 6500 served ",
+        fault: None,
+    },
+    Row {
+        calls: 10_000,
+        log: SERVED_7000,
+        cause: Cause::ClientGone,
+        least_seconds: 0,
+        event: " link 0 down write fault\n",
+        other_event: " link 0 down read fault\n",
+        told: "link 0 accepted ",
+        fault: None,
+    },
+    Row {
+        calls: 10_000,
+        log: SERVED_7000,
+        cause: Cause::LogFault,
+        least_seconds: 0,
+        event: " link 0 down log fault\n",
+        other_event: " link 0 down log fault\n",
+        told: "link 0 accepted ",
+        fault: Some(ServeFault::UnwrittenLog),
+    },
+    Row {
+        calls: 0,
+        log: "",
+        cause: Cause::Entries,
+        least_seconds: 0,
+        event: " link 0 down entries\n",
+        other_event: " link 0 down entries\n",
+        told: "link 0 accepted 1009 served ",
+        fault: None,
+    },
+];
+
+/// How many seconds it takes at most from the cause to the end of link 0.
+const MOST_SECONDS: u64 = 30;
+
+/// Brings a cause about, except that the client goes.
+fn bring_about<R: Wait>(
+    rt: &R,
+    alloc: Global,
+    trial: &Trial,
+    row: Row,
+    client: &mut Client,
+    other: &mut Client,
+) -> Option<()> {
+    match row.cause {
+        Cause::EndOfInput => {
+            client.end_input()?;
+            read_answers(alloc, client, 0, row.calls)
+        }
+        Cause::UnreadAnswers => client.end_input(),
+        Cause::ClientGone => Some(()),
+        Cause::LogFault => {
+            trial.set_mood(rt, Mood::Fails(0));
+            // So that there is a line to be written.
+            other.write_text(alloc, UNKNOWN)
+        }
+        Cause::Entries => {
+            client.write_text(alloc, long_begin(alloc).ok()?.as_str())?;
+            client.message(alloc)?;
+            client.write_text(alloc, continues(alloc, REJECT, 63).ok()?.as_str())
+        }
+    }
+}
+
+/// Ends link 0 as a row says, after another client made a call on link 1, and waits until that is reported. Gives how
+/// many seconds after the cause it was. `None`: something else came than has to.
+fn end_link<R: Net<Stream = TcpStream> + Wait + Clock>(
+    rt: &R,
+    alloc: Global,
+    trial: &Trial,
+    row: Row,
+) -> Option<u64> {
+    let address = trial.address(rt)?;
+    let mut client = Client::connect(rt, address)?;
+    write_begins(alloc, &mut client, 0, row.calls)?;
+    await_text(rt, &trial.log, row.log)?;
+    let mut other = Client::connect(rt, address)?;
+    make_calls(alloc, &mut other, 0x2A, 1)?;
+    let start = Instant::now(rt).ok()?;
+    bring_about(rt, alloc, trial, row, &mut client, &mut other)?;
+    if row.cause == Cause::ClientGone {
+        drop(client);
+        await_text(rt, &trial.errors, " link 0 down ")?;
+    } else {
+        await_text(rt, &trial.errors, " link 0 down ")?;
+        drop(client);
+    }
+    Some(start.elapsed(rt).ok()?.as_secs())
+}
+
+/// Runs two links, of which link 0 ends as a row says, and compares what comes of it.
+fn run_row<R>(rt: &R, alloc: Global, row: Row) -> Result<(), Fail>
+where
+    R: Threads + Wait + Clock + Net<Listener = TcpListener, Stream = TcpStream>,
+    R: Copy + Send + Sync + 'static,
+{
+    let settings = Settings::new(2, 2).ok_or("settings")?;
+    let settings = if row.cause == Cause::Entries {
+        settings.with_most_entries(1_000)
+    } else {
+        settings
+    };
+    let trial = Trial::with_events(rt, alloc, settings, Mood::Takes(0), Wanted::All)?;
+    let listener = TcpListener::bind(rt, "127.0.0.1:0")?;
+    shrink_buffers(&listener);
+    let (outcome, seconds) = thread::join(
+        rt,
+        || trial.serve(rt, alloc, &OpenGate, listener),
+        || end_link(rt, alloc, &trial, row),
+    );
+    let seconds = seconds.ok_or("no answer, or no event")?;
+    if seconds < row.least_seconds || seconds >= MOST_SECONDS {
+        return Err(Fail::new(format_args!("{seconds} seconds, {}", row.event)));
+    }
+    let outcome = outcome.ok_or("out of memory")?;
+    let errors = trial.errors.lock(rt).to_vec(alloc)?;
+    let events = str::from_utf8(errors.as_slice())?;
+    if !events.contains(row.event) && !events.contains(row.other_event) {
+        return Err(Fail::new(events));
+    }
+    let told = str::from_utf8(outcome.told.as_slice())?;
+    if outcome.fault != row.fault
+        || !told.starts_with(row.told)
+        || !told.ends_with("\nlink 1 accepted 1 served 2 sent 1\n")
+    {
+        return Err(Fail::new(told));
+    }
+    Ok(())
+}
+
+/// Each link ends by its cause, in time and for its reason, also one whose sending thread is blocked, since its client
+/// reads nothing, and whose receiving thread holds a message back. The client of another link is answered meanwhile.
+#[test]
+fn a_link_ends_for_its_reason(rt: HostRuntime) -> Result<(), Fail> {
+    let alloc = rt.alloc();
+    for row in ROWS {
+        run_row(&rt, alloc, row)?;
+    }
+    Ok(())
+}
