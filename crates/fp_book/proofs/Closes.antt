@@ -1,8 +1,8 @@
 -- Where dialogues are ended: what of one of them is dropped, and how all of them are closed.
-use Rattle.fp_book.proofs.Names.{AreTimed, Bool, Closed, Closes, ClosesAt, Content, Dropped, Ending, Ends, EndsAt, Entry, Extends, IsAbove, IsAfter, List, None, Option, Outbox, Row, SendsOne, Shelf, Some, Sound, Waiting, [], ap, arith, cases_Bool, cond, dropped_of, drops_frames, eqb, false, false≢true, frame_out, frames_for, is_frame_of, is_ready, is_some, is_unsent, kept_of, length, length-append, ltb-false, min, nat_lt, nat_tests, nil_from_length, one_if, refl, sending, sent_of, subst, sym, true, unsent_for, with_deadline, without, without_frames_of, ℕ, ⊎_elim, ⊤, ◌&&◌, ◌++◌, ◌+◌, ◌-◌, ◌<◌, ◌^◌, ◌∙◌, ◌∷◌, ◌≡◌, ◌≤◌}
+use Rattle.fp_book.proofs.Names.{AreTimed, Bool, Closed, Closes, ClosesAt, Content, Dropped, Ending, Ends, EndsAt, Entry, Extends, IsAbove, IsAfter, List, None, Option, Outbox, Row, SendsOne, Shelf, Some, Sound, Waiting, [], ap, arith, cases_Bool, cond, deadline_at, dropped_of, drops_frames, eqb, false, false≢true, frame_out, frames_for, is_frame_of, is_ready, is_some, is_unsent, kept_of, length, length-append, ltb-false, min, nat_cmp, nat_lt, nat_tests, nil_from_length, one_if, refl, sending, sent_of, subst, sym, true, unsent_for, without, without_frames_of, ℕ, ⊎_elim, ⊤, ◌&&◌, ◌++◌, ◌+◌, ◌-◌, ◌<◌, ◌^◌, ◌∙◌, ◌∷◌, ◌≡◌, ◌≤◌}
 use Rattle.std.specs.FinMap as map
 use Rattle.fp_book.proofs.Changes.{by_local, count}
-use Rattle.fp_book.proofs.Kept.{Deadlines, changed, timed_by}
+use Rattle.fp_book.proofs.Kept.{changed, deadline_left}
 use Rattle.fp_book.proofs.Sums.{OneChanges, Rows, left_of}
 use Rattle.fp_row.specs.Calls as calls
 use Rattle.fp_book.proofs.Extends.{kept_count, sending_count, sent_count}
@@ -26,11 +26,10 @@ ahead None = 0
 ahead (Some next) = 2 ^ 32 - next
 
 -- the dialogues below the next one were closed, and the others are as they were
-pub record ClosedBelow (out : Option Content) (old new : Rows) (deadlines : Deadlines) (next : Option ℕ) : Type 0 where
+pub record ClosedBelow (out : Option Content) (old new : Rows) (next : Option ℕ) : Type 0 where
   pub done : (q : ℕ) → IsBelow q next → ClosesAt (is_frame_of q out) (map.get old q) (map.get new q)
   pub others : (n : ℕ) → next ≡ Some n → (q : ℕ) → n ≤ q → map.get new q ≡ map.get old q
   pub there : (n : ℕ) → next ≡ Some n → map.contains_key new n ≡ true
-  pub timed : AreTimed deadlines new
 
 absent_by : (o : Option Row) → (is_some o ≡ true → ⊥) → o ≡ None
 absent_by None absent = refl
@@ -53,12 +52,11 @@ none_closes : (sends : Bool) (o left : Option Row) → o ≡ None → left ≡ N
 none_closes sends o left none gone = subst (λ r. ClosesAt sends r left) (sym none) gone
 
 -- before the first is closed
-pub none_closed : (out : Option Content) (old : Rows) (deadlines : Deadlines) (next : Option ℕ) → IsAfter old None next → AreTimed deadlines old → ClosedBelow out old old deadlines next
-none_closed out old deadlines next after timed = record {
+pub none_closed : (out : Option Content) (old : Rows) (next : Option ℕ) → IsAfter old None next → ClosedBelow out old old next
+none_closed out old next after = record {
   done = λ q below. let gone = none_between old None next after q tt below in none_closes (is_frame_of q out) (map.get old q) (map.get old q) gone gone;
   others = λ n is q le. refl;
   there = next_there old None next after;
-  timed = timed;
 }
 
 -- an identifier is below another, is that one, or is above it
@@ -70,9 +68,9 @@ by_order q local P below here above =
     (cases_Bool (nat_lt q local)))
 
 -- the next one is closed
-pub one_closed : (out : Option Content) (old rows new : Rows) (deadlines : Deadlines) (sends : Bool) (local : ℕ) (next : Option ℕ) → ClosedBelow out old rows deadlines (Some local)
-    → sends ≡ is_frame_of local out → EndsAt rows local Closed sends new → IsAfter new (Some local) next → ClosedBelow out old new (map.remove deadlines local) next
-one_closed out old rows new deadlines sends local next so_far sends_is ends after =
+pub one_closed : (out : Option Content) (old rows new : Rows) (sends : Bool) (local : ℕ) (next : Option ℕ) → ClosedBelow out old rows (Some local)
+    → sends ≡ is_frame_of local out → EndsAt rows local Closed sends new → IsAfter new (Some local) next → ClosedBelow out old new next
+one_closed out old rows new sends local next so_far sends_is ends after =
     let one : OneChanges rows new local (Some ends.before) (left_of ends.after) = changed ends in
     let was : map.get old local ≡ Some ends.before = sym (so_far.others local refl local (omega arith)) ∙ ends.was in
     let closes : Closes (is_frame_of local out) ends.before (map.get new local) =
@@ -92,8 +90,16 @@ one_closed out old rows new deadlines sends local next so_far sends_is ends afte
           let more : local < q = omega (arith, next_above new local next after n is, le) in
           other q (λ e. omega (arith, e, more)) ∙ so_far.others local refl q (omega (arith, more));
       there = next_there new (Some local) next after;
-      timed = timed_by deadlines (map.remove deadlines local) ends so_far.timed (ap (with_deadline deadlines local) (sym ends.does.deadline));
     }
+
+-- a dialogue that was closed has no deadline
+untimed : (sends : Bool) (o left : Option Row) → ClosesAt sends o left → deadline_at left ≡ None
+untimed sends None left closes = ap deadline_at closes
+untimed sends (Some row) left closes = ap deadline_at closes.left_is ∙ deadline_left closes.after ∙ closes.ends.deadline
+
+-- so where all were closed there is none
+pub all_untimed : (out : Option Content) (old new : Rows) → ((q : ℕ) → ClosesAt (is_frame_of q out) (map.get old q) (map.get new q)) → AreTimed map.empty new
+all_untimed out old new closes q = map.get-empty nat_cmp q ∙ sym (untimed (is_frame_of q out) (map.get old q) (map.get new q) (closes q))
 
 -- less is left then
 pub less_ahead : (rows : Rows) (local : ℕ) (next : Option ℕ) → local < 2 ^ 32 → IsAfter rows (Some local) next → ahead next < ahead (Some local)

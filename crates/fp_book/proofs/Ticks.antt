@@ -108,11 +108,10 @@ not_due moment None later = refl
 not_due moment (Some deadline) later = let after : moment < deadline = later deadline refl in grind (arith, nat_tests)
 
 -- if no deadline is due no dialogue is
-pub none_found : (moment : ℕ) (rows : Rows) (deadlines : Deadlines) (o : Option ℕ) → AreTimed deadlines rows → IsEarliestDue deadlines moment o → is_some o ≡ false → 0 ≡ sum_of (due_now moment) rows
-none_found moment rows deadlines None timed later e =
+pub none_found : (moment : ℕ) (rows : Rows) (deadlines : Deadlines) → AreTimed deadlines rows → IsEarliestDue deadlines moment None → 0 ≡ sum_of (due_now moment) rows
+none_found moment rows deadlines timed later =
     let each : (q : ℕ) (row : Row) → map.get rows q ≡ Some row → due_now moment row ≡ 0 = λ q row was. not_due moment (deadline_of row) (λ deadline is. later q deadline (timed q ∙ ap deadline_at was ∙ is)) in
     omega (arith, sums-le (due_now moment) zero_of zero_of zero_of rows rows (λ q none. none) (λ q row was. omega (arith, each q row was)), sum-zero rows)
-none_found moment rows deadlines (Some local) timed later e = absurd (false≢true (sym e))
 
 -- a dialogue that was given a Clock has one
 counted : (moment : ℕ) (before after : Row) → Extends before (clock moment) after → has_clock after ≡ true

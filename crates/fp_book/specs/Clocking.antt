@@ -1,8 +1,10 @@
 -- What becomes of the dialogues of a link, their deadlines and their queue while each that is due is given a Clock.
-use Rattle.std.specs.Prelude.{◌≡◌, ℕ, ◌+◌, ◌≤◌, ◌==◌, Bool, true, false, List, ◌++◌, Some, None, length, filter, map, if◌then◌else◌, All, AllPairs}
+use Rattle.std.specs.Prelude.{◌≡◌, ℕ, ◌+◌, ◌≤◌, ◌==◌, Bool, true, List, ◌++◌, Some, None, length, filter, map, if◌then◌else◌, All, AllPairs}
 use Rattle.std.specs.List.{list_any}
 use Rattle.std.specs.Ordering.{nat_cmp}
 use Rattle.std.specs.FinMap.{FinMap, get, len, remove}
+use Rattle.fp_book.specs.declared.ticking.Clocked.{Clocked}
+use Rattle.fp_book.specs.declared.ticking.Clocked.TheVariants.{Given, NoneDue, OutOfMemory}
 use Rattle.fp_book.specs.Calls.{ClocksAt, ComesFirst, Due, is_idle, joins}
 use Rattle.fp_book.specs.Dialogues.{ClockedAt, Rows}
 use Rattle.fp_book.specs.Shelf.{one_if, turns_of}
@@ -25,6 +27,10 @@ pub record AreAgreed (rows : Rows) (deadlines : Deadlines) (ready : List ℕ) : 
   pub held : len rows ≤ 4096
   pub ready_length : length ready ≡ sum_of (λ row. one_if (is_ready row)) rows
 
+-- nothing changed
+abbrev pub Stays : Rows → Deadlines → List ℕ → Rows → Deadlines → List ℕ → Type 0
+Stays rows deadlines ready rows_then deadlines_then ready_then = (rows_then ≡ rows) × (deadlines_then ≡ deadlines) × (ready_then ≡ ready)
+
 -- the dialogue with the earliest deadline that is due is given a Clock
 pub record ClocksFirst (moment : ℕ) (rows : Rows) (deadlines : Deadlines) (ready : List ℕ) (rows_then : Rows) (deadlines_then : Deadlines) (ready_then : List ℕ) : Type 0 where
   pub local : ℕ
@@ -34,10 +40,11 @@ pub record ClocksFirst (moment : ℕ) (rows : Rows) (deadlines : Deadlines) (rea
   pub deadlines_are : deadlines_then ≡ remove deadlines local
   pub ready_is : ready_then ≡ ready ++ joins local is_joining
 
--- one was, or nothing changed
-abbrev pub ClocksIf : Bool → ℕ → Rows → Deadlines → List ℕ → Rows → Deadlines → List ℕ → Type 0
-ClocksIf true moment rows deadlines ready rows_then deadlines_then ready_then = ClocksFirst moment rows deadlines ready rows_then deadlines_then ready_then
-ClocksIf false moment rows deadlines ready rows_then deadlines_then ready_then = (rows_then ≡ rows) × (deadlines_then ≡ deadlines) × (ready_then ≡ ready)
+-- one was, or nothing changed: none is due, or memory ran out for one
+abbrev pub ClocksIf : Clocked → ℕ → Rows → Deadlines → List ℕ → Rows → Deadlines → List ℕ → Type 0
+ClocksIf Given moment rows deadlines ready rows_then deadlines_then ready_then = ClocksFirst moment rows deadlines ready rows_then deadlines_then ready_then
+ClocksIf NoneDue moment rows deadlines ready rows_then deadlines_then ready_then = Stays rows deadlines ready rows_then deadlines_then ready_then × IsEarliestDue deadlines moment None
+ClocksIf OutOfMemory moment rows deadlines ready rows_then deadlines_then ready_then = Stays rows deadlines ready rows_then deadlines_then ready_then × (local : ℕ) × IsEarliestDue deadlines moment (Some local)
 
 -- the dialogue is due, and this is its deadline
 pub record IsDueIn (rows : Rows) (moment : ℕ) (due : Due) : Type 0 where

@@ -1,8 +1,9 @@
 -- What the private functions find one by one, for each kind of message. What they find together,
 -- `judged`, is what the first line that fits says (`verdict` in `Lines`).
-use Rattle.std.specs.Prelude.{ℕ, Bool, true, false, ◌+◌, ◌^◌, ◌||◌, Option, Some, None, length, nat_le, nat_lt, nat_eq, if◌then◌else◌}
-use Rattle.std.specs.Option.{option_map_or}
+use Rattle.std.specs.Prelude.{◌≡◌, ℕ, Bool, true, false, ◌+◌, ◌^◌, ◌||◌, Option, Some, None, length, nat_le, nat_lt, nat_eq, if◌then◌else◌}
+use Rattle.std.specs.Option.{option_map, option_map_or}
 use Rattle.std.specs.FinMap.{get, len}
+use Rattle.fp_book.specs.declared.posting.Named.{Named}
 use Rattle.fp_book.specs.declared.verdict.Verdict.{Verdict}
 use Rattle.fp_book.specs.declared.verdict.Verdict.TheVariants.{Discard, Refuse, Open, Extend}
 pub use Rattle.fp_book.specs.Lines.{admitted, is_full, named, number_of, verdict}
@@ -18,6 +19,14 @@ use Rattle.fp_q773.specs.declared.provider_abort.AbortCause.TheVariants as cause
 use Rattle.fp_q773.specs.Tid.{Tid}
 use Rattle.fp_row.specs.declared.row.Row.{Row}
 use Rattle.fp_row.specs.Row.{places_taken}
+
+-- the identifier of the dialogue that a message names, if it names one
+abbrev pub local_in : Option Named → Option ℕ
+local_in dialogue = option_map (λ (d : Named). d.local) dialogue
+
+-- it has taken so many places
+abbrev pub HasItsPlaces : Shelf → Named → Type 0
+HasItsPlaces s dialogue = dialogue.places ≡ option_map_or places_taken (get s.rows dialogue.local) 0
 
 -- a message that was lost: memory ran out as it was read
 abbrev pub lost_of : Kind → Option ℕ → Verdict

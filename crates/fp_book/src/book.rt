@@ -120,6 +120,13 @@ impl Book {
         self.log.len()
     }
 
+    /// How many dialogues are ready, at most [`Book::MOST_DIALOGUES`]. Takes no memory.
+    pub fn ready_count(&self) -> usize
+        ensures value { result ≡ length self.now.ready }
+    {
+        self.ready.len()
+    }
+
     /// Moves the oldest lines of the log to the end of `lines`, as many as `lines` has room for, and changes nothing
     /// else. Takes no memory.
     pub fn drain(&mut self, lines: &mut Vec<Line>)

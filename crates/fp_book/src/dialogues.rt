@@ -7,6 +7,7 @@ ghost use Rattle.fp_book.specs.Dialogues.{ClockedAt, EndsAt, ExtendsAt, GivesAt,
 ghost use Rattle.fp_row.specs.declared.row.Row.{Row};
 ghost use Rattle.fp_row.specs.Row.{is_ready};
 ghost use Rattle.fp_book.specs.Shelf.{ready_count};
+ghost use Rattle.fp_book.specs.Views.{deadline_at};
 
 use fp_digits::Moment;
 use fp_entry::Entries;
@@ -47,6 +48,8 @@ pub(crate) struct Served {
 /// What comes of the entries that a dialogue accepts.
 #[derive(Clone, Copy, Debug)]
 pub(crate) struct Extended {
+    /// The deadline that the dialogue had.
+    pub(crate) deadline_before: Option<u64>,
     /// What the other parts have to know of the dialogue, and whether it has become ready.
     pub(crate) left: Left,
     /// Whether frames of it that wait are to be dropped.
@@ -182,6 +185,7 @@ pub(crate) fn extend(
     requires { takes_more (get rows.old local) ≡ true }
     ensures ok { IfOk result (λ extended. ExtendsAt rows.old local entries ends is_sending extended.left rows.new) }
     ensures only { OnErr result (entries ≢ []) }
+    ensures before { IfOk result (λ extended. extended.deadline_before ≡ deadline_at (get rows.old local)) }
     ensures drops { IfOk result (λ extended. (row : Row) → get rows.old local ≡ Some row → extended.drops_frames ≡ (ends && drops_frames row is_sending)) }
     ensures err { OnErr result (rows.new ≡ rows.old) }
 {
@@ -190,6 +194,7 @@ pub(crate) fn extend(
         unreachable!()
     };
     let was_ready = row.is_ready();
+    let deadline_before = row.deadline();
     row.accept(entries)?;
     let drops_frames = if ends {
         row.end(Ending::ByPeer, is_sending)
@@ -202,7 +207,11 @@ pub(crate) fn extend(
     };
     let is_held = row.is_held();
     keep(rows, local, is_held);
-    Ok(Extended { left, drops_frames })
+    Ok(Extended {
+        deadline_before,
+        left,
+        drops_frames,
+    })
 }
 
 /// Opens a dialogue with these entries: this end knows it by `local`, its peer by `peer`, and it is the `birth`-th of

@@ -1,7 +1,6 @@
 //! What a book does with a message.
 
-ghost use Rattle.std.specs.Prelude.{◌≡◌, false, length, if◌then◌else◌};
-ghost use Rattle.std.specs.FinMap.{get};
+ghost use Rattle.std.specs.Prelude.{◌≡◌, false, length, IfSome, if◌then◌else◌};
 ghost use Rattle.fp_book.specs.declared.verdict.Verdict.TheVariants as verdicts;
 ghost use Rattle.fp_entry.specs.declared.prepared.Prepared.TheVariants as prepared;
 ghost use Rattle.fp_book.specs.Calls.{without, abort_for, Discards, Follows, Posts, Refuses, posted_line, posted_totals};
@@ -10,9 +9,9 @@ ghost use Rattle.fp_book.specs.Lines.{is_full, named, number_of, verdict};
 ghost use Rattle.fp_book.specs.Outbox.{without_frames_of};
 ghost use Rattle.fp_book.specs.Receipt.{IsReceipt};
 ghost use Rattle.fp_book.specs.Shelf.{Sound};
-ghost use Rattle.fp_book.specs.Verdict.{abort_of, begin_of, lost_of, message_of, more_of, no_dialogue_left, no_place_left, refused_of, too_many};
+ghost use Rattle.fp_book.specs.Verdict.{HasItsPlaces, abort_of, begin_of, local_in, lost_of, message_of, more_of, no_dialogue_left, refused_of, too_many};
 
-use crate::serving::{join, set_deadline};
+use crate::serving::{change_deadline, join, set_deadline};
 use crate::verdict::Verdict;
 use crate::{
     Book, LoggedStep, Outbox, Posted, ReadyQueue, Receipt, dialogues, messages_keep_a_book_sound,
@@ -22,6 +21,24 @@ use fp_q773::{AbortCause, Ids, Kind, Tid};
 use fp_reply::abort_frame;
 use fp_row::Ending;
 use std::alloc::Global;
+
+/// The admitted dialogue that a message names.
+#[derive(Clone, Copy, Debug)]
+pub(crate) struct Named {
+    pub(crate) local: u32,
+    // How many of its places are taken.
+    pub(crate) places: usize,
+}
+
+/// The identifier of the dialogue that a message names, if it names one.
+fn local_in(dialogue: Option<Named>) -> Option<u32>
+    ensures { result ≡ local_in dialogue }
+{
+    match dialogue {
+        Some(dialogue) => Some(dialogue.local),
+        None => None,
+    }
+}
 
 /// What is to be done with a message that was lost: memory ran out for it.
 fn lost_of(kind: Kind, dialogue: Option<u32>) -> Verdict
@@ -149,12 +166,17 @@ impl Book {
     }
 
     /// The admitted dialogue that a message names, if it names one.
-    fn named(&self, ids: &Ids) -> Option<u32>
-        ensures { result ≡ named self.now ids.now }
+    fn named(&self, ids: &Ids) -> Option<Named>
+        ensures local { local_in result ≡ named self.now ids.now }
+        ensures places { IfSome result (HasItsPlaces self.now) }
     {
         let local = ids.dest?.number()?;
         let row = self.rows.get(local)?;
-        if row.is_admitted() { Some(local) } else { None }
+        if !row.is_admitted() {
+            return None;
+        }
+        let places = row.places_taken();
+        Some(Named { local, places })
     }
 
     /// Whether no further dialogue may be opened.
@@ -162,17 +184,6 @@ impl Book {
         ensures { result ≡ no_dialogue_left self.now }
     {
         self.rows.len() >= Self::MOST_DIALOGUES || self.ids.next().is_none() || self.is_full()
-    }
-
-    /// Whether a dialogue has no place for this number of entries more.
-    fn no_place_left(&self, local: u32, places: usize) -> bool
-        ensures { result ≡ no_place_left (get self.now.rows local) places }
-    {
-        let taken = match self.rows.get(local) {
-            Some(row) => row.places_taken(),
-            None => 0,
-        };
-        taken.saturating_add(places) > Self::MOST_ENTRIES
     }
 
     /// What is to be done with a Begin.
@@ -195,11 +206,13 @@ impl Book {
     }
 
     /// What is to be done with a Continue or an End of an admitted dialogue.
-    fn more_of(&self, local: u32, ends: bool, incoming: &Incoming) -> Verdict
-        ensures { result ≡ more_of self.now local ends incoming.now }
+    fn more_of(&self, dialogue: Named, ends: bool, incoming: &Incoming) -> Verdict
+        requires { HasItsPlaces self.now dialogue }
+        ensures { result ≡ more_of self.now dialogue.local ends incoming.now }
     {
-        let places = incoming.entries.place_count();
-        if too_many(incoming) || self.no_place_left(local, places) || self.is_full() {
+        let Named { local, places } = dialogue;
+        let places = places.saturating_add(incoming.entries.place_count());
+        if too_many(incoming) || places > Self::MOST_ENTRIES || self.is_full() {
             return Verdict::Refuse {
                 cause: Some(AbortCause::ResourceLimitation),
                 closes: Some(local),
@@ -209,25 +222,26 @@ impl Book {
     }
 
     /// What is to be done with a readable message, which names this admitted dialogue or none.
-    fn message_of(&self, ids: &Ids, incoming: &Incoming, dialogue: Option<u32>) -> Verdict
-        ensures { result ≡ message_of self.now ids.now incoming.now ids.now.kind dialogue }
+    fn message_of(&self, ids: &Ids, incoming: &Incoming, dialogue: Option<Named>) -> Verdict
+        requires { IfSome dialogue (HasItsPlaces self.now) }
+        ensures { result ≡ message_of self.now ids.now incoming.now ids.now.kind (local_in dialogue) }
     {
         match ids.kind {
             Kind::Unidirectional | Kind::Unknown => Verdict::Discard,
             Kind::Begin => self.begin_of(ids.orig, incoming),
             Kind::Continue => match dialogue {
-                Some(local) => self.more_of(local, false, incoming),
+                Some(dialogue) => self.more_of(dialogue, false, incoming),
                 None => Verdict::Refuse {
                     cause: Some(AbortCause::UnrecognizedTransactionIdentifier),
                     closes: None,
                 },
             },
             Kind::End => match dialogue {
-                Some(local) => self.more_of(local, true, incoming),
+                Some(dialogue) => self.more_of(dialogue, true, incoming),
                 None => Verdict::Discard,
             },
             Kind::Abort => match dialogue {
-                Some(local) => abort_of(local, incoming),
+                Some(dialogue) => abort_of(dialogue.local, incoming),
                 None => Verdict::Discard,
             },
         }
@@ -245,8 +259,8 @@ impl Book {
         let dialogue = self.named(ids);
         match came {
             Prepared::Message { incoming, .. } => self.message_of(ids, incoming, dialogue),
-            Prepared::Refused { .. } => refused_of(ids.kind, dialogue),
-            Prepared::Lost { .. } => lost_of(ids.kind, dialogue),
+            Prepared::Refused { .. } => refused_of(ids.kind, local_in(dialogue)),
+            Prepared::Lost { .. } => lost_of(ids.kind, local_in(dialogue)),
         }
     }
 
@@ -311,7 +325,8 @@ impl Book {
         drop_frames_if(&mut self.outbox, local, extended.drops_frames);
         self.entries += count as u64;
         self.totals.accepted += components as u64;
-        set_deadline(&mut self.deadlines, local, extended.left.deadline);
+        let before = extended.deadline_before;
+        change_deadline(&mut self.deadlines, local, before, extended.left.deadline);
         join(&mut self.ready, local, extended.left.is_ready);
         let posted = Posted::Accepted(count as u32);
         self.log.add(LoggedStep::Post {

@@ -16,9 +16,8 @@ use fp_row::{Ending, Rows};
 use fp_service::entries_ask_once_at_most;
 use fp_timers::Deadlines;
 
-/// Closes all dialogues. Takes no memory.
+/// Closes all dialogues, none of which has a deadline then. Takes no memory.
 fn close_all(rows: &mut Rows, deadlines: &mut Deadlines, outbox: &Outbox)
-    requires { AreTimed deadlines.old rows.old }
     ensures closes { (local : ℕ) → ClosesAt (is_frame_of local outbox.now.out) (get rows.old local) (get rows.new local) }
     ensures timed { AreTimed deadlines.new rows.new }
 {
@@ -26,9 +25,9 @@ fn close_all(rows: &mut Rows, deadlines: &mut Deadlines, outbox: &Outbox)
     while let Some(local) = next {
         let is_sending = outbox.is_sending(local);
         dialogues::end(rows, local, Ending::Closed, is_sending);
-        deadlines.clear(local);
         next = rows.after(Some(local));
     }
+    deadlines.clear_all();
 }
 
 impl Book {

@@ -24,6 +24,23 @@ pub(crate) fn set_deadline(deadlines: &mut Deadlines, local: u32, deadline: Opti
     }
 }
 
+/// Gives a dialogue a deadline in place of the one that it has, or takes that away. If it stays the same, nothing is
+/// searched. Takes no memory.
+pub(crate) fn change_deadline(
+    deadlines: &mut Deadlines,
+    local: u32,
+    before: Option<u64>,
+    deadline: Option<u64>,
+)
+    requires before { before ≡ get deadlines.old local }
+    requires room { HasRoom deadlines.old local }
+    ensures { deadlines.new ≡ with_deadline deadlines.old local deadline }
+{
+    if before != deadline {
+        set_deadline(deadlines, local, deadline);
+    }
+}
+
 /// Puts a dialogue after the others that are ready, if it has become so. Takes no memory.
 pub(crate) fn join(ready: &mut ReadyQueue, local: u32, is_ready: bool)
     requires { IsTrue is_ready → length ready.old < ReadyQueue.MOST }

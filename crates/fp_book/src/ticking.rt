@@ -16,42 +16,41 @@ use fp_digits::Moment;
 use fp_row::Rows;
 use fp_timers::Deadlines;
 
+/// What becomes of the dialogue that is due first.
+#[derive(Clone, Copy, Debug)]
+pub(crate) enum Clocked {
+    /// It is given a Clock.
+    Given,
+    /// None is due.
+    NoneDue,
+    /// Memory ran out for its Clock.
+    OutOfMemory,
+}
+
 /// Gives the dialogue with the earliest deadline that is due at a moment a Clock, the one with the smallest identifier
-/// among those, and says so. If none is due, or memory runs out, nothing changes.
+/// among those. If none is due, or memory runs out, nothing changes.
 fn clock_first(
     rows: &mut Rows,
     deadlines: &mut Deadlines,
     ready: &mut ReadyQueue,
     moment: Moment,
-) -> bool
+) -> Clocked
     requires { AreAgreed rows.old deadlines.old ready.old }
-    ensures { ClocksIf result moment rows.old deadlines.old ready.old rows.new deadlines.new ready.new }
+    ensures clocks { ClocksIf result moment rows.old deadlines.old ready.old rows.new deadlines.new ready.new }
 {
     let Some(local) = deadlines.due(moment) else {
-        return false;
+        return Clocked::NoneDue;
     };
     let Ok(joins) = dialogues::clock(rows, local, moment) else {
-        return false;
+        return Clocked::OutOfMemory;
     };
     deadlines.clear(local);
     join(ready, local, joins);
-    true
-}
-
-/// How many dialogues are due at a moment. Goes through all of them only where one is.
-fn count_due(rows: &Rows, deadlines: &Deadlines, moment: Moment) -> u32
-    requires timed { AreTimed deadlines.now rows.now }
-    requires held { len rows.now ≤ 4096 }
-    ensures { result ≡ sum_of (due_now moment) rows.now }
-{
-    if deadlines.due(moment).is_none() {
-        return 0;
-    }
-    rows.count_due(moment) as u32
+    Clocked::Given
 }
 
 /// Gives each dialogue that is due at a moment a Clock, the one with the earliest deadline first, and the one with the
-/// smallest identifier among those. It ends if memory runs out: the others stay due.
+/// smallest identifier among those. It ends if memory runs out: the others stay due, and are counted.
 fn clock_all(
     rows: &mut Rows,
     deadlines: &mut Deadlines,
@@ -63,11 +62,16 @@ fn clock_all(
     ensures wanting { result.wanting ≡ sum_of (due_now moment) rows.new }
 {
     let mut added: u32 = 0;
-    while clock_first(rows, deadlines, ready, moment) {
-        added += 1;
+    loop {
+        match clock_first(rows, deadlines, ready, moment) {
+            Clocked::Given => added += 1,
+            Clocked::NoneDue => return Ticked { added, wanting: 0 },
+            Clocked::OutOfMemory => {
+                let wanting = rows.count_due(moment) as u32;
+                return Ticked { added, wanting };
+            }
+        }
     }
-    let wanting = count_due(rows, deadlines, moment);
-    Ticked { added, wanting }
 }
 
 /// Logs a tick at which a dialogue was due.

@@ -4,7 +4,7 @@ use Rattle.std.specs.List.{sum_by}
 use Rattle.std.specs.Ordering.{nat_cmp}
 use Rattle.std.specs.FinMap.{FinMap, contains_key, entries, get, insert}
 use Rattle.fp_row.specs.declared.row.Row.{Row}
-use Rattle.fp_row.specs.Keys.{IsAbove}
+use Rattle.fp_row.specs.Keys.{IsNext}
 use Rattle.fp_row.specs.Row.{is_due}
 
 -- how many dialogues are due at a moment
@@ -17,13 +17,7 @@ entry_count rows = sum_by (λ (entry : ℕ × Row). length entry.1.accepted) (en
 
 -- the least identifier of a row above one, and the least of all above none
 abbrev pub IsAfter : FinMap nat_cmp Row → Option ℕ → Option ℕ → Type 0
--- none: no identifier of a row is above it
-IsAfter rows local None = (other : ℕ) → IsTrue (contains_key rows other) → IsAbove local other → ⊥
--- an identifier: it is that of a row, it is above, and no other that is above is smaller
-IsAfter rows local (Some next) =
-    IsTrue (contains_key rows next)
-    × IsAbove local next
-    × ((other : ℕ) → IsTrue (contains_key rows other) → IsAbove local other → next ≤ other)
+IsAfter rows local next = IsNext (contains_key rows) local next
 
 -- the least identifier above one is one identifier, or none
 abbrev pub AfterIsOne : Type 0

@@ -1,6 +1,6 @@
 //! One dialogue.
 
-ghost use Rattle.std.specs.Prelude.{◌≡◌, ◌≢◌, [], ◌≤◌, ◌<◌, ◌+◌, ◌^◌, ◌&&◌, ◌↔◌, nat_eq, nat_lt, not, false, true, Some, is_some, length, min, slice_get, take, IsTrue, IfOk, IfErr, IsOk, OnErr, OnOk};
+ghost use Rattle.std.specs.Prelude.{◌≡◌, ◌≢◌, [], ◌++◌, ◌≤◌, ◌<◌, ◌+◌, ◌^◌, ◌&&◌, ◌↔◌, nat_eq, nat_lt, not, false, true, Some, is_some, length, min, slice_get, take, IsTrue, IfOk, IfErr, IsOk, OnErr, OnOk};
 ghost use Rattle.std.specs.Coded.{Coded-set};
 ghost use Rattle.fp_service.specs.Dialogue.{fresh, is_over};
 ghost use Rattle.fp_service.specs.Fold.{core_after, cut, requests};
@@ -59,6 +59,20 @@ pub struct Row {
     pub ghost out_most: { out ≤ 1 },
     pub ghost out_within: { served + out ≤ length accepted },
     pub ghost out_is_live: { (nat_lt 0 out && is_over core) ≡ false },
+}
+
+/// Puts entries after those that a dialogue accepted. The first ones stay in the list in which they came, which takes no
+/// memory. If memory runs out, nothing changes.
+fn append(accepted: &mut Entries, entries: Entries) -> Result<(), AllocError>
+    ensures ok { OnOk result (accepted.new ≡ accepted.old ++ entries) }
+    ensures first { accepted.old ≡ [] → IsOk result }
+    ensures err { OnErr result (accepted.new ≡ accepted.old) }
+{
+    if accepted.is_empty() {
+        *accepted = entries;
+        return Ok(());
+    }
+    accepted.append(entries)
 }
 
 impl Row {
@@ -205,7 +219,7 @@ impl Row {
         if entries.is_empty() {
             return Ok(true);
         }
-        self.accepted.append(entries)?;
+        append(&mut self.accepted, entries)?;
         Ok(true)
     }
 

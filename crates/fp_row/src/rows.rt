@@ -22,8 +22,8 @@ use std::marker::Model;
 /// as a finite map.
 #[derive(Debug, Drop)]
 pub struct Rows {
-    // Each row stays where it is while others come and go. Its identifier is beside it: a row that is lent may be
-    // changed in any way.
+    // Each row stays where it is while others come and go, until the slab grows. Its identifier is beside it: a row
+    // that is lent may be changed in any way.
     rows: Slab<(u32, Row)>,
     // Leads from each identifier to its row.
     index: Index,
