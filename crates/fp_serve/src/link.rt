@@ -59,9 +59,12 @@ impl<'x, R: Wait + Clock, A: Ledger, B: Ledger, C: Ledger> Link<'x, R, A, B, C> 
         }
     }
 
-    /// Hands the lines that its book has to the thread that writes the log, as [`LinkLog::move_lines`].
-    pub(crate) fn move_lines(&self) {
-        self.count(self.lines.move_lines(self.rt, self.hub));
+    /// Hands lines that its book has to the thread that writes the log, as [`LinkLog::move_lines`]. `true`: others may
+    /// wait in the book that can be handed on at once.
+    pub(crate) fn move_lines(&self) -> bool {
+        let moved = self.lines.move_lines(self.rt, self.hub);
+        self.count(moved);
+        moved.leaves_some
     }
 
     /// Does so if its book has many, as [`LinkLog::move_lines_if_many`].

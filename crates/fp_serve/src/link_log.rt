@@ -14,6 +14,10 @@ const LINES_AT_ONCE: usize = 256;
 /// How many times lines are moved in one turn at most, four times as many lines as the book has places.
 const MOST_MOVES: usize = fp_book::Log::MOST / LINES_AT_ONCE * 4;
 
+/// From how many octets of text that it made a turn ends, so that nobody waits long for the next one. What is moved at
+/// once may be twice as much.
+const OCTETS_OF_A_TURN: usize = 1 << 20;
+
 /// From how many octets of text that wait no more lines are moved while the link is up. At 100 calls a second, of seven
 /// lines each, a device that takes nothing fills them in five minutes.
 const MOST_OCTETS: usize = 6 << 20;
@@ -57,6 +61,8 @@ impl LogText {
 pub(crate) struct Moved {
     /// How many were moved.
     pub(crate) line_count: u64,
+    /// Others may wait in the book, and there is room for them here.
+    pub(crate) leaves_some: bool,
     /// Memory ran out for their text, so that others are lost.
     pub(crate) is_out_of_memory: bool,
 }
@@ -78,7 +84,7 @@ impl Waiting {
         Ok(())
     }
 
-    /// Moves the lines that a book has now here, while fewer than `most` octets wait.
+    /// Moves lines of a book to the text, while that has fewer than `most` octets.
     fn move_lines<R: Wait, A: Ledger, B: Ledger, C: Ledger>(
         &mut self,
         rt: &R,
@@ -86,23 +92,35 @@ impl Waiting {
         most: usize,
     ) -> Moved {
         let before = self.text.line_count;
+        let mut leaves_some = true;
         let mut is_out_of_memory = false;
         for _ in 0..MOST_MOVES {
             if self.text.octets.len() >= most {
                 break;
             }
             hub.drain(rt, &mut self.moved);
-            let is_last = self.moved.len() < LINES_AT_ONCE;
+            leaves_some = self.moved.len() == LINES_AT_ONCE;
             is_out_of_memory = self.add_moved().is_err();
             self.moved.clear();
-            if is_last || is_out_of_memory {
+            if !leaves_some || is_out_of_memory {
                 break;
             }
         }
         Moved {
             line_count: self.text.line_count.saturating_sub(before),
+            leaves_some: leaves_some && !is_out_of_memory && self.text.octets.len() < MOST_OCTETS,
             is_out_of_memory,
         }
+    }
+
+    /// Moves lines of a book to the text in one turn, while there is room.
+    fn take_turn<R: Wait, A: Ledger, B: Ledger, C: Ledger>(
+        &mut self,
+        rt: &R,
+        hub: &Hub<A, B, C>,
+    ) -> Moved {
+        let most = self.text.octets.len().saturating_add(OCTETS_OF_A_TURN);
+        self.move_lines(rt, hub, most.min(MOST_OCTETS))
     }
 }
 
@@ -129,13 +147,13 @@ impl LinkLog {
         })
     }
 
-    /// Moves the lines that the book of the link has here, while there is room.
+    /// Moves lines of the book of the link to the text in one turn, while there is room.
     pub(crate) fn move_lines<R: Wait, A: Ledger, B: Ledger, C: Ledger>(
         &self,
         rt: &R,
         hub: &Hub<A, B, C>,
     ) -> Moved {
-        self.waiting.lock(rt).move_lines(rt, hub, MOST_OCTETS)
+        self.waiting.lock(rt).take_turn(rt, hub)
     }
 
     /// Moves lines if five eighths of their places in the book are taken, unless another thread is moving some: it
@@ -148,13 +166,14 @@ impl LinkLog {
     ) -> Moved {
         let none = Moved {
             line_count: 0,
+            leaves_some: false,
             is_out_of_memory: false,
         };
         if !hub.is_log_filling() {
             return none;
         }
         match self.waiting.try_lock() {
-            Some(mut waiting) => waiting.move_lines(rt, hub, MOST_OCTETS),
+            Some(mut waiting) => waiting.take_turn(rt, hub),
             None if hub.is_log_nearly_full() => self.move_lines(rt, hub),
             None => none,
         }

@@ -17,19 +17,22 @@ fn time_since<R: Clock>(rt: &R, last: Option<Instant>) -> Option<Duration> {
 }
 
 /// Ticks once a second, and hints to a worker then; hands the lines of the link to the thread that writes the log once
-/// a second, and when 512 wait in the book; and takes the link down if all links are to go down, or if its dialogues
-/// keep more entries than they may. Returns once the link is down.
+/// a second, and when 512 wait in the book, in one turn after another while some are left; and takes the link down if
+/// all links are to go down, or if its dialogues keep more entries than they may. Returns once the link is down.
 ///
-/// If the clock gives no time, it ticks each time that it wakes.
+/// If the clock gives no time, it ticks each time that it wakes, and after each turn.
 pub(crate) fn keep_time<R: Wait + Clock, A: Ledger, B: Ledger, C: Ledger>(
     link: Link<'_, R, A, B, C>,
 ) {
     let Link { rt, hub, log, .. } = link;
     let second = Duration::from_secs(SECONDS);
     let mut last = Instant::now(rt).ok();
+    let mut lines_are_left = false;
     for _ in rt.forever() {
-        let since = time_since(rt, last).unwrap_or(Duration::ZERO);
-        hub.rest(rt, second.saturating_sub(since));
+        if !lines_are_left {
+            let since = time_since(rt, last).unwrap_or(Duration::ZERO);
+            hub.rest(rt, second.saturating_sub(since));
+        }
         if time_since(rt, last).unwrap_or(second) >= second {
             last = Instant::now(rt).ok();
             hub.tick(rt, now(rt));
@@ -40,7 +43,7 @@ pub(crate) fn keep_time<R: Wait + Clock, A: Ledger, B: Ledger, C: Ledger>(
                 link.end(Why::Entries);
             }
         }
-        link.move_lines();
+        lines_are_left = link.move_lines();
         if hub.is_down(rt) {
             break;
         }

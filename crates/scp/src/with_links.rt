@@ -16,7 +16,7 @@ use sha2::{Digest, Sha256};
 use std::fs;
 use std::fs::{File, OpenFile, OpenOptions, TryLockError};
 use std::io::{ErrorKind, Read, Write};
-use std::net::{Net, SocketAddr, TcpListener, TcpStream};
+use std::net::{IpAddr, Net, SocketAddr, TcpListener, TcpStream};
 use std::os::unix::fs::{MetadataExt, OpenOptionsExt};
 use std::rt::{Clock, Files};
 use std::sync::Wait;
@@ -210,6 +210,15 @@ fn lock(file: &File) -> Result<(), RunFault>
     }
 }
 
+/// Whether this is a multicast address, or the broadcast address 255.255.255.255. Linux listens there, and nobody can
+/// connect. The broadcast address of a network can't be told from its text.
+fn is_multicast_or_broadcast(ip: IpAddr) -> bool {
+    match ip.to_canonical() {
+        IpAddr::V4(ip) => ip.is_multicast() || ip.is_broadcast(),
+        IpAddr::V6(ip) => ip.is_multicast(),
+    }
+}
+
 /// A listener at the IP address and port that a text gives.
 fn listener_at<H: Net<Listener = TcpListener, Stream = TcpStream>>(
     rt: &H,
@@ -220,6 +229,9 @@ fn listener_at<H: Net<Listener = TcpListener, Stream = TcpStream>>(
     let Ok(address) = listen.parse::<SocketAddr>() else {
         return Err(ServeFault::NoConnection);
     };
+    if is_multicast_or_broadcast(address.ip()) {
+        return Err(ServeFault::NoConnection);
+    }
     match TcpListener::bind(rt, address) {
         Ok(listener) => Ok(listener),
         Err(error) if error.kind() == ErrorKind::OutOfMemory => Err(ServeFault::Memory),

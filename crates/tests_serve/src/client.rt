@@ -88,7 +88,7 @@ impl Client {
         self.stream.shutdown(Shutdown::Write).ok()
     }
 
-    /// Reads so many octets, and gives their hexadecimal text, in upper case.
+    /// Reads this number of octets, and gives their hexadecimal text, in upper case.
     fn read_text(&mut self, alloc: Global, count: usize) -> Option<String> {
         let mut octets = Vec::new(alloc);
         octets.resize(count, 0).ok()?;

@@ -19,8 +19,8 @@ use std::test::Fail;
 use std::thread::Threads;
 use std::{fs, io, process, str, thread};
 
-/// Command lines, each with all faults that come after the one that is told, and what comes of each: the status, the
-/// output and the errors. At `USED` connections are awaited already.
+/// Command lines, each with all faults that come after the one that is reported, and what comes of each: the status,
+/// the output and the errors. At `USED` connections are awaited already.
 const FAULTS: &str = "\
 serve none.csv --listen x --log none/run.log --contexts 2A030 => 1, , contexts: not a list of names
 serve none.csv --listen x --log none/run.log --contexts 2A0304 => 1, , records: cannot be read
@@ -31,6 +31,9 @@ serve good.csv --listen x --log old.log => 1, , listen: cannot listen
 serve good.csv --listen 127.0.0.1 --log old.log => 1, , listen: cannot listen
 serve good.csv --listen localhost:0 --log old.log => 1, , listen: cannot listen
 serve good.csv --listen USED --log old.log => 1, , listen: cannot listen
+serve good.csv --listen 255.255.255.255:0 --log old.log => 1, , listen: cannot listen
+serve good.csv --listen 224.0.0.1:0 --log old.log => 1, , listen: cannot listen
+serve good.csv --listen [::ffff:224.0.0.1]:0 --log old.log => 1, , listen: cannot listen
 ";
 
 /// The events of three links, of which one is closed between two frames, one inside a frame, and one gets a length that
@@ -82,7 +85,7 @@ const ONE_LINK: Plan<'static> = Plan {
     told: "link 0 accepted 1 served 2 sent 1\n",
 };
 
-/// Each fault is told, and none that comes after it; the log of an earlier run is left alone.
+/// Each fault is reported, and none that comes after it; the log of an earlier run is left alone.
 #[test]
 fn faults_come_in_their_order(rt: HostRuntime) -> Result<(), Fail> {
     let folder = enter_folder(&rt, process::id(rt.process()))?;
@@ -95,8 +98,8 @@ fn faults_come_in_their_order(rt: HostRuntime) -> Result<(), Fail> {
     Ok(())
 }
 
-/// Links are served, as many as the words ask for, and told of; the log of an earlier run gives way to theirs, whose
-/// replay tells the same.
+/// The number of links that the words ask for is served and reported; the log of an earlier run gives way to theirs,
+/// whose replay reports the same.
 #[test]
 fn links_are_served(rt: HostRuntime) -> Result<(), Fail> {
     let alloc = rt.alloc();
@@ -106,11 +109,7 @@ fn links_are_served(rt: HostRuntime) -> Result<(), Fail> {
         let shown = Mutex::new(Vec::new(alloc));
         let (ended, address) = thread::join(
             &rt,
-            || run(
-                &rt,
-                words.as_slice(),
-                &mut Shared::new(&rt, alloc, &shown, usize::MAX),
-            ),
+            || run(&rt, words.as_slice(), &mut Shared::new(&rt, alloc, &shown)),
             || make_calls(&rt, alloc, &shown, plan.names_context, plan.links),
         );
         let output = shown.into_inner();
@@ -129,11 +128,7 @@ fn a_log_is_of_one_run(rt: HostRuntime) -> Result<(), Fail> {
     let shown = Mutex::new(Vec::new(alloc));
     let (ended, second) = thread::join(
         &rt,
-        || run(
-            &rt,
-            words.as_slice(),
-            &mut Shared::new(&rt, alloc, &shown, usize::MAX),
-        ),
+        || run(&rt, words.as_slice(), &mut Shared::new(&rt, alloc, &shown)),
         || second_run(&rt, &shown),
     );
     let (refused, told) = second.ok_or("no address")?;
@@ -189,7 +184,7 @@ fn events_are_written(rt: HostRuntime) -> Result<(), Fail> {
         || run_with_events(
             &rt,
             words.as_slice(),
-            &mut Shared::new(&rt, alloc, &shown, usize::MAX),
+            &mut Shared::new(&rt, alloc, &shown),
             writer,
         ),
         || end_three_links(&rt, alloc, &shown),
@@ -312,7 +307,7 @@ fn want_old_log<H: Files + AllocGlobal>(rt: &H) -> Result<(), Fail> {
     Ok(())
 }
 
-/// Runs the program with a log that can be opened and needn't be emptied, but not written, which is told after the
+/// Runs the program with a log that can be opened and needn't be emptied, but not written, which is reported after the
 /// address.
 fn want_full_log<H>(rt: &H) -> Result<(), Fail>
 where
@@ -357,7 +352,7 @@ where
     ended.text(alloc, output.as_slice())
 }
 
-/// Fails if a run didn't tell what a plan wants, or the replay of its log doesn't. It listened at this address.
+/// Fails if a run didn't report what a plan wants, or the replay of its log doesn't. It listened at this address.
 fn want_served<H>(
     rt: &H,
     plan: &Plan<'_>,

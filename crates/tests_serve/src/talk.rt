@@ -12,7 +12,7 @@ pub(crate) const RECORDS: &str = "key,100,60
 800123459,,1234567,00:00,24:00,1,pass
 ";
 
-/// What each Connect asks to be told of, where another place may follow: no route, busy, no answer, the answer, the
+/// The events that each Connect asks for, if another place may follow: no route, busy, no answer, the answer, the
 /// end.
 const EVENTS: &str =
     "A041300B800104810100A203800102300B800105810100A203800102300B800106810100A203800102300B800107810101A203800102300B80010A810101A203800101";
@@ -56,7 +56,7 @@ pub(crate) fn long_begin(alloc: Global) -> Result<String, AllocError> {
     begin_for(alloc, 0x2A, "07")
 }
 
-/// The frame of a Continue from 2A to the first dialogue of link 2, in which the peer tells an error of the second
+/// The frame of a Continue from 2A to the first dialogue of link 2, in which the peer reports an error of the second
 /// invocation, missing customer record.
 pub(crate) const LATE_ERROR: &str = "00000018651648040000002A4904400000016C08A306020102020106";
 

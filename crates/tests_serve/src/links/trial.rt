@@ -124,7 +124,7 @@ impl Trial {
             contexts: &contexts,
         };
         let device = Device::new(rt, &self.log, &self.mood).ok()?;
-        let mut output = Counted::new(Shared::new(rt, alloc, &self.output, usize::MAX));
+        let mut output = Counted::new(Shared::new(rt, alloc, &self.output));
         let result = serve_through(
             rt,
             service,

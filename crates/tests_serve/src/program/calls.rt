@@ -25,8 +25,8 @@ fn is_answered<R: Net<Stream = TcpStream>>(
     Some(client.message(alloc)? == answer(alloc, 0x2A).ok()?)
 }
 
-/// Makes so many calls, one after another and each on a connection of its own, at the address that the output tells.
-/// Gives that address. `None`: it wasn't told, or a call wasn't answered as it has to be; the others were made all the
+/// Makes this number of calls, one after another and each on a connection of its own, at the address in the output.
+/// Gives that address. `None`: it wasn't there, or a call wasn't answered as it has to be; the others were made all the
 /// same, since each link has to have its connection.
 pub(crate) fn make_calls<R: Net<Stream = TcpStream> + Wait + Clock>(
     rt: &R,

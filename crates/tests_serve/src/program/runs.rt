@@ -118,7 +118,7 @@ where
     Ended { status, errors }
 }
 
-/// Fails if a text isn't what is wanted, and tells both.
+/// Fails if a text isn't what is wanted, and reports both.
 pub(crate) fn want(given: &str, wanted: &str) -> Result<(), Fail> {
     if given == wanted {
         Ok(())
