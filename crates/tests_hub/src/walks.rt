@@ -3,13 +3,15 @@
 ghost use Rattle.fp_hub.specs.Shares.{AreBlanks};
 
 mod caller;
+mod each_call;
 mod holding;
 
-use crate::messages::RECORDS;
+use crate::messages::{RECORDS, REJECT};
 use caller::make_walk;
 use fp_book::Totals;
 use fp_hub::{Hub, Looks, PARTS, finish};
 use fp_records::Table;
+use holding::Sleep;
 use std::alloc::Global;
 use std::marker::Brand;
 use std::process::Abort;
@@ -32,6 +34,8 @@ enum Walk {
     Holds,
     /// Threads that sleep until there is room, or the link is quiet or down.
     Wakes,
+    /// A thread that sleeps for this, and a link that goes down.
+    Downs(Sleep),
 }
 
 /// What the calls of a walk answered, word by word, and what was counted.
@@ -47,10 +51,17 @@ fn walk_over<
     A: Ledger + Send + Sync,
     B: Ledger + Send + Sync,
     C: Ledger + Send + Sync,
->(rt: &R, alloc: Global, blanks: (Blank, Blank, Blank), table: &Table, walk: Walk) -> Option<Walked>
+>(
+    rt: &R,
+    alloc: Global,
+    blanks: (Blank, Blank, Blank),
+    looks: Looks,
+    table: &Table,
+    walk: Walk,
+) -> Option<Walked>
     requires { AreBlanks blanks A.name A.parts B.name B.parts C.name C.parts }
 {
-    let (hub, seat) = Hub::<A, B, C>::new(alloc, 0, Looks::FEW, blanks).ok()?;
+    let (hub, seat) = Hub::<A, B, C>::new(alloc, 0, looks, blanks).ok()?;
     let (words, seat) = make_walk(rt, alloc, &hub, seat, table, walk);
     Some(Walked {
         words,
@@ -62,23 +73,25 @@ fn walk_over<
 fn walk_link<R: Threads + Wait + Clock + Sync>(
     rt: &R,
     alloc: Global,
+    looks: Looks,
     table: &Table,
     walk: Walk,
 ) -> Option<Walked> {
     let blanks = (Blank::new(PARTS), Blank::new(PARTS), Blank::new(PARTS));
-    walk_over::<R, Brand, Brand, Brand>(rt, alloc, blanks, table, walk)
+    walk_over::<R, Brand, Brand, Brand>(rt, alloc, blanks, looks, table, walk)
 }
 
 /// Asserts that the calls of a walk answer these words, and that as much is counted.
 fn assert_walk<R: Threads + Wait + Clock + Sync + Abort>(
     rt: &R,
     alloc: Global,
+    looks: Looks,
     walk: Walk,
     words: &str,
     totals: Totals,
 ) -> Result<(), Fail> {
     let table = Table::read(alloc, RECORDS.as_bytes())?;
-    let walked = walk_link(rt, alloc, &table, walk).ok_or("out of memory")?;
+    let walked = walk_link(rt, alloc, looks, &table, walk).ok_or("out of memory")?;
     assert_eq!(rt; walked.words.as_str(), words);
     assert_eq!(rt; walked.totals, Some(totals));
     Ok(())
@@ -97,7 +110,7 @@ fn each_call_makes_its_step(rt: HostRuntime) -> Result<(), Fail> {
         served: 4,
         sent: 1,
     };
-    assert_walk(&rt, rt.alloc(), Walk::EachCall, words, totals)
+    assert_walk(&rt, rt.alloc(), Looks::FEW, Walk::EachCall, words, totals)
 }
 
 /// If all 8,192 places for frames are held, a worker is hinted when the next parcel is awaited, and not before: 513
@@ -110,7 +123,7 @@ fn free_places_are_hinted(rt: HostRuntime) -> Result<(), Fail> {
         served: 8_707,
         sent: 2,
     };
-    assert_walk(&rt, rt.alloc(), Walk::AllPlaces, words, totals)
+    assert_walk(&rt, rt.alloc(), Looks::FEW, Walk::AllPlaces, words, totals)
 }
 
 /// At most as many hints wait as there are workers, and they are taken after the hub was closed.
@@ -122,7 +135,7 @@ fn hints_wait_for_each_worker(rt: HostRuntime) -> Result<(), Fail> {
         served: 0,
         sent: 0,
     };
-    assert_walk(&rt, rt.alloc(), Walk::Hints, words, totals)
+    assert_walk(&rt, rt.alloc(), Looks::FEW, Walk::Hints, words, totals)
 }
 
 /// Messages are held back if 7,168 places for frames are held, 64 entries of their dialogue or 64 Aborts of the
@@ -137,20 +150,40 @@ fn messages_are_held_back(rt: HostRuntime) -> Result<(), Fail> {
         served: 11_334,
         sent: 7_170,
     };
-    assert_walk(&rt, rt.alloc(), Walk::Holds, words, totals)
+    assert_walk(&rt, rt.alloc(), Looks::FEW, Walk::Holds, words, totals)
 }
 
-/// A thread that sleeps until there is room is woken by a turn that is given, by a parcel that is handed out, and by
-/// one that couldn't be sent, which ends the link; without them it sleeps on, also after a second. One that sleeps
-/// until the link is quiet is woken when the last parcel was sent, and by the last turn.
+/// A thread that sleeps until there is room is woken by a turn that is given, by a parcel that is handed out, whether
+/// it was picked or awaited, and by one that couldn't be sent, which ends the link; without them it sleeps on, also
+/// after a second. One that sleeps until the link is quiet is woken when the last parcel was sent, and by the last
+/// turn: one that is given, also if its request is dropped, or one that is put back.
 #[test]
 fn waiting_threads_are_woken(rt: HostRuntime) -> Result<(), Fail> {
     let words =
-        "opened silent accepted accepted accepted accepted woken accepted waited accepted nothing all aborted woken aborted not quiet all sent quiet accepted quiet accepted accepted accepted accepted aborted woken quiet discarded ";
+        "opened silent accepted accepted accepted accepted woken silent accepted waited silent accepted nothing all aborted woken sent aborted woken sent not quiet all sent woken sent accepted woken nothing opened silent woken dropped opened woken back accepted accepted accepted accepted aborted woken unsent quiet discarded ";
     let totals = Totals {
-        accepted: 131,
-        served: 68,
+        accepted: 133,
+        served: 70,
         sent: 0,
     };
-    assert_walk(&rt, rt.alloc(), Walk::Wakes, words, totals)
+    for looks in [Looks::FEW, Looks::MANY] {
+        assert_walk(&rt, rt.alloc(), looks, Walk::Wakes, words, totals)?;
+    }
+    Ok(())
+}
+
+/// A thread that sleeps until there is room, or the link is quiet, is woken when the link goes down.
+#[test]
+fn end_of_the_link_wakes(rt: HostRuntime) -> Result<(), Fail> {
+    let words = "opened silent accepted accepted accepted accepted woken down ";
+    let totals = Totals {
+        accepted: 64,
+        served: 1,
+        sent: 0,
+    };
+    for sleep in [Sleep::ForRoom(REJECT), Sleep::ForQuiet] {
+        let walk = Walk::Downs(sleep);
+        assert_walk(&rt, rt.alloc(), Looks::FEW, walk, words, totals)?;
+    }
+    Ok(())
 }

@@ -1,8 +1,8 @@
 //! A thread that makes one call of a hub after the other, and puts each answer into a word.
 
 use super::Walk;
-use crate::messages::{CALLS_COUNT, EMPTY_BEGIN, UNIDIRECTIONAL, begin, calls, frame_of};
-use fp_book::{Given, Line, Log, Outbox, Picked, Posted, Taken};
+use crate::messages::{UNIDIRECTIONAL, frame_of};
+use fp_book::{Given, Line, Log, Parcel, Picked, Posted, Taken};
 use fp_digits::Moment;
 use fp_entry::Prepared;
 use fp_frames::Frame;
@@ -13,26 +13,12 @@ use std::alloc::Global;
 use std::rt::Clock;
 use std::sync::Wait;
 use std::sync::ledger::Ledger;
+use std::thread;
 use std::thread::Threads;
 use std::time::{Duration, Instant};
 
 /// Noon of 6 May 2024.
 pub(super) const NOON: u64 = 1_714_996_800_000;
-
-/// How many lines of the log wake the thread that rests.
-const WAKING: usize = 512;
-
-/// With how many the log is filling: five eighths of the places for them.
-const FILLING_LOG: usize = 5120;
-
-/// With how many the log is nearly full: seven eighths of the places for them.
-const NEARLY_FULL_LOG: usize = 7168;
-
-/// How many Begins fill all places for frames, and one more.
-const FILLING: usize = Outbox::MOST_FRAMES / CALLS_COUNT + 1;
-
-/// More milliseconds than a test has.
-const LONG: u64 = 100_000;
 
 /// What the calls of a walk answered, word by word.
 #[derive(Drop)]
@@ -67,6 +53,8 @@ pub(super) struct Caller<'a, R: Wait + Clock, A: Ledger, B: Ledger, C: Ledger> {
     pub(super) hub: &'a Hub<A, B, C>,
     pub(super) seat: Seat<A, B, C>,
     pub(super) table: &'a Table,
+    /// The word of the last call that it made while another thread slept.
+    pub(super) last_word: &'static str,
 }
 
 impl<R: Wait + Clock, A: Ledger, B: Ledger, C: Ledger> Caller<'_, R, A, B, C> {
@@ -80,7 +68,7 @@ impl<R: Wait + Clock, A: Ledger, B: Ledger, C: Ledger> Caller<'_, R, A, B, C> {
     }
 
     /// Posts so many messages that are discarded.
-    fn post_many(&mut self, count: usize) -> &'static str {
+    pub(super) fn post_many(&mut self, count: usize) -> &'static str {
         for _ in 0..count {
             if self.post(frame_of(self.alloc, UNIDIRECTIONAL)) != "discarded" {
                 return "else";
@@ -111,16 +99,48 @@ impl<R: Wait + Clock, A: Ledger, B: Ledger, C: Ledger> Caller<'_, R, A, B, C> {
 
     /// Takes the next turn, which has this position, and serves it or puts it back.
     pub(super) fn turn(&mut self, position: u64, is_served: bool) -> &'static str {
+        match self.take(position) {
+            Ok(turn) => self.bring_back(turn, is_served),
+            Err(word) => word,
+        }
+    }
+
+    /// Takes the next turn, which has this position, posts a malformed End, which closes the dialogue, and then serves
+    /// the turn or puts it back.
+    pub(super) fn turn_of_closed(
+        &mut self,
+        position: u64,
+        end: &str,
+        is_served: bool,
+    ) -> &'static str {
+        let turn = match self.take(position) {
+            Ok(turn) => turn,
+            Err(word) => return word,
+        };
+        if self.post(frame_of(self.alloc, end)) != "ended" {
+            turn.abandon();
+            return "not closed";
+        }
+        self.bring_back(turn, is_served)
+    }
+
+    /// Takes the next turn, which has this position.
+    fn take(&mut self, position: u64) -> Result<Turn, &'static str> {
         let turn = match self.hub.take(self.rt) {
             Taken::Turn(turn) => turn,
-            Taken::Nothing => return "nothing",
-            Taken::NoRoom => return "no room",
-            Taken::Memory => return "no memory",
+            Taken::Nothing => return Err("nothing"),
+            Taken::NoRoom => return Err("no room"),
+            Taken::Memory => return Err("no memory"),
         };
         if turn.position() != position {
             turn.abandon();
-            return "another position";
+            return Err("another position");
         }
+        Ok(turn)
+    }
+
+    /// Serves a turn and gives it back, or puts it back.
+    fn bring_back(&mut self, turn: Turn, is_served: bool) -> &'static str {
         if is_served {
             return self.serve(turn);
         }
@@ -148,34 +168,55 @@ impl<R: Wait + Clock, A: Ledger, B: Ledger, C: Ledger> Caller<'_, R, A, B, C> {
 
     /// Picks what is sent next, and picks once more, which finds it out; then reports it sent or unsent.
     pub(super) fn send(&mut self, is_sent: bool) -> &'static str {
-        let parcel = match self.hub.pick(self.rt) {
-            Picked::Parcel(parcel) => parcel,
-            Picked::Busy => return "busy",
-            Picked::Nothing => return "nothing",
+        let parcel = match self.pick() {
+            Ok(parcel) => parcel,
+            Err(word) => return word,
         };
         match self.hub.pick(self.rt) {
             Picked::Parcel(other) => other.abandon(),
             Picked::Busy | Picked::Nothing => {}
         }
-        let (reported, word) = if is_sent {
-            (self.hub.sent(self.rt, &mut self.seat, parcel), "sent")
+        if is_sent {
+            self.report_sent(parcel)
         } else {
-            (self.hub.unsent(self.rt, parcel), "unsent")
-        };
-        match reported {
-            Ok(()) => word,
-            Err(foreign) => {
-                foreign.abandon();
-                "foreign"
-            }
+            self.report_unsent(parcel)
         }
     }
 
-    /// Awaits what is sent next, and reports it sent.
-    fn await_and_send(&mut self) -> &'static str {
+    /// Picks what is sent next, and reports it sent or unsent this number of milliseconds later.
+    pub(super) fn send_late(&mut self, milliseconds: u64, is_sent: bool) -> &'static str {
+        let parcel = match self.pick() {
+            Ok(parcel) => parcel,
+            Err(word) => return word,
+        };
+        thread::sleep(self.rt, Duration::from_millis(milliseconds));
+        if is_sent {
+            self.report_sent(parcel)
+        } else {
+            self.report_unsent(parcel)
+        }
+    }
+
+    /// Awaits what is sent next, and reports it sent this number of milliseconds later.
+    pub(super) fn await_and_send_late(&mut self, milliseconds: u64) -> &'static str {
         let Some(parcel) = self.hub.await_parcel(self.rt) else {
             return "down";
         };
+        thread::sleep(self.rt, Duration::from_millis(milliseconds));
+        self.report_sent(parcel)
+    }
+
+    /// Picks what is sent next.
+    fn pick(&mut self) -> Result<Parcel, &'static str> {
+        match self.hub.pick(self.rt) {
+            Picked::Parcel(parcel) => Ok(parcel),
+            Picked::Busy => Err("busy"),
+            Picked::Nothing => Err("nothing"),
+        }
+    }
+
+    /// Reports a parcel sent.
+    fn report_sent(&mut self, parcel: Parcel) -> &'static str {
         match self.hub.sent(self.rt, &mut self.seat, parcel) {
             Ok(()) => "sent",
             Err(foreign) => {
@@ -185,8 +226,27 @@ impl<R: Wait + Clock, A: Ledger, B: Ledger, C: Ledger> Caller<'_, R, A, B, C> {
         }
     }
 
+    /// Reports that a parcel couldn't be sent.
+    fn report_unsent(&mut self, parcel: Parcel) -> &'static str {
+        match self.hub.unsent(self.rt, parcel) {
+            Ok(()) => "unsent",
+            Err(foreign) => {
+                foreign.abandon();
+                "foreign"
+            }
+        }
+    }
+
+    /// Awaits what is sent next, and reports it sent.
+    pub(super) fn await_and_send(&mut self) -> &'static str {
+        let Some(parcel) = self.hub.await_parcel(self.rt) else {
+            return "down";
+        };
+        self.report_sent(parcel)
+    }
+
     /// So many milliseconds after noon, one dialogue is given a Clock.
-    fn tick(&self, milliseconds: u64) -> &'static str {
+    pub(super) fn tick(&self, milliseconds: u64) -> &'static str {
         let Some(moment) = Moment::new(NOON.saturating_add(milliseconds)) else {
             return "no moment";
         };
@@ -199,7 +259,7 @@ impl<R: Wait + Clock, A: Ledger, B: Ledger, C: Ledger> Caller<'_, R, A, B, C> {
     }
 
     /// Whether the link is down.
-    fn state(&self) -> &'static str {
+    pub(super) fn state(&self) -> &'static str {
         if self.hub.is_down(self.rt) {
             "down"
         } else {
@@ -208,7 +268,7 @@ impl<R: Wait + Clock, A: Ledger, B: Ledger, C: Ledger> Caller<'_, R, A, B, C> {
     }
 
     /// Rests so many milliseconds at most: whether it did, or was woken.
-    fn rest(&self, milliseconds: u64) -> &'static str {
+    pub(super) fn rest(&self, milliseconds: u64) -> &'static str {
         let time = Duration::from_millis(milliseconds);
         let Ok(start) = Instant::now(self.rt) else {
             return "no clock";
@@ -222,7 +282,7 @@ impl<R: Wait + Clock, A: Ledger, B: Ledger, C: Ledger> Caller<'_, R, A, B, C> {
     }
 
     /// Hints to a worker: whether it may.
-    fn hint(&self) -> &'static str {
+    pub(super) fn hint(&self) -> &'static str {
         if self.hub.hint(self.rt) {
             "hint"
         } else {
@@ -231,7 +291,7 @@ impl<R: Wait + Clock, A: Ledger, B: Ledger, C: Ledger> Caller<'_, R, A, B, C> {
     }
 
     /// Waits for a hint as a worker: whether there was one, or the hub is closed.
-    fn await_hint(&self, hints: &Hints) -> &'static str {
+    pub(super) fn await_hint(&self, hints: &Hints) -> &'static str {
         if hints.wait(self.rt) {
             "hinted"
         } else {
@@ -240,7 +300,7 @@ impl<R: Wait + Clock, A: Ledger, B: Ledger, C: Ledger> Caller<'_, R, A, B, C> {
     }
 
     /// How full the log is.
-    fn fullness(&self) -> &'static str {
+    pub(super) fn fullness(&self) -> &'static str {
         match (self.hub.is_log_filling(), self.hub.is_log_nearly_full()) {
             (false, false) => "not filling",
             (true, false) => "filling",
@@ -250,12 +310,12 @@ impl<R: Wait + Clock, A: Ledger, B: Ledger, C: Ledger> Caller<'_, R, A, B, C> {
     }
 
     /// Drains the log, which has so many lines.
-    fn drain(&self, line_count: usize) -> &'static str {
+    pub(super) fn drain(&self, line_count: usize) -> &'static str {
         self.drain_into(Log::MOST, line_count)
     }
 
     /// Drains the log into a list with so many places, of which so many are taken then.
-    fn drain_into(&self, place_count: usize, line_count: usize) -> &'static str {
+    pub(super) fn drain_into(&self, place_count: usize, line_count: usize) -> &'static str {
         let Ok(mut lines) = Vec::<Line>::with_capacity(self.alloc, place_count) else {
             return "no memory";
         };
@@ -264,105 +324,6 @@ impl<R: Wait + Clock, A: Ledger, B: Ledger, C: Ledger> Caller<'_, R, A, B, C> {
             "drained"
         } else {
             "else"
-        }
-    }
-
-    /// Makes each call of a hub, of which 18 lines of the log come; the last parcel can't be sent, which takes the link
-    /// down.
-    fn make_calls(&mut self, words: &mut Words) {
-        let alloc = self.alloc;
-        words.say(self.post(begin(alloc, 0x2A)));
-        words.say(self.turn(0, false));
-        words.say(self.turn(0, true));
-        words.say(self.turn(1, true));
-        words.say(self.turn(2, true));
-        words.say(self.send(true));
-        words.say(self.send(true));
-        words.say(self.post(frame_of(alloc, EMPTY_BEGIN)));
-        words.say(self.turn(0, true));
-        words.say(self.tick(299_999));
-        words.say(self.turn(1, true));
-        words.say(self.tick(300_000));
-        words.say(self.turn(1, true));
-        words.say(self.state());
-        words.say(self.send(false));
-        words.say(self.state());
-        words.say(self.post(begin(alloc, 0x2B)));
-        words.say(self.turn(0, true));
-        words.say(self.tick(600_000));
-        words.say(self.send(true));
-    }
-
-    /// Rests after so many lines of the log: it is woken if the link went down, and if 512 lines wait, and else rests
-    /// its time. If five eighths of the places are taken the log is filling, and not before, and if seven eighths are
-    /// it is nearly full; lines that a drain leaves are still counted.
-    fn rest_often(&mut self, line_count: usize, words: &mut Words) {
-        words.say(self.rest(LONG));
-        words.say(self.post_many(WAKING.saturating_sub(line_count).saturating_sub(1)));
-        words.say(self.rest(20));
-        words.say(self.post_many(1));
-        words.say(self.rest(LONG));
-        words.say(self.drain(WAKING));
-        words.say(self.post_many(WAKING));
-        words.say(self.rest(LONG));
-        words.say(self.post_many(FILLING_LOG - WAKING - 1));
-        words.say(self.fullness());
-        words.say(self.post_many(1));
-        words.say(self.fullness());
-        words.say(self.drain_into(1, 1));
-        words.say(self.fullness());
-        words.say(self.post_many(NEARLY_FULL_LOG - FILLING_LOG));
-        words.say(self.fullness());
-        words.say(self.post_many(1));
-        words.say(self.fullness());
-        words.say(self.drain_into(1, 1));
-        words.say(self.fullness());
-        words.say(self.drain(NEARLY_FULL_LOG - 1));
-        words.say(self.fullness());
-        self.hub.down(self.rt);
-        words.say(self.rest(LONG));
-    }
-
-    /// Fills all places for frames after a parcel was sent. Two workers listen, and one of them is hinted when the next
-    /// parcel is awaited.
-    fn fill_places(&mut self, words: &mut Words) {
-        let (Ok(hints), Ok(others)) = (self.hub.hints(), self.hub.hints()) else {
-            return;
-        };
-        words.say(self.post(calls(self.alloc)));
-        words.say(self.turn(0, true));
-        words.say(self.turn(1, true));
-        words.say(self.await_and_send());
-        for _ in 1..FILLING {
-            if self.post(calls(self.alloc)) != "opened" {
-                words.say("else");
-            }
-        }
-        words.say(self.serve_all());
-        words.say(self.await_and_send());
-        self.hub.close(self.rt);
-        words.say(self.await_hint(&hints));
-        words.say(self.await_hint(&others));
-        words.say(self.serve_all());
-    }
-
-    /// Gives five hints to three workers, and one more after the hub was closed; then one of the workers takes those
-    /// that wait, and finds no fourth one.
-    fn hint_workers(&mut self, words: &mut Words) {
-        let (Ok(hints), Ok(_second), Ok(_third)) = (
-            self.hub.hints(),
-            self.hub.hints(),
-            self.hub.hints(),
-        ) else {
-            return;
-        };
-        for _ in 0..5 {
-            words.say(self.hint());
-        }
-        self.hub.close(self.rt);
-        words.say(self.hint());
-        for _ in 0..4 {
-            words.say(self.await_hint(&hints));
         }
     }
 }
@@ -391,6 +352,7 @@ pub(crate) fn make_walk<
         hub,
         seat,
         table,
+        last_word: "",
     };
     match walk {
         Walk::EachCall => {
@@ -401,6 +363,7 @@ pub(crate) fn make_walk<
         Walk::Hints => caller.hint_workers(&mut words),
         Walk::Holds => caller.hold_back(&mut words),
         Walk::Wakes => caller = caller.wake(&mut words),
+        Walk::Downs(sleep) => caller = caller.go_down(sleep, &mut words),
     }
     let Caller { seat, .. } = caller;
     let Words { text } = words;

@@ -19,17 +19,20 @@ use std::thread;
 use std::thread::Threads;
 use std::time::{Duration, Instant};
 
-/// How many milliseconds go by before a call that wakes a thread.
+/// How many milliseconds go by before a call that wakes a thread, and after one that wakes it too early.
 const PAUSE: u64 = 50;
 
 /// A thread that sleeps fewer milliseconds than this was woken.
 const WOKEN: u64 = 900;
 
-/// More milliseconds than a thread that awaits room sleeps before it looks again.
+/// More milliseconds than a thread sleeps before it looks again, if nobody wakes it.
 const LATE: u64 = 1_100;
 
-/// More milliseconds than a test has.
-const LONG: u64 = 100_000;
+/// A malformed End to the second dialogue of link 0, which closes it: octets come after its end.
+const END_OF_SECOND: &str = "64064904000000020000";
+
+/// The same to the third dialogue.
+const END_OF_THIRD: &str = "64064904000000030000";
 
 /// What a thread does while another one sleeps.
 #[derive(Clone, Copy)]
@@ -38,40 +41,65 @@ enum Act {
     GivesLate,
     /// Takes, serves and gives the turn at position 1.
     Gives,
+    /// Takes the turn at position 1 of the second dialogue, closes the dialogue, and serves and gives the turn, whose
+    /// request is dropped.
+    GivesDropped,
+    /// Takes the turn at position 0 of the third dialogue, closes the dialogue, and puts the turn back.
+    PutsBack,
     /// Serves all turns.
     Serves,
-    /// Picks a parcel, and reports it sent.
+    /// Picks a parcel, and reports it sent after a pause, in which the other thread may look.
     Sends,
-    /// Picks a parcel, and reports it unsent.
+    /// Picks a parcel, and reports it sent more than a second later.
+    SendsLate,
+    /// Awaits a parcel, and reports it sent more than a second later.
+    AwaitsAndSendsLate,
+    /// Picks a parcel, and reports it unsent after such a pause.
     Unsends,
+    /// Takes the link down.
+    GoesDown,
 }
 
 /// What a thread sleeps for.
 #[derive(Clone, Copy)]
-enum Sleep {
+pub(super) enum Sleep {
     /// Until a message of this text isn't held back.
     ForRoom(&'static str),
     /// Until the link is quiet.
     ForQuiet,
 }
 
-/// Sleeps until a message of this text isn't held back: whether it was woken, or waited its time.
+/// Sleeps until a message of this text isn't held back.
 fn await_room<R: Wait + Clock, A: Ledger, B: Ledger, C: Ledger>(
     rt: &R,
     alloc: Global,
     hub: &Hub<A, B, C>,
     table: &Table,
     text: &str,
+) {
+    if let (Some(frame), Some(moment)) = (frame_of(alloc, text), Moment::new(NOON)) {
+        let came = Prepared::read(alloc, table, &[], frame, moment);
+        hub.await_room(rt, &came);
+    }
+}
+
+/// Sleeps for this: whether the thread was woken, or waited its time.
+fn sleep_for<R: Wait + Clock, A: Ledger, B: Ledger, C: Ledger>(
+    rt: &R,
+    alloc: Global,
+    hub: &Hub<A, B, C>,
+    table: &Table,
+    sleep: Sleep,
 ) -> &'static str {
-    let (Some(frame), Some(moment), Ok(start)) = (
-        frame_of(alloc, text),
-        Moment::new(NOON),
-        Instant::now(rt),
-    ) else {
-        return "no message";
+    let Ok(start) = Instant::now(rt) else {
+        return "no clock";
     };
-    let came = Prepared::read(alloc, table, &[], frame, moment);
-    hub.await_room(rt, &came);
+    match sleep {
+        Sleep::ForRoom(text) => await_room(rt, alloc, hub, table, text),
+        Sleep::ForQuiet => {
+            let _is_quiet = hub.await_quiet(rt, Duration::from_millis(LATE));
+        }
+    }
     match start.elapsed(rt) {
         Ok(spent) if spent < Duration::from_millis(WOKEN) => "woken",
         Ok(_) => "waited",
@@ -220,25 +248,38 @@ impl<
         words.say(self.offer_text(EMPTY_BEGIN));
     }
 
-    /// After a while, makes the calls of an act.
+    /// Makes the calls of an act, and gives the word of the last one.
+    fn make_act(&mut self, act: Act) -> &'static str {
+        match act {
+            Act::GivesLate => {
+                self.turn(2, false);
+                thread::sleep(self.rt, Duration::from_millis(LATE));
+                self.turn(2, true)
+            }
+            Act::Gives => self.turn(1, true),
+            Act::GivesDropped => self.turn_of_closed(1, END_OF_SECOND, true),
+            Act::PutsBack => self.turn_of_closed(0, END_OF_THIRD, false),
+            Act::Serves => self.serve_all(),
+            Act::Sends => self.send_late(PAUSE, true),
+            Act::SendsLate => self.send_late(LATE, true),
+            Act::AwaitsAndSendsLate => self.await_and_send_late(LATE),
+            Act::Unsends => self.send_late(PAUSE, false),
+            Act::GoesDown => {
+                self.hub.down(self.rt);
+                "down"
+            }
+        }
+    }
+
+    /// After a while, makes the calls of an act, and keeps the word of the last one.
     fn act(self, act: Act) -> Self {
         let mut caller = self;
         thread::sleep(caller.rt, Duration::from_millis(PAUSE));
-        match act {
-            Act::GivesLate => {
-                caller.turn(2, false);
-                thread::sleep(caller.rt, Duration::from_millis(LATE));
-                caller.turn(2, true)
-            }
-            Act::Gives => caller.turn(1, true),
-            Act::Serves => caller.serve_all(),
-            Act::Sends => caller.send(true),
-            Act::Unsends => caller.send(false),
-        };
+        caller.last_word = caller.make_act(act);
         caller
     }
 
-    /// Makes the calls of an act while another thread sleeps, which says what came of that.
+    /// Makes the calls of an act while another thread sleeps, and says what came of the sleep, and of the act.
     fn act_while(self, sleep: Sleep, act: Act, words: &mut Words) -> Self {
         let Caller {
             rt,
@@ -250,13 +291,11 @@ impl<
         let (rt, alloc, hub, table) = (*rt, *alloc, *hub, *table);
         let (word, caller) = thread::join(
             rt,
-            move || match sleep {
-                Sleep::ForRoom(text) => await_room(rt, alloc, hub, table, text),
-                Sleep::ForQuiet => await_quiet(rt, hub, LONG),
-            },
+            move || sleep_for(rt, alloc, hub, table, sleep),
             move || self.act(act),
         );
         words.say(word);
+        words.say(caller.last_word);
         caller
     }
 
@@ -270,18 +309,39 @@ impl<
         words.say(caller.offer_text(REJECT));
         words.say(caller.serve_all());
         words.say(caller.strangers());
-        let mut caller = caller.act_while(Sleep::ForRoom(STRANGE), Act::Sends, words);
+        let mut caller = caller.act_while(Sleep::ForRoom(STRANGE), Act::SendsLate, words);
         words.say(caller.offer_text(STRANGE));
+        let mut caller = caller.act_while(Sleep::ForRoom(STRANGE), Act::AwaitsAndSendsLate, words);
         words.say(await_quiet(caller.rt, caller.hub, 20));
-        words.say(caller.send_all(Outbox::MOST_ABORTS - 1));
-        let mut caller = caller.act_while(Sleep::ForQuiet, Act::Sends, words);
-        words.say(caller.offer_text(REJECT));
-        let mut caller = caller.act_while(Sleep::ForQuiet, Act::Serves, words);
+        words.say(caller.send_all(Outbox::MOST_ABORTS - 2));
+        let caller = caller.act_while(Sleep::ForQuiet, Act::Sends, words);
+        let mut caller = caller.wake_by_turns(words);
         caller.fill_dialogue(words);
         words.say(caller.offer_text(STRANGE));
         let mut caller = caller.act_while(Sleep::ForRoom(REJECT), Act::Unsends, words);
         words.say(await_quiet(caller.rt, caller.hub, 0));
         words.say(caller.offer_text(STRANGE));
         caller
+    }
+
+    /// Lets another thread sleep until the link is quiet, by a turn that is given, one whose request is dropped, and
+    /// one that is put back, in this order.
+    fn wake_by_turns(self, words: &mut Words) -> Self {
+        let mut caller = self;
+        let alloc = caller.alloc;
+        words.say(caller.offer_text(REJECT));
+        let mut caller = caller.act_while(Sleep::ForQuiet, Act::Serves, words);
+        words.say(caller.offer(begin(alloc, 0x2A)));
+        words.say(caller.turn(0, true));
+        let mut caller = caller.act_while(Sleep::ForQuiet, Act::GivesDropped, words);
+        words.say(caller.offer(begin(alloc, 0x2B)));
+        caller.act_while(Sleep::ForQuiet, Act::PutsBack, words)
+    }
+
+    /// Lets another thread sleep, for room or until the link is quiet, when the link goes down.
+    pub(super) fn go_down(self, sleep: Sleep, words: &mut Words) -> Self {
+        let mut caller = self;
+        caller.open_full_dialogue(words);
+        caller.act_while(sleep, Act::GoesDown, words)
     }
 }
