@@ -6,8 +6,8 @@
 //!
 //! What is answered is written as a log writes it. `O` and the local identifier: a dialogue was opened. `A` and a
 //! number: this number of entries was accepted. `X` and a cause: an Abort of the provider waits to be sent. `E`: a
-//! dialogue was ended, and nothing is sent. `D`: discarded. Of a request: `Q` if its frame waits to be sent, `S` if there
-//! is none, and `D` if it isn't accepted.
+//! dialogue was ended, and nothing is sent. `D`: discarded. Of the requests of a turn: `Q` and a number if the frames of
+//! this number wait to be sent, `S` if there is none, and `D` and a number if they aren't accepted.
 //!
 //! | Step | What it answers |
 //! |---|---|
@@ -19,12 +19,15 @@
 //! | `posts COUNT HEX` | a message is posted COUNT times, each a millisecond later, and it is then one later: the number, |
 //! | | the first answer and the last; if one has another letter, the case is wrong |
 //! | `tick` | how many dialogues are given a Clock, and how many are left since memory ran out |
-//! | `take NAME` | the dialogue and the place of the turn that is taken, or `nothing`, or `no room` |
+//! | `take NAME` | the dialogue of the turn that is taken, the place of its first entry and how many it has, or `nothing`, |
+//! | | or `no room` |
 //! | `show NAME` | what the turn, or what was served, says of itself |
 //! | `serve NAME` | the turn is served, and not given back: `served` |
-//! | `give NAME` | the turn is served, if it wasn't, and given back: `S`, `Q` or `D`, or `strange` |
+//! | `give NAME` | the turn is served, if it wasn't, and given back: how many entries were served, and `S`, `Q` or `D`; or |
+//! | | `strange` |
 //! | `put-back NAME` | the turn is put back: `back`, or `strange` |
-//! | `serve-all` | turns are taken and given until there is none: how many, and how many frames then wait for them |
+//! | `serve-all` | turns are taken and given until there is none: how many, how many entries were served, and how many |
+//! | | frames then wait for them |
 //! | `rounds COUNT HEX` | COUNT times a message is posted, which is accepted, and `serve-all`: all in all |
 //! | `pick NAME` | the dialogue and the octets of what is sent next, or `busy`, or `nothing` |
 //! | `sent NAME` | the parcel is reported sent: `sent`, or `strange` |

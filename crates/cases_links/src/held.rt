@@ -124,7 +124,20 @@ pub(crate) fn find_parcel(list: &mut Vec<Named>, name: u8) -> anyhow::Result<Par
 fn push_turn(out: &mut String, turn: &Turn) -> anyhow::Result<()> {
     write!(out, "link {} ", turn.link())?;
     push_dialogue(out, turn.local(), turn.peer(), turn.birth())?;
-    write!(out, " turn {}", turn.position())?;
+    write!(out, " turn {} of {}", turn.position(), turn.count())?;
+    Ok(())
+}
+
+/// Writes what a turn that was served says of itself.
+fn push_done(out: &mut String, done: &Done) -> anyhow::Result<()> {
+    push_turn(out, done.turn())?;
+    write!(out, ", served {}", done.served())?;
+    Ok(())
+}
+
+/// Writes how many entries were served, before what became of their requests.
+pub(crate) fn push_served_count(out: &mut String, count: usize) -> anyhow::Result<()> {
+    write!(out, "{count} ")?;
     Ok(())
 }
 
@@ -136,7 +149,7 @@ pub(crate) fn show(list: &[Named], name: &str, out: &mut String) -> anyhow::Resu
     };
     match &named.held {
         Held::Turn(turn) => push_turn(out, turn),
-        Held::Done(done) => push_turn(out, done.turn()),
+        Held::Done(done) => push_done(out, done),
         Held::Parcel(_) => bail!("no turn"),
     }
 }

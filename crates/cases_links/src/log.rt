@@ -32,7 +32,7 @@ fn push_line(out: &mut String, line: Option<&Line>) -> anyhow::Result<()> {
         bail!("no step");
     };
     match step {
-        LoggedStep::Take { local: _, position } => write!(out, "take {position}")?,
+        LoggedStep::Take { position, .. } => write!(out, "take {position}")?,
         LoggedStep::Gap { lost } => write!(out, "gap {lost}")?,
         _ => bail!("another step"),
     }
@@ -52,7 +52,7 @@ fn place_of(line: &Line) -> Option<u64> {
     match line {
         Line::Step {
             link: _,
-            step: LoggedStep::Take { local: _, position },
+            step: LoggedStep::Take { position, .. },
         } => Some(*position),
         _ => None,
     }
@@ -101,6 +101,7 @@ impl Turns {
             self.log.add(LoggedStep::Take {
                 local: 1,
                 position: u64::from(self.added),
+                count: 1,
             });
             self.added = self.added.saturating_add(1);
         }

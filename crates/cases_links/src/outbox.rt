@@ -30,7 +30,7 @@ use cases::first_word;
 use fp_book::{Outbox, Picked};
 use fp_q773::{AbortCause, Tid};
 use fp_reply::abort_frame;
-use fp_row::{RequestFrame, Requested, Row};
+use fp_row::{RequestFrames, Requested, Row};
 use std::alloc::Global;
 use std::fmt::Write;
 
@@ -60,14 +60,14 @@ fn cause_of(text: &str) -> anyhow::Result<AbortCause> {
     }
 }
 
-/// The frame that a dialogue requests at its deadline.
-fn frame_of_row(alloc: Global, row: &mut Row) -> anyhow::Result<RequestFrame> {
+/// The frames that a dialogue requests at its deadline.
+fn frames_of_row(alloc: Global, row: &mut Row) -> anyhow::Result<RequestFrames> {
     row.accept_clock(moment_after(PATIENCE)?)?;
-    let Some(turn) = row.take()? else {
+    let Some(turn) = row.take(alloc, 1)? else {
         bail!("no turn");
     };
     match row.give(served(alloc, turn)?) {
-        Ok(Requested::Frame(frame)) => Ok(frame),
+        Ok(Requested::Frames(frames)) => Ok(frames),
         Ok(_) => bail!("no frame"),
         Err(done) => {
             done.abandon();
@@ -79,11 +79,11 @@ fn frame_of_row(alloc: Global, row: &mut Row) -> anyhow::Result<RequestFrame> {
 /// Adds the frame of a dialogue of these identifiers that accepted no message, and says whether there was a place.
 fn add_frame(alloc: Global, outbox: &mut Outbox, local: u32, peer: Tid) -> anyhow::Result<bool> {
     let mut row = Row::open(alloc, local, peer, 1, moment_after(0)?);
-    let frame = frame_of_row(alloc, &mut row)?;
-    if outbox.frames_held() >= Outbox::MOST_FRAMES {
+    let frames = frames_of_row(alloc, &mut row)?;
+    if outbox.frames_held().saturating_add(frames.len()) > Outbox::MOST_FRAMES {
         return Ok(false);
     }
-    outbox.add_frame(local, frame);
+    outbox.add_frames(local, frames);
     Ok(true)
 }
 

@@ -6,16 +6,17 @@
 //!
 //! What became of a message is a letter, and how many components were accepted. `O` and the local identifier: a dialogue
 //! was opened. `A` and a number: this number of entries was accepted. `X` and a cause: an Abort of the provider waits to
-//! be sent. `E`: a dialogue was ended, and nothing is sent. `D`: discarded. Of a request: `Q` if its frame waits to be
-//! sent, `S` if there is none, and `D` if it isn't accepted.
+//! be sent. `E`: a dialogue was ended, and nothing is sent. `D`: discarded. Of the requests of a turn: `Q` and a number if
+//! the frames of this number wait to be sent, `S` if there is none, and `D` and a number if they aren't accepted.
 //!
 //! | Step | What it answers |
 //! |---|---|
 //! | `post HEX` | a message came: `O`, `A`, `X`, `E` or `D`, and how many components were accepted |
 //! | `lost HEX` | a message came, and memory ran out when it was read: the same |
 //! | `tick` | `ticked`, how many dialogues were given a Clock, and how many were left since memory ran out |
-//! | `take` | `took`, the dialogue and the place of the entry, or `nothing`, or `no room` |
-//! | `give LOCAL` | its turn is served and given back: `gave`, the dialogue, the place, and `S`, `Q` or `D` |
+//! | `take` | `took`, the dialogue, the place of the first entry and how many there are, or `nothing`, or `no room` |
+//! | `give LOCAL` | its turn is served and given back: `gave`, the dialogue, the place, how many entries were served, and |
+//! | | `S`, `Q` or `D` |
 //! | `put-back LOCAL` | its turn is put back, not served: `back` |
 //! | `pick` | `picked`, the dialogue and the octets of what is sent next, or `nothing`, or `busy` |
 //! | `sent`, `unsent` | the parcel was sent, or wasn't: the same word |
@@ -34,7 +35,7 @@
 //! |---|---|
 //! | `posts COUNT HEX` | COUNT times `post`: the number, the first answer and the last; all have the same letter |
 //! | `rounds COUNT TURNS LOCAL HEX` | COUNT times `post`, and after each TURNS times `take` and `give`: the last answer |
-//! | `calls COUNT SERIAL HEX` | COUNT times a Begin, its two turns and its frame, the first with this serial of a local |
+//! | `calls COUNT SERIAL HEX` | COUNT times a Begin, its turn and its frame, the first with this serial of a local |
 //! | | identifier and each with the next one: what the steps of the last one answer, with `, ` between them |
 //!
 //! A case `random SEED RUNS STEPS` makes RUNS runs of STEPS steps each, or a few more, drawn from this seed, and checks

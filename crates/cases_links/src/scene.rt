@@ -10,20 +10,24 @@
 //! | `at MS` | from now on it is MS milliseconds after noon: the same number |
 //! | `post HEX` | its entries of this message are accepted: how many there are, or `refused` |
 //! | `clock` | it is given a Clock: `due`, or `not due` |
-//! | `take NAME` | its next turn is taken: its place, or `none` |
+//! | `take NAME` | its next turn is taken: the place of its first entry and how many it has, or `none` |
+//! | `take NAME FREE` | the same with this number of free places for frames, else 8192 |
 //! | `show NAME` | what the turn, or what was served, says of itself |
 //! | `serve NAME` | the turn is served, and not given back: `served` |
-//! | `give NAME` | the turn is served, if it wasn't, and given back: `nothing`, `frame HEX`, `dropped`, or `strange` |
+//! | `give NAME` | the turn is served, if it wasn't, and given back: how many entries were served, and `nothing`, |
+//! | | `frame HEX`, `frames HEX HEX ..`, `dropped N`; or `strange` |
 //! | `put-back NAME` | the turn is put back: `back`, or `strange` |
 //! | `abandon NAME` | the turn is never given back: `abandoned` |
-//! | `each` | its turns are taken and given one by one: how many, how many frames, and the last of these |
+//! | `each` | its turns are taken and given one by one: how many, how many entries were served, how many frames, and |
+//! | | the last of these |
 //! | `sent` | one more of its frames was sent: `sent`, or `none` |
 //! | `end peer`, `end closed` | its peer ends it, or it is closed: `ended` |
 //! | `end peer sending`, `end closed sending` | the same while a frame of it is being sent |
 //! | `state` | which it is of `admitted`, `ready`, `held`, else `gone`; the places its entries take; its deadline |
 
 use crate::held::{
-    Held, Named, abandon, abandon_all, find, find_served, keep, serve, served, show,
+    Held, Named, abandon, abandon_all, find, find_served, keep, push_served_count, serve, served,
+    show,
 };
 use crate::messages::prepared;
 use crate::script::{Steps, play};
@@ -33,9 +37,12 @@ use cases::{first_word, push_octets};
 use fp_digits::Moment;
 use fp_entry::{Entries, Prepared};
 use fp_records::Table;
-use fp_row::{Ending, Requested, Row};
+use fp_row::{Ending, RequestFrames, Requested, Row};
 use std::alloc::Global;
 use std::fmt::Write;
+
+/// How many places for frames a link has.
+const ALL_PLACES: usize = 8192;
 
 /// The dialogues of a case, and its turns that are out. It must be spent.
 #[must_use]
@@ -49,11 +56,13 @@ struct Scene<'a> {
     turns: Vec<Named>,
 }
 
-/// What several turns requested: how many there were, how many frames, and the last of these.
+/// What several turns came to: how many there were, how many entries were served, how many frames, and what the last
+/// turn with a frame requested.
 #[derive(Drop)]
 struct Tally {
-    turns: u32,
-    frames: u32,
+    turns: usize,
+    served: usize,
+    frames: usize,
     last: Requested,
 }
 
@@ -105,28 +114,57 @@ fn ending_of(text: &str) -> anyhow::Result<Ending> {
     }
 }
 
-/// Writes what becomes of a request.
+/// Writes frames, with a blank before each.
+fn push_frames(out: &mut String, frames: &RequestFrames) -> anyhow::Result<()> {
+    for frame in frames.as_slice() {
+        out.push(' ')?;
+        push_octets(out, frame.octets())?;
+    }
+    Ok(())
+}
+
+/// Writes what becomes of requests.
 fn push_requested(out: &mut String, requested: &Requested) -> anyhow::Result<()> {
     match requested {
         Requested::Nothing => out.push_str("nothing")?,
-        Requested::Dropped => out.push_str("dropped")?,
-        Requested::Frame(frame) => {
-            out.push_str("frame ")?;
-            push_octets(out, frame.octets())?;
+        Requested::Dropped(count) => write!(out, "dropped {count}")?,
+        Requested::Frames(frames) => {
+            out.push_str(if frames.len() == 1 { "frame" } else { "frames" })?;
+            push_frames(out, frames)?;
         }
     }
     Ok(())
 }
 
+/// How many places are free, from a text, which may say nothing of it.
+fn free_of(text: &str) -> anyhow::Result<usize> {
+    if text.is_empty() {
+        return Ok(ALL_PLACES);
+    }
+    Ok(text.parse()?)
+}
+
 /// Takes the next turn of a dialogue.
-fn take(row: &mut Row, turns: &mut Vec<Named>, name: &str, out: &mut String) -> anyhow::Result<()> {
+fn take(
+    alloc: Global,
+    row: &mut Row,
+    turns: &mut Vec<Named>,
+    text: &str,
+    out: &mut String,
+) -> anyhow::Result<()> {
+    let (name, free) = first_word(text);
     let name = name_of(name)?;
-    let Some(turn) = row.take()? else {
+    let free = free_of(free)?;
+    if free < 1 {
+        bail!("no place is free");
+    }
+    let Some(turn) = row.take(alloc, free)? else {
         return push_text(out, "none");
     };
     let position = turn.position();
+    let count = turn.count();
     keep(turns, name, Held::Turn(turn));
-    write!(out, "{position}")?;
+    write!(out, "{position} {count}")?;
     Ok(())
 }
 
@@ -140,8 +178,12 @@ fn give(
 ) -> anyhow::Result<()> {
     let name = name_of(name)?;
     let done = find_served(alloc, turns, name)?;
+    let count = done.served();
     match row.give(done) {
-        Ok(requested) => push_requested(out, &requested),
+        Ok(requested) => {
+            push_served_count(out, count)?;
+            push_requested(out, &requested)
+        }
         Err(done) => {
             keep(turns, name, Held::Done(done));
             push_text(out, "strange")
@@ -168,13 +210,18 @@ fn put_back(
     push_text(out, "strange")
 }
 
-/// Takes, serves and gives the next turn of a dialogue: what becomes of its request, if there is a turn.
-fn serve_next(alloc: Global, row: &mut Row) -> anyhow::Result<Option<Requested>> {
-    let Some(turn) = row.take()? else {
-        return Ok(None);
+/// Takes, serves and gives the next turn of a dialogue, and counts what it comes to. `false`: there is no turn.
+fn serve_next(alloc: Global, row: &mut Row, tally: &mut Tally) -> anyhow::Result<bool> {
+    let Some(turn) = row.take(alloc, ALL_PLACES)? else {
+        return Ok(false);
     };
-    match row.give(served(alloc, turn)?) {
-        Ok(requested) => Ok(Some(requested)),
+    let done = served(alloc, turn)?;
+    let count = done.served();
+    match row.give(done) {
+        Ok(requested) => {
+            tally.count(count, requested);
+            Ok(true)
+        }
         Err(done) => {
             done.abandon();
             bail!("a turn came back");
@@ -183,11 +230,12 @@ fn serve_next(alloc: Global, row: &mut Row) -> anyhow::Result<Option<Requested>>
 }
 
 impl Tally {
-    /// Counts one more turn, and what became of its request.
-    fn count(&mut self, requested: Requested) {
+    /// Counts one more turn, how many of its entries were served, and what became of their requests.
+    fn count(&mut self, served: usize, requested: Requested) {
         self.turns = self.turns.saturating_add(1);
-        if let Requested::Frame(_) = &requested {
-            self.frames = self.frames.saturating_add(1);
+        self.served = self.served.saturating_add(served);
+        if let Requested::Frames(frames) = &requested {
+            self.frames = self.frames.saturating_add(frames.len());
             self.last = requested;
         }
     }
@@ -196,28 +244,38 @@ impl Tally {
 /// Takes and gives the turns of a dialogue one after the other, at most a thousand.
 fn serve_each(alloc: Global, row: &mut Row, tally: &mut Tally) -> anyhow::Result<()> {
     for _ in 0..1000 {
-        match serve_next(alloc, row)? {
-            Some(requested) => tally.count(requested),
-            None => break,
+        if !serve_next(alloc, row, tally)? {
+            break;
         }
     }
     Ok(())
+}
+
+/// Writes the last of the frames that are to be sent.
+fn push_last(out: &mut String, requested: &Requested) -> anyhow::Result<()> {
+    let last = match requested {
+        Requested::Frames(frames) => frames.as_slice().last(),
+        Requested::Nothing | Requested::Dropped(_) => None,
+    };
+    let Some(frame) = last else {
+        return push_text(out, "no frame");
+    };
+    out.push_str("frame ")?;
+    push_octets(out, frame.octets())
 }
 
 /// Takes and gives the turns of a dialogue one after the other.
 fn each(alloc: Global, row: &mut Row, out: &mut String) -> anyhow::Result<()> {
     let mut tally = Tally {
         turns: 0,
+        served: 0,
         frames: 0,
         last: Requested::Nothing,
     };
     serve_each(alloc, row, &mut tally)?;
-    write!(out, "{} turns, {} frames, ", tally.turns, tally.frames)?;
-    if tally.frames == 0 {
-        out.push_str("no frame")?;
-        return Ok(());
-    }
-    push_requested(out, &tally.last)
+    write!(out, "{} turns, {} served, ", tally.turns, tally.served)?;
+    write!(out, "{} frames, ", tally.frames)?;
+    push_last(out, &tally.last)
 }
 
 /// Those of three words that hold of a dialogue.
@@ -314,7 +372,7 @@ impl Scene<'_> {
             "post" => post(alloc, self.table, moment, row, rest, out),
             "state" => push_state(out, row),
             "each" => each(alloc, row, out),
-            "take" => take(row, &mut self.turns, rest, out),
+            "take" => take(alloc, row, &mut self.turns, rest, out),
             "give" => give(alloc, row, &mut self.turns, rest, out),
             "put-back" => put_back(row, &mut self.turns, rest, out),
             "clock" => clock(row, moment, out),

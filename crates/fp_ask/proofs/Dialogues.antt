@@ -1,11 +1,17 @@
 -- The plain list of dialogues.
-use Rattle.std.proofs.Common.{◌≡◌, ℕ, ◌+◌, ◌≤◌, Bool, true, false, cond, eqb, not, Option, Some, None, List, [], ◌∷◌, ◌++◌, refl, sym, ◌∙◌, ap, subst, arith, count_by, ⊎_elim}
+use Rattle.std.proofs.Common.{◌≡◌, ℕ, ◌+◌, ◌≤◌, Bool, true, false, cond, eqb, not, Option, Some, None, List, [], ◌∷◌, ◌++◌, map, option_to_list, refl, sym, ◌∙◌, ap, subst, arith, append_assoc, count_by, ⊎_elim}
 use Rattle.std.proofs.lemmas.Bool.{cases_Bool, cond_both, eqb-true, eq-eqb}
 use Rattle.std.proofs.lemmas.Bool.Decides.{nat_tests}
+use Rattle.std.proofs.lemmas.List.{map-append}
 use Rattle.std.proofs.lemmas.List.Sums.{sum_by-append, sum_by-cons}
 use Rattle.fp_entry.specs.declared.entry.Entry.{Entry}
+use Rattle.fp_reply.specs.Reply.{frame_of}
+use Rattle.fp_service.specs.declared.dialogue.Core.{Core}
+use Rattle.fp_service.specs.declared.request.Request.{Request}
 use Rattle.fp_service.specs.Dialogue.{is_over}
-use Rattle.fp_ask.specs.Solo.{Job, Dialogue, after, found, going_on, jobs_for, serve_all, serve_at, serve_one, without}
+use Rattle.fp_service.specs.Fold.{core_after, cut, requests}
+use Rattle.fp_service.specs.Serve.{next, request_of}
+use Rattle.fp_ask.specs.Solo.{Job, Dialogue, Served, after, answer_of, found, going_on, jobs_for, serve_all, serve_at, serve_one, without}
 use Rattle.fp_ask.specs.Tied.{times}
 
 -- two numbers are different, the other way round
@@ -53,6 +59,86 @@ serve_none d [] dialogues h = refl
 serve_none d (e ∷ es) dialogues h =
     ap (λ o. let s = serve_at d e dialogues o in let then = serve_all (jobs_for d es) s.dialogues in record { dialogues = then.dialogues; frames = s.frames ++ then.frames }) h
     ∙ serve_none d es dialogues h
+
+-- ENTRIES OF ONE DIALOGUE, ONE AFTER ANOTHER
+
+-- the dialogue after them: those after the one that ends it change nothing
+abbrev pub after_all : Dialogue → List Entry → Dialogue
+after_all dialogue entries = record dialogue { core = core_after dialogue.core (cut dialogue.core entries) }
+
+-- the frames of requests, under its identifiers
+abbrev pub answers_of : Dialogue → List Request → List (List ℕ)
+answers_of dialogue asked = map (λ request. frame_of request dialogue.local dialogue.peer) asked
+
+answer_is : (dialogue : Dialogue) (o : Option Request) → answer_of dialogue o ≡ answers_of dialogue (option_to_list o)
+answer_is dialogue None = refl
+answer_is dialogue (Some request) = refl
+
+-- what is sent for them
+abbrev pub answers_to : Dialogue → List Entry → List (List ℕ)
+answers_to dialogue entries = answers_of dialogue (requests dialogue.core (cut dialogue.core entries))
+
+-- nothing is served of a dialogue that is over
+cut_over : (core : Core) (entries : List Entry) → is_over core ≡ true → cut core entries ≡ []
+cut_over core [] o = refl
+cut_over core (e ∷ es) o = ap (λ b. cond b [] (e ∷ cut (next core e) es)) o
+
+-- what the plain list makes of them
+pub record AllServed (d : ℕ) (entries : List Entry) (one : Dialogue) (dialogues : List Dialogue) : Type 0 where
+  pub own : found d (serve_all (jobs_for d entries) dialogues).dialogues ≡ cond (not (is_over (after_all one entries).core)) (Some (after_all one entries)) None
+  pub others : (k : ℕ) → eqb k d ≡ false → found k (serve_all (jobs_for d entries) dialogues).dialogues ≡ found k dialogues
+  pub frames : (serve_all (jobs_for d entries) dialogues).frames ≡ answers_to one entries
+
+-- of a dialogue that is over nothing
+served_over : (d : ℕ) (entries : List Entry) (one : Dialogue) (dialogues : List Dialogue) → is_over one.core ≡ true → found d dialogues ≡ None → AllServed d entries one dialogues
+served_over d entries one dialogues o is =
+    let none = serve_none d entries dialogues is in
+    let nothing = cut_over one.core entries o in
+    record {
+      own = ap (λ (v : Served). found d v.dialogues) none ∙ is
+          ∙ sym (ap (λ c. cond (not (is_over (core_after one.core c))) (Some (record one { core = core_after one.core c })) None) nothing
+          ∙ ap (λ b. cond (not b) (Some one) None) o);
+      others = λ k ne. ap (λ (v : Served). found k v.dialogues) none;
+      frames = ap (λ (v : Served). v.frames) none ∙ sym (ap (λ c. answers_of one (requests one.core c)) nothing);
+    }
+
+-- of one that goes on an entry, and then the others
+served_next : (d : ℕ) (e : Entry) (es : List Entry) (one : Dialogue) (dialogues : List Dialogue) → is_over one.core ≡ false → one.local ≡ d → found d dialogues ≡ Some one
+    → AllServed d es (after one e) (going_on (after one e) ++ without d dialogues) → AllServed d (e ∷ es) one dialogues
+served_next d e es one dialogues o local is rest =
+    let front = ap (serve_at d e dialogues) is in
+    let more = cut (next one.core e) es in
+    let cut_is : cut one.core (e ∷ es) ≡ e ∷ more = ap (λ b. cond b [] (e ∷ more)) o in
+    record {
+      own = ap (λ (v : Served). found d (serve_all (jobs_for d es) v.dialogues).dialogues) front ∙ rest.own
+          ∙ sym (ap (λ c. cond (not (is_over (core_after one.core c))) (Some (record one { core = core_after one.core c })) None) cut_is);
+      others = λ k ne. ap (λ (v : Served). found k (serve_all (jobs_for d es) v.dialogues).dialogues) front ∙ rest.others k ne
+          ∙ found_unchanged (after one e) d k dialogues local ne;
+      frames = ap (λ (v : Served). v.frames ++ (serve_all (jobs_for d es) v.dialogues).frames) front
+          ∙ (λ i. answer_is one (request_of one.core e) i ++ rest.frames i)
+          ∙ sym (map-append (λ request. frame_of request one.local one.peer) (option_to_list (request_of one.core e)) (requests (next one.core e) more))
+          ∙ sym (ap (λ c. answers_of one (requests one.core c)) cut_is);
+    }
+
+pub all_served : (d : ℕ) (entries : List Entry) (one : Dialogue) (dialogues : List Dialogue) → one.local ≡ d
+    → found d dialogues ≡ cond (not (is_over one.core)) (Some one) None → AllServed d entries one dialogues
+all_served d [] one dialogues local is = record { own = is; others = λ k ne. refl; frames = refl }
+all_served d (e ∷ es) one dialogues local is = ⊎_elim
+    (λ o. served_over d (e ∷ es) one dialogues o (is ∙ ap (λ b. cond (not b) (Some one) None) o))
+    (λ o. served_next d e es one dialogues o local (is ∙ ap (λ b. cond (not b) (Some one) None) o)
+    (all_served d es (after one e) (going_on (after one e) ++ without d dialogues) local (found_changed (after one e) d dialogues local)))
+    (cases_Bool (is_over one.core))
+
+-- some jobs, and then the others
+pub serve_both : (jobs more : List Job) (dialogues : List Dialogue)
+    → serve_all (jobs ++ more) dialogues
+    ≡ (let first = serve_all jobs dialogues in let then = serve_all more first.dialogues in record { dialogues = then.dialogues; frames = first.frames ++ then.frames })
+serve_both [] more dialogues = refl
+serve_both (job ∷ jobs) more dialogues =
+    let one = serve_one job.local job.entry dialogues in
+    let first = serve_all jobs one.dialogues in
+    ap (λ (v : Served). record { dialogues = v.dialogues; frames = one.frames ++ v.frames }) (serve_both jobs more one.dialogues)
+    ∙ (λ i. record { dialogues = (serve_all more first.dialogues).dialogues; frames = sym (append_assoc one.frames first.frames (serve_all more first.dialogues).frames) i })
 
 -- HOW OFTEN A NUMBER OR A DIALOGUE IS IN A LIST
 

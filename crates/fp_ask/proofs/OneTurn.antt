@@ -1,17 +1,20 @@
--- One entry is served.
-use Rattle.std.proofs.Common.{◌≡◌, ℕ, ◌<◌, ◌≤◌, ◌+◌, Bool, true, false, cond, eqb, nat_lt, not, ◌&&◌, Option, Some, None, is_some, option_map, option_to_list, List, [], ◌∷◌, ◌++◌, length, map, refl, sym, ◌∙◌, ap, subst, arith, append_assoc, append-nil, length-append, ⊎_elim, ◌⊎◌, inl, inr}
+-- One turn is served.
+use Rattle.std.proofs.Common.{◌≡◌, ℕ, ◌<◌, ◌≤◌, ◌+◌, Bool, true, false, cond, eqb, nat_lt, not, ◌&&◌, Option, Some, None, is_some, List, [], ◌∷◌, ◌++◌, length, map, refl, sym, ◌∙◌, ap, subst, arith, append_assoc, append-nil, length-append, ⊎_elim, ◌⊎◌, inl, inr}
 use Rattle.std.specs.FinMap as fin
-use Rattle.std.proofs.lemmas.List.{map-append, nil_from_length}
+use Rattle.std.proofs.lemmas.List.{length-map, map-append, nil_from_length}
 use Rattle.std.proofs.lemmas.Bool.{and_right}
+use Rattle.std.proofs.lemmas.Bool.Decides.{nat_tests}
 use Rattle.fp_book.specs.declared.answers.Given.{Given}
 use Rattle.fp_book.specs.declared.parcel.Waiting.{Waiting}
 use Rattle.fp_book.specs.Calls.{GivesDone, TakesTurn, joins, turn_of, waiting_in}
-use Rattle.fp_book.specs.Outbox.{places_out}
+use Rattle.fp_book.specs.Outbox.{places_out, waiting_frames}
 use Rattle.fp_book.specs.Shelf.{Shelf, Sound, places_held, ready_count, turns_of}
 use Rattle.fp_book.specs.Totals.{sum_of}
 use Rattle.fp_book.proofs.Sums.{OneChanges, amount, inserted, kept, left_of}
-use Rattle.fp_book.proofs.Changes.{turns_are}
+use Rattle.fp_book.proofs.Changes.{turns_none}
+use Rattle.fp_book.proofs.Unsent.{requested_count}
 use Rattle.fp_entry.specs.declared.entry.Entry.{Entry}
+use Rattle.fp_q773.specs.Tid.{octets_of}
 use Rattle.fp_reply.specs.ProviderAbort.{frame_octets}
 use Rattle.fp_reply.specs.Reply.{frame_of}
 use Rattle.fp_row.specs.declared.done.Done.{Done}
@@ -21,35 +24,41 @@ use Rattle.fp_row.specs.declared.turn.Turn.{Turn}
 use Rattle.fp_row.specs.Calls.{Gives, requested_of}
 use Rattle.fp_row.specs.Row.{is_ready, waiting_of, waits, has_turn_out}
 use Rattle.fp_row.proofs.Keeping.{known_turn}
-use Rattle.fp_service.specs.declared.request.Request.{Request}
 use Rattle.fp_service.specs.Dialogue.{is_over}
-use Rattle.fp_service.specs.Serve.{next, request_of}
-use Rattle.fp_ask.specs.Solo.{Served, Dialogue, after, answer_of, found, going_on, jobs_for, serve_all, serve_at, serve_one, without}
+use Rattle.fp_service.specs.Fold as fold
+use Rattle.fp_ask.specs.Solo.{Served, Dialogue, Job, found, jobs_for, serve_all}
 use Rattle.fp_ask.specs.Tied.{Fit, KeepsEnd, Rows, Same, SameCounts, Singles, dialogue_of, frames_in, is_out, jobs_in, jobs_of, live, waiting_at}
 use Rattle.fp_ask.proofs.Counting.{sum_zero_at}
-use Rattle.fp_ask.proofs.Rows.{cut, ended_gone, joined, live_is, live_left, none_ready, none_waits, out_left, outs_then, ready_live, same_then, waiting_left}
-use Rattle.fp_ask.proofs.Dialogues.{count, count-cons, found_changed, found_unchanged, none_if, serve_none}
+use Rattle.fp_ask.proofs.Rows.{cut, ended_gone, joined, live_is, live_left, none_ready, none_waits, out_left, outs_then, same_then, waiting_left}
+use Rattle.fp_ask.proofs.Dialogues.{after_all, all_served, answers_to, count, count-cons, none_if, serve_both, serve_none}
 
--- what is sent for an entry: its request's frame, unless its dialogue was ended
-abbrev pub frames_by : Option Ending → Dialogue → Entry → List (List ℕ)
-frames_by None dialogue entry = answer_of dialogue (request_of dialogue.core entry)
-frames_by (Some ending) dialogue entry = []
+abbrev job : ℕ → Entry → Job
+job d entry = record { local = d; entry = entry }
 
--- one entry of a dialogue was served
-pub record Turned (s new : Shelf) (d : ℕ) (entry : Entry) (before then : Row) (more : List Entry) (rest : List ℕ) : Type 0 where
+-- frames, unless the dialogue was ended
+abbrev pub sent_by : Option Ending → List (List ℕ) → List (List ℕ)
+sent_by None frames = frames
+sent_by (Some ending) frames = []
+
+-- what is sent for entries: the frames of their requests
+abbrev pub frames_by : Option Ending → Dialogue → List Entry → List (List ℕ)
+frames_by ended dialogue entries = sent_by ended (answers_to dialogue entries)
+
+-- the next entries of a dialogue were served, up to the one that ended it
+pub record Turned (s new : Shelf) (d : ℕ) (entries : List Entry) (before then : Row) (more : List Entry) (rest : List ℕ) : Type 0 where
   pub row : OneChanges s.rows new.rows d (Some before) (left_of then)
   pub local_is : before.local ≡ d
-  pub dialogue : dialogue_of then ≡ after (dialogue_of before) entry
+  pub dialogue : dialogue_of then ≡ after_all (dialogue_of before) entries
   pub ended : then.ended ≡ before.ended
-  pub going : is_over before.core ≡ false
   pub out : has_turn_out then ≡ false
-  pub waits : waiting_of before ≡ entry ∷ more
+  pub some : 0 < length entries
+  pub waits : waiting_of before ≡ entries ++ more
   pub waits_then : waiting_of then ≡ cond (is_over then.core) [] more
   pub ready_old : s.ready ≡ d ∷ rest
   pub ready_new : new.ready ≡ rest ++ joins d (is_ready then)
   pub once : count d rest ≡ 0
-  pub frames : frames_in new.outbox ≡ frames_in s.outbox ++ frames_by before.ended (dialogue_of before) entry
-  pub few : length new.outbox.frames ≤ length s.outbox.frames + 1
+  pub frames : frames_in new.outbox ≡ frames_in s.outbox ++ frames_by before.ended (dialogue_of before) entries
+  pub few : length new.outbox.frames ≤ length s.outbox.frames + length entries
   pub none_out : new.outbox.out ≡ s.outbox.out
   pub link : new.link ≡ s.link
   pub up : new.is_down ≡ s.is_down
@@ -80,11 +89,10 @@ cut_served false d more dialogues gone = refl
 cut_none : {A : Type 0} (b : Bool) (more : List A) → more ≡ [] → cond b [] more ≡ []
 cut_none b more h = grind arith
 
--- what the list is after the entry
-record Stepped (new : Shelf) (d : ℕ) (entry : Entry) (dialogues : List Dialogue) (frames : List (List ℕ)) : Type 0 where
-  pub dialogues_then : List Dialogue
-  pub same : Same dialogues_then new.rows
-  pub serves : serve_one d entry dialogues ≡ record { dialogues = dialogues_then; frames = frames }
+-- what the list is after the entries
+record Stepped (new : Shelf) (d : ℕ) (entries : List Entry) (dialogues : List Dialogue) (frames : List (List ℕ)) : Type 0 where
+  pub same : Same (serve_all (jobs_for d entries) dialogues).dialogues new.rows
+  pub serves : (serve_all (jobs_for d entries) dialogues).frames ≡ frames
 
 -- what is left to do
 record Left (s new : Shelf) (d : ℕ) (then : Row) (more : List Entry) (rest : List ℕ) : Type 0 where
@@ -92,36 +100,47 @@ record Left (s new : Shelf) (d : ℕ) (then : Row) (more : List Entry) (rest : L
   pub fewer : length (jobs_of new) ≤ length (jobs_for d more ++ jobs_in rest s.rows)
   pub serves : (dialogues : List Dialogue) → found d dialogues ≡ live (Some then) → serve_all (jobs_of new) dialogues ≡ serve_all (jobs_for d more ++ jobs_in rest s.rows) dialogues
 
-module _ {s new : Shelf} {d : ℕ} {entry : Entry} {before then : Row} {more : List Entry} {rest : List ℕ} (t : Turned s new d entry before then more rest) where
+module _ {s new : Shelf} {d : ℕ} {entries : List Entry} {before then : Row} {more : List Entry} {rest : List ℕ} (t : Turned s new d entries before then more rest) where
   -- whether the dialogue goes on then
   live_then : live (fin.get new.rows d) ≡ live (Some then)
   live_then = ap live t.row.there ∙ live_left then
 
-  -- the list after the entry: the dialogue has changed, unless it was ended
-  stepped_by : (ended : Option Ending) → before.ended ≡ ended → (dialogues : List Dialogue) → Same dialogues s.rows → Stepped new d entry dialogues (frames_by ended (dialogue_of before) entry)
+  -- the list after the entries: the dialogue has changed, unless it was ended
+  stepped_by : (ended : Option Ending) → before.ended ≡ ended → (dialogues : List Dialogue) → Same dialogues s.rows → Stepped new d entries dialogues (frames_by ended (dialogue_of before) entries)
   stepped_by None e dialogues same =
-      let one : Dialogue = after (dialogue_of before) entry in
-      let there : found d dialogues ≡ Some (dialogue_of before) =
-      same d ∙ ap live t.row.was ∙ live_is before None (dialogue_of before) e refl ∙ ap (λ b. cond (not b) (Some (dialogue_of before)) None) t.going in
+      let one : Dialogue = dialogue_of before in
+      let all = all_served d entries one dialogues t.local_is (same d ∙ ap live t.row.was ∙ live_is before None one e refl) in
       record {
-        dialogues_then = going_on one ++ without d dialogues;
-        same = same_then dialogues (going_on one ++ without d dialogues) t.row same
-            (found_changed one d dialogues t.local_is ∙ sym (live_is then None one (t.ended ∙ e) t.dialogue) ∙ sym (live_left then))
-            (λ k ne. found_unchanged one d k dialogues t.local_is ne);
-        serves = ap (serve_at d entry dialogues) there;
+        same = same_then dialogues (serve_all (jobs_for d entries) dialogues).dialogues t.row same
+            (all.own ∙ sym (live_is then None (after_all one entries) (t.ended ∙ e) t.dialogue) ∙ sym (live_left then))
+            all.others;
+        serves = all.frames;
       }
   stepped_by (Some ending) e dialogues same =
       let there : found d dialogues ≡ None = same d ∙ ap live t.row.was ∙ ended_gone before ending e in
+      let none = serve_none d entries dialogues there in
       record {
-        dialogues_then = dialogues;
-        same = same_then dialogues dialogues t.row same (there ∙ sym (live_left then ∙ ended_gone then ending (t.ended ∙ e))) (λ k ne. refl);
-        serves = ap (serve_at d entry dialogues) there;
+        same = same_then dialogues (serve_all (jobs_for d entries) dialogues).dialogues t.row same
+            (ap (λ (v : Served). found d v.dialogues) none ∙ there ∙ sym (live_left then ∙ ended_gone then ending (t.ended ∙ e)))
+            (λ k ne. ap (λ (v : Served). found k v.dialogues) none);
+        serves = ap (λ (v : Served). v.frames) none;
       }
 
+  -- what is to be done after them
+  abbrev todo : List Job
+  todo = jobs_for d more ++ jobs_in rest s.rows
+
   -- the jobs before
-  jobs_before : jobs_of s ≡ record { local = d; entry = entry } ∷ (jobs_for d more ++ jobs_in rest s.rows)
+  jobs_before : jobs_of s ≡ jobs_for d entries ++ todo
   jobs_before =
       ap (λ q. jobs_in q s.rows) t.ready_old ∙ ap (λ r. jobs_for d (waiting_at r) ++ jobs_in rest s.rows) t.row.was ∙ ap (λ w. jobs_for d w ++ jobs_in rest s.rows) t.waits
+      ∙ ap (λ j. j ++ jobs_in rest s.rows) (map-append (job d) entries more)
+      ∙ append_assoc (jobs_for d entries) (jobs_for d more) (jobs_in rest s.rows)
+
+  -- as many as entries more than those
+  count_before : length (jobs_of s) ≡ length entries + length todo
+  count_before =
+      ap length jobs_before ∙ length-append (jobs_for d entries) todo ∙ ap (λ n. n + length todo) (length-map entries (job d))
 
   -- either no other dialogue is ready, or nothing more waits of this one
   left_alone : rest ≡ [] → Left s new d then more rest
@@ -143,7 +162,7 @@ module _ {s new : Shelf} {d : ℕ} {entry : Entry} {before then : Row} {more : L
   left_each : Singles (d ∷ rest) s.rows → Left s new d then more rest
   left_each a =
       let one = ap length t.waits in
-      let done : more ≡ [] = nil_from_length more (omega (arith, one, ap (λ r. length (waiting_at r)) t.row.was, a.0)) in
+      let done : more ≡ [] = nil_from_length more (omega (arith, one, length-append entries more, t.some, ap (λ r. length (waiting_at r)) t.row.was, a.0)) in
       let none : waiting_of then ≡ [] = t.waits_then ∙ cut_none (is_over then.core) more done in
       let queue : new.ready ≡ rest = t.ready_new ∙ ap (λ b. rest ++ joins d b) (none_ready then none) ∙ append-nil rest in
       let same = others_same s.rows new.rows d rest t.row.others t.once in
@@ -164,13 +183,12 @@ module _ {s new : Shelf} {d : ℕ} {entry : Entry} {before then : Row} {more : L
   -- and to serve it ends as before
   ends_then : Fit s → KeepsEnd s new
   ends_then f end m =
-      let todo = jobs_for d more ++ jobs_in rest s.rows in
-      let own = frames_by before.ended (dialogue_of before) entry in
+      let own = frames_by before.ended (dialogue_of before) entries in
       let step = stepped_by before.ended refl m.dialogues m.same in
-      let dialogues = step.dialogues_then in
+      let dialogues = (serve_all (jobs_for d entries) m.dialogues).dialogues in
       let first : serve_all (jobs_of s) m.dialogues ≡ record { dialogues = (serve_all todo dialogues).dialogues; frames = own ++ (serve_all todo dialogues).frames } =
-      ap (λ j. serve_all j m.dialogues) jobs_before
-      ∙ ap (λ (v : Served). record { dialogues = (serve_all todo v.dialogues).dialogues; frames = v.frames ++ (serve_all todo v.dialogues).frames }) step.serves in
+      ap (λ j. serve_all j m.dialogues) jobs_before ∙ serve_both (jobs_for d entries) todo m.dialogues
+      ∙ (λ i. record { dialogues = (serve_all todo dialogues).dialogues; frames = step.serves i ++ (serve_all todo dialogues).frames }) in
       let serves : serve_all (jobs_of new) dialogues ≡ serve_all todo dialogues = (left_to_do f).serves dialogues (step.same d ∙ live_then) in
       record {
         dialogues = dialogues;
@@ -185,7 +203,6 @@ module _ {s new : Shelf} {d : ℕ} {entry : Entry} {before then : Row} {more : L
   pub served_one : Fit s → Sound new → OneServed s new
   served_one f sound =
       let l = left_to_do f in
-      let jobs = ap length jobs_before in
       record {
         fit = record {
           sound = sound;
@@ -194,27 +211,29 @@ module _ {s new : Shelf} {d : ℕ} {entry : Entry} {before then : Row} {more : L
           idle = outs_then t.row f.idle (out_left then t.out);
           none_out = t.none_out ∙ f.none_out;
           orderly = l.orderly;
-          room = omega (arith, jobs, l.fewer, f.room, t.few);
+          room = omega (arith, count_before, l.fewer, f.room, t.few);
         };
         ends = ends_then f;
         counts = t.counts;
-        less = omega (arith, jobs, l.fewer);
+        less = omega (arith, count_before, l.fewer, t.some);
       }
 
 -- WHAT THE CALLS OF A BOOK SAY
 
--- the frame of a request, if there is one
-asked_frames : (dialogue : Dialogue) (o : Option Request) → option_to_list (option_map (λ request. frame_of request dialogue.local dialogue.peer) o) ≡ answer_of dialogue o
-asked_frames dialogue None = refl
-asked_frames dialogue (Some request) = refl
+-- a dialogue whose turn is out isn't ready
+none_counted : (n : ℕ) (b : Bool) → 0 < n → cond {A = ℕ} (not (nat_lt 0 n) && b) 1 0 ≡ 0
+none_counted n b some = grind (arith, nat_tests)
 
--- the frames that wait for an entry are those that are sent for it, one at most
-waiting_frames : (local : ℕ) (ended : Option Ending) (dialogue : Dialogue) (entry : Entry) (frame : Option (List ℕ)) → option_to_list frame ≡ answer_of dialogue (request_of dialogue.core entry)
-    → (map (λ (w : Waiting). w.frame) (waiting_in local (requested_of ended frame)) ≡ frames_by ended dialogue entry) × (length (waiting_in local (requested_of ended frame)) ≤ 1)
-waiting_frames local None dialogue entry None e = (e, omega arith)
-waiting_frames local None dialogue entry (Some frame) e = (e, omega arith)
-waiting_frames local (Some ending) dialogue entry None e = (refl, omega arith)
-waiting_frames local (Some ending) dialogue entry (Some frame) e = (refl, omega arith)
+unwrapped : (local : ℕ) (frames : List (List ℕ)) → map (λ (w : Waiting). w.frame) (waiting_frames local frames) ≡ frames
+unwrapped local [] = refl
+unwrapped local (frame ∷ frames) = ap (λ rest. frame ∷ rest) (unwrapped local frames)
+
+-- the frames that wait for requests are those that are sent for them
+frames_queued : (local : ℕ) (ended : Option Ending) (frames : List (List ℕ)) → map (λ (w : Waiting). w.frame) (waiting_in local (requested_of ended frames)) ≡ sent_by ended frames
+frames_queued local None [] = refl
+frames_queued local (Some ending) [] = refl
+frames_queued local None (frame ∷ frames) = unwrapped local (frame ∷ frames)
+frames_queued local (Some ending) (frame ∷ frames) = refl
 
 -- a turn was taken, served and given back
 pub taken_and_given : {s mid new : Shelf} {done : Done} {given : Given} → Fit s → Sound mid → Sound new → TakesTurn s done.turn mid → GivesDone mid done given new → OneServed s new
@@ -226,19 +245,18 @@ taken_and_given {s} {new = new} {done} {given} f sound_mid sound t g =
     let local : d ≡ t.before.local = t.takes.local in
     let peer : turn.peer ≡ t.before.peer = sym (ap (λ (u : Turn). u.peer) known) ∙ t.takes.same.peer in
     let core : turn.before ≡ t.before.core = sym (ap (λ (u : Turn). u.before) known) ∙ t.takes.stay.core in
-    let frame_is : option_to_list done.frame ≡ answer_of before (request_of before.core turn.entry) =
-    ap option_to_list (done.frame_is ∙ (λ i. option_map (λ request. frame_of request (local i) (peer i)) (request_of (core i) turn.entry)))
-    ∙ asked_frames before (request_of before.core turn.entry) in
+    let frames_are : done.frames ≡ answers_to before turn.entries =
+    done.frames_are ∙ (λ i. map (λ request. frame_of request (local i) (octets_of (peer i))) (fold.requests (core i) (fold.cut (core i) turn.entries))) in
+    let then_is : done.after ≡ fold.core_after t.before.core (fold.cut t.before.core turn.entries) =
+    done.after_is ∙ (λ i. fold.core_after (core i) (fold.cut (core i) turn.entries)) in
     subst (λ m. Sound m → GivesDone m done given new → OneServed s new) (sym t.new_is) (λ sound_mid (g : GivesDone _ done given new). subst (λ n. Sound n → OneServed s n) (sym g.new_is) (λ sound.
     let took = inserted s.rows d (Some t.before) t.after t.was in
     let gave = kept (fin.insert s.rows d t.after) d (Some g.before) g.after g.was in
     let two : Some g.before ≡ Some t.after = sym g.was ∙ took.there in
     let one : g.before ≡ t.after = cc in
     let gives : Gives t.after done g.asked g.after = subst (λ (r : Row). Gives r done g.asked g.after) one g.gives in
-    let wait = waiting_frames d t.before.ended before turn.entry done.frame frame_is in
-    let asked : waiting_in d g.asked ≡ waiting_in d (requested_of t.before.ended done.frame) =
-    ap (waiting_in d) (gives.requested_is ∙ ap (λ o. requested_of o done.frame) t.takes.ended) in
-    let frame = λ (w : Waiting). w.frame in
+    let asked : g.asked ≡ requested_of t.before.ended done.frames = gives.requested_is ∙ ap (λ o. requested_of o done.frames) t.takes.ended in
+    let waiting = λ (w : Waiting). w.frame in
     served_one {before = t.before} {then = g.after} (record {
       row = record {
         was = t.was;
@@ -250,21 +268,22 @@ taken_and_given {s} {new = new} {done} {given} f sound_mid sound t g =
       dialogue = λ i. record {
         birth = (gives.same.birth ∙ t.takes.same.birth) i;
         local = (gives.same.local ∙ t.takes.same.local) i;
-        peer = (gives.same.peer ∙ t.takes.same.peer) i;
-        core = (gives.core ∙ done.after_is ∙ (λ i. next (core i) turn.entry)) i;
+        peer = octets_of ((gives.same.peer ∙ t.takes.same.peer) i);
+        core = (gives.core ∙ then_is) i;
       };
       ended = gives.ended ∙ t.takes.ended;
-      going = ready_live t.before t.takes.was_ready;
       out = ap (nat_lt 0) gives.out;
+      some = t.takes.some;
       waits = t.takes.waiting;
       waits_then = gives.waiting ∙ (λ i. cond (is_over (sym gives.core i)) [] (waiting_of t.after));
       ready_old = t.first;
       ready_new = refl;
-      once = sound_mid.ready d ∙ ap ready_count took.there ∙ (λ i. cond {A = ℕ} (not (nat_lt 0 (t.takes.out i)) && waits t.after) 1 0);
+      once = sound_mid.ready d ∙ ap ready_count took.there ∙ (λ i. cond {A = ℕ} (not (nat_lt 0 (t.takes.out i)) && waits t.after) 1 0) ∙ none_counted (length turn.entries) (waits t.after) t.takes.some;
       frames =
-          ap (λ x. map frame_octets s.outbox.aborts ++ x) (map-append frame s.outbox.frames (waiting_in d g.asked) ∙ ap (λ x. map frame s.outbox.frames ++ x) (ap (map frame) asked ∙ wait.0))
-          ∙ sym (append_assoc (map frame_octets s.outbox.aborts) (map frame s.outbox.frames) (frames_by t.before.ended before turn.entry));
-      few = omega (arith, length-append s.outbox.frames (waiting_in d g.asked), ap length asked, wait.1);
+          ap (λ x. map frame_octets s.outbox.aborts ++ x) (map-append waiting s.outbox.frames (waiting_in d g.asked)
+          ∙ ap (λ x. map waiting s.outbox.frames ++ x) (ap (λ a. map waiting (waiting_in d a)) asked ∙ frames_queued d t.before.ended done.frames ∙ ap (sent_by t.before.ended) frames_are))
+          ∙ sym (append_assoc (map frame_octets s.outbox.aborts) (map waiting s.outbox.frames) (frames_by t.before.ended before turn.entries));
+      few = omega (arith, length-append s.outbox.frames (waiting_in d g.asked), requested_count d g.asked, gives.few_frames, t.takes.out);
       none_out = refl;
       link = refl;
       up = refl;
@@ -282,5 +301,5 @@ known_done {s} done t =
 -- nothing is out, so all places that are held are held by frames that wait, which are fewer
 pub has_room : (s : Shelf) → Fit s → 8192 ≤ places_held s → ⊥
 has_room s f full =
-    let turns : sum_of turns_of s.rows ≡ 0 = sum_zero_at turns_of s.rows (λ k row was. turns_are row false (sym (ap is_out was) ∙ f.idle k)) in
+    let turns : sum_of turns_of s.rows ≡ 0 = sum_zero_at turns_of s.rows (λ k row was. turns_none row (sym (ap is_out was) ∙ f.idle k)) in
     absurd (omega (arith, full, turns, ap places_out f.none_out, f.room))

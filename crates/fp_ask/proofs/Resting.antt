@@ -8,7 +8,7 @@ use Rattle.std.proofs.lemmas.List.{length-take-le}
 use Rattle.fp_book.specs.Shelf.{Shelf, Sound, of_row, ready_count, unsent_for}
 use Rattle.fp_book.specs.Verdict as book
 use Rattle.fp_book.proofs.Sums.{len-sum, removed, sum-none}
-use Rattle.fp_book.proofs.Changes.{turns_are}
+use Rattle.fp_book.proofs.Changes.{turns_none}
 use Rattle.fp_entry.specs.declared.entry.Entry.{Entry}
 use Rattle.fp_entry.specs.Entries.{place_count}
 use Rattle.fp_q773.specs.declared.ids.Ids.{Ids}
@@ -73,7 +73,7 @@ quiet s r d row was =
       unready = unready;
       waiting = none;
       admitted = admitted;
-      unserved = unserved_by row.ended (is_over row.core) row.out (unserved row) admitted (turns_are row false out) none;
+      unserved = unserved_by row.ended (is_over row.core) row.out (unserved row) admitted (turns_none row out) none;
     }
 
 -- THE TESTS OF A BOOK ARE THOSE OF THE LIST

@@ -4,7 +4,7 @@ use Rattle.std.specs.FinMap as fin
 use Rattle.std.proofs.lemmas.Bool.{ltb-true}
 use Rattle.std.proofs.lemmas.Bool.Decides.{nat_tests}
 use Rattle.std.proofs.lemmas.List.{drop_all}
-use Rattle.fp_book.proofs.Changes.{by_held, not_held, turns_are}
+use Rattle.fp_book.proofs.Changes.{by_held, not_held, turns_none}
 use Rattle.fp_book.proofs.Sums.{OneChanges, left_of}
 use Rattle.fp_book.specs.Calls.{joins}
 use Rattle.fp_entry.specs.declared.entry.Entry.{Entry}
@@ -25,7 +25,7 @@ none_by out closed over n k xs z o h =
 
 -- of a dialogue that isn't ready, and of which no turn is out, no entry waits
 pub none_waits : (row : Row) → has_turn_out row ≡ false → is_ready row ≡ false → waiting_of row ≡ []
-none_waits row o h = none_by (has_turn_out row) (is_closed row.ended) (is_over row.core) row.served row.out row.accepted (turns_are row false o) o h
+none_waits row o h = none_by (has_turn_out row) (is_closed row.ended) (is_over row.core) row.served row.out row.accepted (turns_none row o) o h
 
 -- whether it is ready,
 ready_by : (out closed over : Bool) (n k : ℕ) (xs : List Entry) → (out ≡ false → k ≡ 0) → cond (closed || over) [] (drop k (drop n xs)) ≡ []
@@ -36,15 +36,7 @@ ready_by out closed over n k xs none h = refl
 
 -- one of which no entry waits isn't ready
 pub none_ready : (row : Row) → waiting_of row ≡ [] → is_ready row ≡ false
-none_ready row h = ready_by (has_turn_out row) (is_closed row.ended) (is_over row.core) row.served row.out row.accepted (turns_are row false) h
-
--- and whether it is over
-live_by : (out closed over : Bool) (n : ℕ) (xs : List Entry) → (not out && (not closed && (not over && nat_lt n (length xs)))) ≡ true → over ≡ false
-live_by out closed over n xs h = grind (arith, nat_tests)
-
--- one that is ready isn't over
-pub ready_live : (row : Row) → is_ready row ≡ true → is_over row.core ≡ false
-ready_live row h = live_by (has_turn_out row) (is_closed row.ended) (is_over row.core) row.served row.accepted h
+none_ready row h = ready_by (has_turn_out row) (is_closed row.ended) (is_over row.core) row.served row.out row.accepted (turns_none row) h
 
 -- what waits for nothing is not ready
 both_by : (out waits : Bool) → waits ≡ false → (not out && waits) ≡ false

@@ -82,13 +82,12 @@ by_local d local P own other = ⊎_elim (λ e. subst P (sym (eqb-true d local e)
 pub by_held : (row : Row) (P : Option Row → Type 0) → (is_held row ≡ true → P (Some row)) → (is_held row ≡ false → P None) → P (left_of row)
 by_held row P = cond_both (is_held row) (Some row) None P
 
--- how many entries of a dialogue are out: one of its turn
-one_or_none : (b : Bool) (n : ℕ) → n ≤ 1 → nat_lt 0 n ≡ b → n ≡ cond b 1 0
-one_or_none true n most out = grind (arith, nat_tests)
-one_or_none false n most out = grind (arith, nat_tests)
+-- no entry of a dialogue is out if it has no turn out
+none_by : (n : ℕ) → nat_lt 0 n ≡ false → n ≡ 0
+none_by n out = grind (arith, nat_tests)
 
-pub turns_are : (row : Row) (b : Bool) → has_turn_out row ≡ b → turns_of row ≡ cond b 1 0
-turns_are row b = one_or_none b row.out row.out_most
+pub turns_none : (row : Row) → has_turn_out row ≡ false → turns_of row ≡ 0
+turns_none row = none_by row.out
 
 -- what is not held
 pub record NotHeld (row : Row) : Type 0 where
@@ -118,7 +117,7 @@ pub ready_left : (row : Row) → amount ready (left_of row) ≡ ready row
 ready_left row = amount_left ready row (λ h. ap one_if (not_ready row h))
 
 pub turns_left : (row : Row) → amount turns_of (left_of row) ≡ turns_of row
-turns_left row = amount_left turns_of row (λ h. turns_are row false h.is_out)
+turns_left row = amount_left turns_of row (λ h. turns_none row h.is_out)
 
 pub one_left : (row : Row) → amount one (left_of row) ≤ 1
 one_left row = by_held row (λ o. amount one o ≤ 1) (λ h. omega arith) (λ h. omega arith)

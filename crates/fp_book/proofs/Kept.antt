@@ -1,7 +1,7 @@
 -- What a book keeps if one of its dialogues changes, and what a call may rely on.
 use Rattle.fp_book.proofs.Names.{AreTimed, Bool, Changes, HasRoom, Inside, IsKept, List, LoggedStep, None, Option, Outbox, Row, Shelf, Some, Sound, Totals, accepted_by, ap, arith, cond, deadline_at, deadline_of, eq-eqb, eqb, eqb-true, false, gone_of, has_clock, has_turn_out, inl, inr, is_admitted, is_ready, is_some, length, nat_cmp, nat_cmp_total, next_due, not, one_if, refl, sent_by, served_by, shelf_of, subst, sum_of, sym, true, turns_of, with_deadline, ℕ, ◌&&◌, ◌+◌, ◌-◌, ◌<◌, ◌^◌, ◌∙◌, ◌≡◌, ◌≤◌}
 use Rattle.std.specs.FinMap as map
-use Rattle.fp_book.proofs.Changes.{by_held, by_local, not_held, one_if_most, ready, turns_are, turns_left}
+use Rattle.fp_book.proofs.Changes.{by_held, by_local, not_held, one_if_most, ready, turns_left}
 use Rattle.fp_book.proofs.Sums.{OneChanges, Rows, amount, get-inserted, get-removed, inserted, kept, left_of, len-sum, removed, sum-le, sum-zero, sums-le, zero_of}
 
 -- what was counted of the dialogues that are gone is what the others leave
@@ -157,12 +157,17 @@ place_to_join s local row k was idle = place_of_idle s.rows s.ready local row k.
 pub place_for_new : (s : Shelf) → Sound s → map.len s.rows < 4096 → length s.ready < 4096
 place_for_new s k few = omega (arith, k.ready_length, sum-le ready (λ _. 1) s.rows (λ r. one_if_most (is_ready r)), len-sum s.rows, few)
 
--- the turn that is out holds a place for its frame
-pub place_to_queue : (s : Shelf) (local : ℕ) (row : Row) → Sound s → map.get s.rows local ≡ Some row → has_turn_out row ≡ true → length s.outbox.frames < 8192
-place_to_queue s local row k was out =
+-- the entries that are out hold a place each for its frame
+pub place_to_queue : (s : Shelf) (local : ℕ) (row : Row) (count : ℕ) → Sound s → map.get s.rows local ≡ Some row → count ≤ row.out → length s.outbox.frames + count ≤ 8192
+place_to_queue s local row count k was few =
     let here : turns_of row ≤ sum_of turns_of s.rows = amount_within turns_of s.rows local row was in
-    let one : turns_of row ≡ 1 = turns_are row true out in
-    omega (arith, here, one, k.places)
+    omega (arith, here, few, k.places)
+
+-- no more entries are out than there are places
+pub out_few : (s : Shelf) (local : ℕ) (row : Row) → Sound s → map.get s.rows local ≡ Some row → row.out ≤ 8192
+out_few s local row k was =
+    let here : turns_of row ≤ sum_of turns_of s.rows = amount_within turns_of s.rows local row was in
+    omega (arith, here, k.places)
 
 -- no total is above the number of all entries
 pub few_served : (s : Shelf) → Sound s → s.totals.served ≤ s.entries

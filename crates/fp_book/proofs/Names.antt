@@ -46,8 +46,8 @@ pub use Rattle.fp_reply.specs.Reply.{frame_of}
 pub use Rattle.fp_row.proofs.Keeping.{ready_stays}
 pub use Rattle.fp_row.specs.Calls.{Accepts, Clocks, Ends, Extends, FramesStay, HandsOut, IsSame, Opens, SendsOne, ended_by, frames_in, requested_of, sending}
 pub use Rattle.fp_row.specs.Keys.{IsAbove}
-pub use Rattle.fp_row.specs.Laws.{KeepsOrder, RowsKeepTheirOrder}
-pub use Rattle.fp_row.specs.Row.{deadline_of, entry_out, frames_of, has_clock, has_turn_out, is_admitted, is_closed, is_due, is_held, is_ready, kept_of, places_taken, requests_of, sent_of, served_of, start_of, turn_of, turn_out, unserved, waiting_of, waits}
+pub use Rattle.fp_row.specs.Laws.{IsServed, KeepsOrder, RowsKeepTheirOrder}
+pub use Rattle.fp_row.specs.Row.{deadline_of, entries_out, frames_of, has_clock, has_turn_out, is_admitted, is_closed, is_due, is_held, is_ready, kept_of, places_taken, requests_of, sent_of, served_of, start_of, turn_of, turn_out, unserved, waiting_of, waits}
 pub use Rattle.fp_row.specs.Rows.{IsAfter}
 pub use Rattle.fp_row.specs.declared.done.Done.{Done}
 pub use Rattle.fp_row.specs.declared.ending.Ending.{Ending}
@@ -55,19 +55,20 @@ pub use Rattle.fp_row.specs.declared.ending.Ending.TheVariants.{ByPeer, Closed}
 pub use Rattle.fp_row.specs.declared.requested.Requested.{Requested}
 pub use Rattle.fp_row.specs.declared.row.Row.{Row}
 pub use Rattle.fp_row.specs.declared.turn.Turn.{Turn}
+pub use Rattle.fp_row.specs.Turn.{most_entries}
 pub use Rattle.fp_service.specs.Dialogue.{is_over, next_due}
 pub use Rattle.fp_service.specs.Laws.{AsksOnceAtMost}
 pub use Rattle.fp_service.specs.declared.request.Request.{Request}
 pub use Rattle.fp_tids.specs.Identifiers.{Gives, LocalIds, identifier}
 pub use Rattle.fp_timers.specs.Deadlines.{HasRoom, IsEarliestDue}
-pub use Rattle.fp_book.specs.Calls.{Answers, ClocksAt, Closes, ClosesAt, ClosesDialogue, ClosesOne, ComesFirst, Discards, Due, EndsDialogue, ExtendsDialogue, Follows, GivesDone, GoesDown, Hands, IsDue, OpensDialogue, PicksParcel, Posts, PutsTurnBack, Queues, Refuses, Sends, SendsAbort, SendsFrame, Takes, TakesTurn, Ticks, Unsends, abort_for, are_some, asks_for_memory, closed_answer, due_at, entries_in, is_idle, joins, more_accepted, one_sent, one_served, posted_line, posted_totals, waiting_in, without}
+pub use Rattle.fp_book.specs.Calls.{Answers, ClocksAt, Closes, ClosesAt, ClosesDialogue, ClosesOne, ComesFirst, Discards, Due, EndsDialogue, ExtendsDialogue, Follows, GivesDone, GoesDown, Hands, IsDue, OpensDialogue, PicksParcel, Posts, PutsTurnBack, Queues, Refuses, Sends, SendsAbort, SendsFrame, Takes, TakesTurn, Ticks, Unsends, abort_for, are_some, asks_for_memory, closed_answer, due_at, entries_in, is_idle, joins, more_accepted, one_sent, more_served, posted_line, posted_totals, waiting_in, without}
 pub use Rattle.fp_book.specs.Clocking.{AreAgreed, Clocking, ClocksFirst, Deadlines, IsDueIn, due_now, idle_among, is_among}
-pub use Rattle.fp_book.specs.Dialogues.{AnsweredBy, Changes, EndsAt, ExtendsAt, GivesAt, Grows, HandsOutAt, OpensAt, PutsBackAt, SendsAt, dropped_of, drops_frames, is_due_at, is_unsent, left_as, takes_more, with_deadline}
+pub use Rattle.fp_book.specs.Dialogues.{AnsweredBy, Changes, EndsAt, ExtendsAt, GivesAt, Grows, HandsOutAt, OpensAt, PutsBackAt, SendsAt, dropped_of, drops_frames, is_due_at, is_unsent, left_as, request_count, takes_more, with_deadline}
 pub use Rattle.fp_book.specs.Holding.{IsQuiet, busy_count, is_busy}
-pub use Rattle.fp_book.specs.Laws.{BirthsAreDistinct, DialoguesAreKeptInOrder, PostingKeepsSound, accounted, entry_in, frames_under, is_told, told}
+pub use Rattle.fp_book.specs.Laws.{BirthsAreDistinct, DialoguesAreKeptInOrder, PostingKeepsSound, accounted, frames_under, is_told, told, turn_entries}
 pub use Rattle.fp_book.specs.Lines.{IsAsRead, ReadMessagesHaveFewEntries, SevenLinesDecide, admitted, first_lines, first_that_fits, is_full, last_lines, named, number_of, own_tests, unserved_in, verdict}
 pub use Rattle.fp_book.specs.Log.{Drains, gap_at_end, logged, lose_behind, lost_in, one_more}
-pub use Rattle.fp_book.specs.Outbox.{IsNext, Outbox, Picks, frames_held, is_of_other, nothing, places_out, with_nothing_out, without_frames_of, without_waiting}
+pub use Rattle.fp_book.specs.Outbox.{IsNext, Outbox, Picks, frames_held, is_of_other, nothing, places_out, waiting_frames, with_nothing_out, without_frames_of, without_waiting}
 pub use Rattle.fp_book.specs.Parcel.{dialogue_of, local_of}
 pub use Rattle.fp_book.specs.ReadyQueue.{IsEmptyIfNone, is_other}
 pub use Rattle.fp_book.specs.Receipt.{IsReceipt, accepted_components, treated_as}

@@ -1,12 +1,13 @@
 -- To hand out a turn, and to take it back, keeps what a book keeps.
-use Rattle.fp_book.proofs.Names.{AsksOnceAtMost, Bool, Changes, Closed, Done, Ending, Entry, FramesStay, Given, GivesDone, HandsOutAt, Inside, IsEmptyIfNone, IsKept, IsSame, List, LoggedStep, Memory, NoRoom, None, Nothing, Option, PutsTurnBack, Requested, Row, Shelf, Some, Sound, Taken, Takes, TakesTurn, Turn, [], accepted_by, and_left, and_parts, ap, append-nil, append_assoc, arith, component_count, cond, count_by-le-length, eqb, false, false≢true, frame_out, frames_for, frames_in, has_turn_out, is_admitted, is_from_component, is_held, is_over, is_ready, is_some, joins, kept_of, le_refl, length, length-append, length-take-le, logged, nat_lt, not, not-true, of_row, one_if, one_served, option_to_list, or_left, or_right, places_held, ready_count, refl, requested_of, sent_of, slice_get, start_of, subst, sum_by-append, sum_of, sym, take, true, turn_out, turns_of, unsent_for, waiting_in, waits, with_dialogue, with_row, ℕ, ◌&&◌, ◌++◌, ◌+◌, ◌-◌, ◌^◌, ◌∙◌, ◌∷◌, ◌≡◌, ◌≤◌}
+use Rattle.fp_book.proofs.Names.{AsksOnceAtMost, Bool, Changes, Closed, Done, Ending, Entry, FramesStay, Given, GivesDone, HandsOut, HandsOutAt, Inside, IsEmptyIfNone, IsKept, IsSame, IsServed, List, LoggedStep, Memory, NoRoom, None, Nothing, Option, PutsTurnBack, Requested, Row, Shelf, Some, Sound, Taken, Takes, TakesTurn, Turn, [], accepted_by, and_left, and_parts, ap, append-nil, append_assoc, arith, component_count, cond, count_by-le-length, eqb, false, false≢true, frame_out, frames_for, frames_in, has_turn_out, is_admitted, is_from_component, is_held, is_over, is_ready, is_some, joins, kept_of, le_refl, length, length-append, length-take-le, logged, min, more_served, most_entries, nat_lt, nat_tests, not, not-true, of_row, one_if, option_to_list, or_left, or_right, places_held, ready_count, refl, request_count, requested_of, sent_of, slice_get, start_of, subst, sum_by-append, sum_of, sym, take, true, turn_out, turns_of, unsent_for, waiting_in, waiting_of, waits, with_dialogue, with_row, ℕ, ◌&&◌, ◌++◌, ◌+◌, ◌-◌, ◌<◌, ◌^◌, ◌∙◌, ◌∷◌, ◌≡◌, ◌≤◌}
 use Rattle.std.specs.FinMap as map
-use Rattle.fp_book.proofs.Changes.{CountsChange, OutboxChanges, QueueChanges, Sound-change, admitted, count, count_is, link_stays, one_most, own_after, ready, turns_are}
+use Rattle.fp_book.proofs.Changes.{CountsChange, OutboxChanges, QueueChanges, Sound-change, admitted, count, count_is, link_stays, one_most, own_after, ready, turns_none}
 use Rattle.fp_book.proofs.Queue.{queue_joins, queue_next, count_first}
 use Rattle.fp_book.proofs.Sums.{amount, Rows}
 use Rattle.fp_book.proofs.Unsent.{frames_for-append, requested_count, requested_other, requested_own}
 use Rattle.fp_book.specs.declared.line.LoggedStep.TheVariants as line
 use Rattle.fp_book.specs.declared.taken.Taken.TheVariants.{Turn as ATurn}
+use Rattle.fp_row.specs.Calls.{Gives}
 use Rattle.fp_row.specs.declared.requested.Requested.TheVariants as requested
 use Rattle.fp_book.proofs.Kept.{amount_within, turns_by}
 
@@ -31,11 +32,21 @@ ready_at s local o k was = k.ready local ∙ count_is (map.get s.rows local) ∙
 pub admitted_as : (before after : Row) → after.ended ≡ before.ended → after.core ≡ before.core → is_admitted after ≡ is_admitted before
 admitted_as before after ended core = ap (λ e. not (is_some e) && not (is_over after.core)) ended ∙ ap (λ c. not (is_some before.ended) && not (is_over c)) core
 
+-- there are as many requests as frames
+pub requests_are : (ended : Option Ending) (frames : List (List ℕ)) → request_count (requested_of ended frames) ≡ length frames
+requests_are None [] = refl
+requests_are (Some ending) [] = refl
+requests_are None (frame ∷ frames) = refl
+requests_are (Some ending) (frame ∷ frames) = refl
+
+-- no more than the entries that were out
+pub few_requests : (before after : Row) (done : Done) (asked : Requested) → Gives before done asked after → IsServed done → request_count asked ≤ before.out
+few_requests before after done asked gives law =
+    let same : request_count asked ≡ length done.frames = ap request_count gives.requested_is ∙ requests_are before.ended done.frames in
+    omega (arith, same, law.few_frames, gives.few_served)
+
 pub not_ready_out : (row : Row) → has_turn_out row ≡ true → is_ready row ≡ false
 not_ready_out row out = and_left (not (has_turn_out row)) (waits row) (ap not out)
-
-pub turns_most : (row : Row) → turns_of row ≤ 1
-turns_most row = row.out_most
 
 -- it is held
 pub held_out : (row : Row) → has_turn_out row ≡ true → is_held row ≡ true
@@ -95,14 +106,25 @@ Sound-stays law old l before after more entries accepted queue log s was same is
       counts = counts_of law old then before after more s is entries_are accepted_is (omega (arith, stay.served)) (omega (arith, stay.sent));
     })
 
+-- no more entries than there are free places
+min_most : (a b c : ℕ) → min a (min b c) ≤ c
+min_most a b c = omega arith
+
+-- a turn that goes out is out
+some_out : (n : ℕ) → 0 < n → nat_lt 0 n ≡ true
+some_out n some = grind (arith, nat_tests)
+
+pub taken_out : (free : ℕ) (before : Row) (turn : Turn) (after : Row) → HandsOut free before turn after → has_turn_out after ≡ true
+taken_out free before turn after takes = some_out after.out (omega (arith, takes.out, takes.some))
+
 pub Sound-takes : AsksOnceAtMost → (old new : Shelf) (turn : Turn) → Sound old → TakesTurn old turn new → Sound new
 Sound-takes law old new turn s g =
     let l = turn.local in
-    let log = logged old.log (line.Take l turn.position) in
-    subst Sound (ap (λ (t : Shelf). record t { ready = g.rest; log = log }) (held_dialogue old l g.after (held_out g.after (ap (nat_lt 0) g.takes.out))) ∙ sym g.new_is)
+    let log = logged old.log (line.Take l turn.position (length turn.entries)) in
+    subst Sound (ap (λ (t : Shelf). record t { ready = g.rest; log = log }) (held_dialogue old l g.after (held_out g.after (taken_out (8192 - places_held old) g.before turn g.after g.takes))) ∙ sym g.new_is)
     (Sound-stays law old l g.before g.after [] old.entries old.totals.accepted g.rest log s g.was g.takes.same (g.takes.accepted ∙ sym (append-nil g.before.accepted)) g.takes.stay g.takes.ended
-    (queue_next old.ready g.rest l (ready g.before) (ready g.after) g.first (ready_at old l (Some g.before) s g.was) (ap one_if g.takes.was_ready) (ap one_if (not_ready_out g.after (ap (nat_lt 0) g.takes.out))))
-    (omega (arith, g.room, turns_most g.after)) (omega arith) (omega arith) s.entries)
+    (queue_next old.ready g.rest l (ready g.before) (ready g.after) g.first (ready_at old l (Some g.before) s g.was) (ap one_if g.takes.was_ready) (ap one_if (not_ready_out g.after (taken_out (8192 - places_held old) g.before turn g.after g.takes))))
+    (omega (arith, g.room, g.takes.out, g.takes.count, min_most most_entries (length (waiting_of g.before)) (8192 - places_held old))) (omega arith) (omega arith) s.entries)
 
 -- a turn is handed out, or none
 pub Sound-takes_one : AsksOnceAtMost → (old new : Shelf) (taken : Taken) → Sound old → Takes old taken new → Sound new
@@ -144,10 +166,10 @@ Sound-puts_back law old new turn s g =
     (omega (arith, s.places, g.puts.out)) (omega arith) (omega arith) s.entries)
 
 -- of a dialogue that was ended from outside no request is accepted
-none_asked : (P : Requested → Type 0) → P requested.Nothing → P requested.Dropped → (ended : Option Ending) (frame : Option (List ℕ)) → is_some ended ≡ true → P (requested_of ended frame)
-none_asked P nothing dropped None frame e = absurd (false≢true e)
-none_asked P nothing dropped (Some ending) None e = nothing
-none_asked P nothing dropped (Some ending) (Some frame) e = dropped
+none_asked : (P : Requested → Type 0) → P requested.Nothing → ((count : ℕ) → P (requested.Dropped count)) → (ended : Option Ending) (frames : List (List ℕ)) → is_some ended ≡ true → P (requested_of ended frames)
+none_asked P nothing dropped None frames e = absurd (false≢true e)
+none_asked P nothing dropped (Some ending) [] e = nothing
+none_asked P nothing dropped (Some ending) (frame ∷ frames) e = dropped (length (frame ∷ frames))
 
 -- a dialogue that ends with an entry is admitted no longer
 fewer_by : (a b : Bool) → one_if (a && b) ≤ one_if (a && true)
@@ -171,8 +193,8 @@ Sound-gives law old new done given s g =
     let then : Shelf = record (with_dialogue old l g.after) {
       ready = old.ready ++ joins l joined;
       outbox = record old.outbox { frames = old.outbox.frames ++ more };
-      totals = one_served old.totals;
-      log = logged old.log (line.Give l done.turn.position given);
+      totals = more_served old.totals done.served;
+      log = logged old.log (line.Give l done.turn.position done.served given);
     } in
     let frames_then : frames_for l (old.outbox.frames ++ more) ≡ frames_for l old.outbox.frames ++ frames_in g.asked =
     frames_for-append l old.outbox.frames more ∙ ap (λ r. frames_for l old.outbox.frames ++ r) (requested_own l g.asked) in
@@ -189,7 +211,7 @@ Sound-gives law old new done given s g =
       own = own_after old then l g.before g.after own g.gives.same refl (le_refl old.given) (le_refl old.births)
           (λ e.
           let was : is_some g.before.ended ≡ true = ap is_some (sym g.gives.ended) ∙ e in
-          frames_then ∙ ap (λ r. r ++ frames_in g.asked) (own.dropped was) ∙ ap frames_in g.gives.requested_is ∙ none_asked (λ r. frames_in r ≡ []) refl refl g.before.ended done.frame was)
+          frames_then ∙ ap (λ r. r ++ frames_in g.asked) (own.dropped was) ∙ ap frames_in g.gives.requested_is ∙ none_asked (λ r. frames_in r ≡ []) refl (λ count. refl) g.before.ended done.frames was)
           (λ e. g.gives.ended ∙ own.closed e);
       queue = queue_joins old.ready l joined (ready g.before) (ready g.after) (ready_at old l (Some g.before) s g.was) (omega (arith, ap one_if (not_ready_out g.before out.is_out)));
       outbox = record {
@@ -201,12 +223,12 @@ Sound-gives law old new done given s g =
             ∙ sym (append_assoc (sent_of g.before) (unsent_for l old.outbox) (frames_in g.asked))
             ∙ ap (λ r. r ++ frames_in g.asked) (frames_at old l (Some g.before) s g.was) ∙ sym g.gives.kept_frames;
         other_frames = λ d ne. ap (λ r. frame_out d old.outbox.out ++ r) (others_then d ne);
-        places = omega (arith, s.places, g.gives.out, turns_are g.before true out.is_out, length-append old.outbox.frames more, requested_count l g.asked);
+        places = omega (arith, s.places, g.gives.out, length-append old.outbox.frames more, requested_count l g.asked, g.gives.few_frames);
         aborts = s.aborts;
         quiet = λ e.
             let closed : g.before.ended ≡ Some Closed = own.closed e in (
               (s.quiet e).0,
-              ap (λ r. r ++ more) (s.quiet e).1 ∙ ap (waiting_in l) g.gives.requested_is ∙ none_asked (λ r. waiting_in l r ≡ []) refl refl g.before.ended done.frame (ap is_some closed),
+              ap (λ r. r ++ more) (s.quiet e).1 ∙ ap (waiting_in l) g.gives.requested_is ∙ none_asked (λ r. waiting_in l r ≡ []) refl (λ count. refl) g.before.ended done.frames (ap is_some closed),
             );
       };
       counts = counts_of law old then g.before g.after [] s (g.gives.accepted ∙ sym (append-nil g.before.accepted)) (omega arith) (omega arith) (omega (arith, g.gives.served)) (omega (arith, g.gives.sent));
@@ -240,18 +262,18 @@ first_is_ready s local k first = omega (arith, k.ready local, stands_there s.rea
 -- a turn is handed out
 
 -- the turn is of the dialogue that is first
-pub turn_is_of : (s : Shelf) (local : ℕ) (turn : Turn) (rows : Rows) → Sound s → (h : HandsOutAt s.rows local turn rows) → turn.local ≡ local
-turn_is_of s local turn rows k h = h.does.local ∙ (k.own local h.before h.was).local_is
+pub turn_is_of : (free : ℕ) (s : Shelf) (local : ℕ) (turn : Turn) (rows : Rows) → Sound s → (h : HandsOutAt free s.rows local turn rows) → turn.local ≡ local
+turn_is_of free s local turn rows k h = h.does.local ∙ (k.own local h.before h.was).local_is
 
 -- a dialogue that is ready has no turn out
 pub idle : (row : Row) → is_ready row ≡ true → has_turn_out row ≡ false
 idle row e = not-true (has_turn_out row) (and_parts (not (has_turn_out row)) (waits row) e).0
 
--- a turn is out
-pub turn_there : (b : Inside) (local : ℕ) (row : Row) → IsKept b → map.get b.rows local ≡ Some row → has_turn_out row ≡ true → 1 ≤ b.turns
-turn_there b local row k was out = omega (arith, amount_within turns_of b.rows local row was, turns_are row true out, k.turns)
+-- the entries of a turn are out
+pub turn_there : (b : Inside) (local : ℕ) (row : Row) (count : ℕ) → IsKept b → map.get b.rows local ≡ Some row → count ≡ row.out → count ≤ b.turns
+turn_there b local row count k was out = omega (arith, amount_within turns_of b.rows local row was, out, k.turns)
 
--- one turn fewer is out
-pub fewer_turns : {R : Row → Row → Type 0} {rows : Rows} {local : ℕ} → (b : Inside) (g : Changes R b.rows local rows) → IsKept b → has_turn_out g.before ≡ true → has_turn_out g.after ≡ false → b.turns - 1 ≡ sum_of turns_of rows
-fewer_turns {R} {rows} {local} b g k out none =
-    turns_by b.turns (b.turns - 1) g k.turns (omega (arith, turns_are g.before true out, turns_are g.after false none, turn_there b local g.before k g.was out))
+-- the entries of a turn are out no longer
+pub fewer_turns : {R : Row → Row → Type 0} {rows : Rows} {local : ℕ} → (b : Inside) (count : ℕ) (g : Changes R b.rows local rows) → IsKept b → count ≡ g.before.out → g.after.out ≡ 0 → b.turns - count ≡ sum_of turns_of rows
+fewer_turns {R} {rows} {local} b count g k out none =
+    turns_by b.turns (b.turns - count) g k.turns (omega (arith, out, none, turn_there b local g.before count k g.was out))

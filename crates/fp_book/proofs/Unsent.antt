@@ -1,5 +1,5 @@
 -- The frames of one dialogue among those that wait to be sent.
-use Rattle.fp_book.proofs.Names.{Bool, List, Requested, Waiting, [], ap, arith, cond, count_by-le-length, eq-eqb, eqb, eqb-true, false, filter, flat_map-append, frames_for, frames_in, is_of_other, length, length-filter, not, refl, sym, true, waiting_in, ℕ, ◌++◌, ◌∙◌, ◌∷◌, ◌≡◌, ◌≤◌}
+use Rattle.fp_book.proofs.Names.{Bool, List, Requested, Waiting, [], ap, arith, cond, count_by-le-length, eq-eqb, eqb, eqb-true, false, filter, flat_map-append, frames_for, frames_in, is_of_other, length, length-filter, length-map, not, refl, sym, true, waiting_frames, waiting_in, ℕ, ◌++◌, ◌∙◌, ◌∷◌, ◌≡◌, ◌≤◌}
 use Rattle.fp_book.proofs.Queue.{eqb_swap}
 use Rattle.fp_row.specs.declared.requested.Requested.TheVariants as requested
 
@@ -13,21 +13,33 @@ first_own d w ws is = ap (λ b. cond b (w.frame ∷ []) [] ++ frames_for d ws) (
 pub first_other : (d : ℕ) (w : Waiting) (ws : List Waiting) → eqb d w.local ≡ false → frames_for d (w ∷ ws) ≡ frames_for d ws
 first_other d w ws ne = ap (λ b. cond b (w.frame ∷ []) [] ++ frames_for d ws) (eqb_swap d w.local ne)
 
+-- frames of a dialogue are all of it
+abbrev pub waiting_as : ℕ → List ℕ → Waiting
+waiting_as local frame = record { local = local; frame = frame }
+
+all_own : (d : ℕ) (frames : List (List ℕ)) → frames_for d (waiting_frames d frames) ≡ frames
+all_own d [] = refl
+all_own d (frame ∷ frames) = first_own d (waiting_as d frame) (waiting_frames d frames) refl ∙ ap (λ r. frame ∷ r) (all_own d frames)
+
+all_other : (d l : ℕ) (frames : List (List ℕ)) → eqb d l ≡ false → frames_for d (waiting_frames l frames) ≡ []
+all_other d l [] ne = refl
+all_other d l (frame ∷ frames) ne = first_other d (waiting_as l frame) (waiting_frames l frames) ne ∙ all_other d l frames ne
+
 -- what a turn requests
 pub requested_own : (d : ℕ) (asked : Requested) → frames_for d (waiting_in d asked) ≡ frames_in asked
 requested_own d requested.Nothing = refl
-requested_own d (requested.Frame frame) = ap (λ b. cond b (frame ∷ []) [] ++ []) (eq-eqb d d refl)
-requested_own d requested.Dropped = refl
+requested_own d (requested.Frames frames) = all_own d frames
+requested_own d (requested.Dropped count) = refl
 
 pub requested_other : (d l : ℕ) (asked : Requested) → eqb d l ≡ false → frames_for d (waiting_in l asked) ≡ []
 requested_other d l requested.Nothing ne = refl
-requested_other d l (requested.Frame frame) ne = ap (λ b. cond b (frame ∷ []) [] ++ []) (eqb_swap d l ne)
-requested_other d l requested.Dropped ne = refl
+requested_other d l (requested.Frames frames) ne = all_other d l frames ne
+requested_other d l (requested.Dropped count) ne = refl
 
-pub requested_count : (l : ℕ) (asked : Requested) → length (waiting_in l asked) ≤ 1
-requested_count l requested.Nothing = omega arith
-requested_count l (requested.Frame frame) = omega arith
-requested_count l requested.Dropped = omega arith
+pub requested_count : (l : ℕ) (asked : Requested) → length (waiting_in l asked) ≡ length (frames_in asked)
+requested_count l requested.Nothing = refl
+requested_count l (requested.Frames frames) = length-map frames (waiting_as l)
+requested_count l (requested.Dropped count) = refl
 
 -- what is left once the frames of a dialogue are dropped
 abbrev pub others : ℕ → List Waiting → List Waiting

@@ -1,5 +1,5 @@
 -- What the calls of a book do. Each says what the whole book is then.
-use Rattle.std.specs.Prelude.{◌≡◌, ◌≢◌, ◌<◌, ◌≤◌, ◌+◌, ◌==◌, ◌&&◌, ℕ, Bool, true, false, not, List, [], ◌∷◌, ◌++◌, Option, Some, None, IsSome, length, filter, map, nat_lt, nat_eq, ◌⊎◌, if◌then◌else◌, All, AllPairs, ⊤}
+use Rattle.std.specs.Prelude.{◌≡◌, ◌≢◌, ◌<◌, ◌≤◌, ◌+◌, ◌-◌, ◌==◌, ◌&&◌, ℕ, Bool, true, false, not, List, [], ◌∷◌, ◌++◌, Option, Some, None, IsSome, length, filter, map, nat_lt, nat_eq, ◌⊎◌, if◌then◌else◌, All, AllPairs, ⊤}
 use Rattle.std.specs.List.{list_any}
 use Rattle.std.specs.FinMap.{get, insert}
 use Rattle.fp_book.specs.declared.answers.Given.{Given}
@@ -23,7 +23,7 @@ use Rattle.fp_book.specs.declared.verdict.Verdict.TheVariants.{Discard, Refuse, 
 pub use Rattle.fp_book.specs.Lines.{entries_in}
 use Rattle.fp_book.specs.Lines.{is_full, verdict}
 use Rattle.fp_book.specs.Log.{Drains, logged}
-use Rattle.fp_book.specs.Outbox.{Outbox, IsNext, nothing, with_nothing_out, without_frames_of}
+use Rattle.fp_book.specs.Outbox.{Outbox, IsNext, nothing, waiting_frames, with_nothing_out, without_frames_of}
 use Rattle.fp_book.specs.Parcel.{local_of}
 use Rattle.fp_book.specs.Shelf.{Shelf, places_held, with_dialogue}
 use Rattle.fp_book.specs.Sending.{is_frame_of}
@@ -60,8 +60,8 @@ abbrev pub without : ℕ → List ℕ → List ℕ
 without local ready = filter (λ other. not (other == local)) ready
 
 -- what is counted then
-abbrev pub one_served : Totals → Totals
-one_served totals = record totals { served = totals.served + 1 }
+abbrev pub more_served : Totals → ℕ → Totals
+more_served totals count = record totals { served = totals.served + count }
 
 abbrev pub one_sent : Totals → Totals
 one_sent totals = record totals { sent = totals.sent + 1 }
@@ -81,13 +81,13 @@ pub record TakesTurn (old : Shelf) (turn : Turn) (new : Shelf) : Type 0 where
   pub after : Row
   pub rest : List ℕ
   pub was : get old.rows turn.local ≡ Some before
-  pub takes : HandsOut before turn after
+  pub takes : HandsOut (8192 - places_held old) before turn after
   pub first : old.ready ≡ turn.local ∷ rest
   pub room : places_held old < 8192
   pub new_is : new ≡ record old {
     rows = insert old.rows turn.local after;
     ready = rest;
-    log = logged old.log (line.Take turn.local turn.position);
+    log = logged old.log (line.Take turn.local turn.position (length turn.entries));
   }
 
 abbrev pub Takes : Shelf → Taken → Shelf → Type 0
@@ -107,13 +107,13 @@ NoneReady Memory s = ⊤
 
 abbrev pub given_of : Requested → Given
 given_of requested.Nothing = Silent
-given_of (requested.Frame frame) = Queued
-given_of requested.Dropped = Dropped
+given_of (requested.Frames frames) = Queued (length frames)
+given_of (requested.Dropped count) = Dropped count
 
 abbrev pub waiting_in : ℕ → Requested → List Waiting
 waiting_in local requested.Nothing = []
-waiting_in local (requested.Frame frame) = record { local = local; frame = frame } ∷ []
-waiting_in local requested.Dropped = []
+waiting_in local (requested.Frames frames) = waiting_frames local frames
+waiting_in local (requested.Dropped count) = []
 
 pub record GivesDone (old : Shelf) (done : Done) (given : Given) (new : Shelf) : Type 0 where
   pub before : Row
@@ -125,8 +125,8 @@ pub record GivesDone (old : Shelf) (done : Done) (given : Given) (new : Shelf) :
   pub new_is : new ≡ record (with_dialogue old done.turn.local after) {
     ready = old.ready ++ joins done.turn.local (is_ready after);
     outbox = record old.outbox { frames = old.outbox.frames ++ waiting_in done.turn.local asked };
-    totals = one_served old.totals;
-    log = logged old.log (line.Give done.turn.local done.turn.position given);
+    totals = more_served old.totals done.served;
+    log = logged old.log (line.Give done.turn.local done.turn.position done.served given);
   }
 
 -- the turn of a dialogue that is out

@@ -61,7 +61,7 @@ is_among local due = list_any (λ (d : Due). d.1 == local) due
 abbrev pub idle_among : Rows → List Due → List ℕ
 idle_among rows due = filter (λ local. is_idle (get rows local)) (map (λ (d : Due). d.1) due)
 
--- so many dialogues were given a Clock so far
+-- this number of dialogues was given a Clock so far
 pub record Clocking (moment : ℕ) (old : Rows) (was : List ℕ) (rows : Rows) (deadlines : Deadlines) (ready : List ℕ) (added : ℕ) : Type 0 where
   -- those that were, in their order
   pub due : List Due

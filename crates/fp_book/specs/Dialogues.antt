@@ -1,5 +1,5 @@
 -- What becomes of the dialogues of a link where one of them changes.
-use Rattle.std.specs.Prelude.{◌≡◌, ℕ, ◌+◌, ◌&&◌, Bool, true, false, not, min, nat_lt, Option, Some, None, List, [], ◌∷◌, ◌++◌}
+use Rattle.std.specs.Prelude.{◌≡◌, ℕ, ◌+◌, ◌&&◌, Bool, true, false, not, min, nat_lt, Option, Some, None, List, [], ◌∷◌, ◌++◌, length}
 use Rattle.std.specs.Option.{option_map_or}
 use Rattle.std.specs.Ordering.{nat_cmp}
 use Rattle.std.specs.FinMap.{FinMap, get, insert, remove}
@@ -23,6 +23,7 @@ use Rattle.fp_row.specs.declared.done.Done.{Done}
 use Rattle.fp_row.specs.declared.ending.Ending.{Ending}
 use Rattle.fp_row.specs.declared.ending.Ending.TheVariants.{ByPeer}
 use Rattle.fp_row.specs.declared.requested.Requested.{Requested}
+use Rattle.fp_row.specs.declared.requested.Requested.TheVariants as requested
 use Rattle.fp_row.specs.declared.row.Row.{Row}
 use Rattle.fp_row.specs.declared.turn.Turn.{Turn}
 use Rattle.fp_row.specs.Calls.{Ends, Extends, Gives, HandsOut, Opens, PutsBack, SendsOne, sending}
@@ -49,12 +50,18 @@ pub record Changes (R : Row → Row → Type 0) (old : Rows) (local : ℕ) (new 
   pub rows : new ≡ keep old local after
 
 -- the dialogue hands out a turn
-abbrev pub HandsOutAt : Rows → ℕ → Turn → Rows → Type 0
-HandsOutAt old local turn new = Changes (λ before after. HandsOut before turn after) old local new
+abbrev pub HandsOutAt : ℕ → Rows → ℕ → Turn → Rows → Type 0
+HandsOutAt free old local turn new = Changes (λ before after. HandsOut free before turn after) old local new
 
 -- it takes its turn back, served
 abbrev pub GivesAt : Rows → Done → Requested → Left → Rows → Type 0
 GivesAt old done requested left new = Changes (λ before after. Gives before done requested after × (left ≡ left_as after)) old done.turn.local new
+
+-- how many requests of a turn these are
+abbrev pub request_count : Requested → ℕ
+request_count requested.Nothing = 0
+request_count (requested.Frames frames) = length frames
+request_count (requested.Dropped count) = count
 
 -- it takes it back, not served, and is ready then or not
 abbrev pub PutsBackAt : Rows → Turn → Bool → Rows → Type 0

@@ -15,10 +15,10 @@ use Rattle.fp_book.specs.Shelf.{Shelf, Sound, frame_out, frames_for}
 use Rattle.fp_entry.specs.declared.entry.Entry.{Entry}
 use Rattle.fp_entry.specs.declared.prepared.Prepared.{Prepared}
 use Rattle.fp_q773.specs.Tid.{Tid, octets_of}
-use Rattle.fp_reply.specs.Reply.{frame_of}
 use Rattle.fp_row.specs.declared.done.Done.{Done}
 use Rattle.fp_row.specs.declared.row.Row.{Row}
 use Rattle.fp_row.specs.declared.turn.Turn.{Turn}
+pub use Rattle.fp_row.specs.Turn.{frames_under}
 use Rattle.fp_row.specs.Row.{is_closed, sent_of, served_of, start_of, turn_out, waiting_of, has_turn_out}
 use Rattle.fp_service.specs.declared.request.Request.{Request}
 use Rattle.fp_service.specs.Dialogue.{is_over}
@@ -83,13 +83,10 @@ UnsendingKeepsSound = (old new : Shelf) (parcel : Parcel) → Sound old → Unse
 abbrev pub TickingKeepsSound : Type 0
 TickingKeepsSound = (old new : Shelf) (moment added wanting : ℕ) → Sound old → Ticks old moment added wanting new → Sound new
 
--- the entry of the turn that is out
-abbrev pub entry_in : Option Turn → List Entry
-entry_in out = option_to_list (option_map (λ (turn : Turn). turn.entry) out)
-
--- the frames of what is requested, under the identifiers of a dialogue
-abbrev pub frames_under : ℕ → Tid → List Request → List (List ℕ)
-frames_under local peer asked = map (λ request. frame_of request local (octets_of peer)) asked
+-- the entries of the turn that is out
+abbrev pub turn_entries : Option Turn → List Entry
+turn_entries None = []
+turn_entries (Some turn) = turn.entries
 
 -- What the type of a book keeps of the order of a dialogue that is held. The lengths of its lists are
 -- in `KeepsOrder` of `fp_row`.
@@ -102,12 +99,12 @@ pub record IsKeptInOrder (s : Shelf) (local : ℕ) (row : Row) : Type 0 where
   pub core : row.core ≡ core_after (start_of row) (served_of row)
   -- a turn that is out is of this dialogue, at the place after them, and holds that core
   pub turn : (turn : Turn) → turn_out row ≡ Some turn
-      → turn ≡ record { local = local; peer = row.peer; position = length (served_of row); entry = turn.entry; before = core_after (start_of row) (served_of row) }
+      → turn ≡ record { local = local; peer = row.peer; position = length (served_of row); before = core_after (start_of row) (served_of row); entries = turn.entries }
   pub is_there : has_turn_out row ≡ true → IsSome (turn_out row)
-  -- the entries served, the one that is out and those that wait are those accepted, or the first of them where the
+  -- the entries served, those that are out and those that wait are those accepted, or the first of them where the
   -- dialogue was closed or its core is over
-  pub entries : IsPrefix (served_of row ++ (entry_in (turn_out row) ++ waiting_of row)) row.accepted
-  pub all_entries : is_closed row.ended ≡ false → is_over row.core ≡ false → served_of row ++ (entry_in (turn_out row) ++ waiting_of row) ≡ row.accepted
+  pub entries : IsPrefix (served_of row ++ (turn_entries (turn_out row) ++ waiting_of row)) row.accepted
+  pub all_entries : is_closed row.ended ≡ false → is_over row.core ≡ false → served_of row ++ (turn_entries (turn_out row) ++ waiting_of row) ≡ row.accepted
   -- the frames sent, the one that is being sent and those that wait are those that it requests on the entries served,
   -- under its identifiers, or the first of them where it was ended from outside
   pub frames : IsPrefix (sent_of row ++ (frame_out local s.outbox.out ++ frames_for local s.outbox.frames)) (frames_under local row.peer (requests (start_of row) (served_of row)))

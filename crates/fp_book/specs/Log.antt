@@ -12,8 +12,8 @@ abbrev pub lost_in : LoggedStep → Option ℕ
 lost_in (steps.Post moment message answer) = None
 lost_in (steps.Lost moment message answer) = None
 lost_in (steps.Tick moment added wanting) = None
-lost_in (steps.Take local position) = None
-lost_in (steps.Give local position given) = None
+lost_in (steps.Take local position count) = None
+lost_in (steps.Give local position served given) = None
 lost_in (steps.PutBack local position) = None
 lost_in (steps.Pick local) = None
 lost_in (steps.Sent local) = None

@@ -1,5 +1,5 @@
 -- What waits to be sent on a link, and what is being sent.
-use Rattle.std.specs.Prelude.{◌≡◌, ℕ, ◌+◌, ◌≤◌, List, [], ◌∷◌, ◌++◌, length, filter, nat_lt, Bool, if◌then◌else◌, Option, Some, None, IsSome}
+use Rattle.std.specs.Prelude.{◌≡◌, ℕ, ◌+◌, ◌≤◌, List, [], ◌∷◌, ◌++◌, length, filter, map, nat_lt, Bool, if◌then◌else◌, Option, Some, None, IsSome}
 use Rattle.fp_reply.specs.ProviderAbort.{AbortFrame}
 use Rattle.fp_book.specs.declared.parcel.Content.{Content}
 use Rattle.fp_book.specs.declared.parcel.Content.TheVariants as contents
@@ -46,9 +46,13 @@ with_abort outbox frame = record { aborts = outbox.aborts ++ frame ∷ []; frame
 abbrev pub abort_added : Outbox → AbortFrame → Outbox
 abort_added outbox frame = if nat_lt (length outbox.aborts) 64 then with_abort outbox frame else outbox
 
--- one more frame waits, after the others
-abbrev pub with_frame : Outbox → Waiting → Outbox
-with_frame outbox waiting = record { aborts = outbox.aborts; frames = outbox.frames ++ waiting ∷ []; out = outbox.out }
+-- frames of a dialogue, as they wait
+abbrev pub waiting_frames : ℕ → List (List ℕ) → List Waiting
+waiting_frames local frames = map (λ frame. record { local = local; frame = frame }) frames
+
+-- more frames wait, after the others
+abbrev pub with_frames : Outbox → List Waiting → Outbox
+with_frames outbox more = record { aborts = outbox.aborts; frames = outbox.frames ++ more; out = outbox.out }
 
 -- the frame of another dialogue than this one
 abbrev pub is_of_other : ℕ → Waiting → Bool

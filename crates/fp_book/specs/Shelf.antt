@@ -88,7 +88,7 @@ ready_count (Some row) = if is_ready row then 1 else 0
 abbrev pub turns_of : Row → ℕ
 turns_of row = row.out
 
--- how many places for frames are held: by frames that wait, by the one that is being sent, and by turns that are out
+-- how many places for frames are held: by frames that wait, by the one that is being sent, and by entries that are out
 abbrev pub places_held : Shelf → ℕ
 places_held s = frames_held s.outbox + sum_of turns_of s.rows
 

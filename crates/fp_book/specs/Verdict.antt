@@ -24,7 +24,7 @@ use Rattle.fp_row.specs.Row.{places_taken}
 abbrev pub local_in : Option Named → Option ℕ
 local_in dialogue = option_map (λ (d : Named). d.local) dialogue
 
--- it has taken so many places
+-- its number of places is that of the dialogue
 abbrev pub HasItsPlaces : Shelf → Named → Type 0
 HasItsPlaces s dialogue = dialogue.places ≡ option_map_or places_taken (get s.rows dialogue.local) 0
 
@@ -52,7 +52,7 @@ no_dialogue_left s = nat_le 4096 (len s.rows) || (nat_eq (s.given + 1) (2 ^ 29) 
 abbrev pub no_place_left : Option Row → ℕ → Bool
 no_place_left row places = nat_lt 64 (option_map_or places_taken row 0 + places)
 
--- more than 16 elements in the component portion, or more entries than so many bring
+-- more than 16 elements in the component portion, or more entries than these bring
 abbrev pub too_many : Incoming → Bool
 too_many incoming = nat_lt 16 incoming.elements || nat_lt 17 (length incoming.entries)
 

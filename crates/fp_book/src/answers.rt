@@ -45,13 +45,13 @@ impl Receipt {
     }
 }
 
-/// What becomes of the request of a turn that is given back.
+/// What becomes of the requests of a turn that is given back.
 #[derive(Clone, Copy, Debug, PartialEq, Eq)]
 pub enum Given {
     /// Nothing is requested.
     Silent,
-    /// The frame of the request waits to be sent.
-    Queued,
-    /// The dialogue was ended from outside, so its request isn't accepted.
-    Dropped,
+    /// The frames of this many requests wait to be sent.
+    Queued(u32),
+    /// The dialogue was ended from outside, so this many requests of it aren't accepted.
+    Dropped(u32),
 }

@@ -31,7 +31,7 @@ pub struct Book {
     pub(crate) deadlines: Deadlines,
     pub(crate) ready: ReadyQueue,
     pub(crate) outbox: Outbox,
-    // How many turns are out.
+    // How many entries are out as turns.
     pub(crate) turns: usize,
     pub(crate) totals: Totals,
     pub(crate) log: Log,
@@ -137,7 +137,7 @@ impl Book {
         self.log.drain(self.link, lines);
     }
 
-    /// How many places for frames are held: by frames that wait, by the one that is being sent, and by turns that are
+    /// How many places for frames are held: by frames that wait, by the one that is being sent, and by entries that are
     /// out.
     pub(crate) fn places_held(&self) -> usize
         ensures { result ≡ places_held self.now }

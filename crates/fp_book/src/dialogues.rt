@@ -1,6 +1,6 @@
 //! The dialogues of a link where one of them changes.
 
-ghost use Rattle.std.specs.Prelude.{◌≡◌, ◌≢◌, [], ◌↔◌, not, true, Some, IfErr, IfOk, IsOk, IsTrue, OnErr, ◌&&◌, if◌then◌else◌};
+ghost use Rattle.std.specs.Prelude.{◌≡◌, ◌≢◌, ◌<◌, [], ◌↔◌, not, true, Some, IfErr, IfOk, IsOk, IsTrue, OnErr, ◌&&◌, if◌then◌else◌};
 ghost use Rattle.std.specs.FinMap.{contains_key, get, remove};
 ghost use Rattle.fp_book.specs.Calls.{turn_of};
 ghost use Rattle.fp_book.specs.Dialogues.{ClockedAt, EndsAt, ExtendsAt, GivesAt, HandsOutAt, OpensAt, PutsBackAt, SendsAt, dropped_of, drops_frames, is_due_at, is_unsent, left_as, takes_more};
@@ -81,17 +81,20 @@ fn keep(rows: &mut Rows, local: u32, is_held: bool)
     }
 }
 
-/// Hands out the turn of a dialogue that is ready. If memory runs out for a copy of the entry, nothing changes.
-pub(crate) fn take(rows: &mut Rows, local: u32) -> Result<Turn, AllocError>
-    requires { ready_count (get rows.old local) ≡ 1 }
-    ensures ok { IfOk result (λ turn. HandsOutAt rows.old local turn rows.new) }
+/// Hands out the turn of a dialogue that is ready, where this many places are free. If memory runs out for a copy of the
+/// entries and of the core, nothing changes.
+pub(crate) fn take(rows: &mut Rows, local: u32, free: usize) -> Result<Turn, AllocError>
+    requires ready { ready_count (get rows.old local) ≡ 1 }
+    requires room { 0 < free }
+    ensures ok { IfOk result (λ turn. HandsOutAt free rows.old local turn rows.new) }
     ensures err { OnErr result (rows.new ≡ rows.old) }
 {
     putting_back_changes_nothing();
+    let alloc = rows.allocator();
     let Some(row) = rows.get_mut(local) else {
         unreachable!()
     };
-    let Some(turn) = row.take()? else {
+    let Some(turn) = row.take(alloc, free)? else {
         unreachable!()
     };
     Ok(turn)

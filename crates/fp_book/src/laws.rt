@@ -73,7 +73,7 @@ pub fn births_are_distinct()
 {}
 
 /// Of each dialogue that is held: the entries served are the first of those that its service logic serves of the
-/// accepted ones, its core is that after them, and the turn that is out has this core and the next entry. Served, out
+/// accepted ones, its core is that after them, and the turn that is out has this core and the next entries. Served, out
 /// and waiting entries are together those accepted, or the first of them where it was closed or its core is over. What
 /// was sent, what is being sent and what waits are the frames of what its served entries request, in their order, under
 /// its own identifiers, or the first of them where it was ended from outside.

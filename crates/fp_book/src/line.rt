@@ -55,23 +55,27 @@ pub enum LoggedStep {
     Take {
         /// The local transaction identifier of its dialogue.
         local: u32,
-        /// The place of its entry among those that the dialogue accepted, from 0.
+        /// The place of its first entry among those that the dialogue accepted, from 0.
         position: u64,
+        /// How many entries it has.
+        count: u32,
     },
     /// A turn was given back, served.
     Give {
         /// The local transaction identifier of its dialogue.
         local: u32,
-        /// The place of its entry.
+        /// The place of its first entry.
         position: u64,
-        /// What became of its request.
+        /// How many entries were served.
+        served: u32,
+        /// What became of their requests.
         given: Given,
     },
     /// A turn was put back, not served.
     PutBack {
         /// The local transaction identifier of its dialogue.
         local: u32,
-        /// The place of its entry.
+        /// The place of its first entry.
         position: u64,
     },
     /// A parcel was picked.

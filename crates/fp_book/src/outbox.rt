@@ -1,14 +1,15 @@
 //! What waits to be sent on a link.
 
-ghost use Rattle.std.specs.Prelude.{◌≡◌, ◌+◌, ◌<◌, ◌≤◌, ◌↔◌, Some, IfErr, IfOk, IsOk, IsTrue, length, nat_le, nat_lt};
+ghost use Rattle.std.specs.Prelude.{◌≡◌, ◌+◌, ◌++◌, ◌<◌, ◌≤◌, ◌↔◌, Some, IfErr, IfOk, IsOk, IsTrue, length, nat_le, nat_lt};
+ghost use Rattle.std.specs.VecDeque.{deque_capacity};
 ghost use Rattle.fp_book.specs.Sending.{is_frame_of};
-ghost use Rattle.fp_book.specs.Outbox.{Picks, TakesNext, abort_added, frames_held, nothing, with_frame, with_nothing_out, without_frames_of, without_waiting};
+ghost use Rattle.fp_book.specs.Outbox.{Picks, TakesNext, abort_added, frames_held, nothing, waiting_frames, with_frames, with_nothing_out, without_frames_of, without_waiting};
 
 use crate::parcel::{Content, Waiting};
 use crate::sending::Sending;
 use crate::{Parcel, Picked};
 use fp_reply::AbortFrame;
-use fp_row::RequestFrame;
+use fp_row::{RequestFrame, RequestFrames};
 use std::alloc::{AllocError, Global};
 use std::collections::VecDeque;
 use std::marker::Model;
@@ -32,6 +33,17 @@ impl Model for Outbox {
     ghost view = { λ own. record { aborts = own.aborts.items; frames = own.frames.items; out = own.sending } };
 
     ghost invariant = { λ own. IsKept own.aborts.items (deque_capacity own.aborts) own.frames.items (deque_capacity own.frames) };
+}
+
+/// Puts frames of a dialogue after those that wait, in their order. There is memory for them.
+fn push_all(waiting: &mut VecDeque<Waiting>, local: u32, frames: Vec<RequestFrame>)
+    requires { length waiting.old.items + length frames.items ≤ deque_capacity waiting.old }
+    ensures items { waiting.new.items ≡ waiting.old.items ++ waiting_frames local frames.items }
+    ensures capacity { deque_capacity waiting.new ≡ deque_capacity waiting.old }
+{
+    for frame in frames {
+        waiting.push_back_reserved(Waiting { local, frame });
+    }
 }
 
 impl Outbox {
@@ -88,13 +100,13 @@ impl Outbox {
         true
     }
 
-    /// Puts the frame of a dialogue after the others that wait. Fewer than [`Outbox::MOST_FRAMES`] do. Takes no
-    /// memory.
-    pub fn add_frame(&mut self, local: u32, frame: RequestFrame)
-        requires room { length self.old.frames < Self.MOST_FRAMES }
-        ensures { self.new ≡ with_frame self.old (record { local = local; frame = frame }) }
+    /// Puts frames of a dialogue after the others that wait, in their order. With them at most [`Outbox::MOST_FRAMES`]
+    /// do. Takes no memory.
+    pub fn add_frames(&mut self, local: u32, frames: RequestFrames)
+        requires room { length self.old.frames + length frames ≤ Self.MOST_FRAMES }
+        ensures { self.new ≡ with_frames self.old (waiting_frames local frames) }
     {
-        self.frames.push_back_reserved(Waiting { local, frame });
+        push_all(&mut self.frames, local, frames.into_vec());
     }
 
     /// Drops the frames of a dialogue that wait. What is being sent stays. Takes no memory.

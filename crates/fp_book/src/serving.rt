@@ -1,16 +1,17 @@
 //! Turns of a book: taken, given and put back.
 
-ghost use Rattle.std.specs.Prelude.{◌≡◌, ◌↔◌, ◌<◌, ◌++◌, true, Some, IfErr, IfOk, IsOk, IsSome, IsTrue, length, is_some, OnOk};
+ghost use Rattle.std.specs.Prelude.{◌≡◌, ◌↔◌, ◌<◌, ◌≤◌, ◌+◌, ◌++◌, true, Some, IfErr, IfOk, IsOk, IsSome, IsTrue, length, is_some, OnOk};
 ghost use Rattle.std.specs.FinMap.{get};
 ghost use Rattle.fp_timers.specs.Deadlines.{HasRoom};
 ghost use Rattle.fp_book.specs.Calls.{GivesDone, NoneReady, PutsTurnBack, Takes, given_of, joins, turn_of, waiting_in};
-ghost use Rattle.fp_book.specs.Dialogues.{with_deadline};
+ghost use Rattle.fp_book.specs.Dialogues.{request_count, with_deadline};
+ghost use Rattle.fp_row.specs.Calls.{frames_in};
 ghost use Rattle.fp_book.specs.Shelf.{Sound};
 
 use crate::{
     Book, Given, LoggedStep, Outbox, ReadyQueue, Taken, dialogues, turns_keep_a_book_sound,
 };
-use fp_row::{Done, Requested, Turn};
+use fp_row::{Done, Requested, Turn, turns_are_served_by_the_step};
 use fp_timers::Deadlines;
 
 /// Gives a dialogue its deadline, or takes it away. Takes no memory.
@@ -51,26 +52,29 @@ pub(crate) fn join(ready: &mut ReadyQueue, local: u32, is_ready: bool)
     }
 }
 
-/// Puts the frame of a request after the others that wait, if there is one to be sent. Takes no memory.
+/// Puts the frames of requests after the others that wait, if they are to be sent. Takes no memory.
 fn queue(outbox: &mut Outbox, local: u32, requested: Requested) -> Given
-    requires { length outbox.old.frames < Outbox.MOST_FRAMES }
+    requires place { length outbox.old.frames + length (frames_in requested) ≤ Outbox.MOST_FRAMES }
+    requires few { request_count requested ≤ Outbox.MOST_FRAMES }
     ensures value { outbox.new ≡ record outbox.old { frames = outbox.old.frames ++ waiting_in local requested } }
     ensures given { result ≡ given_of requested }
 {
     match requested {
         Requested::Nothing => Given::Silent,
-        Requested::Frame(frame) => {
-            outbox.add_frame(local, frame);
-            Given::Queued
+        Requested::Frames(frames) => {
+            let count = frames.len() as u32;
+            outbox.add_frames(local, frames);
+            Given::Queued(count)
         }
-        Requested::Dropped => Given::Dropped,
+        Requested::Dropped(count) => Given::Dropped(count as u32),
     }
 }
 
 impl Book {
     /// Hands out the turn of the dialogue that has been ready longest. `Nothing`: no dialogue is ready. `NoRoom`: all
-    /// 8,192 places for frames are held, by frames that wait, by the one that is being sent, and by turns that are out.
-    /// `Memory`: memory ran out for a copy of the entry. In these cases nothing changes.
+    /// 8,192 places for frames are held, by frames that wait, by the one that is being sent, and by entries that are out.
+    /// `Memory`: memory ran out for a copy of the entries and of the core. In these cases nothing changes. A turn has as
+    /// many entries as wait and find a free place each, at most [`Turn::MOST_ENTRIES`].
     pub fn take(&mut self) -> Taken
         ensures takes { Takes self.old result self.new }
         ensures none { NoneReady result self.old }
@@ -80,23 +84,29 @@ impl Book {
         let Some(local) = self.ready.first() else {
             return Taken::Nothing;
         };
-        if self.places_held() >= Outbox::MOST_FRAMES {
+        let held = self.places_held();
+        if held >= Outbox::MOST_FRAMES {
             return Taken::NoRoom;
         }
-        let Ok(turn) = dialogues::take(&mut self.rows, local) else {
+        let Ok(turn) = dialogues::take(&mut self.rows, local, Outbox::MOST_FRAMES - held) else {
             return Taken::Memory;
         };
         self.ready.next();
-        self.turns += 1;
         let position = turn.position();
-        self.log.add(LoggedStep::Take { local, position });
+        let count = turn.count();
+        self.turns += count;
+        self.log.add(LoggedStep::Take {
+            local,
+            position,
+            count: count as u32,
+        });
         Taken::Turn(turn)
     }
 
-    /// Takes a turn back that was served: its entry counts as served. `Queued`: the frame of its request waits after
-    /// the others. `Silent`: it requests nothing. `Dropped`: the dialogue was ended from outside, so its request isn't
-    /// accepted. A stale or foreign turn, one whose identifiers, position, entry or core before aren't those of a turn
-    /// that is out, comes back, and nothing changes. Takes no memory.
+    /// Takes a turn back that was served: the entries that were served count as such. `Queued`: the frames of their
+    /// requests wait after the others. `Silent`: they request nothing. `Dropped`: the dialogue was ended from outside, so
+    /// their requests aren't accepted. A stale or foreign turn, one whose identifiers, position, entries or core before
+    /// aren't those of a turn that is out, comes back, and nothing changes. Takes no memory.
     pub fn give(&mut self, done: Done) -> Result<Given, Done>
         ensures ok { IfOk result (λ given. GivesDone self.old done given self.new) }
         ensures err { IfErr result (λ back. (back ≡ done) × (self.new ≡ self.old)) }
@@ -104,27 +114,31 @@ impl Book {
         ensures sound { Sound self.new }
     {
         turns_keep_a_book_sound();
+        turns_are_served_by_the_step();
         let local = done.turn().local();
         let position = done.turn().position();
+        let count = done.turn().count();
+        let served_count = done.served();
         let served = match dialogues::give(&mut self.rows, done) {
             Ok(served) => served,
             Err(foreign) => return Err(foreign),
         };
-        self.turns -= 1;
-        self.totals.served += 1;
+        self.turns -= count;
+        self.totals.served += served_count as u64;
         set_deadline(&mut self.deadlines, local, served.left.deadline);
         join(&mut self.ready, local, served.left.is_ready);
         let given = queue(&mut self.outbox, local, served.requested);
         self.log.add(LoggedStep::Give {
             local,
             position,
+            served: served_count as u32,
             given,
         });
         Ok(given)
     }
 
-    /// Takes a turn back that wasn't served: its entry is the next one of its dialogue again, which joins those that
-    /// are ready after the others; or it is dropped, if the dialogue was closed meanwhile. A stale or foreign turn
+    /// Takes a turn back that wasn't served: its entries are the next ones of its dialogue again, which joins those that
+    /// are ready after the others; or they are dropped, if the dialogue was closed meanwhile. A stale or foreign turn
     /// comes back, and nothing changes. Takes no memory.
     pub fn put_back(&mut self, turn: Turn) -> Result<(), Turn>
         ensures ok { OnOk result (PutsTurnBack self.old turn self.new) }
@@ -135,11 +149,12 @@ impl Book {
         turns_keep_a_book_sound();
         let local = turn.local();
         let position = turn.position();
+        let count = turn.count();
         let is_ready = match dialogues::put_back(&mut self.rows, turn) {
             Ok(is_ready) => is_ready,
             Err(foreign) => return Err(foreign),
         };
-        self.turns -= 1;
+        self.turns -= count;
         join(&mut self.ready, local, is_ready);
         self.log.add(LoggedStep::PutBack { local, position });
         Ok(())

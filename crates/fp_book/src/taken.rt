@@ -12,6 +12,6 @@ pub enum Taken {
     Nothing,
     /// All places for frames are held.
     NoRoom,
-    /// Memory ran out for a copy of the entry.
+    /// Memory ran out for a copy of the entries and of the core.
     Memory,
 }

@@ -8,6 +8,7 @@ use Rattle.fp_book.specs.declared.parcel.Parcel.{Parcel}
 use Rattle.fp_book.specs.declared.totals.Totals.{Totals}
 use Rattle.fp_book.specs.Receipt.{accepted_components}
 use Rattle.fp_entry.specs.declared.prepared.Prepared.{Prepared}
+use Rattle.fp_row.specs.declared.done.Done.{Done}
 
 -- what contracts see of a seat: its parts of each of the three ledgers, and its amounts in them
 pub record Shares : Type 0 where
@@ -64,14 +65,14 @@ amounts s = record { accepted = s.accepted; served = s.served; sent = s.sent }
 abbrev pub after_post : Shares → Prepared → Posted → Shares
 after_post s came answer = record s { accepted = s.accepted + accepted_components answer came }
 
--- one, if nothing comes back
-abbrev pub one_if_ok : {T E : Type 0} → Result T E → ℕ
-one_if_ok (Ok x) = 1
-one_if_ok (Err e) = 0
+-- this number, if nothing comes back
+abbrev pub count_if_ok : {T E : Type 0} → ℕ → Result T E → ℕ
+count_if_ok count (Ok x) = count
+count_if_ok count (Err e) = 0
 
--- the seat after a turn was given: more by one entry, unless the turn comes back
-abbrev pub after_give : {T E : Type 0} → Shares → Result T E → Shares
-after_give s result = record s { served = s.served + one_if_ok result }
+-- the seat after a turn was given: more by the entries that were served, unless the turn comes back
+abbrev pub after_give : {T E : Type 0} → Shares → Done → Result T E → Shares
+after_give s done result = record s { served = s.served + count_if_ok done.served result }
 
 -- one for the frame of a dialogue, 0 for an Abort of the provider
 abbrev pub frames_of : Content → ℕ

@@ -162,16 +162,16 @@ impl<A: Ledger, B: Ledger, C: Ledger> Hub<A, B, C> {
         taken
     }
 
-    /// Takes back a turn that was served, as [`Kept::give`]: the seat grows by one served entry. A stale or foreign
-    /// turn comes back, and nothing changes; the caller has to spend it, as by [`Done::abandon`]. Takes no memory.
+    /// Takes back a turn that was served, as [`Kept::give`]: the seat grows by the entries that were served. A stale or
+    /// foreign turn comes back, and nothing changes; the caller has to spend it, as by [`Done::abandon`]. Takes no memory.
     pub fn give<R: Wait>(&self, rt: &R, seat: &mut Seat<A, B, C>, done: Done) -> Result<Given, Done>
         ensures same { IfErr result (λ back. back ≡ done) }
-        ensures grows { seat.new ≡ after_give seat.old result }
+        ensures grows { seat.new ≡ after_give seat.old done result }
     {
         let mut hold = self.hold(rt);
         let given = hold.kept.give(seat, done);
         self.release_and_wake(hold);
-        if let Ok(Given::Queued) = &given {
+        if let Ok(Given::Queued(_)) = &given {
             self.notify();
         }
         given

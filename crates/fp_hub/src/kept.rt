@@ -182,13 +182,14 @@ impl<A: Ledger, B: Ledger, C: Ledger> Kept<A, B, C> {
         ensures err { IfErr result (λ back. (back ≡ done) × (self.new ≡ self.old)) }
         ensures known { IsOk result ↔ (turn_of (get self.old.rows done.turn.local) ≡ Some done.turn) }
         ensures sound { Sound self.new }
-        ensures grows { seat.new ≡ after_give seat.old result }
+        ensures grows { seat.new ≡ after_give seat.old done result }
         ensures within { Within seat.old self.old.totals }
     {
         self.compare(seat);
+        let count = done.served() as u64;
         match self.book.give(done) {
             Ok(given) => {
-                self.served.add(&mut seat.served, 1);
+                self.served.add(&mut seat.served, count);
                 Ok(given)
             }
             Err(foreign) => Err(foreign),

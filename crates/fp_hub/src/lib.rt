@@ -41,8 +41,8 @@
 //!
 //! The layer above may rely on this. The book that a lock keeps is sound at each hold (`Sound` of `fp_book`), and each
 //! call of [`Kept`] makes of it what the book's call says. A seat grows by exactly what the book counts in the call to
-//! which the seat is lent: the message's components if it was accepted, one entry if the turn doesn't come back, one
-//! frame if a dialogue's parcel doesn't come back. The book's totals are never less than a seat's amounts. A split
+//! which the seat is lent: the message's components if it was accepted, the entries served if the turn doesn't come back,
+//! one frame if a dialogue's parcel doesn't come back. The book's totals are never less than a seat's amounts. A split
 //! moves no amount, a join adds both. So what [`finish`] returns is the totals of the book, and the sums of what the
 //! threads counted. No contract says that a call of a [`Hub`] makes the book's call, since no clause names what another
 //! thread may have changed: the tests in `tests_hub` show it.

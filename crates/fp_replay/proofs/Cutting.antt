@@ -77,3 +77,8 @@ octets_are_field octets = octets_without 32 (omega arith) (omega arith) octets
 pub three_joined : (fields a b c x y z : List ℕ) → fields ≡ 32 ∷ join_with_byte 32 (a ∷ b ∷ c ∷ [])
     → a ≡ x → b ≡ y → c ≡ z → fields ≡ 32 ∷ join_with_byte 32 (x ∷ y ∷ z ∷ [])
 three_joined fields a b c x y z e p q r = cc
+
+-- and so are four
+pub four_joined : (fields a b c d x y z v : List ℕ) → fields ≡ 32 ∷ join_with_byte 32 (a ∷ b ∷ c ∷ d ∷ [])
+    → a ≡ x → b ≡ y → c ≡ z → d ≡ v → fields ≡ 32 ∷ join_with_byte 32 (x ∷ y ∷ z ∷ v ∷ [])
+four_joined fields a b c d x y z v e p q r s = cc

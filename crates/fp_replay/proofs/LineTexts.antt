@@ -16,7 +16,7 @@ use Rattle.fp_book.specs.declared.line.LoggedStep.{LoggedStep}
 use Rattle.fp_book.specs.declared.line.LoggedStep.TheVariants.{Down, Gap, Give, Lost, Pick, Post, PutBack, Sent, Take, Tick, Unsent}
 use Rattle.fp_q773.specs.ProviderAbort.{cause_code}
 use Rattle.fp_streams.specs.Line.{IsOneLine}
-use Rattle.fp_replay.specs.Format.{IsLine, IsInRange, IsPosting, IsStep, fields_of, given_text, identifier_text, posted_text, text_of}
+use Rattle.fp_replay.specs.Format.{IsCounted, IsLine, IsInRange, IsPosting, IsStep, fields_of, given_text, identifier_text, posted_text, text_of}
 use Rattle.fp_replay.proofs.Cutting.{decimal_without, octets_without}
 use Rattle.fp_replay.proofs.Lines.{small_cause}
 
@@ -45,10 +45,10 @@ posted_plain (Aborted c) is = behind 88 (decimal (cause_code c)) (omega arith) (
 posted_plain Ended is = letter 69 (omega arith)
 posted_plain Discarded is = letter 68 (omega arith)
 
-given_plain : (given : Given) → IsOneLine (given_text given)
-given_plain Queued = letter 81 (omega arith)
-given_plain Dropped = letter 68 (omega arith)
-given_plain Silent = letter 83 (omega arith)
+given_plain : (given : Given) → IsCounted given → IsOneLine (given_text given)
+given_plain (Queued count) is = behind 81 (decimal count) (omega arith) (decimal_plain count (omega (arith, is)))
+given_plain (Dropped count) is = behind 68 (decimal count) (omega arith) (decimal_plain count (omega (arith, is)))
+given_plain Silent is = letter 83 (omega arith)
 
 posting_plain : (moment : ℕ) (message : List ℕ) (answer : Posted) → IsPosting moment message answer
     → AllByRecursion IsOneLine (decimal moment ∷ encode_upper message ∷ posted_text answer ∷ [])
@@ -59,8 +59,10 @@ fields_plain (Post moment message answer) is = (letter 80 (omega arith), posting
 fields_plain (Lost moment message answer) is = (letter 76 (omega arith), posting_plain moment message answer is)
 fields_plain (Tick moment added wanting) is =
     (letter 75 (omega arith), (decimal_plain moment (omega (arith, is.0)), (decimal_plain added (omega (arith, is.1)), (decimal_plain wanting (omega (arith, is.2)), tt))))
-fields_plain (Take local position) is = (letter 84 (omega arith), (local_plain local, (decimal_plain position is.1, tt)))
-fields_plain (Give local position given) is = (letter 71 (omega arith), (local_plain local, (decimal_plain position is.1, (given_plain given, tt))))
+fields_plain (Take local position count) is =
+    (letter 84 (omega arith), (local_plain local, (decimal_plain position is.1, (decimal_plain count (omega (arith, is.2)), tt))))
+fields_plain (Give local position served given) is =
+    (letter 71 (omega arith), (local_plain local, (decimal_plain position is.1, (decimal_plain served (omega (arith, is.2)), (given_plain given is.3, tt)))))
 fields_plain (PutBack local position) is = (letter 66 (omega arith), (local_plain local, (decimal_plain position is.1, tt)))
 fields_plain (Pick local) is = (letter 81 (omega arith), (local_plain local, tt))
 fields_plain (Sent local) is = (letter 89 (omega arith), (local_plain local, tt))
@@ -83,7 +85,7 @@ name_plain =
 -- the text of a line has no line feed
 pub text_one_line : (line : Line) → IsLine line → IsOneLine (text_of line)
 text_one_line (Head links) is =
-    joined_plain (codes "fplog" ∷ codes "1" ∷ decimal links ∷ []) (name_plain, (letter 49 (omega arith), (decimal_plain links (omega (arith, is.1)), tt)))
+    joined_plain (codes "fplog" ∷ codes "2" ∷ decimal links ∷ []) (name_plain, (letter 50 (omega arith), (decimal_plain links (omega (arith, is.1)), tt)))
 text_one_line (Step link step) is = joined_plain (decimal link ∷ fields_of step) (decimal_plain link (omega (arith, is.0)), fields_plain step is.1)
 
 -- HOW LONG IT IS
@@ -112,9 +114,10 @@ posted_short (Accepted entries) is = omega (arith, decimal_short entries (omega 
 posted_short (Aborted c) is = omega (arith, decimal_short (cause_code c) (small_cause c))
 posted_short _ is = omega arith
 
-given_short : (given : Given) → length (given_text given) ≤ 1
-given_short Queued = omega arith
-given_short _ = omega arith
+given_short : (given : Given) → IsCounted given → length (given_text given) ≤ 21
+given_short (Queued count) is = omega (arith, decimal_short count (omega (arith, is)))
+given_short (Dropped count) is = omega (arith, decimal_short count (omega (arith, is)))
+given_short Silent is = omega arith
 
 posting_short : (moment : ℕ) (message : List ℕ) (answer : Posted) → IsPosting moment message answer
     → length (decimal moment) + (length (encode_upper message) + length (posted_text answer)) ≤ 8260
@@ -128,8 +131,9 @@ fields_short (Post moment message answer) is = omega (arith, posting_short momen
 fields_short (Lost moment message answer) is = omega (arith, posting_short moment message answer is)
 fields_short (Tick moment added wanting) is =
     omega (arith, decimal_short moment (omega (arith, is.0)), decimal_short added (omega (arith, is.1)), decimal_short wanting (omega (arith, is.2)))
-fields_short (Take local position) is = omega (arith, local_length local, decimal_short position is.1)
-fields_short (Give local position given) is = omega (arith, local_length local, decimal_short position is.1, given_short given)
+fields_short (Take local position count) is = omega (arith, local_length local, decimal_short position is.1, decimal_short count (omega (arith, is.2)))
+fields_short (Give local position served given) is =
+    omega (arith, local_length local, decimal_short position is.1, decimal_short served (omega (arith, is.2)), given_short given is.3)
 fields_short (PutBack local position) is = omega (arith, local_length local, decimal_short position is.1)
 fields_short (Pick local) is = omega (arith, local_length local)
 fields_short (Sent local) is = omega (arith, local_length local)
@@ -141,6 +145,6 @@ fields_short (Gap lost) is = omega (arith, decimal_short lost is)
 pub text_short : (line : Line) → IsLine line → length (text_of line) ≤ 8300
 unfolding room
 text_short (Head links) is =
-    omega (arith, joined_short (codes "fplog" ∷ codes "1" ∷ decimal links ∷ []), decimal_short links (omega (arith, is.1)))
+    omega (arith, joined_short (codes "fplog" ∷ codes "2" ∷ decimal links ∷ []), decimal_short links (omega (arith, is.1)))
 text_short (Step link step) is =
     omega (arith, joined_short (decimal link ∷ fields_of step), decimal_short link (omega (arith, is.0)), fields_short step is.1)

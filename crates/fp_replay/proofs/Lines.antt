@@ -18,7 +18,7 @@ use Rattle.fp_book.specs.declared.line.Line.TheVariants.{Head, Step}
 use Rattle.fp_book.specs.declared.line.LoggedStep.{LoggedStep}
 use Rattle.fp_book.specs.declared.line.LoggedStep.TheVariants as steps
 use Rattle.fp_replay.specs.Fields.{IsField}
-use Rattle.fp_replay.specs.Format.{IsLine, IsInRange, IsPosting, IsStep, given_text, identifier_text, posted_text, text_of}
+use Rattle.fp_replay.specs.Format.{IsCounted, IsLine, IsInRange, IsPosting, IsStep, given_text, identifier_text, posted_text, text_of}
 use Rattle.fp_replay.specs.Reading.{posting_fields, step_text, turn_fields}
 use Rattle.fp_replay.proofs.Cutting.{decimal_is_field, octets_are_field, one_cut}
 use Rattle.fp_replay.proofs.Hexadecimal.{identifier_octets}
@@ -70,11 +70,11 @@ one_posted Discarded Discarded p q e = refl
 one_posted _ _ p q e = absurd (omega (arith, ap first e))
 
 -- nor have two answers to a turn
-one_given : (a b : Given) → given_text a ≡ given_text b → a ≡ b
-one_given Queued Queued e = refl
-one_given Dropped Dropped e = refl
-one_given Silent Silent e = refl
-one_given _ _ e = absurd (omega (arith, ap first e))
+one_given : (a b : Given) → IsCounted a → IsCounted b → given_text a ≡ given_text b → a ≡ b
+one_given (Queued m) (Queued n) p q e = ap Queued (decimal_injective m n (omega (arith, p)) (omega (arith, q)) (ap (drop 1) e))
+one_given (Dropped m) (Dropped n) p q e = ap Dropped (decimal_injective m n (omega (arith, p)) (omega (arith, q)) (ap (drop 1) e))
+one_given Silent Silent p q e = refl
+one_given _ _ p q e = absurd (omega (arith, ap first e))
 
 -- ONE STEP
 
@@ -100,11 +100,15 @@ one_step (steps.Tick m a v) (steps.Tick n b w) p q e =
     let counts = one_number a b (decimal v) (decimal w) (omega (arith, p.1)) (omega (arith, q.1)) moments.1 in
     let left = decimal_injective v w (omega (arith, p.2)) (omega (arith, q.2)) counts.1 in
     cc (moments.0, counts.0, left)
-one_step (steps.Take l i) (steps.Take m j) p q e = let same = one_turn l m i j p q (ap (drop 1) e) in λ i. steps.Take (same.0 i) (same.1 i)
-one_step (steps.Give l i a) (steps.Give m j b) p q e =
-    let locals = one_local l m (decimal i ++ 32 ∷ given_text a) (decimal j ++ 32 ∷ given_text b) p.0 q.0 (ap (drop 2) e) in
-    let places = one_number i j (given_text a) (given_text b) p.1 q.1 locals.1 in
-    cc (locals.0, places.0, one_given a b places.1)
+one_step (steps.Take l i x) (steps.Take m j y) p q e =
+    let locals = one_local l m (decimal i ++ 32 ∷ decimal x) (decimal j ++ 32 ∷ decimal y) p.0 q.0 (ap (drop 2) e) in
+    let places = one_number i j (decimal x) (decimal y) p.1 q.1 locals.1 in
+    cc (locals.0, places.0, decimal_injective x y (omega (arith, p.2)) (omega (arith, q.2)) places.1)
+one_step (steps.Give l i x a) (steps.Give m j y b) p q e =
+    let locals = one_local l m (decimal i ++ 32 ∷ (decimal x ++ 32 ∷ given_text a)) (decimal j ++ 32 ∷ (decimal y ++ 32 ∷ given_text b)) p.0 q.0 (ap (drop 2) e) in
+    let places = one_number i j (decimal x ++ 32 ∷ given_text a) (decimal y ++ 32 ∷ given_text b) p.1 q.1 locals.1 in
+    let counts = one_number x y (given_text a) (given_text b) (omega (arith, p.2)) (omega (arith, q.2)) places.1 in
+    cc (locals.0, places.0, counts.0, one_given a b p.3 q.3 counts.1)
 one_step (steps.PutBack l i) (steps.PutBack m j) p q e = let same = one_turn l m i j p q (ap (drop 1) e) in λ i. steps.PutBack (same.0 i) (same.1 i)
 one_step (steps.Pick l) (steps.Pick m) p q e = ap steps.Pick (one_identifier l m p q (ap (drop 2) e))
 one_step (steps.Sent l) (steps.Sent m) p q e = ap steps.Sent (one_identifier l m p q (ap (drop 2) e))
@@ -139,7 +143,7 @@ one_line (Step l a) (Step m b) p q e =
 
 -- behind the name of the format and a blank stands the rest of a head
 pub head_told : (text : List ℕ) (line : Line) → IsLine line → codes "fplog " ++ text ≡ text_of line
-    → (links : ℕ) × (line ≡ Head links) × (text ≡ 49 ∷ 32 ∷ decimal links)
+    → (links : ℕ) × (line ≡ Head links) × (text ≡ 50 ∷ 32 ∷ decimal links)
 head_told text (Head links) fits e = (links, refl, ap (drop 6) e)
 head_told text (Step link step) fits e = absurd (no_name link step fits.0 (ap first e))
 
@@ -148,8 +152,8 @@ name_is_field : IsField (codes "fplog")
 name_is_field =
     All-from_recursion (λ octet. octet ≡ 32 → ⊥) (codes "fplog") (λ e. omega arith, (λ e. omega arith, (λ e. omega arith, (λ e. omega arith, (λ e. omega arith, tt)))))
 
-pub version_is_field : IsField (codes "1")
-version_is_field = All-from_recursion (λ octet. octet ≡ 32 → ⊥) (codes "1") (λ e. omega arith, tt)
+pub version_is_field : IsField (codes "2")
+version_is_field = All-from_recursion (λ octet. octet ≡ 32 → ⊥) (codes "2") (λ e. omega arith, tt)
 
 -- a line has a blank
 pub line_is_cut : (line : Line) → IsLine line → (a : List ℕ) × (b : List ℕ) × IsField a × (text_of line ≡ a ++ 32 ∷ b)

@@ -13,7 +13,7 @@ use Rattle.fp_book.specs.declared.line.Line.{Line}
 use Rattle.fp_book.specs.declared.line.Line.TheVariants.{Head, Step}
 use Rattle.fp_book.specs.declared.line.LoggedStep.{LoggedStep}
 use Rattle.fp_book.specs.declared.line.LoggedStep.TheVariants.{Down, Gap, Give, Lost, Pick, Post, PutBack, Sent, Take, Tick, Unsent}
-pub use Rattle.fp_steps.specs.LogLines.{IsLine, IsInRange, IsPosting, IsStep}
+pub use Rattle.fp_steps.specs.LogLines.{IsCounted, IsLine, IsInRange, IsPosting, IsStep}
 
 -- a local transaction identifier: its four octets
 abbrev pub identifier_text : ℕ → List ℕ
@@ -27,10 +27,10 @@ posted_text (Aborted cause) = codes "X" ++ decimal (cause_code cause)
 posted_text Ended = codes "E"
 posted_text Discarded = codes "D"
 
--- what became of a request
+-- what became of requests
 abbrev pub given_text : Given → List ℕ
-given_text Queued = codes "Q"
-given_text Dropped = codes "D"
+given_text (Queued count) = codes "Q" ++ decimal count
+given_text (Dropped count) = codes "D" ++ decimal count
 given_text Silent = codes "S"
 
 -- the fields of a step: its letter first
@@ -38,8 +38,8 @@ abbrev pub fields_of : LoggedStep → List (List ℕ)
 fields_of (Post moment message answer) = codes "P" ∷ decimal moment ∷ encode_upper message ∷ posted_text answer ∷ []
 fields_of (Lost moment message answer) = codes "L" ∷ decimal moment ∷ encode_upper message ∷ posted_text answer ∷ []
 fields_of (Tick moment added wanting) = codes "K" ∷ decimal moment ∷ decimal added ∷ decimal wanting ∷ []
-fields_of (Take local position) = codes "T" ∷ identifier_text local ∷ decimal position ∷ []
-fields_of (Give local position given) = codes "G" ∷ identifier_text local ∷ decimal position ∷ given_text given ∷ []
+fields_of (Take local position count) = codes "T" ∷ identifier_text local ∷ decimal position ∷ decimal count ∷ []
+fields_of (Give local position served given) = codes "G" ∷ identifier_text local ∷ decimal position ∷ decimal served ∷ given_text given ∷ []
 fields_of (PutBack local position) = codes "B" ∷ identifier_text local ∷ decimal position ∷ []
 fields_of (Pick local) = codes "Q" ∷ identifier_text local ∷ []
 fields_of (Sent local) = codes "Y" ∷ identifier_text local ∷ []
@@ -50,5 +50,5 @@ fields_of (Gap lost) = codes "Z" ∷ decimal lost ∷ []
 -- the text of a line, without its line feed: the head names the format and its version, and says how many links there
 -- are, and a step begins with its link
 abbrev pub text_of : Line → List ℕ
-text_of (Head links) = join_with_byte 32 (codes "fplog" ∷ codes "1" ∷ decimal links ∷ [])
+text_of (Head links) = join_with_byte 32 (codes "fplog" ∷ codes "2" ∷ decimal links ∷ [])
 text_of (Step link step) = join_with_byte 32 (decimal link ∷ fields_of step)

@@ -29,9 +29,14 @@ tick_fields moment added wanting = behind_blanks (decimal moment ∷ decimal add
 abbrev pub turn_fields : ℕ → ℕ → List ℕ
 turn_fields local position = behind_blanks (identifier_text local ∷ decimal position ∷ [])
 
+-- the fields of a turn, and of a number of its entries
+abbrev pub entries_fields : ℕ → ℕ → ℕ → List ℕ
+entries_fields local position count = behind_blanks (identifier_text local ∷ decimal position ∷ decimal count ∷ [])
+
 -- the fields of a turn that is given back
-abbrev pub give_fields : ℕ → ℕ → Given → List ℕ
-give_fields local position given = behind_blanks (identifier_text local ∷ decimal position ∷ given_text given ∷ [])
+abbrev pub give_fields : ℕ → ℕ → ℕ → Given → List ℕ
+give_fields local position served given =
+    behind_blanks (identifier_text local ∷ decimal position ∷ decimal served ∷ given_text given ∷ [])
 
 -- the field of a parcel
 abbrev pub parcel_fields : ℕ → List ℕ

@@ -1,11 +1,11 @@
-//! What became of a message, and of a request.
+//! What became of a message, and of requests.
 
-ghost use Rattle.std.specs.Prelude.{◌≡◌, [], ◌∷◌, ◌++◌, decimal, IfSome, OnErr, OnOk};
+ghost use Rattle.std.specs.Prelude.{◌≡◌, ◌++◌, decimal, IfSome, OnErr, OnOk};
 ghost use Rattle.fp_book.specs.declared.answers.Given.{Given};
 ghost use Rattle.fp_book.specs.declared.answers.Posted.{Posted};
 ghost use Rattle.fp_q773.specs.ProviderAbort.{cause_code};
 ghost use Rattle.fp_q773.specs.declared.provider_abort.AbortCause.{AbortCause};
-ghost use Rattle.fp_replay.specs.Format.{IsInRange, given_text, posted_text};
+ghost use Rattle.fp_replay.specs.Format.{IsCounted, IsInRange, given_text, posted_text};
 ghost use Rattle.fp_replay.specs.Writing.{KeepsFront};
 
 use crate::number::{number_in, short_number_in, write_number};
@@ -66,37 +66,36 @@ pub(crate) fn posted_in(field: &[u8]) -> Option<Posted>
     }
 }
 
-/// The letter of what became of a request.
-fn given_letter(given: Given) -> u8
-    ensures { result ∷ [] ≡ given_text given }
-{
-    match given {
-        Given::Queued => b'Q',
-        Given::Dropped => b'D',
-        Given::Silent => b'S',
-    }
-}
-
-/// Adds what became of a request to a text.
+/// Adds what became of requests to a text.
 pub(crate) fn write_given(given: Given, text: &mut Vec<u8>) -> Result<(), AllocError>
     ensures written { OnOk result (text.new.items ≡ text.old.items ++ given_text given) }
     ensures front { OnErr result (KeepsFront text.old.items text.new.items) }
 {
-    Ok(text.push(given_letter(given))?)
+    match given {
+        Given::Queued(count) => {
+            text.push(b'Q')?;
+            write_number(u64::from(count), text)
+        }
+        Given::Dropped(count) => {
+            text.push(b'D')?;
+            write_number(u64::from(count), text)
+        }
+        Given::Silent => Ok(text.push(b'S')?),
+    }
 }
 
-/// What became of a request, by a field.
+/// What became of requests, by a field.
 pub(crate) fn given_in(field: &[u8]) -> Option<Given>
-    ensures found { IfSome result (λ given. field.now ≡ given_text given) }
-    ensures only { (given : Given) → field.now ≡ given_text given → result ≡ Some given }
+    ensures found { IfSome result (λ given. IsCounted given × (field.now ≡ given_text given)) }
+    ensures only { (given : Given) → IsCounted given → field.now ≡ given_text given → result ≡ Some given }
 {
-    let [letter] = field else {
+    let [letter, behind @ ..] = field else {
         return None;
     };
     match *letter {
-        b'Q' => Some(Given::Queued),
-        b'D' => Some(Given::Dropped),
-        b'S' => Some(Given::Silent),
+        b'Q' => short_number_in(behind).map(Given::Queued),
+        b'D' => short_number_in(behind).map(Given::Dropped),
+        b'S' if behind.is_empty() => Some(Given::Silent),
         _ => None,
     }
 }

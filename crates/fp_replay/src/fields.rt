@@ -45,3 +45,13 @@ pub(crate) fn three_fields(text: &[u8]) -> Option<(&[u8], &[u8], &[u8])>
     let (second, third) = cut(behind)?;
     Some((first, second, third))
 }
+
+/// Four fields, each after a blank.
+pub(crate) fn four_fields(text: &[u8]) -> Option<(&[u8], &[u8], &[u8], &[u8])>
+    ensures found { IfSome result (λ f. text.now ≡ 32 ∷ join_with_byte 32 (f.0.now ∷ f.1.now ∷ f.2.now ∷ f.3.now ∷ [])) }
+    ensures only { (a b c d : List ℕ) → IsField a → IsField b → IsField c → text.now ≡ 32 ∷ join_with_byte 32 (a ∷ b ∷ c ∷ d ∷ []) → IsSomeAnd result (λ f. (f.0.now ≡ a) × (f.1.now ≡ b) × (f.2.now ≡ c) × (f.3.now ≡ d)) }
+{
+    let (first, second, behind) = three_fields(text)?;
+    let (third, fourth) = cut(behind)?;
+    Some((first, second, third, fourth))
+}

@@ -1,6 +1,6 @@
 //! The log as text: its lines are written, and read again; and its replay.
 //!
-//! A log begins with a head, `fplog 1 LINKS`. Each other line is a step of a link: the link, a letter and its fields,
+//! A log begins with a head, `fplog 2 LINKS`. Each other line is a step of a link: the link, a letter and its fields,
 //! with single blanks between them. The layer is handed lines as `fp_book` has them and returns their text, or is handed
 //! the text of a line and returns the line. For a replay it is handed the records, the names of application contexts, a
 //! reader and a writer. It knows no file, and asks the system for nothing but memory.

@@ -43,17 +43,22 @@ fn is_same(step: &LoggedStep, line: &LoggedStep) -> bool
             matches!(step, LoggedStep::Tick { moment: at, added: given, wanting: left }
                 if at == moment && given == added && left == wanting)
         }
-        LoggedStep::Take { local, position } => {
-            matches!(step, LoggedStep::Take { local: of, position: place }
-                if of == local && place == position)
+        LoggedStep::Take {
+            local,
+            position,
+            count,
+        } => {
+            matches!(step, LoggedStep::Take { local: of, position: place, count: many }
+                if of == local && place == position && many == count)
         }
         LoggedStep::Give {
             local,
             position,
+            served,
             given,
         } => {
-            matches!(step, LoggedStep::Give { local: of, position: place, given: became }
-                if of == local && place == position && became == given)
+            matches!(step, LoggedStep::Give { local: of, position: place, served: many, given: became }
+                if of == local && place == position && many == served && became == given)
         }
         LoggedStep::PutBack { local, position } => {
             matches!(step, LoggedStep::PutBack { local: of, position: place }

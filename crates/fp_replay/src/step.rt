@@ -8,7 +8,7 @@ use crate::LineFault;
 use crate::parcel::{pick_in, sent_in, unsent_in, write_parcel};
 use crate::posting::{lost_in, post_in, write_posting};
 use crate::tick::{gap_in, tick_in, write_gap, write_tick};
-use crate::turn::{give_in, put_back_in, take_in, write_give, write_turn};
+use crate::turn::{give_in, put_back_in, take_in, write_entries, write_give, write_turn};
 use fp_book::LoggedStep;
 use std::alloc::{AllocError, Global};
 
@@ -33,12 +33,17 @@ pub(crate) fn write_step(step: &LoggedStep, text: &mut Vec<u8>) -> Result<(), Al
             added,
             wanting,
         } => write_tick(*moment, *added, *wanting, text),
-        LoggedStep::Take { local, position } => write_turn(b'T', *local, *position, text),
+        LoggedStep::Take {
+            local,
+            position,
+            count,
+        } => write_entries(b'T', *local, *position, *count, text),
         LoggedStep::Give {
             local,
             position,
+            served,
             given,
-        } => write_give(*local, *position, *given, text),
+        } => write_give(*local, *position, *served, *given, text),
         LoggedStep::PutBack { local, position } => write_turn(b'B', *local, *position, text),
         LoggedStep::Pick { local } => write_parcel(b'Q', *local, text),
         LoggedStep::Sent { local } => write_parcel(b'Y', *local, text),

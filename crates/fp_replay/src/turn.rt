@@ -1,13 +1,13 @@
 //! Turns: taken, given and put back.
 
 ghost use Rattle.std.specs.Prelude.{◌≡◌, ◌++◌, ◌∷◌, ◌<◌, ◌^◌, ℕ, IfSome, IsSomeAnd, OnErr, OnOk};
-ghost use Rattle.fp_replay.specs.Reading.{ReadsStep, give_fields, turn_fields};
+ghost use Rattle.fp_replay.specs.Reading.{ReadsStep, entries_fields, give_fields, turn_fields};
 ghost use Rattle.fp_replay.specs.Writing.{KeepsFront};
 
 use crate::LineFault;
 use crate::answer::{given_in, write_given};
-use crate::fields::{three_fields, two_fields};
-use crate::number::{number_in, write_number};
+use crate::fields::{four_fields, three_fields, two_fields};
+use crate::number::{number_in, short_number_in, write_number};
 use crate::octets::{identifier_in, write_identifier};
 use fp_book::{Given, LoggedStep};
 use std::alloc::AllocError;
@@ -45,14 +45,43 @@ fn turn_in(fields: &[u8]) -> Option<(u32, u64)>
     Some((local, position))
 }
 
+/// Adds the letter and the fields of a turn and of this number of its entries to a text.
+pub(crate) fn write_entries(
+    letter: u8,
+    local: u32,
+    position: u64,
+    count: u32,
+    text: &mut Vec<u8>,
+) -> Result<(), AllocError>
+    ensures written { OnOk result (text.new.items ≡ text.old.items ++ letter ∷ entries_fields local position count) }
+    ensures front { OnErr result (KeepsFront text.old.items text.new.items) }
+{
+    write_turn(letter, local, position, text)?;
+    text.push(b' ')?;
+    write_number(u64::from(count), text)
+}
+
 /// The turn that was taken, by the fields after its letter.
 pub(crate) fn take_in(fields: &[u8]) -> Result<LoggedStep, LineFault>
     ensures { ReadsStep 84 fields.now result }
 {
-    let Some((local, position)) = turn_in(fields) else {
+    let Some((first, second, third)) = three_fields(fields) else {
         return Err(LineFault::BadLine);
     };
-    Ok(LoggedStep::Take { local, position })
+    let Some(local) = identifier_in(first) else {
+        return Err(LineFault::BadLine);
+    };
+    let Some(position) = number_in(second, u64::MAX) else {
+        return Err(LineFault::BadLine);
+    };
+    let Some(count) = short_number_in(third) else {
+        return Err(LineFault::BadLine);
+    };
+    Ok(LoggedStep::Take {
+        local,
+        position,
+        count,
+    })
 }
 
 /// The turn that was put back, by the fields after its letter.
@@ -69,13 +98,14 @@ pub(crate) fn put_back_in(fields: &[u8]) -> Result<LoggedStep, LineFault>
 pub(crate) fn write_give(
     local: u32,
     position: u64,
+    served: u32,
     given: Given,
     text: &mut Vec<u8>,
 ) -> Result<(), AllocError>
-    ensures written { OnOk result (text.new.items ≡ text.old.items ++ 71 ∷ give_fields local position given) }
+    ensures written { OnOk result (text.new.items ≡ text.old.items ++ 71 ∷ give_fields local position served given) }
     ensures front { OnErr result (KeepsFront text.old.items text.new.items) }
 {
-    write_turn(b'G', local, position, text)?;
+    write_entries(b'G', local, position, served, text)?;
     text.push(b' ')?;
     write_given(given, text)
 }
@@ -84,7 +114,7 @@ pub(crate) fn write_give(
 pub(crate) fn give_in(fields: &[u8]) -> Result<LoggedStep, LineFault>
     ensures { ReadsStep 71 fields.now result }
 {
-    let Some((first, second, third)) = three_fields(fields) else {
+    let Some((first, second, third, fourth)) = four_fields(fields) else {
         return Err(LineFault::BadLine);
     };
     let Some(local) = identifier_in(first) else {
@@ -93,12 +123,16 @@ pub(crate) fn give_in(fields: &[u8]) -> Result<LoggedStep, LineFault>
     let Some(position) = number_in(second, u64::MAX) else {
         return Err(LineFault::BadLine);
     };
-    let Some(given) = given_in(third) else {
+    let Some(served) = short_number_in(third) else {
+        return Err(LineFault::BadLine);
+    };
+    let Some(given) = given_in(fourth) else {
         return Err(LineFault::BadLine);
     };
     Ok(LoggedStep::Give {
         local,
         position,
+        served,
         given,
     })
 }

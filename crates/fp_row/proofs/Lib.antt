@@ -3,6 +3,7 @@ mod LedTo
 mod Maps
 mod Order
 mod Searches
+mod Stepping
 pub mod Fronts
 pub mod Keeping
 pub mod Served

@@ -1,23 +1,15 @@
--- The entries that wait, after those that were served and the one that is out.
-use Rattle.std.proofs.Common.{◌≡◌, ℕ, zero, suc, ◌+◌, ◌≤◌, ◌<◌, Bool, true, false, not, ◌&&◌, ◌||◌, cond, nat_lt, Option, Some, None, List, [], ◌∷◌, ◌++◌, length, take, drop, refl, sym, ◌∙◌, ap, arith, append_assoc, append-nil}
+-- The entries that wait, after those that were served and those that are out.
+use Rattle.std.proofs.Common.{◌≡◌, ℕ, ◌+◌, ◌≤◌, ◌<◌, Bool, true, false, not, ◌&&◌, ◌||◌, cond, nat_lt, Option, Some, None, List, [], ◌∷◌, ◌++◌, length, take, drop, refl, sym, ◌∙◌, ap, arith, append_assoc, append-nil}
 use Rattle.std.proofs.lemmas.Bool.{false≢true}
 use Rattle.std.proofs.lemmas.Bool.Decides.{nat_tests}
 use Rattle.std.proofs.lemmas.List.{drop-append-le, drop-drop, length-drop, length-take-le, take-append-drop}
-use Rattle.std.proofs.lemmas.Option.{slice_get_read}
-use Rattle.std.proofs.Math.ListN.{get_or}
-use Rattle.std.specs.Prelude.{is_some, slice_get}
+use Rattle.std.specs.Prelude.{is_some}
 use mathlib.Core.List.{IsPrefix}
-use Rattle.fp_row.proofs.Keeping.{IsOut, known_turn}
+use Rattle.fp_row.proofs.Keeping.{known_turn}
 use Rattle.fp_row.specs.declared.ending.Ending.{Ending}
 use Rattle.fp_row.specs.declared.row.Row.{Row}
 use Rattle.fp_row.specs.declared.turn.Turn.{Turn}
-use Rattle.fp_row.specs.Row.{entry_out, is_closed, turn_out}
-
--- the element at a place, and what comes after it
-drop_at : {A : Type 0} (xs : List A) (n : ℕ) (x : A) → slice_get xs n ≡ Some x → drop n xs ≡ x ∷ drop 1 (drop n xs)
-drop_at [] n x at = absurd (cc)
-drop_at (y ∷ ys) zero x at = cc
-drop_at (y ∷ ys) (suc n) x at = drop_at ys n x at
+use Rattle.fp_row.specs.Row.{entries_out, is_closed, turn_out}
 
 -- the entries that are served, out and waiting, of a list of which this many were served and are out
 abbrev pub parts_in : {A : Type 0} → Bool → List A → ℕ → ℕ → List A
@@ -38,14 +30,9 @@ parts_by true xs n k = (
 pub whole_by : {A : Type 0} (closed over : Bool) (xs : List A) (n k : ℕ) → closed ≡ false → over ≡ false → parts_in (closed || over) xs n k ≡ xs
 whole_by closed over xs n k unclosed live = cc (going_whole xs n k)
 
--- the entry that is out is that of the turn
-first_at : {A : Type 0} (xs : List A) (n k : ℕ) (x : A) → k ≡ 1 → slice_get xs n ≡ Some x → take k (drop n xs) ≡ x ∷ []
-first_at xs n k x one at = ap (λ k. take k (drop n xs)) one ∙ ap (take 1) (drop_at xs n x at)
-
-pub entry_is_out : (row : Row) (turn : Turn) → turn_out row ≡ Some turn → entry_out row ≡ turn.entry ∷ []
-entry_is_out row turn e =
-    let out : IsOut row turn = known_turn row turn e in
-    first_at row.accepted row.served row.out turn.entry out.one_out out.at
+-- the entries that are out are those of the turn
+pub entries_are_out : (row : Row) (turn : Turn) → turn_out row ≡ Some turn → entries_out row ≡ turn.entries
+entries_are_out row turn e = (known_turn row turn e).entries
 
 -- the entry that is out is one of those that weren't served
 out_within : {A : Type 0} (xs : List A) (n k : ℕ) → n + k ≤ length xs → k ≤ length (drop n xs)
@@ -65,30 +52,43 @@ waiting_grown None false xs more ys n k within grown admitted =
 waiting_grown None true xs more ys n k within grown admitted = absurd (false≢true admitted)
 waiting_grown (Some ending) over xs more ys n k within grown admitted = absurd (false≢true admitted)
 
--- the entries that wait are the same once the entry that was out is served
-pub waiting_served : {A : Type 0} (closed over after : Bool) (xs : List A) (n k : ℕ) → k ≡ 1 → over ≡ false
-    → cond (closed || after) [] (drop (n + 1) xs) ≡ cond after [] (cond (closed || over) [] (drop k (drop n xs)))
-waiting_served closed over after xs n k one live = let rest = drop-drop 1 n xs in grind (arith, nat_tests)
+-- the entries that wait are the same once the entries that were out are served, all of them if the dialogue goes on
+pub waiting_served : {A : Type 0} (closed over after : Bool) (xs : List A) (n k m : ℕ) → over ≡ false → (after ≡ false → m ≡ k)
+    → cond (closed || after) [] (drop (n + m) xs) ≡ cond after [] (cond (closed || over) [] (drop k (drop n xs)))
+waiting_served true over true xs n k m live all = refl
+waiting_served false over true xs n k m live all = refl
+waiting_served true over false xs n k m live all = refl
+waiting_served false over false xs n k m live all =
+    ap (λ j. drop (n + j) xs) (all refl) ∙ sym (drop-drop k n xs) ∙ ap (λ stopped. cond stopped [] (drop k (drop n xs))) (sym live)
 
--- an entry that is put back is the first of those that wait
-pub waiting_put_back : {A : Type 0} (closed over : Bool) (xs : List A) (n k : ℕ) (x : A) → k ≡ 1 → over ≡ false → slice_get xs n ≡ Some x
-    → cond (closed || over) [] (drop n xs) ≡ cond closed [] (x ∷ cond (closed || over) [] (drop k (drop n xs)))
-waiting_put_back closed over xs n k x one live at = let first = drop_at xs n x at in grind (arith, nat_tests)
+-- entries that are put back are the first of those that wait
+pub waiting_put_back : {A : Type 0} (closed over : Bool) (xs : List A) (n k : ℕ) (es : List A) → over ≡ false → take k (drop n xs) ≡ es
+    → cond (closed || over) [] (drop n xs) ≡ cond closed [] (es ++ cond (closed || over) [] (drop k (drop n xs)))
+waiting_put_back closed over xs n k es live at = let whole = take-append-drop k (drop n xs) in grind (arith, nat_tests)
 
--- an entry that is taken out was the first of those that waited
-pub waiting_taken : {A : Type 0} (closed over : Bool) (xs : List A) (n k : ℕ) (x : A)
-    → (not (nat_lt 0 k) && (not closed && (not over && nat_lt n (length xs)))) ≡ true → slice_get xs n ≡ Some x
-    → cond (closed || over) [] (drop k (drop n xs)) ≡ x ∷ cond (closed || over) [] (drop 1 (drop n xs))
-waiting_taken closed over xs n k x ready at =
-    let none : k ≡ 0 = grind (arith, nat_tests) in
-    let first = drop_at xs n x at in
-    ap (λ k. cond (closed || over) [] (drop k (drop n xs))) none ∙ grind (arith, nat_tests)
-
--- a dialogue that is ready has an entry that waits
+-- a dialogue that is ready has an entry that waits, and none of its entries is out
 pub ready_within : (a b c : Bool) (n m : ℕ) → (a && (b && (c && nat_lt n m))) ≡ true → n < m
 ready_within a b c n m ready = grind (arith, nat_tests)
 
--- a copy of the element at a place
-pub copied : {A : Type 0} (xs ys : List A) (n : ℕ) (x y : A) → ys ≡ xs → y ≡ x → x ≡ get_or ys n x → n < length xs → slice_get xs n ≡ Some y
-copied xs ys n x y same copy read within =
-    slice_get_read xs (length xs) n x refl within (read ∙ ap (λ zs. get_or zs n x) same) ∙ ap Some (sym copy)
+none_out : (k : ℕ) (rest : Bool) → (not (nat_lt 0 k) && rest) ≡ true → k ≡ 0
+none_out k rest ready = grind (arith, nat_tests)
+
+all_wait : {A : Type 0} (a closed over d : Bool) (xs : List A) → (a && (not closed && (not over && d))) ≡ true → cond (closed || over) [] xs ≡ xs
+all_wait a closed over d xs ready = grind (arith, nat_tests)
+
+-- all of its entries that weren't served wait then
+pub waiting_ready : {A : Type 0} (closed over : Bool) (xs : List A) (n k : ℕ)
+    → (not (nat_lt 0 k) && (not closed && (not over && nat_lt n (length xs)))) ≡ true
+    → cond (closed || over) [] (drop k (drop n xs)) ≡ drop n xs
+waiting_ready closed over xs n k ready =
+    ap (λ j. cond (closed || over) [] (drop j (drop n xs))) (none_out k (not closed && (not over && nat_lt n (length xs))) ready)
+    ∙ all_wait (not (nat_lt 0 k)) closed over (nat_lt n (length xs)) (drop n xs) ready
+
+-- entries that are taken out were the first of those that waited
+pub waiting_taken : {A : Type 0} (closed over : Bool) (xs : List A) (n k m : ℕ) (es : List A)
+    → (not (nat_lt 0 k) && (not closed && (not over && nat_lt n (length xs)))) ≡ true → es ≡ take m (drop n xs)
+    → cond (closed || over) [] (drop k (drop n xs)) ≡ es ++ cond (closed || over) [] (drop m (drop n xs))
+waiting_taken closed over xs n k m es ready at =
+    waiting_ready closed over xs n k ready
+    ∙ sym (take-append-drop m (drop n xs))
+    ∙ (λ i. sym at i ++ sym (all_wait (not (nat_lt 0 k)) closed over (nat_lt n (length xs)) (drop m (drop n xs)) ready) i)

@@ -1,6 +1,6 @@
 -- What the calls of a row do. Each record says of all that a row has what it is then, and after that what follows for
 -- the turn, the entries that wait and the frames.
-use Rattle.std.specs.Prelude.{◌≡◌, ℕ, ◌+◌, Bool, true, false, List, [], ◌∷◌, ◌++◌, Option, Some, None, min, length, take, nat_lt, option_to_list, if◌then◌else◌}
+use Rattle.std.specs.Prelude.{◌≡◌, ◌≤◌, ◌<◌, ℕ, ◌+◌, Bool, true, false, List, [], ◌∷◌, ◌++◌, Option, Some, None, min, length, take, nat_lt, if◌then◌else◌}
 use Rattle.fp_entry.specs.declared.entry.Entry.{Entry}
 use Rattle.fp_entry.specs.declared.entry.EntryKind.TheVariants.{Clock}
 use Rattle.fp_entry.specs.Entries.{entry_at}
@@ -9,11 +9,11 @@ use Rattle.fp_row.specs.declared.done.Done.{Done}
 use Rattle.fp_row.specs.declared.ending.Ending.{Ending}
 use Rattle.fp_row.specs.declared.ending.Ending.TheVariants.{ByPeer, Closed}
 use Rattle.fp_row.specs.declared.requested.Requested.{Requested}
-use Rattle.fp_row.specs.declared.requested.Requested.TheVariants.{Nothing, Frame, Dropped}
+use Rattle.fp_row.specs.declared.requested.Requested.TheVariants.{Nothing, Frames, Dropped}
 use Rattle.fp_row.specs.declared.row.Row.{Row}
 use Rattle.fp_row.specs.declared.turn.Turn.{Turn}
 use Rattle.fp_row.specs.Row.{deadline_of, frames_of, is_admitted, is_closed, is_ready, kept_of, queued_of, sent_of, turn_out, waiting_of}
-use Rattle.fp_row.specs.Turn.{birth_of}
+use Rattle.fp_row.specs.Turn.{birth_of, most_entries}
 use Rattle.fp_service.specs.Dialogue.{fresh, is_over}
 
 -- the dialogue is the same
@@ -70,8 +70,8 @@ Accepts false old entries new = new ≡ old
 abbrev pub Clocks : Bool → Row → ℕ → Row → Type 0
 Clocks taken old moment new = Accepts taken old (entry_at moment Clock ∷ []) new
 
--- the turn of the next entry is out
-pub record HandsOut (old : Row) (turn : Turn) (new : Row) : Type 0 where
+-- the turn of the next entries is out: of those that wait, as many as have a place of these, at most sixteen
+pub record HandsOut (free : ℕ) (old : Row) (turn : Turn) (new : Row) : Type 0 where
   pub was_ready : is_ready old ≡ true
   pub turn_is : turn_out new ≡ Some turn
   pub local : turn.local ≡ old.local
@@ -79,35 +79,39 @@ pub record HandsOut (old : Row) (turn : Turn) (new : Row) : Type 0 where
   pub same : IsSame old new
   pub accepted : new.accepted ≡ old.accepted
   pub stay : FramesStay old new
-  pub out : new.out ≡ 1
+  pub out : new.out ≡ length turn.entries
   pub ended : new.ended ≡ old.ended
-  pub waiting : waiting_of old ≡ turn.entry ∷ waiting_of new
+  pub count : length turn.entries ≡ min most_entries (min (length (waiting_of old)) free)
+  pub some : 0 < length turn.entries
+  pub waiting : waiting_of old ≡ turn.entries ++ waiting_of new
   pub deadline : deadline_of new ≡ deadline_of old
 
 -- a turn was handed out, or the dialogue wasn't ready
-abbrev pub Takes : Row → Option Turn → Row → Type 0
-Takes old (Some turn) new = HandsOut old turn new
-Takes old None new = (is_ready old ≡ false) × (new ≡ old)
+abbrev pub Takes : ℕ → Row → Option Turn → Row → Type 0
+Takes free old (Some turn) new = HandsOut free old turn new
+Takes free old None new = (is_ready old ≡ false) × (new ≡ old)
 
--- the request of a dialogue that was ended from outside isn't accepted
-abbrev pub requested_of : Option Ending → Option (List ℕ) → Requested
-requested_of ended None = Nothing
-requested_of None (Some frame) = Frame frame
-requested_of (Some ending) (Some frame) = Dropped
+-- the requests of a dialogue that was ended from outside aren't accepted
+abbrev pub requested_of : Option Ending → List (List ℕ) → Requested
+requested_of ended [] = Nothing
+requested_of None (frame ∷ frames) = Frames (frame ∷ frames)
+requested_of (Some ending) (frame ∷ frames) = Dropped (length (frame ∷ frames))
 
 -- the frames that are to be sent
 abbrev pub frames_in : Requested → List (List ℕ)
 frames_in Nothing = []
-frames_in (Frame frame) = frame ∷ []
-frames_in Dropped = []
+frames_in (Frames frames) = frames
+frames_in (Dropped count) = []
 
--- the entry of the turn that was out is served
+-- the entries of the turn that was out are served, up to the one that ends the dialogue; those after it wait again, and
+-- are dropped as all that wait then
 pub record Gives (old : Row) (done : Done) (requested : Requested) (new : Row) : Type 0 where
   pub was_out : turn_out old ≡ Some done.turn
-  pub requested_is : requested ≡ requested_of old.ended done.frame
+  pub count : length done.turn.entries ≡ old.out
+  pub requested_is : requested ≡ requested_of old.ended done.frames
   pub same : IsSame old new
   pub accepted : new.accepted ≡ old.accepted
-  pub served : new.served ≡ old.served + 1
+  pub served : new.served ≡ old.served + done.served
   pub core : new.core ≡ done.after
   pub queued : new.queued ≡ old.queued + length (frames_in requested)
   pub kept : new.kept ≡ old.kept + length (frames_in requested)
@@ -115,8 +119,11 @@ pub record Gives (old : Row) (done : Done) (requested : Requested) (new : Row) :
   pub out : new.out ≡ 0
   pub ended : new.ended ≡ old.ended
   pub turn : turn_out new ≡ None
+  -- no more entries were served than were out, and no more frames are to be sent
+  pub few_served : done.served ≤ old.out
+  pub few_frames : length (frames_in requested) ≤ old.out
   pub waiting : waiting_of new ≡ (if is_over done.after then [] else waiting_of old)
-  pub all_frames : frames_of new ≡ frames_of old ++ option_to_list done.frame
+  pub all_frames : frames_of new ≡ frames_of old ++ done.frames
   pub queued_frames : queued_of new ≡ queued_of old ++ frames_in requested
   pub kept_frames : kept_of new ≡ kept_of old ++ frames_in requested
   pub sent_frames : sent_of new ≡ sent_of old
@@ -124,13 +131,14 @@ pub record Gives (old : Row) (done : Done) (requested : Requested) (new : Row) :
 -- the turn that was out is out no longer
 pub record PutsBack (old : Row) (turn : Turn) (new : Row) : Type 0 where
   pub was_out : turn_out old ≡ Some turn
+  pub count : length turn.entries ≡ old.out
   pub same : IsSame old new
   pub accepted : new.accepted ≡ old.accepted
   pub stay : FramesStay old new
   pub out : new.out ≡ 0
   pub ended : new.ended ≡ old.ended
   pub no_turn : turn_out new ≡ None
-  pub waiting : waiting_of new ≡ (if is_closed old.ended then [] else turn.entry ∷ waiting_of old)
+  pub waiting : waiting_of new ≡ (if is_closed old.ended then [] else turn.entries ++ waiting_of old)
   pub deadline : deadline_of new ≡ deadline_of old
 
 -- one more of the kept frames was sent

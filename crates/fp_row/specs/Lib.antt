@@ -4,4 +4,5 @@ pub mod Laws
 pub mod Leads
 pub mod Row
 pub mod Rows
+pub mod Serving
 pub mod Turn

@@ -1,10 +1,8 @@
 -- One dialogue: what of the entries that it accepted was served, what those request, and what of that was sent.
-use Rattle.std.specs.Prelude.{◌≡◌, ℕ, Bool, true, false, not, ◌&&◌, ◌||◌, List, [], Option, Some, None, is_some, length, take, drop, map, slice_get, count_by, option_map, nat_lt, nat_le, if◌then◌else◌}
+use Rattle.std.specs.Prelude.{◌≡◌, ℕ, Bool, true, false, not, ◌&&◌, ◌||◌, List, [], Option, Some, None, is_some, length, take, drop, count_by, nat_lt, nat_le, if◌then◌else◌}
 use Rattle.std.specs.Option.{option_map_or}
 use Rattle.fp_entry.specs.declared.entry.Entry.{Entry}
 use Rattle.fp_entry.specs.Entries.{is_clock, place_count}
-use Rattle.fp_q773.specs.Tid.{octets_of}
-use Rattle.fp_reply.specs.Reply.{frame_of}
 use Rattle.fp_row.specs.declared.ending.Ending.{Ending}
 use Rattle.fp_row.specs.declared.ending.Ending.TheVariants.{ByPeer, Closed}
 use Rattle.fp_row.specs.declared.row.Row.{Row}
@@ -13,6 +11,7 @@ use Rattle.fp_service.specs.declared.dialogue.Core.{Core}
 use Rattle.fp_service.specs.declared.request.Request.{Request}
 use Rattle.fp_service.specs.Dialogue.{fresh, is_over, next_due}
 use Rattle.fp_service.specs.Fold.{requests}
+use Rattle.fp_row.specs.Turn.{frames_under}
 
 -- the core with which it begins
 abbrev pub start_of : Row → Core
@@ -22,7 +21,7 @@ start_of row = fresh row.birth row.opened
 abbrev pub served_of : Row → List Entry
 served_of row = take row.served row.accepted
 
--- the others; if a turn is out, its entry is the first of them
+-- the others; if a turn is out, its entries are the first of them
 abbrev pub unserved : Row → List Entry
 unserved row = drop row.served row.accepted
 
@@ -32,7 +31,7 @@ requests_of row = requests (start_of row) (served_of row)
 
 -- the frames of these, under its own identifiers
 abbrev pub frames_of : Row → List (List ℕ)
-frames_of row = map (λ request. frame_of request row.local (octets_of row.peer)) (requests_of row)
+frames_of row = frames_under row.local row.peer (requests_of row)
 
 -- those that were accepted for sending
 abbrev pub queued_of : Row → List (List ℕ)
@@ -72,11 +71,11 @@ is_ready row = not (has_turn_out row) && waits row
 abbrev pub is_held : Row → Bool
 is_held row = is_admitted row || (has_turn_out row || (waits row || nat_lt row.sent row.kept))
 
--- the entry of the turn that is out
-abbrev pub entry_out : Row → List Entry
-entry_out row = take row.out (unserved row)
+-- the entries of the turn that is out
+abbrev pub entries_out : Row → List Entry
+entries_out row = take row.out (unserved row)
 
--- the entries that wait: those after the one that is out, and none if the dialogue was closed or its core is over
+-- the entries that wait: those after the ones that are out, and none if the dialogue was closed or its core is over
 abbrev pub waiting_of : Row → List Entry
 waiting_of row = if is_closed row.ended || is_over row.core then [] else drop row.out (unserved row)
 
@@ -96,13 +95,13 @@ deadline_of row = if is_admitted row && not (has_clock row) then Some (next_due 
 abbrev pub is_due : Row → ℕ → Bool
 is_due row moment = option_map_or (λ deadline. nat_le deadline moment) (deadline_of row) false
 
--- the turn of an entry
-abbrev pub turn_of : Row → Entry → Turn
-turn_of row entry = record { local = row.local; peer = row.peer; position = row.served; entry = entry; before = row.core }
+-- the turn of these entries
+abbrev pub turn_of : Row → List Entry → Turn
+turn_of row entries = record { local = row.local; peer = row.peer; position = row.served; before = row.core; entries = entries }
 
 -- the turn that is out
 abbrev pub turn_out : Row → Option Turn
-turn_out row = if has_turn_out row then option_map (turn_of row) (slice_get row.accepted row.served) else None
+turn_out row = if has_turn_out row then Some (turn_of row (entries_out row)) else None
 
 -- the turn is of this dialogue, at its next position and core
 pub record IsFromHere (row : Row) (turn : Turn) : Type 0 where

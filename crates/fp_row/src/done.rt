@@ -1,29 +1,33 @@
 //! Turns that were served.
 
-ghost use Rattle.std.specs.Prelude.{◌≡◌};
+ghost use Rattle.std.specs.Prelude.{◌≡◌, length};
 ghost use Rattle.std.specs.Coded.{Coded-set};
 ghost use Rattle.std.proofs.Props.{props};
-ghost use Rattle.fp_service.specs.Serve.{next};
-ghost use Rattle.fp_row.specs.Turn.{frame_for};
+ghost use Rattle.fp_row.specs.Turn.{core_then, frames_for, served_in};
 
-use crate::{RequestFrame, Turn};
-use fp_service::Core;
+use crate::heap_core::HeapCore;
+use crate::{RequestFrames, Turn};
 
-/// A turn that was served, with the core after its entry and the frame of what was requested. Its type keeps that these
-/// are what the service step makes of the turn, the frame under the turn's own identifiers, whichever thread served it.
-/// It is given back or abandoned.
+/// A turn that was served: how many of its entries were, the core after those, and the frames of what they requested.
+/// Its type keeps that these are what the service step makes of the turn, along its entries up to the first after which
+/// the dialogue is over, the frames under the turn's own identifiers, whichever thread served it. It is given back or
+/// abandoned.
 #[must_use]
 #[derive(Debug)]
 pub struct Done {
     pub(crate) turn: Turn,
-    pub(crate) after: Core,
-    pub(crate) frame: Option<RequestFrame>,
+    pub(crate) served: usize,
+    pub(crate) after: HeapCore,
+    pub(crate) frames: RequestFrames,
 
-    // The core is that after the turn's entry.
-    pub ghost after_is: { after ≡ next turn.before turn.entry } by { Coded-set after-code _ _ },
+    // The entries up to the one that ends the dialogue were served, or all.
+    pub ghost served_is: { served ≡ length (served_in turn) },
 
-    // The frame is that of what the entry requests.
-    pub ghost frame_is: { frame ≡ frame_for turn } by { Prim.hlevel props },
+    // The core is that after those.
+    pub ghost after_is: { after ≡ core_then turn } by { Coded-set after-code _ _ },
+
+    // The frames are those of what they request.
+    pub ghost frames_are: { frames ≡ frames_for turn } by { Prim.hlevel props },
 }
 
 impl Done {
@@ -34,12 +38,20 @@ impl Done {
         &self.turn
     }
 
+    /// How many of its entries were served: those up to the first after which the dialogue is over, or all.
+    pub fn served(&self) -> usize
+        ensures { result ≡ self.now.served }
+    {
+        self.served
+    }
+
     /// Gives up a turn that was served. Its dialogue stays held forever. Takes no memory.
     pub fn abandon(self) {
         let Done {
             turn,
+            served: _,
             after: _,
-            frame: _,
+            frames: _,
         } = self;
         turn.abandon();
     }

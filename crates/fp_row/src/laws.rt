@@ -3,10 +3,10 @@
 ghost use Rattle.fp_row.specs.Laws.{RowsKeepTheirOrder, TurnsAreServedByTheStep};
 ghost use Rattle.fp_row.specs.Rows.{AfterIsOne, PuttingBackChangesNothing};
 
-use fp_service::{births_stay, entries_ask_once_at_most, folds_along_a_grown_list};
+use fp_service::{births_stay, cut_is_a_front, entries_ask_once_at_most, folds_along_a_grown_list};
 
 /// Of each row: the entries served are the first of those that its service logic serves of the accepted ones, and its
-/// core is that after them. After them come the entry of the turn that is out and the entries that wait: together all
+/// core is that after them. After them come the entries of the turn that is out and the entries that wait: together all
 /// that was accepted, or a prefix of it if the dialogue was closed or its core is over. No more frames were sent
 /// than are kept, kept than were accepted for sending, and accepted than the entries served request; all of these are
 /// kept where nothing ended the dialogue from outside. Each count is of these.
@@ -18,11 +18,15 @@ pub fn rows_keep_their_order()
     births_stay();
 }
 
-/// Of each turn that was served: its core is what the service step makes of the turn, and its frame that of the step's
-/// request, under the turn's own identifiers.
+/// Of each turn that was served: the entries served are those up to the first after which the dialogue is over, or all;
+/// its core is what the service step makes of them, and its frames are those of what they request, under the turn's own
+/// identifiers, at most one for each.
 pub fn turns_are_served_by_the_step()
     ensures { TurnsAreServedByTheStep }
-{}
+{
+    cut_is_a_front();
+    entries_ask_once_at_most();
+}
 
 /// What [`Rows::after`](crate::Rows::after) answers is one identifier, or none.
 #[tactic(auto, using(crate::proofs::Afters::after_is_one))]

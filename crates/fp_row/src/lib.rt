@@ -6,10 +6,12 @@
 //! back. It asks the system for nothing but memory.
 //!
 //! * [`Row`] is one dialogue: all entries that it accepted, in order, how many of them were served, and how many are
-//!   out as a turn, at most one; its core after those that were served; how many of its requests were accepted for
+//!   out as a turn; its core after those that were served; how many of its requests were accepted for
 //!   sending, how many of these are kept, and how many were sent.
-//! * [`Turn`] is the next entry of a dialogue, one at a time, and [`Done`] what came of it: the core after it,
-//!   and the frame that it requests. Both must be spent: neither may be dropped, so that no entry gets lost unseen.
+//! * [`Turn`] has the next entries of a dialogue, at most sixteen, one turn at a time, and [`Done`] what came of it: how
+//!   many of them were served, up to the first after which the dialogue is over, the core after those, and the frames
+//!   that they request. Both must be spent: neither may be dropped, so that no entry gets lost unseen. They are small:
+//!   their cores are in places of their own.
 //! * [`Rows`] is a finite map from local transaction identifier to row. [`after_is_one`] and
 //!   [`putting_back_changes_nothing`] hold of each such map.
 //!
@@ -22,20 +24,23 @@
 //!
 //! The layer above may rely on this: the type of a [`Row`] keeps that the entries served are the first of those
 //! accepted, none after the one that ends the dialogue; that its core is what the service step makes of them; that its
-//! counts are of the requests of those entries; and that a turn that is out is of the next entry. The type of a
-//! [`Done`] keeps that its core is what the service step makes of its turn, and its frame that of the step's request,
-//! under the turn's own identifiers. What these keep is said by [`rows_keep_their_order`] and
-//! [`turns_are_served_by_the_step`].
+//! counts are of the requests of those entries; and that a turn that is out is of the next entries. The type of a
+//! [`Done`] keeps that the entries served are those up to the first after which the dialogue is over, that its core is
+//! what the service step makes of them, and its frames those of what they request, under the turn's own identifiers.
+//! What these keep is said by [`rows_keep_their_order`] and [`turns_are_served_by_the_step`].
 #![tactic(auto)]
 
 mod done;
 mod ending;
+mod heap_core;
 mod index;
 mod laws;
 mod request_frame;
+mod request_frames;
 mod requested;
 mod row;
 mod rows;
+mod serving;
 mod turn;
 
 pub use done::Done;
@@ -44,6 +49,7 @@ pub use laws::{
     after_is_one, putting_back_changes_nothing, rows_keep_their_order, turns_are_served_by_the_step,
 };
 pub use request_frame::RequestFrame;
+pub use request_frames::RequestFrames;
 pub use requested::Requested;
 pub use row::Row;
 pub use rows::Rows;

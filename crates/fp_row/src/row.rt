@@ -1,18 +1,31 @@
 //! One dialogue.
 
-ghost use Rattle.std.specs.Prelude.{◌≡◌, ◌≢◌, [], ◌++◌, ◌≤◌, ◌<◌, ◌+◌, ◌^◌, ◌&&◌, ◌↔◌, nat_eq, nat_lt, not, false, true, Some, is_some, length, min, slice_get, take, IsTrue, IfOk, IfErr, IsOk, OnErr, OnOk};
+ghost use Rattle.std.specs.Prelude.{◌≡◌, ◌≢◌, [], ◌++◌, ◌≤◌, ◌<◌, ◌+◌, ◌^◌, ◌&&◌, ◌↔◌, nat_eq, nat_lt, not, false, true, Some, is_some, length, min, take, IsTrue, IfOk, IfErr, IsOk, OnErr, OnOk};
 ghost use Rattle.std.specs.Coded.{Coded-set};
 ghost use Rattle.fp_service.specs.Dialogue.{fresh, is_over};
 ghost use Rattle.fp_service.specs.Fold.{core_after, cut, requests};
 
+use crate::heap_core::HeapCore;
 use crate::{Done, Ending, Requested, Turn};
 use fp_digits::Moment;
 use fp_entry::{Entries, Entry, EntryKind, equal_entries_are_the_same};
 use fp_q773::Tid;
 use fp_service::{
-    Core, births_stay, entries_ask_once_at_most, equal_cores_are_the_same, folds_along_a_grown_list,
+    Core, births_stay, cut_is_a_front, entries_ask_once_at_most, equal_cores_are_the_same,
+    folds_along_a_grown_list,
 };
 use std::alloc::{AllocError, Global};
+
+/// A copy of these entries. Out of memory is the only error.
+fn copies(alloc: Global, entries: &[Entry]) -> Result<Entries, AllocError>
+    ensures { IfOk result (λ copy. copy ≡ entries.now) }
+{
+    let mut copy = Entries::new(alloc);
+    'entries: for entry in entries {
+        copy.push(entry.try_clone()?)?;
+    }
+    Ok(copy)
+}
 
 /// One dialogue: what it accepted, how much of that was served, and how many of its requests were sent.
 #[derive(Debug, Drop)]
@@ -34,7 +47,7 @@ pub struct Row {
     pub(crate) kept: usize,
     // How many were sent.
     pub(crate) sent: usize,
-    // How many of the entries that weren't served are out as a turn: none, or the next one.
+    // How many of the entries that weren't served are out as a turn: the next ones.
     pub(crate) out: usize,
     pub(crate) ended: Option<Ending>,
 
@@ -55,8 +68,7 @@ pub struct Row {
     // All of them are kept until the dialogue is ended from outside.
     pub ghost all_kept: { (not (is_some ended) && not (nat_eq kept (length (requests (fresh birth opened) (take served accepted))))) ≡ false },
 
-    // What is out is the next entry, of a dialogue that isn't over.
-    pub ghost out_most: { out ≤ 1 },
+    // What is out are the next entries, of a dialogue that isn't over.
     pub ghost out_within: { served + out ≤ length accepted },
     pub ghost out_is_live: { (nat_lt 0 out && is_over core) ≡ false },
 }
@@ -76,7 +88,8 @@ fn append(accepted: &mut Entries, entries: Entries) -> Result<(), AllocError>
 }
 
 impl Row {
-    ghost use Rattle.fp_row.specs.Row.{IsFromHere, deadline_of, has_clock, has_turn_out, is_admitted, is_due, is_held, is_ready, places_taken, turn_out, unserved, waits};
+    ghost use Rattle.fp_row.specs.Row.{IsFromHere, deadline_of, entries_out, has_clock, has_turn_out, is_admitted, is_due, is_held, is_ready, places_taken, turn_out, unserved, waits};
+    ghost use Rattle.fp_row.specs.Turn.{most_entries};
     ghost use Rattle.fp_row.specs.Calls.{Accepts, Clocks, Ends, Gives, Opens, PutsBack, Sends, Takes, sending};
 
     /// The dialogue that a Begin opens at this moment: this end knows it by `local`, its peer by `peer`, and it is the
@@ -128,7 +141,7 @@ impl Row {
         self.ended.is_none() && !self.core.is_over()
     }
 
-    /// The entries that weren't served, that of the turn that is out first.
+    /// The entries that weren't served, those of the turn that is out first.
     fn unserved(&self) -> &[Entry]
         ensures { result.now ≡ unserved self.now }
     {
@@ -166,7 +179,7 @@ impl Row {
         self.is_admitted() || self.has_turn_out() || self.waits() || self.sent < self.kept
     }
 
-    /// How many of the entries that weren't served, that of the turn that is out among them, take a place of the
+    /// How many of the entries that weren't served, those of the turn that is out among them, take a place of the
     /// dialogue.
     pub fn places_taken(&self) -> usize
         ensures { result ≡ places_taken self.now }
@@ -238,10 +251,24 @@ impl Row {
         Ok(true)
     }
 
-    /// Hands out the turn of the next entry: `None` exactly if the dialogue isn't ready. Then, and if memory runs out
-    /// for a copy of the entry, nothing changes. A row hands out one turn at a time.
-    pub fn take(&mut self) -> Result<Option<Turn>, AllocError>
-        ensures ok { IfOk result (λ taken. Takes self.old taken self.new) }
+    /// How many entries a turn has of a dialogue that is ready, with this many free places.
+    fn next_count(&self, free: usize) -> usize
+        requires within { self.now.served ≤ length self.now.accepted }
+        requires room { 0 < free }
+        ensures value { result ≡ min most_entries (min (length (unserved self.now)) free) }
+        ensures most { result ≤ length (unserved self.now) }
+        ensures some { self.now.served < length self.now.accepted → 0 < result }
+    {
+        let waiting = self.accepted.len() - self.served;
+        Turn::MOST_ENTRIES.min(waiting.min(free))
+    }
+
+    /// Hands out the turn of the next entries, as many as wait and have a place of those that are `free`, at most
+    /// [`Turn::MOST_ENTRIES`]: `None` exactly if the dialogue isn't ready. Then, and if memory runs out for a copy of the
+    /// entries and of the core, nothing changes. A row hands out one turn at a time.
+    pub fn take(&mut self, alloc: Global, free: usize) -> Result<Option<Turn>, AllocError>
+        requires { 0 < free }
+        ensures ok { IfOk result (λ taken. Takes free self.old taken self.new) }
         ensures err { OnErr result (self.new ≡ self.old) }
         ensures only { OnErr result (is_ready self.old ≡ true) }
     {
@@ -249,30 +276,35 @@ impl Row {
             return Ok(None);
         }
         births_stay();
-        let entry = self.accepted.as_slice()[self.served].try_clone()?;
-        self.out = 1;
+        let count = self.next_count(free);
+        let entries = copies(alloc, &self.unserved()[..count])?;
+        let before = HeapCore::copy_of(alloc, &self.core)?;
+        self.out = count;
         Ok(Some(Turn {
             local: self.local,
             peer: self.peer,
             position: self.served,
-            entry,
-            before: self.core,
+            before,
+            entries,
         }))
     }
 
-    /// Whether this is the next entry.
-    fn is_next(&self, entry: &Entry) -> bool
-        ensures value { IsTrue result ↔ (slice_get self.now.accepted self.now.served ≡ Some entry.now) }
-        ensures fits { IsTrue result → self.now.served + 1 < 2 ^ 64 }
+    /// The entries that are out.
+    fn entries_out(&self) -> &[Entry]
+        ensures { result.now ≡ entries_out self.now }
     {
-        equal_entries_are_the_same();
-        if self.served >= self.accepted.len() {
-            return false;
-        }
-        self.accepted.as_slice()[self.served] == *entry
+        &self.unserved()[..self.out]
     }
 
-    /// Whether a turn has this core before its entry.
+    /// Whether these are the entries that are out.
+    fn are_out(&self, entries: &Entries) -> bool
+        ensures { IsTrue result ↔ (entries_out self.now ≡ entries.now) }
+    {
+        equal_entries_are_the_same();
+        self.entries_out() == entries.as_slice()
+    }
+
+    /// Whether a turn has this core before its entries.
     fn is_before(&self, core: &Core) -> bool
         ensures { IsTrue result ↔ (self.now.core ≡ core.now) }
     {
@@ -287,20 +319,26 @@ impl Row {
         self.local == turn.local
             && self.peer == turn.peer
             && self.served == turn.position
-            && self.is_before(&turn.before)
+            && self.is_before(turn.before.as_core())
     }
 
     /// Whether this turn is the one that is out.
     fn is_turn_out(&self, turn: &Turn) -> bool
-        ensures value { IsTrue result ↔ (turn_out self.now ≡ Some turn.now) }
-        ensures fits { IsTrue result → self.now.served + 1 < 2 ^ 64 }
+        ensures { IsTrue result ↔ (turn_out self.now ≡ Some turn.now) }
     {
-        self.has_turn_out() && self.is_from_here(turn) && self.is_next(&turn.entry)
+        self.has_turn_out() && self.is_from_here(turn) && self.are_out(&turn.entries)
     }
 
-    /// Takes back the turn that is out, served: its entry counts as served, and its request is to be sent unless the
-    /// dialogue was ended from outside. A stale or foreign turn, one whose identifiers, position, entry or core before
-    /// aren't those of the turn that is out, comes back, and nothing changes. Takes no memory.
+    /// What it accepted can be counted.
+    fn accepted_fits(&self)
+        ensures { length self.now.accepted < 2 ^ 64 }
+    {
+        let _count = self.accepted.len();
+    }
+
+    /// Takes back the turn that is out, served: the entries that were served count as served, and their requests are to
+    /// be sent unless the dialogue was ended from outside. A stale or foreign turn, one whose identifiers, position,
+    /// entries or core before aren't those of the turn that is out, comes back, and nothing changes. Takes no memory.
     pub fn give(&mut self, done: Done) -> Result<Requested, Done>
         ensures ok { IfOk result (λ requested. Gives self.old done requested self.new) }
         ensures err { IfErr result (λ back. (back ≡ done) × (self.new ≡ self.old)) }
@@ -310,20 +348,27 @@ impl Row {
             return Err(done);
         }
         folds_along_a_grown_list();
+        cut_is_a_front();
         entries_ask_once_at_most();
-        let Done { turn, after, frame } = done;
+        self.accepted_fits();
+        let Done {
+            turn,
+            served,
+            after,
+            frames,
+        } = done;
         turn.spend();
-        let requested = Requested::of(self.ended, frame);
+        let requested = Requested::of(self.ended, frames);
         let count = requested.frame_count();
-        self.served += 1;
-        self.core = after;
+        self.served += served;
+        self.core = after.into_core();
         self.queued += count;
         self.kept += count;
         self.out = 0;
         Ok(requested)
     }
 
-    /// Takes back the turn that is out, not served: its entry is the next one again. A stale or foreign turn
+    /// Takes back the turn that is out, not served: its entries are the next ones again. A stale or foreign turn
     /// comes back, and nothing changes. Takes no memory.
     pub fn put_back(&mut self, turn: Turn) -> Result<(), Turn>
         ensures ok { OnOk result (PutsBack self.old turn self.new) }

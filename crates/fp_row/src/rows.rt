@@ -27,6 +27,7 @@ pub struct Rows {
     rows: Slab<(u32, Row)>,
     // Leads from each identifier to its row.
     index: Index,
+    alloc: Global,
 }
 
 impl Model for Rows {
@@ -74,7 +75,13 @@ impl Rows {
         Rows {
             rows: Slab::new(alloc),
             index: Index::new(alloc),
+            alloc,
         }
+    }
+
+    /// The allocator with which they were made.
+    pub fn allocator(&self) -> Global {
+        self.alloc
     }
 
     /// How many there are.

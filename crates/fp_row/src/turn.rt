@@ -1,31 +1,33 @@
 //! Turns.
 
-ghost use Rattle.std.specs.Prelude.{◌≡◌, None, IfOk, IfErr, IsOk};
-ghost use Rattle.fp_service.specs.Serve.{request_of};
+ghost use Rattle.std.specs.Prelude.{◌≡◌, [], IfOk, IfErr, IsOk, length};
 ghost use Rattle.fp_tids.specs.Identifiers.{link_of};
 ghost use Rattle.fp_row.specs.Turn.{birth_of};
 
-use crate::{Done, RequestFrame};
-use fp_entry::Entry;
+use crate::Done;
+use crate::heap_core::HeapCore;
+use crate::serving::Steps;
+use fp_entry::Entries;
 use fp_q773::Tid;
-use fp_reply::bytes_of;
-use fp_service::{Core, step};
 use fp_tids::link_of;
 use std::alloc::Global;
 
-/// The next entry of a dialogue, with the core before it. A row hands out one at a time. It is served, put back or
-/// abandoned.
+/// The next entries of a dialogue, at most [`Turn::MOST_ENTRIES`], with the core before them. A row hands out one turn
+/// at a time. It is served, put back or abandoned.
 #[must_use]
 #[derive(Debug)]
 pub struct Turn {
     pub(crate) local: u32,
     pub(crate) peer: Tid,
     pub(crate) position: usize,
-    pub(crate) entry: Entry,
-    pub(crate) before: Core,
+    pub(crate) before: HeapCore,
+    pub(crate) entries: Entries,
 }
 
 impl Turn {
+    /// How many entries a turn has at most.
+    pub const MOST_ENTRIES: usize = 16;
+
     /// The link of the dialogue, 0 to 7.
     pub fn link(&self) -> u8
         ensures { result ≡ link_of self.now.local }
@@ -51,37 +53,42 @@ impl Turn {
     pub fn birth(&self) -> u64
         ensures { result ≡ birth_of self.now }
     {
-        self.before.birth()
+        self.before.as_core().birth()
     }
 
-    /// The place of the entry among those that the dialogue accepted, from 0.
+    /// The place of the first entry among those that the dialogue accepted, from 0.
     pub fn position(&self) -> u64
         ensures { result ≡ self.now.position }
     {
         self.position as u64
     }
 
-    /// Serves the entry: makes the step of the service logic, and the frame of what that requests. If memory runs out
-    /// for the frame, the turn comes back unchanged; so it never does if nothing is requested.
+    /// How many entries there are.
+    pub fn count(&self) -> usize
+        ensures { result ≡ length self.now.entries }
+    {
+        self.entries.len()
+    }
+
+    /// Serves the entries: makes the step of the service logic for one after the other, until the dialogue is over, and
+    /// the frames of what they request. If memory runs out, the turn comes back unchanged.
     pub fn serve(self, alloc: Global) -> Result<Done, Turn>
         ensures turn { IfOk result (λ done. done.turn ≡ self) }
         ensures same { IfErr result (λ turn. turn ≡ self) }
-        ensures silent { request_of self.before self.entry ≡ None → IsOk result }
     {
-        let Ok((after, request)) = step(alloc, &self.before, &self.entry) else {
+        let Ok(steps) = Steps::of(alloc, &self) else {
             return Err(self);
         };
-        let frame = match request {
-            None => None,
-            Some(request) => match bytes_of(alloc, &request, self.local, &self.peer) {
-                Ok(octets) => Some(RequestFrame::new(octets)),
-                Err(_) => return Err(self),
-            },
-        };
+        let Steps {
+            served,
+            after,
+            frames,
+        } = steps;
         Ok(Done {
             turn: self,
+            served,
             after,
-            frame,
+            frames,
         })
     }
 
@@ -96,8 +103,8 @@ impl Turn {
             local: _,
             peer: _,
             position: _,
-            entry: _,
             before: _,
+            entries: _,
         } = self;
     }
 }

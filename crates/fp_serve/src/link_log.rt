@@ -18,7 +18,7 @@ const MOST_MOVES: usize = fp_book::Log::MOST / LINES_AT_ONCE * 4;
 /// once may be twice as much.
 const OCTETS_OF_A_TURN: usize = 1 << 20;
 
-/// From how many octets of text that wait no more lines are moved while the link is up. At 100 calls a second, of seven
+/// From how many octets of text that wait no more lines are moved while the link is up. At 100 calls a second, of five
 /// lines each, a device that takes nothing fills them in five minutes.
 const MOST_OCTETS: usize = 6 << 20;
 

@@ -1,7 +1,7 @@
 //! What the service logic asks for, and what the core is then.
 
 ghost use Rattle.std.specs.Prelude.{◌≡◌, ◌∷◌, [], Some};
-ghost use Rattle.fp_service.specs.Answer.{abort_portion, abort_with, acceptance, answered, conclude, continue_with, end_with, invoke, no_request, reject, user_abort};
+ghost use Rattle.fp_service.specs.Answer.{abort_portion, abort_with, acceptance, answered, conclude, continue_with, end_with, invoke, reject, user_abort};
 
 use crate::{AbortPortion, Component, Components, Core, Instruction, Request};
 use fp_apdu::{Name, Opening};
@@ -21,16 +21,12 @@ impl Core {
         }
     }
 
-    /// The core after a Continue or End.
-    fn answered(self) -> Core
-        ensures { result ≡ answered self }
+    /// A Continue or End is asked for.
+    fn answer(&mut self)
+        ensures { self.new ≡ answered self.old }
     {
-        match self.opening {
-            Opening::Known(_) => Core {
-                accepted: true,
-                ..self
-            },
-            Opening::None | Opening::Unknown(_) | Opening::BadVersion(_) => self,
+        if let Opening::Known(_) = self.opening {
+            self.accepted = true;
         }
     }
 
@@ -44,59 +40,57 @@ impl Core {
         }
     }
 
-    /// Nothing is asked for.
-    pub(crate) fn no_request(self) -> (Core, Option<Request>)
-        ensures { result ≡ no_request self }
-    {
-        (self, None)
-    }
-
     /// A Continue message with these components.
     #[tactic(auto, unfolding(crate::specs::Answer::continue_with))]
-    pub(crate) fn continue_with(self, components: Components) -> (Core, Option<Request>)
-        ensures { result ≡ continue_with self components }
+    pub(crate) fn continue_with(&mut self, components: Components) -> Option<Request>
+        ensures { (self.new, result) ≡ continue_with self.old components }
     {
         let acceptance = self.acceptance();
         let request = Request::Continue {
             acceptance,
             components,
         };
-        (self.answered(), Some(request))
+        self.answer();
+        Some(request)
     }
 
     /// An End with these components.
     #[tactic(auto, unfolding(crate::specs::Answer::end_with))]
-    pub(crate) fn end_with(self, components: Components) -> (Core, Option<Request>)
-        ensures { result ≡ end_with self components }
+    pub(crate) fn end_with(&mut self, components: Components) -> Option<Request>
+        ensures { (self.new, result) ≡ end_with self.old components }
     {
         let acceptance = self.acceptance();
         let request = Request::End {
             acceptance,
             components,
         };
-        (self.answered().ended(), Some(request))
+        self.answer();
+        self.end();
+        Some(request)
     }
 
     /// An Abort with this dialogue portion.
     #[tactic(auto, unfolding(crate::specs::Answer::abort_with))]
-    pub(crate) fn abort_with(self, portion: AbortPortion) -> (Core, Option<Request>)
-        ensures { result ≡ abort_with self portion }
+    pub(crate) fn abort_with(&mut self, portion: AbortPortion) -> Option<Request>
+        ensures { (self.new, result) ≡ abort_with self.old portion }
     {
-        (self.ended(), Some(Request::Abort(portion)))
+        self.end();
+        Some(Request::Abort(portion))
     }
 
     /// A user Abort.
     #[tactic(auto, unfolding(crate::specs::Answer::user_abort))]
-    pub(crate) fn user_abort(self) -> (Core, Option<Request>)
-        ensures { result ≡ user_abort self }
+    pub(crate) fn user_abort(&mut self) -> Option<Request>
+        ensures { (self.new, result) ≡ user_abort self.old }
     {
-        self.abort_with(self.abort_portion())
+        let portion = self.abort_portion();
+        self.abort_with(portion)
     }
 
     /// A Continue message that rejects a component.
     #[tactic(auto, unfolding(crate::specs::Answer::reject))]
-    pub(crate) fn reject(self, identifier: Option<i8>, problem: Problem) -> (Core, Option<Request>)
-        ensures { result ≡ reject self identifier problem }
+    pub(crate) fn reject(&mut self, identifier: Option<i8>, problem: Problem) -> Option<Request>
+        ensures { (self.new, result) ≡ reject self.old identifier problem }
     {
         self.continue_with(Components::one(Component::Reject {
             identifier,
@@ -106,8 +100,8 @@ impl Core {
 
     /// An End that invokes an operation.
     #[tactic(auto, unfolding(crate::specs::Answer::conclude))]
-    pub(crate) fn conclude(self, instruction: Instruction) -> (Core, Option<Request>)
-        ensures { result ≡ conclude self instruction }
+    pub(crate) fn conclude(&mut self, instruction: Instruction) -> Option<Request>
+        ensures { (self.new, result) ≡ conclude self.old instruction }
     {
         let identifier = self.invocations.next();
         self.end_with(Components::one(Component::Invoke {

@@ -11,22 +11,19 @@ impl Core {
     /// The next destination is tried; the call is released for this cause where none is left.
     #[tactic(auto, unfolding(crate::specs::Attempt::try_next))]
     pub(crate) fn try_next(
-        self,
+        &mut self,
         moment: Moment,
         left: Option<Destinations>,
         cause: Cause,
-    ) -> (Core, Option<Request>)
-        ensures { result ≡ try_next self moment left cause }
+    ) -> Option<Request>
+        ensures { (self.new, result) ≡ try_next self.old moment left cause }
     {
         let Some(left) = left else {
             return self.conclude(Instruction::ReleaseCall(cause));
         };
         let split = left.split_first();
-        let core = Core {
-            state: State::Live(Stage::Waiting { left: split.left }),
-            ..self
-        };
-        core.instruct_both(
+        self.state = State::Live(Stage::Waiting { left: split.left });
+        self.instruct_both(
             moment,
             Instruction::RequestReportBcsmEvent,
             Instruction::Connect(split.first),
@@ -35,12 +32,12 @@ impl Core {
 
     /// An operation failed, so the destination did.
     #[tactic(auto, unfolding(crate::specs::Attempt::on_failure))]
-    pub(crate) fn on_failure(self, stage: Stage, moment: Moment) -> (Core, Option<Request>)
-        ensures { result ≡ on_failure stage self moment }
+    pub(crate) fn on_failure(&mut self, stage: Stage, moment: Moment) -> Option<Request>
+        ensures { (self.new, result) ≡ on_failure stage self.old moment }
     {
         match stage {
             Stage::Waiting { left } => self.try_next(moment, left, Cause::NoRouteToDestination),
-            Stage::Fresh => self.no_request(),
+            Stage::Fresh => None,
         }
     }
 }

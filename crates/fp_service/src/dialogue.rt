@@ -86,27 +86,20 @@ impl Core {
         }
     }
 
-    /// The core when an entry comes.
-    pub(crate) fn touched(self, entry: &Entry) -> Core
-        ensures { result ≡ touched self entry.now }
+    /// An entry comes.
+    pub(crate) fn touch(&mut self, entry: &Entry)
+        ensures { self.new ≡ touched self.old entry.now }
     {
-        if entry.kind.is_clock() {
-            return self;
-        }
-        Core {
-            last: entry.moment,
-            ..self
+        if !entry.kind.is_clock() {
+            self.last = entry.moment;
         }
     }
 
-    /// The core of the dialogue when it is over.
-    pub(crate) fn ended(self) -> Core
-        ensures { result ≡ ended self }
+    /// The dialogue is over.
+    pub(crate) fn end(&mut self)
+        ensures { self.new ≡ ended self.old }
     {
-        Core {
-            state: State::Over,
-            ..self
-        }
+        self.state = State::Over;
     }
 
     /// The moment, in milliseconds since 1970-01-01T00:00:00Z, at which the peer has been quiet for too long.

@@ -12,30 +12,30 @@ impl Core {
     /// An event, as a notification or not.
     #[tactic(auto, unfolding(crate::specs::Event::on_event))]
     pub(crate) fn on_event(
-        self,
+        &mut self,
         stage: Stage,
         moment: Moment,
         event: Event,
         notification: bool,
-    ) -> (Core, Option<Request>)
-        ensures { result ≡ on_event stage self moment event notification }
+    ) -> Option<Request>
+        ensures { (self.new, result) ≡ on_event stage self.old moment event notification }
     {
         match stage {
             Stage::Waiting { left } => self.on_report(moment, left, event, notification),
-            Stage::Fresh => self.no_request(),
+            Stage::Fresh => None,
         }
     }
 
     /// An event of a call for which these destinations are left.
     #[tactic(auto, unfolding(crate::specs::Event::on_report))]
     fn on_report(
-        self,
+        &mut self,
         moment: Moment,
         left: Option<Destinations>,
         event: Event,
         notification: bool,
-    ) -> (Core, Option<Request>)
-        ensures { result ≡ on_report self moment left event notification }
+    ) -> Option<Request>
+        ensures { (self.new, result) ≡ on_report self.old moment left event notification }
     {
         match event {
             Event::RouteSelectFailure => self.try_next(moment, left, Cause::NoRouteToDestination),
@@ -47,11 +47,11 @@ impl Core {
     }
 
     /// The switch goes on with the call, and is told so where it waits.
-    fn goes_on(self, moment: Moment, notification: bool) -> (Core, Option<Request>)
-        ensures { result ≡ goes_on self moment notification }
+    fn goes_on(&mut self, moment: Moment, notification: bool) -> Option<Request>
+        ensures { (self.new, result) ≡ goes_on self.old moment notification }
     {
         if notification {
-            self.no_request()
+            None
         } else {
             self.instruct(moment, Instruction::Continue)
         }

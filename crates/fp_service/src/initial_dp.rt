@@ -17,14 +17,14 @@ impl Core {
     /// An InitialDP of this calling number, for which the table has what was found.
     #[tactic(auto, unfolding(crate::specs::InitialDp::on_initial_dp))]
     pub(crate) fn on_initial_dp(
-        self,
+        &mut self,
         stage: Stage,
         moment: Moment,
         identifier: i8,
         calling: Option<Number>,
         found: &Found,
-    ) -> (Core, Option<Request>)
-        ensures { result ≡ on_initial_dp stage self moment identifier (calling_digits calling) found.now }
+    ) -> Option<Request>
+        ensures { (self.new, result) ≡ on_initial_dp stage self.old moment identifier (calling_digits calling) found.now }
     {
         match stage {
             Stage::Fresh => self.on_call(moment, identifier, calling, found),
@@ -39,13 +39,13 @@ impl Core {
     /// The InitialDP that begins a call.
     #[tactic(auto, unfolding(crate::specs::InitialDp::on_call))]
     fn on_call(
-        self,
+        &mut self,
         moment: Moment,
         identifier: i8,
         calling: Option<Number>,
         found: &Found,
-    ) -> (Core, Option<Request>)
-        ensures { result ≡ on_call self moment identifier (calling_digits calling) found.now }
+    ) -> Option<Request>
+        ensures { (self.new, result) ≡ on_call self.old moment identifier (calling_digits calling) found.now }
     {
         match found {
             Found::Missing => self.end_with_error(identifier, OperationError::MissingParameter),
@@ -58,8 +58,8 @@ impl Core {
     }
 
     /// An End with a ReturnError.
-    fn end_with_error(self, identifier: i8, error: OperationError) -> (Core, Option<Request>)
-        ensures { result ≡ end_with self (ReturnError identifier error ∷ []) }
+    fn end_with_error(&mut self, identifier: i8, error: OperationError) -> Option<Request>
+        ensures { (self.new, result) ≡ end_with self.old (ReturnError identifier error ∷ []) }
     {
         let error = Component::ReturnError { identifier, error };
         self.end_with(Components::one(error))
@@ -68,12 +68,12 @@ impl Core {
     /// The rule of a record is chosen, and acts.
     #[tactic(auto, unfolding(crate::specs::InitialDp::by_rule))]
     fn by_record(
-        self,
+        &mut self,
         moment: Moment,
         calling: Option<Number>,
         rules: &Record,
-    ) -> (Core, Option<Request>)
-        ensures { result ≡ by_rule self moment (choice rules.now (calling_digits calling) moment self.birth) }
+    ) -> Option<Request>
+        ensures { (self.new, result) ≡ by_rule self.old moment (choice rules.now (calling_digits calling) moment self.old.birth) }
     {
         let Some(rule) = rules.choose(calling.as_ref(), moment, self.birth) else {
             return self.conclude(Instruction::ReleaseCall(Cause::NoRouteToDestination));
@@ -83,8 +83,8 @@ impl Core {
 
     /// What a rule does.
     #[tactic(auto, unfolding(crate::specs::InitialDp::by_action))]
-    fn by_action(self, moment: Moment, action: Action) -> (Core, Option<Request>)
-        ensures { result ≡ by_action self moment action }
+    fn by_action(&mut self, moment: Moment, action: Action) -> Option<Request>
+        ensures { (self.new, result) ≡ by_action self.old moment action }
     {
         match action {
             Action::Refuse => self.conclude(Instruction::ReleaseCall(Cause::CallRejected)),
@@ -94,8 +94,8 @@ impl Core {
     }
 
     /// The only destination is connected, the first of several is tried.
-    fn by_destinations(self, moment: Moment, destinations: &Destinations) -> (Core, Option<Request>)
-        ensures { result ≡ by_destinations self moment destinations.now (rest_of destinations.now) }
+    fn by_destinations(&mut self, moment: Moment, destinations: &Destinations) -> Option<Request>
+        ensures { (self.new, result) ≡ by_destinations self.old moment destinations.now (rest_of destinations.now) }
     {
         let split = (*destinations).split_first();
         if split.left.is_none() {

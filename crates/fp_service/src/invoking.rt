@@ -28,33 +28,26 @@ fn start(
 impl Core {
     /// A Continue message that invokes an operation; a user Abort where it finds no place.
     #[tactic(auto, unfolding(crate::specs::Answer::instruct))]
-    pub(crate) fn instruct(
-        self,
-        moment: Moment,
-        instruction: Instruction,
-    ) -> (Core, Option<Request>)
-        ensures { result ≡ instruct self moment (instruction ∷ []) }
+    pub(crate) fn instruct(&mut self, moment: Moment, instruction: Instruction) -> Option<Request>
+        ensures { (self.new, result) ≡ instruct self.old moment (instruction ∷ []) }
     {
         let mut invocations = self.invocations;
         let Ok(invoke) = start(&mut invocations, instruction, moment) else {
             return self.user_abort();
         };
-        let core = Core {
-            invocations,
-            ..self
-        };
-        core.continue_with(Components::one(invoke))
+        self.invocations = invocations;
+        self.continue_with(Components::one(invoke))
     }
 
     /// A Continue message that invokes two operations; a user Abort where they don't both find a place.
     #[tactic(auto, unfolding(crate::specs::Answer::instruct))]
     pub(crate) fn instruct_both(
-        self,
+        &mut self,
         moment: Moment,
         first: Instruction,
         second: Instruction,
-    ) -> (Core, Option<Request>)
-        ensures { result ≡ instruct self moment (first ∷ second ∷ []) }
+    ) -> Option<Request>
+        ensures { (self.new, result) ≡ instruct self.old moment (first ∷ second ∷ []) }
     {
         let mut invocations = self.invocations;
         let Ok(first) = start(&mut invocations, first, moment) else {
@@ -62,11 +55,8 @@ impl Core {
         };
         match start(&mut invocations, second, moment) {
             Ok(second) => {
-                let core = Core {
-                    invocations,
-                    ..self
-                };
-                core.continue_with(Components::two(first, second))
+                self.invocations = invocations;
+                self.continue_with(Components::two(first, second))
             }
             // The first one isn't kept either.
             Err(Full) => self.user_abort(),

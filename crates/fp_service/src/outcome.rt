@@ -13,66 +13,63 @@ impl Core {
     /// A ReturnResult, which is the last or not.
     #[tactic(auto, unfolding(crate::specs::Outcome::on_outcome))]
     pub(crate) fn on_result(
-        self,
+        &mut self,
         stage: Stage,
         moment: Moment,
         identifier: i8,
         last: bool,
-    ) -> (Core, Option<Request>)
-        ensures { result ≡ on_outcome stage self moment identifier
-            (outcome_of_result last (class_of identifier self.invocations.active)) }
+    ) -> Option<Request>
+        ensures { (self.new, result) ≡ on_outcome stage self.old moment identifier
+            (outcome_of_result last (class_of identifier self.old.invocations.active)) }
     {
-        let mut core = self;
-        let outcome = core.invocations.result(identifier, last);
-        core.by_outcome(stage, moment, identifier, outcome)
+        let outcome = self.invocations.result(identifier, last);
+        self.by_outcome(stage, moment, identifier, outcome)
     }
 
     /// A ReturnError.
     #[tactic(auto, unfolding(crate::specs::Outcome::on_outcome))]
     pub(crate) fn on_error(
-        self,
+        &mut self,
         stage: Stage,
         moment: Moment,
         identifier: i8,
-    ) -> (Core, Option<Request>)
-        ensures { result ≡ on_outcome stage self moment identifier
-            (outcome_of_error (class_of identifier self.invocations.active)) }
+    ) -> Option<Request>
+        ensures { (self.new, result) ≡ on_outcome stage self.old moment identifier
+            (outcome_of_error (class_of identifier self.old.invocations.active)) }
     {
-        let mut core = self;
-        let outcome = core.invocations.error(identifier);
-        core.by_outcome(stage, moment, identifier, outcome)
+        let outcome = self.invocations.error(identifier);
+        self.by_outcome(stage, moment, identifier, outcome)
     }
 
     /// A Reject.
     #[tactic(auto, unfolding(crate::specs::Outcome::on_outcome))]
     pub(crate) fn on_reject(
-        self,
+        &mut self,
         stage: Stage,
         moment: Moment,
         identifier: i8,
-    ) -> (Core, Option<Request>)
-        ensures { result ≡ on_outcome stage self moment identifier
-            (outcome_of_reject (class_of identifier self.invocations.active)) }
+    ) -> Option<Request>
+        ensures { (self.new, result) ≡ on_outcome stage self.old moment identifier
+            (outcome_of_reject (class_of identifier self.old.invocations.active)) }
     {
-        let mut core = self;
-        let outcome = core.invocations.reject(identifier);
-        core.by_outcome(stage, moment, identifier, outcome)
+        let outcome = self.invocations.reject(identifier);
+        self.by_outcome(stage, moment, identifier, outcome)
     }
 
     /// What follows from an outcome.
     fn by_outcome(
-        self,
+        &mut self,
         stage: Stage,
         moment: Moment,
         identifier: i8,
         outcome: Outcome,
-    ) -> (Core, Option<Request>)
-        ensures { result ≡ by_outcome stage self moment identifier outcome }
+    ) -> Option<Request>
+        ensures { (self.new, result) ≡ by_outcome stage self.old moment identifier outcome }
     {
         match outcome {
             Outcome::Problem(problem) => self.reject(Some(identifier), problem),
             Outcome::Failure => self.on_failure(stage, moment),
-            Outcome::Success | Outcome::Stays | Outcome::Ignored => self.no_request(),
+            Outcome::Success | Outcome::Stays | Outcome::Ignored => None,
         }
     }
 }

@@ -14,7 +14,6 @@ use std::alloc::{AllocError, Global};
 /// and `serve` of `specs/Serve.antt`.
 ///
 /// Takes no memory, so the error never comes.
-#[tactic(auto, unfolding(crate::specs::Serve::serve))]
 pub fn step(
     alloc: Global,
     core: &Core,
@@ -23,22 +22,37 @@ pub fn step(
     ensures value { IfOk result (λ served. served ≡ serve core.now entry.now) }
     ensures done { IsOk result }
 {
-    let state = core.state;
-    let core = core.touched(entry);
-    match state {
-        State::Over => Ok(core.no_request()),
-        State::Live(stage) => Ok(core.on_kind(stage, entry.moment, &entry.kind)),
-    }
+    let _alloc = alloc;
+    let mut after = *core;
+    let request = after.step(entry);
+    Ok((after, request))
 }
 
 impl Core {
+    /// The step of the service logic in place: the core becomes that after an entry. Returns what is asked for, as
+    /// [`step`]. Takes no memory.
+    #[tactic(auto, unfolding(crate::specs::Serve::serve))]
+    pub fn step(&mut self, entry: &Entry) -> Option<Request>
+        ensures { (self.new, result) ≡ serve self.old entry.now }
+    {
+        let state = self.state;
+        self.touch(entry);
+        match state {
+            State::Over => None,
+            State::Live(stage) => self.on_kind(stage, entry.moment, &entry.kind),
+        }
+    }
+
     /// What comes to a dialogue that isn't over.
     #[tactic(auto, unfolding(crate::specs::Serve::on_kind))]
-    fn on_kind(self, stage: Stage, moment: Moment, kind: &EntryKind) -> (Core, Option<Request>)
-        ensures { result ≡ on_kind stage self moment kind.now }
+    fn on_kind(&mut self, stage: Stage, moment: Moment, kind: &EntryKind) -> Option<Request>
+        ensures { (self.new, result) ≡ on_kind stage self.old moment kind.now }
     {
         match kind {
-            EntryKind::PeerEnd | EntryKind::PeerAbort => self.ended().no_request(),
+            EntryKind::PeerEnd | EntryKind::PeerAbort => {
+                self.end();
+                None
+            }
             EntryKind::Opened(opening) => self.on_opening(stage, *opening),
             EntryKind::InitialDp {
                 identifier,
@@ -68,7 +82,7 @@ impl Core {
                 self.on_result(stage, moment, *identifier, *last)
             }
             EntryKind::Error { identifier } => self.on_error(stage, moment, *identifier),
-            EntryKind::Reject { identifier: None } => self.no_request(),
+            EntryKind::Reject { identifier: None } => None,
             EntryKind::Reject {
                 identifier: Some(identifier),
             } => self.on_reject(stage, moment, *identifier),
@@ -90,21 +104,24 @@ impl Core {
 
     /// A Begin.
     #[tactic(auto, unfolding(crate::specs::Serve::on_opening))]
-    fn on_opening(self, stage: Stage, opening: Opening) -> (Core, Option<Request>)
-        ensures { result ≡ on_opening stage self opening }
+    fn on_opening(&mut self, stage: Stage, opening: Opening) -> Option<Request>
+        ensures { (self.new, result) ≡ on_opening stage self.old opening }
     {
         match stage {
-            Stage::Fresh => Core { opening, ..self }.by_opening(&opening),
-            Stage::Waiting { .. } => self.no_request(),
+            Stage::Fresh => {
+                self.opening = opening;
+                self.by_opening(&opening)
+            }
+            Stage::Waiting { .. } => None,
         }
     }
 
     /// The dialogue is refused where it isn't accepted.
-    fn by_opening(self, opening: &Opening) -> (Core, Option<Request>)
-        ensures { result ≡ by_opening self opening.now }
+    fn by_opening(&mut self, opening: &Opening) -> Option<Request>
+        ensures { (self.new, result) ≡ by_opening self.old opening.now }
     {
         match opening {
-            Opening::None | Opening::Known(_) => self.no_request(),
+            Opening::None | Opening::Known(_) => None,
             Opening::Unknown(name) => self.abort_with(AbortPortion::NoName(*name)),
             Opening::BadVersion(name) => self.abort_with(AbortPortion::NoVersion(*name)),
         }
@@ -112,8 +129,8 @@ impl Core {
 
     /// An Invoke with a linked identifier.
     #[tactic(auto, unfolding(crate::specs::Serve::reject_linked))]
-    fn reject_linked(self, identifier: i8, linked: i8) -> (Core, Option<Request>)
-        ensures { result ≡ reject_linked self identifier linked }
+    fn reject_linked(&mut self, identifier: i8, linked: i8) -> Option<Request>
+        ensures { (self.new, result) ≡ reject_linked self.old identifier linked }
     {
         let problem = if self.invocations.active(linked) {
             InvokeProblem::LinkedResponseUnexpected
@@ -125,15 +142,14 @@ impl Core {
 
     /// A Clock.
     #[tactic(auto, unfolding(crate::specs::Serve::on_clock))]
-    fn on_clock(self, moment: Moment) -> (Core, Option<Request>)
-        ensures { result ≡ on_clock self moment }
+    fn on_clock(&mut self, moment: Moment) -> Option<Request>
+        ensures { (self.new, result) ≡ on_clock self.old moment }
     {
-        let mut core = self;
-        let _ = core.invocations.due(moment);
-        if moment.milliseconds() >= core.quiet_until() {
-            core.user_abort()
+        let _ = self.invocations.due(moment);
+        if moment.milliseconds() >= self.quiet_until() {
+            self.user_abort()
         } else {
-            core.no_request()
+            None
         }
     }
 }

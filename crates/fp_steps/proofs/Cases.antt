@@ -1,5 +1,5 @@
 -- What is made of a book, by cases: each step with the answers that it may have.
-use Rattle.fp_steps.proofs.Names.{BeginsAnew, Content, Done, Follows, Given, GivesDone, GoesDown, IsSome, List, LoggedStep, MakesOf, None, Option, Output, Parcel, PicksParcel, Posted, PostsTo, Prepared, PutsTurnBack, Sends, Shelf, Some, Step, TakesTurn, Ticks, Turn, Unsends, [], arrival_of, components_in, get, nothing, parcel_local as local_of, parcel_octets as octets_of, places_held, posted_totals, refl, subst, sym, turn_of, verdict, ℕ, ⊤, ◌≡◌, ◌≢◌, ◌≤◌}
+use Rattle.fp_steps.proofs.Names.{BeginsAnew, Content, Done, Follows, Given, GivesDone, GoesDown, IsSome, List, LoggedStep, MakesOf, None, Option, Output, Parcel, PicksParcel, Posted, PostsTo, Prepared, PutsTurnBack, Sends, Shelf, Some, Step, TakesTurn, Ticks, Turn, Unsends, [], arrival_of, components_in, get, length, nothing, parcel_local as local_of, parcel_octets as octets_of, places_held, posted_totals, refl, subst, sym, turn_of, verdict, ℕ, ⊤, ◌≡◌, ◌≢◌, ◌≤◌}
 
 -- a step that posts a message
 abbrev pub IsPost : Step → Type 0
@@ -14,10 +14,10 @@ IsAnew came = (p : Prepared) → came ≡ Some p → BeginsAnew (arrival_of p).i
 pub record Cases (P : Step → Output → Type 0) (came : Option Prepared) (old new : Shelf) : Type 0 where
   pub posted : (step : Step) → IsPost step → (p : Prepared) (answer : Posted) (components : ℕ) → came ≡ Some p → components ≡ components_in answer p → Follows (verdict old p) old p answer new → new.totals ≡ posted_totals old.totals p answer → P step (Output.Posted answer components)
   pub ticked : (moment added wanting : ℕ) → wanting ≡ 0 → Ticks old moment added wanting new → P (Step.Tick moment) (Output.Ticked added wanting)
-  pub took : (turn : Turn) → TakesTurn old turn new → P Step.Take (Output.Took turn.local turn.position)
+  pub took : (turn : Turn) → TakesTurn old turn new → P Step.Take (Output.Took turn.local turn.position (length turn.entries))
   pub no_room : old.ready ≢ [] → 8192 ≤ places_held old → new ≡ old → P Step.Take Output.NoRoom
   pub none_taken : old.ready ≡ [] → new ≡ old → P Step.Take Output.Nothing
-  pub gave : (done : Done) (given : Given) → GivesDone old done given new → P (Step.Give done.turn.local) (Output.Gave done.turn.local done.turn.position given)
+  pub gave : (done : Done) (given : Given) → GivesDone old done given new → P (Step.Give done.turn.local) (Output.Gave done.turn.local done.turn.position done.served given)
   pub none_given : (local : ℕ) → turn_of (get old.rows local) ≡ None → new ≡ old → P (Step.Give local) Output.Nothing
   pub went_back : (turn : Turn) → PutsTurnBack old turn new → P (Step.PutBack turn.local) Output.WentBack
   pub none_back : (local : ℕ) → turn_of (get old.rows local) ≡ None → new ≡ old → P (Step.PutBack local) Output.Nothing
@@ -40,12 +40,14 @@ pub by_made : (P : Step → Output → Type 0) (step : Step) {came : Option Prep
 by_made P (Step.Post octets moment) output c g = by_post _ (Step.Post octets moment) _ output tt c g
 by_made P (Step.Lost octets moment) output c g = by_post _ (Step.Lost octets moment) _ output tt c g
 by_made P (Step.Tick moment) (Output.Ticked added wanting) c g = c.ticked moment added wanting g.0 g.1
-by_made P Step.Take (Output.Took l position) c g = subst (λ n. P Step.Take (Output.Took n position)) g.1 (subst (λ n. P Step.Take (Output.Took g.0.local n)) g.2 (c.took g.0 g.3))
+by_made P Step.Take (Output.Took l position count) c g = subst (P Step.Take) (λ i. Output.Took (g.1 i) (g.2 i) (g.3 i)) (c.took g.0 g.4)
 by_made P Step.Take Output.NoRoom c g = c.no_room g.0 g.1 g.2
 by_made P Step.Take Output.Nothing c g = c.none_taken g.0 g.1
-by_made P (Step.Give local) (Output.Gave l position given) c g =
-    subst (λ n. P (Step.Give local) (Output.Gave n position given)) (sym g.0)
-    (subst (λ n. P (Step.Give n) (Output.Gave n position given)) g.1.1 (subst (λ n. P (Step.Give g.1.0.turn.local) (Output.Gave g.1.0.turn.local n given)) g.1.2 (c.gave g.1.0 given g.1.3)))
+by_made P (Step.Give local) (Output.Gave l position served given) c g =
+    let done : Done = g.1.0 in
+    subst (λ n. P (Step.Give local) (Output.Gave n position served given)) (sym g.0)
+    (subst (λ n. P (Step.Give n) (Output.Gave n position served given)) g.1.1
+    (subst (P (Step.Give done.turn.local)) (λ i. Output.Gave done.turn.local (g.1.2 i) (g.1.3 i) given) (c.gave done given g.1.4)))
 by_made P (Step.Give local) Output.Nothing c g = c.none_given local g.0 g.1
 by_made P (Step.PutBack local) Output.WentBack c g = subst (λ n. P (Step.PutBack n) Output.WentBack) g.1 (c.went_back g.0 g.2)
 by_made P (Step.PutBack local) Output.Nothing c g = c.none_back local g.0 g.1

@@ -1,7 +1,7 @@
 -- Each step adds to the totals of its book, and to the sums over all dialogues, what its output tells.
-use Rattle.fp_steps.proofs.Names.{AbortCause, AddUp, AreFew, Bool, Clock, Content, Entry, Event, Follows, Headline, List, MakesOf, None, Option, Output, Posted, Prepared, Request, Row, RowsKeepTheirOrder, Sends, Shelf, Some, Sound, Step, Story, Tells, Tid, Tied, Totals, Verdict, [], abort_for, accepted, accepted_in, add-one, answer_by, ap, arith, arrival_of, births, births_after, cases_Bool, component_count, components_came, components_in, cond, course, destination, entries_in, entry_at, eqb, eqb-false, eqb-true, false, for_one, frame_for, frame_of, frames_of, handed, identifier, is_from_component, is_none, is_sent, length, length-append, length-map, more_accepted, named, ne_eqb, no_totals, not, octets_of, opened_by, opened_in, option_map, out, outputs_of, plus, position_in, positions, posted_totals, receiver, refl, requests_of, sent, sent_by, sent_in, served, served_by, story, subst, suc, sum-le, sum_by-append, sum_of, sum_to, sym, totals_of, totals_over, true, untold, verdict, verdict_tells, zero, ℕ, ⊎_elim, ⊤, ◌++◌, ◌+◌, ◌<◌, ◌^◌, ◌∙◌, ◌∷◌, ◌≡◌, ◌≤◌}
+use Rattle.fp_steps.proofs.Names.{AbortCause, AddUp, AreFew, Bool, Clock, Content, Entry, Event, Follows, Headline, List, MakesOf, None, Option, Output, Posted, Prepared, Request, Row, RowsKeepTheirOrder, Sends, Shelf, Some, Sound, Step, Story, Tells, Tid, Tied, Totals, Verdict, [], abort_for, accepted, accepted_in, add-one, answer_by, ap, arith, arrival_of, births, births_after, cases_Bool, component_count, components_came, components_in, cond, course, destination, entries_in, entry_at, eqb, eqb-false, eqb-true, false, for_one, frame_for, frame_of, frames_of, handed, identifier, is_from_component, is_none, is_sent, length, length-append, length-map, more_accepted, named, ne_eqb, no_totals, not, octets_of, opened_by, opened_in, option_map, out, outputs_of, plus, position_in, positions, posted_totals, receiver, refl, requests_of, sent, sent_by, sent_in, served, served_by, story, subst, suc, sum-le, sum_by-append, sum_of, sum_to, sym, totals_of, totals_over, true, untold, verdict, verdict_tells, zero, ℕ, ⊎_elim, ⊤, ◌++◌, ◌+◌, ◌<◌, ◌^◌, ◌∙◌, ◌∷◌, ◌≡◌, ◌≤◌, numbers_from}
 use Rattle.fp_steps.proofs.Cases.{Cases, by_made, IsAnew}
-use Rattle.fp_steps.proofs.HeldDialogues.{event, for_other, for_own, held_of, none_named, not_abort}
+use Rattle.fp_steps.proofs.HeldDialogues.{event, for_other, for_own, held_of, length-numbers_from, none_named, not_abort}
 use Rattle.fp_steps.proofs.MessageAnswers.{answer_is, answer_of}
 use Rattle.fp_steps.proofs.OutputTotals.{added, local_in, make, none_more, one_if, plus_none, same, totals_next}
 use Rattle.fp_steps.proofs.SumsOverBirths.{sum_to_same}
@@ -214,16 +214,17 @@ counts {h} came {old} new anew t k =
           subst (λ c. Counts h (event step c (Output.Posted answer components)) old new) (sym is)
           (message h step p answer components old new (subst (Receives h p) (sym says) (receives p answer new waiting next v t k (verdict_tells old p (anew p is)) g)) count totals);
       ticked = λ moment many wanting zero g. ticked h came moment many wanting old new (ap (λ (s : Shelf). s.totals) g.new_is);
-      took = λ turn g. none Step.Take (Output.Took turn.local turn.position) (ap (λ (s : Shelf). s.totals) g.new_is) refl empty;
+      took = λ turn g. none Step.Take (Output.Took turn.local turn.position (length turn.entries)) (ap (λ (s : Shelf). s.totals) g.new_is) refl empty;
       no_room = λ some full same. none Step.Take Output.NoRoom (stays same) refl empty;
       none_taken = λ none_ready same. none Step.Take Output.Nothing (stays same) refl empty;
       gave = λ done given g.
           let local = done.turn.local in let born = held_of local g.before t k g.was in
-          let e = event (Step.Give local) came (Output.Gave local done.turn.position given) in
+          let e = event (Step.Give local) came (Output.Gave local done.turn.position done.served given) in
           record {
-            shared = same (shares (births h) h e) (added h e) (zeros (births h)) (sum_for length (births h) (named h local) g.before.birth (done.turn.position ∷ []) refl born.name born.first born.last) (zeros (births h));
+            shared = same (shares (births h) h e) (added h e) (zeros (births h))
+                (sum_for length (births h) (named h local) g.before.birth (numbers_from done.turn.position done.served) refl born.name born.first born.last ∙ length-numbers_from done.turn.position done.served) (zeros (births h));
             counted = ap (λ (s : Shelf). s.totals) g.new_is
-                ∙ same (make old.totals.accepted (old.totals.served + 1) old.totals.sent) (plus old.totals (added h e)) (none_more old.totals.accepted) refl (none_more old.totals.sent);
+                ∙ same (make old.totals.accepted (old.totals.served + done.served) old.totals.sent) (plus old.totals (added h e)) (none_more old.totals.accepted) refl (none_more old.totals.sent);
           };
       none_given = λ local out same. none (Step.Give local) Output.Nothing (stays same) refl empty;
       went_back = λ turn g. none (Step.PutBack turn.local) Output.WentBack (ap (λ (s : Shelf). s.totals) g.new_is) refl empty;

@@ -1,6 +1,6 @@
 -- The frames that wait are those that were accepted for sending and not picked: the oldest goes where one is picked,
--- one more stands behind the others where a request is accepted, and those of a dialogue go where it is ended.
-use Rattle.fp_steps.proofs.Names.{Bool, Event, Given, List, None, Option, Output, QueuedFrame, Some, [], add-zero, and_parts, ap, append-nil, arith, cases_Bool, cond, eqb, eqb-true, false, filter, for_one, frame_at, frames, frames_after, frames_by, if_queued, length, length-append, map_list as map, named, nat_le, nat_tests, option_to_list, queued, queued_in, refl, subst, suc, sym, true, ℕ, ⊎_elim, ⊤, ◌&&◌, ◌++◌, ◌+◌, ◌<◌, ◌∙◌, ◌∷◌, ◌≡◌, ◌≤◌}
+-- more stand behind the others where requests are accepted, and those of a dialogue go where it is ended.
+use Rattle.fp_steps.proofs.Names.{Bool, Event, Given, List, None, Option, Output, QueuedFrame, Some, [], add-zero, and_parts, ap, append-nil, arith, cases_Bool, cond, eqb, eqb-true, false, filter, for_one, frames, frames_after, frames_by, if_queued, length, length-append, named, nat_le, nat_tests, queued, queued_in, refl, subst, suc, sym, true, ℕ, ⊎_elim, ⊤, ◌&&◌, ◌++◌, ◌+◌, ◌<◌, ◌∙◌, ◌∷◌, ◌≡◌, ◌≤◌, append_assoc, asked_at, eq-eqb, numbered}
 use Rattle.fp_steps.proofs.HeldDialogues.{for_other}
 use Rattle.fp_steps.proofs.TieAtTurns.{none_queued}
 
@@ -105,10 +105,6 @@ filter_none p (a ∷ xs) none = ap (λ b. cond b (a ∷ filter p xs) (filter p x
 
 -- NUMBERS
 
--- a frame that is accepted for sending now
-abbrev pub made_of : List Event → ℕ → List ℕ → QueuedFrame
-made_of h d frame = record { dialogue = d; place = length (queued h d); frame = frame }
-
 abbrev pub zero_of : ℕ → ℕ
 zero_of d = 0
 
@@ -116,60 +112,53 @@ n_of-append : (d : ℕ) (xs ys : List QueuedFrame) → n_of d (xs ++ ys) ≡ n_o
 n_of-append d [] ys = omega arith
 n_of-append d (x ∷ xs) ys = grind (arith, nat_tests, n_of-append d xs ys)
 
-n_of-own : (h : List Event) (c d : ℕ) (xs : List (List ℕ)) → eqb d c ≡ true → n_of d (map (made_of h c) xs) ≡ length xs
-n_of-own h c d [] e = refl
-n_of-own h c d (x ∷ xs) e = grind (arith, nat_tests, n_of-own h c d xs e)
+n_of-own : (c d place : ℕ) (xs : List (List ℕ)) → eqb d c ≡ true → n_of d (numbered c place xs) ≡ length xs
+n_of-own c d place [] e = refl
+n_of-own c d place (x ∷ xs) e = grind (arith, nat_tests, n_of-own c d (place + 1) xs e)
 
-n_of-other : (h : List Event) (c d : ℕ) (xs : List (List ℕ)) → eqb d c ≡ false → n_of d (map (made_of h c) xs) ≡ 0
-n_of-other h c d [] e = refl
-n_of-other h c d (x ∷ xs) e = grind (arith, nat_tests, n_of-other h c d xs e)
+n_of-other : (c d place : ℕ) (xs : List (List ℕ)) → eqb d c ≡ false → n_of d (numbered c place xs) ≡ 0
+n_of-other c d place [] e = refl
+n_of-other c d place (x ∷ xs) e = grind (arith, nat_tests, n_of-other c d (place + 1) xs e)
 
 -- each is counted
-counted_gave : (h : List Event) (l p : ℕ) (given : Given) (d : ℕ) (o : Option ℕ) → named h l ≡ o → n_of d (frames h) ≡ length (queued h d)
-    → n_of d (frames h ++ frames_by o (Output.Gave l p given) h) ≡ length (queued h d ++ queued_in (Output.Gave l p given) h d)
-counted_gave h l p given d None name same =
-    let none : queued_in (Output.Gave l p given) h d ≡ [] = ap (λ o. if_queued given (for_one o d (option_to_list (frame_at h d p)))) name ∙ none_queued given in
+counted_gave : (h : List Event) (l p n : ℕ) (given : Given) (d : ℕ) (o : Option ℕ) → named h l ≡ o → n_of d (frames h) ≡ length (queued h d)
+    → n_of d (frames h ++ frames_by o (Output.Gave l p n given) h) ≡ length (queued h d ++ queued_in (Output.Gave l p n given) h d)
+counted_gave h l p n given d None name same =
+    let none : queued_in (Output.Gave l p n given) h d ≡ [] = ap (λ o. if_queued given (for_one o d (asked_at h d p n))) name ∙ none_queued given in
     ap (n_of d) (append-nil (frames h)) ∙ same ∙ ap length (sym (append-nil (queued h d))) ∙ ap (λ xs. length (queued h d ++ xs)) (sym none)
-counted_gave h l p given d (Some c) name same =
-    let xs = queued_in (Output.Gave l p given) h c in
-    let all = n_of-append d (frames h) (map (made_of h c) xs) in
+counted_gave h l p n given d (Some c) name same =
+    let xs = queued_in (Output.Gave l p n given) h c in let place = length (queued h c) in
+    let all = n_of-append d (frames h) (numbered c place xs) in
     ⊎_elim
     (λ e.
-    let these : n_of d (map (made_of h c) xs) ≡ length (queued_in (Output.Gave l p given) h d) =
-    n_of-own h c d xs e ∙ ap (λ k. length (queued_in (Output.Gave l p given) h k)) (sym (eqb-true d c e))
+    let these : n_of d (numbered c place xs) ≡ length (queued_in (Output.Gave l p n given) h d) =
+    n_of-own c d place xs e ∙ ap (λ k. length (queued_in (Output.Gave l p n given) h k)) (sym (eqb-true d c e))
     in
-    omega (arith, all, these, same, length-append (queued h d) (queued_in (Output.Gave l p given) h d)))
+    omega (arith, all, these, same, length-append (queued h d) (queued_in (Output.Gave l p n given) h d)))
     (λ e.
-    let none : queued_in (Output.Gave l p given) h d ≡ [] =
-    ap (if_queued given) (for_other (named h l) d c (option_to_list (frame_at h d p)) name e) ∙ none_queued given
+    let none : queued_in (Output.Gave l p n given) h d ≡ [] =
+    ap (if_queued given) (for_other (named h l) d c (asked_at h d p n) name e) ∙ none_queued given
     in
-    omega (arith, all, n_of-other h c d xs e, same, length-append (queued h d) (queued_in (Output.Gave l p given) h d), ap length none))
+    omega (arith, all, n_of-other c d place xs e, same, length-append (queued h d) (queued_in (Output.Gave l p n given) h d), ap length none))
     (cases_Bool (eqb d c))
 
-most_by : (b : Bool) (xs : List (List ℕ)) → length xs ≤ 1 → length (cond b xs []) ≤ 1
-most_by b xs le = grind (arith, nat_tests)
+-- the places of those that come then are behind the others
+numbered_more : (d : ℕ) (fs : List QueuedFrame) (place : ℕ) (xs : List (List ℕ)) → Numbered zero_of fs → n_of d fs ≡ place → Numbered zero_of (fs ++ numbered d place xs)
+numbered_more d fs place [] n same = subst (Numbered zero_of) (sym (append-nil fs)) n
+numbered_more d fs place (x ∷ xs) n same =
+    let a : QueuedFrame = record { dialogue = d; place = place; frame = x } in
+    let one : n_of d (a ∷ []) ≡ 1 = n_of-own d d place (x ∷ []) (eq-eqb d d refl) in
+    subst (Numbered zero_of) (append_assoc fs (a ∷ []) (numbered d (place + 1) xs))
+    (numbered_more d (fs ++ a ∷ []) (place + 1) xs (numbered-snoc zero_of fs a n (omega (arith, same))) (omega (arith, n_of-append d fs (a ∷ []), one, same)))
 
-one_queued : (given : Given) (o : Option ℕ) (d : ℕ) (q : Option (List ℕ)) → length (if_queued given (for_one o d (option_to_list q))) ≤ 1
-one_queued Given.Silent o d q = omega arith
-one_queued Given.Dropped o d q = omega arith
-one_queued Given.Queued None d q = omega arith
-one_queued Given.Queued (Some c) d None = most_by (eqb d c) [] (omega arith)
-one_queued Given.Queued (Some c) d (Some frame) = most_by (eqb d c) (frame ∷ []) (omega arith)
-
-numbered_more : (h : List Event) (d : ℕ) (fs : List QueuedFrame) (xs : List (List ℕ)) → length xs ≤ 1 → Numbered zero_of fs → n_of d fs ≡ length (queued h d) → Numbered zero_of (fs ++ map (made_of h d) xs)
-numbered_more h d fs [] few n same = subst (Numbered zero_of) (sym (append-nil fs)) n
-numbered_more h d fs (x ∷ []) few n same = numbered-snoc zero_of fs (made_of h d x) n (let e : n_of d fs ≡ length (queued h d) = same in omega (arith, e))
-numbered_more h d fs (x ∷ y ∷ xs) few n same = absurd (omega (arith, few))
-
-numbered_gave : (h : List Event) (l p : ℕ) (given : Given) (o : Option ℕ) → named h l ≡ o → Numbered zero_of (frames h) → ((d : ℕ) → n_of d (frames h) ≡ length (queued h d))
-    → Numbered zero_of (frames h ++ frames_by o (Output.Gave l p given) h)
-numbered_gave h l p given None name n same = subst (Numbered zero_of) (sym (append-nil (frames h))) n
-numbered_gave h l p given (Some c) name n same =
-    numbered_more h c (frames h) (queued_in (Output.Gave l p given) h c) (one_queued given (named h l) c (frame_at h c p)) n (same c)
+numbered_gave : (h : List Event) (l p n : ℕ) (given : Given) (o : Option ℕ) → Numbered zero_of (frames h) → ((d : ℕ) → n_of d (frames h) ≡ length (queued h d))
+    → Numbered zero_of (frames h ++ frames_by o (Output.Gave l p n given) h)
+numbered_gave h l p n given None k same = subst (Numbered zero_of) (sym (append-nil (frames h))) k
+numbered_gave h l p n given (Some c) k same = numbered_more c (frames h) (length (queued h c)) (queued_in (Output.Gave l p n given) h c) k (same c)
 
 -- whatever is answered
 counted_by : (h : List Event) (d : ℕ) (output : Output) → n_of d (frames h) ≡ length (queued h d) → n_of d (frames_after output h (frames h)) ≡ length (queued h d ++ queued_in output h d)
-counted_by h d (Output.Gave l p given) same = counted_gave h l p given d (named h l) refl same
+counted_by h d (Output.Gave l p n given) same = counted_gave h l p n given d (named h l) refl same
 counted_by h d output same = same ∙ ap length (sym (append-nil (queued h d)))
 
 pub counted : (h : List Event) (d : ℕ) → n_of d (frames h) ≡ length (queued h d)
@@ -177,9 +166,9 @@ counted [] d = refl
 counted (e ∷ h) d = counted_by h d e.output (counted h d)
 
 numbered_by : (h : List Event) (output : Output) → Numbered zero_of (frames h) → Numbered zero_of (frames_after output h (frames h))
-numbered_by h (Output.Gave l p given) n = numbered_gave h l p given (named h l) refl n (counted h)
-numbered_by h output n = n
+numbered_by h (Output.Gave l p n given) k = numbered_gave h l p n given (named h l) k (counted h)
+numbered_by h output k = k
 
-pub numbered : (h : List Event) → Numbered zero_of (frames h)
-numbered [] = tt
-numbered (e ∷ h) = numbered_by h e.output (numbered h)
+pub all_numbered : (h : List Event) → Numbered zero_of (frames h)
+all_numbered [] = tt
+all_numbered (e ∷ h) = numbered_by h e.output (all_numbered h)

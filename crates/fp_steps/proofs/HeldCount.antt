@@ -1,7 +1,7 @@
 -- A dialogue is held where something of it is left.
 use Rattle.fp_steps.proofs.Names.{Bool, Content, Event, Handed, IsOwn, KeepsOrder, Lined, List, None, Option, QueuedFrame, Row, RowsKeepTheirOrder, Shelf, Some, Sound, Tied, TiedAt, Waiting, [], admits, amount, ap, append-nil, arith, as_waiting, births, cond, dialogue_held as is_held, eqb, false, frame_is_out, frame_out, frames_at, frames_for, get, handed, has_frame, held, is_admitted, is_one, kept_of, len, len-sum, length, list_any, local_of, ltb-true, map_list, named, nat_lt, nat_tests, option_map, option_map_or, or_parts, refl, row_waits, sent_of, story, sym, true, true_from_ne_false, unsent_for, waiting, ℕ, ◌++◌, ◌<◌, ◌||◌, ◌∙◌, ◌∷◌, ◌≡◌, ◌≤◌}
 use Rattle.fp_steps.proofs.HeldDialogues.{Held, held_of, none_named, same_local, waits_tied, by_option}
-use Rattle.fp_steps.proofs.SumsOverBirths.{many_is}
+use Rattle.fp_steps.proofs.SumsOverBirths.{sum_is}
 use Rattle.fp_steps.proofs.TieAtMessages.{admits_is}
 use Rattle.fp_steps.proofs.TieAtParcels.{out_there}
 use Rattle.fp_row.specs.Row.{has_turn_out}
@@ -78,14 +78,14 @@ HeldAt h d o = TiedAt (births h) d (story h d) o → amount (λ row. 1) o ≡ co
 
 pub held_is : RowsKeepTheirOrder → {h : List Event} {s : Shelf} → Tied h s → Sound s → Lined h s → held h ≡ len s.rows
 held_is law {h} {s} t k l =
-    many_is (λ row. 1) (is_held h) t k (λ d first last. by_option (HeldAt h d) (get s.rows (local_of h d))
+    sum_is (λ row. 1) (λ d. cond {A = ℕ} (is_held h d) 1 0) t k (λ d first last. by_option (HeldAt h d) (get s.rows (local_of h d))
     (λ was g.
     let gone = gone_at d t k l first last was in
-    λ i. cond {A = ℕ} (sym g.admitted i || (sym g.outs i || (sym g.waits i || (sym gone.0 i || sym gone.1 i)))) 1 0)
+    λ i. cond {A = ℕ} (sym g.admitted i || (nat_lt 0 (sym g.outs i) || (sym g.waits i || (sym gone.0 i || sym gone.1 i)))) 1 0)
     (λ row was g.
     let own : IsOwn s (local_of h d) row = k.own (local_of h d) row was in
     let y = has_frame h d || frame_is_out h d in
     let admits_so : admits h d ≡ is_admitted row = admits_is d t k ∙ ap (λ o. option_map_or is_admitted o false) was in
     let left = some_left (is_admitted row) (has_turn_out row) (row_waits row) (nat_lt row.sent row.kept) y own.is_left (λ less. left_at law d row t k l first last was less) in
-    ap (λ b. cond {A = ℕ} b 1 0) (sym left) ∙ (λ i. cond {A = ℕ} (sym admits_so i || (sym g.outs i || (sym (waits_tied g) i || y))) 1 0))
+    ap (λ b. cond {A = ℕ} b 1 0) (sym left) ∙ (λ i. cond {A = ℕ} (sym admits_so i || (nat_lt 0 (sym g.outs i) || (sym (waits_tied g) i || y))) 1 0))
     (t.rows d)) ∙ sym (len-sum s.rows)

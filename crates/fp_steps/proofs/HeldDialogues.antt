@@ -1,8 +1,7 @@
 -- What a history tells of a dialogue, one event further; and of one that a book holds.
-use Rattle.fp_steps.proofs.Names.{Beginning, Bool, Ending, Entry, Event, IsGone, IsOwn, IsPrefix, IsSame, IsStraight, IsTied, KeepsOrder, List, None, NotHeld, OneChanges, Opened, Option, Output, Prepared, Row, RowsKeepTheirOrder, Shelf, Some, Sound, Step, Story, Tied, TiedAt, [], accepted, accepted_in, add-one, admits, and_left, and_right, ap, append-nil, append_assoc, arith, asked_in, began_with, beginning, beginning_of, births, by_held, by_local, cond, core_after, core_in, course, cut, ending, ending_in, eq-eqb, eqb, eqb-false, false, for_one, frame_from, frames_of, fresh, get, get_or_from_slice_get, in_places, insert, inserted, is_admitted, is_closed, is_one, is_over, is_some, keep, kept, left_of, length, length-append, length-take-le, local_of, lt-leb, map_list as map, named, nat_le, nat_lt, nat_tests, ne_eqb, not, not_held, numbers, octets_of, option_map_or, option_to_list, position_in, positions, queued, queued_in, queued_of, refl, requests, row_waits as waits, sent, sent_in, sent_of, served_in, served_of, slice_get, start_in, start_of, story, subst, suc, sym, take, take_more, true, turn_after, turn_out, waits_in, zero, ℕ, ◌&&◌, ◌++◌, ◌<◌, ◌∙◌, ◌∷◌, ◌≡◌, ◌≤◌}
+use Rattle.fp_steps.proofs.Names.{Beginning, Ending, Entry, Event, IsGone, IsOwn, IsPrefix, IsSame, IsStraight, IsTied, KeepsOrder, List, None, NotHeld, OneChanges, Opened, Option, Output, Prepared, Row, RowsKeepTheirOrder, Shelf, Some, Sound, Step, Story, Tied, TiedAt, [], accepted, accepted_in, add-one, admits, and_left, and_right, ap, append-nil, append_assoc, arith, asked_in, began_with, beginning, beginning_of, births, by_held, by_local, cond, core_after, core_in, course, cut, ending, ending_in, eq-eqb, eqb, eqb-false, false, for_one, frame_from, frames_of, fresh, get, get_or_from_slice_get, in_places, insert, inserted, is_admitted, is_closed, is_one, is_over, is_some, keep, kept, left_of, length, length-append, length-take-le, local_of, lt-leb, map_list as map, named, nat_le, nat_lt, nat_tests, ne_eqb, not, not_held, numbers, octets_of, option_map_or, option_to_list, position_in, positions, queued, queued_in, queued_of, refl, requests, row_waits as waits, sent, sent_in, sent_of, served_in, served_of, slice_get, start_in, start_of, story, subst, suc, sym, take, take_more, true, waits_in, zero, ℕ, ◌&&◌, ◌++◌, ◌<◌, ◌∙◌, ◌∷◌, ◌≡◌, ◌≤◌, count_after, count_out, numbers_from, add-zero, drop, drop_at, drop-take, turns_none, ◌+◌, unserved, row_unserved}
 use Rattle.std.proofs.lemmas.List.Concat.{flat_map-append}
 use Rattle.fp_row.proofs.Fronts.{slice_get_some}
-use Rattle.fp_row.specs.Row.{has_turn_out}
 
 abbrev pub event : Step → Option Prepared → Output → Event
 event step came output = record { step = step; came = came; output = output }
@@ -25,9 +24,9 @@ pub none_more : {X : Type 0} → (xs ys : List X) → ys ≡ [] → xs ++ ys ≡
 none_more xs ys e = ap (λ y. xs ++ y) e ∙ append-nil xs
 
 -- an event that adds nothing to the lists of a dialogue
-pub becomes : (e : Event) (h : List Event) (d : ℕ) (x : Option Ending) (o : Bool) → beginning (e ∷ h) d ≡ beginning h d → accepted_in e h d (course h d) e.output ≡ []
+pub becomes : (e : Event) (h : List Event) (d : ℕ) (x : Option Ending) (o : ℕ) → beginning (e ∷ h) d ≡ beginning h d → accepted_in e h d (course h d) e.output ≡ []
     → position_in e.output h d ≡ [] → queued_in e.output h d ≡ []
-    → sent_in e.output h d ≡ [] → ending_in e.output e.came h d (course h d) ≡ x → turn_after e.output e.step h d (turn_out h d) ≡ o
+    → sent_in e.output h d ≡ [] → ending_in e.output e.came h d (course h d) ≡ x → count_after e.output e.step h d (count_out h d) ≡ o
     → story (e ∷ h) d ≡ record (story h d) { ended = x; out = o }
 becomes e h d x o b a p q s n t =
     same_story (story (e ∷ h) d) (record (story h d) { ended = x; out = o }) b
@@ -38,9 +37,9 @@ becomes e h d x o b a p q s n t =
 
 -- or has nothing to do with it at all
 pub stays : (e : Event) (h : List Event) (d : ℕ) → beginning (e ∷ h) d ≡ beginning h d → accepted_in e h d (course h d) e.output ≡ [] → position_in e.output h d ≡ [] → queued_in e.output h d ≡ []
-    → sent_in e.output h d ≡ [] → ending_in e.output e.came h d (course h d) ≡ ending h d → turn_after e.output e.step h d (turn_out h d) ≡ turn_out h d
+    → sent_in e.output h d ≡ [] → ending_in e.output e.came h d (course h d) ≡ ending h d → count_after e.output e.step h d (count_out h d) ≡ count_out h d
     → story (e ∷ h) d ≡ story h d
-stays e h d b a p q s n t = becomes e h d (ending h d) (turn_out h d) b a p q s n t
+stays e h d b a p q s n t = becomes e h d (ending h d) (count_out h d) b a p q s n t
 
 -- what has to do with one dialogue
 pub for_own : {X : Type 0} → (o : Option ℕ) (d : ℕ) (xs : List X) → o ≡ Some d → for_one o d xs ≡ xs
@@ -60,6 +59,10 @@ pub length-numbers : (n : ℕ) → length (numbers n) ≡ n
 length-numbers zero = refl
 length-numbers (suc n) = let e = length-numbers n in omega (arith, length-append (numbers n) (n ∷ []), e)
 
+pub length-numbers_from : (first n : ℕ) → length (numbers_from first n) ≡ n
+length-numbers_from first zero = refl
+length-numbers_from first (suc n) = let e = length-numbers_from first n in omega (arith, length-append (numbers_from first n) ((first + n) ∷ []), e)
+
 -- the places below a number are those of so many first entries
 pub first_places : (xs : List Entry) (n : ℕ) → n ≤ length xs → in_places xs (numbers n) ≡ take n xs
 first_places xs zero h = refl
@@ -72,6 +75,23 @@ first_places xs (suc n) h =
     ∙ ap (λ r. take n xs ++ r) (append-nil (f n)) ∙ ap (λ o. take n xs ++ option_to_list o) found.1
     ∙ ap (λ x. take n xs ++ x ∷ []) (sym (get_or_from_slice_get xs n found.0 found.0 found.1))
     ∙ sym (take_more xs n found.0 below) ∙ ap (λ m. take m xs) (add-one n)
+
+-- after so many numbers come those from there on
+pub numbers_more : (n k : ℕ) → numbers n ++ numbers_from n k ≡ numbers (n + k)
+numbers_more n zero = append-nil (numbers n) ∙ ap numbers (sym (add-zero n))
+numbers_more n (suc k) =
+    let next : n + suc k ≡ suc (n + k) = omega arith in
+    sym (append_assoc (numbers n) (numbers_from n k) ((n + k) ∷ [])) ∙ ap (λ ns. ns ++ (n + k) ∷ []) (numbers_more n k) ∙ ap numbers (sym next)
+
+-- and the places from one on are those of so many entries from there on
+pub next_places : (xs : List Entry) (n k : ℕ) → n + k ≤ length xs → in_places xs (numbers_from n k) ≡ take k (drop n xs)
+next_places xs n k within =
+    let here = in_places xs (numbers_from n k) in let few : n ≤ length xs = omega (arith, within) in
+    let all : take n xs ++ here ≡ take (n + k) xs =
+    ap (λ ys. ys ++ here) (sym (first_places xs n few)) ∙ sym (flat_map-append (λ p. option_to_list (slice_get xs p)) (numbers n) (numbers_from n k))
+    ∙ ap (in_places xs) (numbers_more n k) ∙ first_places xs (n + k) within
+    in
+    sym (drop_at (take n xs) here n (length-take-le n xs few)) ∙ ap (drop n) all ∙ drop-take n k xs
 
 -- the same dialogue begins with the same core
 pub start_tied : {d : ℕ} {t : Story} {row : Row} → IsTied d t row → start_in d t ≡ start_of row
@@ -100,6 +120,10 @@ prefix_same xs ys us vs a b p = (p.0, ap (λ r. r ++ p.0) a ∙ p.1 ∙ sym b)
 -- so many were served
 pub count_tied : {d : ℕ} {t : Story} {row : Row} → IsTied d t row → length t.places ≡ row.served
 count_tied {row} k = ap length k.serves ∙ length-numbers row.served
+
+-- and the same entries weren't
+pub unserved_tied : (h : List Event) {row : Row} {d : ℕ} → IsTied d (story h d) row → unserved h d ≡ row_unserved row
+unserved_tied h k = λ i. drop (count_tied k i) (k.accepts i)
 
 -- the story of a dialogue that is held is straight
 pub straight_tied : RowsKeepTheirOrder → {d : ℕ} {t : Story} {row : Row} → IsTied d t row → IsStraight d t
@@ -130,7 +154,7 @@ gone_tied law births {d} {row} k none = record {
   straight = straight_tied law k;
   admitted = and_right (nat_lt 0 d && nat_le d births) _ (live_tied k ∙ none.admitted);
   waits = waits_tied k ∙ none.waits;
-  outs = k.outs ∙ none.is_out;
+  outs = k.outs ∙ turns_none row none.is_out;
   all_sent = λ live.
       let same : row.sent ≡ row.kept = omega (arith, none.sent, row.sent_within) in
       k.sends ∙ ap (λ n. take n (frames_of row)) same ∙ (law row).all_kept (sym k.ends ∙ live) ∙ sym (asked_tied k);
@@ -142,8 +166,8 @@ same_beginning same =
     λ i. record { local = same.local i; peer = octets_of (same.peer i); moment = same.opened i }
 
 -- the same dialogue, of which nothing else changed that its story tells
-pub tied_same : {d : ℕ} {t : Story} (x : Bool) {before after : Row} → IsTied d t before → IsSame before after → after.accepted ≡ before.accepted → after.served ≡ before.served → queued_of after ≡ queued_of before
-    → sent_of after ≡ sent_of before → after.core ≡ before.core → after.ended ≡ before.ended → has_turn_out after ≡ x → IsTied d (record t { out = x }) after
+pub tied_same : {d : ℕ} {t : Story} (x : ℕ) {before after : Row} → IsTied d t before → IsSame before after → after.accepted ≡ before.accepted → after.served ≡ before.served → queued_of after ≡ queued_of before
+    → sent_of after ≡ sent_of before → after.core ≡ before.core → after.ended ≡ before.ended → after.out ≡ x → IsTied d (record t { out = x }) after
 tied_same x k same accepted served queued sent core ended out = let begins = k.begins ∙ ap Some (sym (same_beginning same)) in grind arith
 
 -- A book and its dialogues

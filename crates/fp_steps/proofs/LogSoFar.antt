@@ -1,5 +1,5 @@
 -- The log of a run so far, and what is kept while it is told.
-use Rattle.fp_steps.proofs.Names.{AllAnswered, AllByRecursion, Bool, Contents, Event, Handed, HistoryTells as Tells, IsAnswer, IsLine, IsLog, IsLongestReady, Line, List, LoggedStep, None, Opened as OpenedAs, Option, Output, Prepared, Some, Step, [], ap, append-nil, arith, back_by, births, cases_Bool, cond, eq-eqb, eqb, eqb-true, false, false≢true, for_one, get_or, is_one, length, length-map, length-reverse, lines_told, local_after, local_of, log_of, logged, map-append, map_list, min, named, named_after, nat_tests, opened_by, option_map, option_to_list, others, out, outputs_of, place_in, positions, put_back, refl, reverse, reverse-append, reverse_onto, same_from_push, subst, sym, take, take_all, take_more, told, told_back, told_where, true, turn_out, turns_after, written, ℕ, ⊎_elim, ◌++◌, ◌+◌, ◌<◌, ◌∙◌, ◌∷◌, ◌≡◌, ◌≤◌}
+use Rattle.fp_steps.proofs.Names.{AllAnswered, AllByRecursion, Bool, Contents, Event, Handed, HistoryTells as Tells, IsAnswer, IsLine, IsLog, IsLongestReady, Line, List, LoggedStep, None, Opened as OpenedAs, Option, Output, Prepared, Some, Step, [], ap, append-nil, arith, back_by, births, cases_Bool, cond, eq-eqb, eqb, eqb-true, false, false≢true, for_one, get_or, is_one, length, length-map, length-reverse, lines_told, local_after, local_of, log_of, logged, map-append, map_list, min, named, named_after, nat_tests, opened_by, option_map, option_to_list, others, out, outputs_of, place_in, positions, put_back, refl, reverse, reverse-append, reverse_onto, same_from_push, subst, sym, take, take_all, take_more, told, told_back, told_where, true, turn_out, turns_after, written, ℕ, ⊎_elim, ◌++◌, ◌+◌, ◌<◌, ◌∙◌, ◌∷◌, ◌≡◌, ◌≤◌, count_out, nat_lt, numbers_from}
 use Rattle.fp_steps.specs.declared.log.TurnOut.{TurnOut}
 use Rattle.fp_steps.proofs.HeldDialogues.{same_local, is_own}
 use Rattle.fp_steps.proofs.OpenedDialogues.{all_opened, out_born, taken_if, the_one, took_is, turned_if}
@@ -42,8 +42,9 @@ posted_stays link h turns local d (Some l) all k name is =
     let still : named h local ≡ Some d → place_in (turns ++ []) local ≡ Some (length (positions h d ++ [])) = λ at. stays h turns local d k at is in
     grind (arith, nat_tests, still)
 
-not_one : (b before : Bool) → cond b false before ≡ true → b ≡ false
-not_one b before e = grind (arith, nat_tests)
+not_one : (b : Bool) (before : ℕ) → nat_lt 0 (cond {A = ℕ} b 0 before) ≡ true → b ≡ false
+not_one true before e = absurd (false≢true e)
+not_one false before e = refl
 
 -- the dialogue whose turn came back isn't one whose turn is out
 not_back : (h : List Event) (l local d : ℕ) → named h local ≡ Some d → is_one (named h l) d ≡ false → eqb l local ≡ false
@@ -53,14 +54,14 @@ no_place : {X : Type 0} (o : Option ℕ) (d : ℕ) (xs : List X) → is_one o d 
 no_place None d xs e = refl
 no_place (Some other) d xs e = ap (λ b. cond b xs []) e
 
-back_stays : (h : List Event) (turns : List TurnOut) (l local d : ℕ) (before : Bool) → AreOut h turns → named h local ≡ Some d → before ≡ turn_out h d → cond (is_one (named h l) d) false before ≡ true
+back_stays : (h : List Event) (turns : List TurnOut) (l local d : ℕ) → AreOut h turns → named h local ≡ Some d → nat_lt 0 (cond {A = ℕ} (is_one (named h l) d) 0 (count_out h d)) ≡ true
     → place_in (others l turns ++ []) local ≡ Some (length (positions h d ++ []))
-back_stays h turns l local d before k name was is =
-    others_stay h turns [] l local d k name (sym was ∙ turned_if (is_one (named h l) d) before is) (not_back h l local d name (not_one (is_one (named h l) d) before is)) refl
+back_stays h turns l local d k name is =
+    others_stay h turns [] l local d k name (turned_if (is_one (named h l) d) (count_out h d) is) (not_back h l local d name (not_one (is_one (named h l) d) (count_out h d) is)) refl
 
-took_stays : (link : ℕ) {h : List Event} (turns : List TurnOut) {l position : ℕ} (local d : ℕ) → AllAnswered link h → IsLongestReady h l position → AreOut h turns → named h local ≡ Some d → cond (is_one (named h l) d) true (turn_out h d) ≡ true
+took_stays : (link : ℕ) {h : List Event} (turns : List TurnOut) {l position count : ℕ} (local d : ℕ) → AllAnswered link h → IsLongestReady h l position count → AreOut h turns → named h local ≡ Some d → nat_lt 0 (cond (is_one (named h l) d) count (count_out h d)) ≡ true
     → place_in (others l turns ++ record { local = l; position = position } ∷ []) local ≡ Some (length (positions h d ++ []))
-took_stays link {h} turns {l} {position} local d all taken k name is =
+took_stays link {h} turns {l} {position} {count} local d all taken k name is =
     let turn : TurnOut = record { local = l; position = position } in
     let g : OpenedAs link h = all_opened link h all in
     let there : (local ≡ local_of h d) × (0 < d) × (d ≤ births h) = g.names local d name in
@@ -75,17 +76,17 @@ took_stays link {h} turns {l} {position} local d all taken k name is =
     ⊎_elim
     (λ one. absurd (false≢true (sym ne ∙ eq-eqb l local ((g.names l d (the_one (named h l) d one)).0 ∙ sym there.0))))
     (λ was. others_stay h turns (turn ∷ []) l local d k name was ne (not_found turn local ne))
-    (taken_if (is_one (named h l) d) (turn_out h d) is)) (cases_Bool (eqb l local))
+    (taken_if (is_one (named h l) d) count (count_out h d) is)) (cases_Bool (eqb l local))
 
 -- after a step
 moved : (link : ℕ) (h : List Event) (turns : List TurnOut) (step : Step) (came : Option Prepared) (output : Output) → IsAnswer link h step came output → AllAnswered link h → AreOut h turns
     → AreOut (record { step = step; came = came; output = output } ∷ h) (turns_after step output turns)
 moved link h turns step came (Output.Posted answer components) is all k local d name out_now = posted_stays link h turns local d (opened_by answer) all k name out_now
-moved link h turns step came (Output.Took l position) is all k local d name out_now = took_stays link turns local d all (took_is link h step came l position is) k name out_now
-moved link h turns step came (Output.Gave l position given) is all k local d name out_now =
-    back_stays h turns l local d (turn_out h d) k name refl out_now
-    ∙ ap (λ xs. Some (length (positions h d ++ xs))) (sym (no_place (named h l) d (position ∷ []) (not_one (is_one (named h l) d) (turn_out h d) out_now)))
-moved link h turns (Step.PutBack lo) came Output.WentBack is all k local d name out_now = back_stays h turns lo local d (turn_out h d) k name refl out_now
+moved link h turns step came (Output.Took l position count) is all k local d name out_now = took_stays link turns local d all (took_is link h step came l position count is) k name out_now
+moved link h turns step came (Output.Gave l position served given) is all k local d name out_now =
+    back_stays h turns l local d k name out_now
+    ∙ ap (λ xs. Some (length (positions h d ++ xs))) (sym (no_place (named h l) d (numbers_from position served) (not_one (is_one (named h l) d) (count_out h d) out_now)))
+moved link h turns (Step.PutBack lo) came Output.WentBack is all k local d name out_now = back_stays h turns lo local d k name out_now
 moved link h turns step came output is all k local d name out_now = stays h turns local d k name out_now
 
 -- WHAT IS TOLD

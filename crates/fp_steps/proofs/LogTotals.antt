@@ -1,11 +1,11 @@
 -- The totals of a history that retells lines are what can be counted in those.
-use Rattle.fp_steps.proofs.Names.{Contents, Event, Handed, IfSome, IsAnswer, IsCame, IsLost, List, LoggedStep, None, Option, Output, Posted, Prepared, RetoldLinesAreCounted, Some, Step, Totals, [], added_by, answer_to, ap, arith, components_in, count_by, length, named, option_map, out, plus, positions, refl, subst, sum_by-cons, sym, told, told_back, told_message, told_tick, ℕ, ◌+◌, ◌∙◌, ◌∷◌, ◌≡◌}
-use Rattle.fp_steps.specs.Counted.{accepted_by, accepted_in, is_give, is_sent_frame, totals_in}
+use Rattle.fp_steps.proofs.Names.{Contents, Event, Handed, IfSome, IsAnswer, IsCame, IsLost, List, LoggedStep, None, Option, Output, Posted, Prepared, RetoldLinesAreCounted, Some, Step, Totals, [], added_by, answer_to, ap, arith, components_in, count_by, length, named, option_map, out, plus, positions, refl, subst, sum_by-cons, sym, told, told_back, told_message, told_tick, ℕ, ◌+◌, ◌∙◌, ◌∷◌, ◌≡◌, sum_by}
+use Rattle.fp_steps.specs.Counted.{accepted_by, accepted_in, entries_served, is_sent_frame, totals_in}
 use Rattle.fp_steps.proofs.OutputTotals.{added, local_in, make, one_if, same, totals_next}
 
 -- what is counted of a line, whose message was prepared to this
 abbrev counted : LoggedStep → Option Prepared → Totals
-counted line came = make (accepted_in line came) (one_if (is_give line)) (one_if (is_sent_frame line))
+counted line came = make (accepted_in line came) (entries_served line) (one_if (is_sent_frame line))
 
 -- a line counts what its output adds, where this is out to be sent
 abbrev Counts : Option Handed → Option Prepared → Output → LoggedStep → Type 0
@@ -71,9 +71,9 @@ told_counts contents contexts link h step came output c is = refl
 -- one line more
 lines_next : (lines : List LoggedStep) (h : List Event) (line : LoggedStep) (e : Event) → totals_in (line ∷ lines) (e ∷ h) ≡ plus (totals_in lines h) (counted line e.came)
 lines_next lines h line e =
-    let gives : count_by is_give (line ∷ lines) ≡ one_if (is_give line) + count_by is_give lines = sum_by-cons (λ (l : LoggedStep). one_if (is_give l)) line lines in
+    let served : sum_by entries_served (line ∷ lines) ≡ entries_served line + sum_by entries_served lines = sum_by-cons entries_served line lines in
     let sends : count_by is_sent_frame (line ∷ lines) ≡ one_if (is_sent_frame line) + count_by is_sent_frame lines = sum_by-cons (λ (l : LoggedStep). one_if (is_sent_frame l)) line lines in
-    same (totals_in (line ∷ lines) (e ∷ h)) (plus (totals_in lines h) (counted line e.came)) refl (omega (arith, gives)) (omega (arith, sends))
+    same (totals_in (line ∷ lines) (e ∷ h)) (plus (totals_in lines h) (counted line e.came)) refl (omega (arith, served)) (omega (arith, sends))
 
 pub retold_counted : RetoldLinesAreCounted
 retold_counted contents contexts link [] [] k = refl

@@ -1,10 +1,10 @@
 -- What a log tells of a step, by its book, is what the history tells of it.
-use Rattle.fp_steps.proofs.Names.{Bool, ClocksAt, Content, Due, Err, Event, Handed, Holds, IfOk, List, LoggedStep, MakesOf, None, Ok, Option, Output, Parcel, ParcelIs, Prepared, PutsTurnBack, Result, Shelf, Some, Sound, Step, Ticks, Tied, Turn, [], ap, append-nil, arith, back_of, cond, eqb, eqb-true, filter, get, handed, is_idle, length, list_any, map_list, named, nat_cmp-IsAntisymmetric, nat_eq, nat_tests, nil_from_length, not, option_map, out, parcel_local as local_of, positions, refl, same_Some, same_map, sending_of, step_of, subst, sym, told, told_back, told_by, true, turn_of, written, ℕ, ◌++◌, ◌+◌, ◌∙◌, ◌≡◌}
+use Rattle.fp_steps.proofs.Names.{Bool, ClocksAt, Content, Due, Err, Event, Handed, Holds, IfOk, List, LoggedStep, MakesOf, None, Ok, Option, Output, Parcel, ParcelIs, Prepared, PutsTurnBack, Result, Shelf, Some, Sound, Step, Ticks, Tied, Turn, [], ap, append-nil, arith, back_of, cond, eqb, eqb-true, filter, get, handed, is_idle, length, list_any, map_list, named, nat_cmp-IsAntisymmetric, nat_eq, nat_tests, nil_from_length, not, option_map, out, parcel_local as local_of, positions, refl, same_Some, same_map, sending_of, step_of, subst, sym, told, told_back, told_by, true, turn_of, written, ℕ, ◌++◌, ◌+◌, ◌∙◌, ◌≡◌, known_turn}
 use Rattle.std.specs.Cmp.{nat_cmp_total}
 use Rattle.fp_book.specs.Log as book
 use Rattle.fp_steps.proofs.HeldDialogues.{Held, count_tied, held_of}
 use Rattle.fp_steps.proofs.StepAnswers.{sent_out}
-use Rattle.fp_steps.proofs.TieAtTurns.{turn_is}
+use Rattle.fp_steps.proofs.TieAtTurns.{place_of}
 use Rattle.fp_steps.proofs.TokensKept.{found}
 
 -- what holds of a value holds of it with more
@@ -43,7 +43,7 @@ pub back_told : {h : List Event} {s new : Shelf} {turn : Turn} → Tied h s → 
 back_told {h} {turn} t k g =
     let l = turn.local in let b = g.before.birth in
     let held : Held h l b g.before = held_of l g.before t k g.was in
-    let place : length (positions h b) ≡ turn.position = count_tied held.tied ∙ (turn_is g.before turn g.puts.was_out).position_is in
+    let place : length (positions h b) ≡ turn.position = count_tied held.tied ∙ place_of (known_turn g.before turn g.puts.was_out) in
     sym (ap (option_map (λ d. LoggedStep.PutBack l (length (positions h d)))) held.name ∙ ap (λ n. Some (LoggedStep.PutBack l n)) place)
 
 -- what is out is what was handed out
@@ -94,8 +94,8 @@ unwritten_is Step.Sent came Output.Nothing s new g un = g.1
 unwritten_is Step.Unsent came Output.Nothing s new g un = g.1
 unwritten_is (Step.Post frame moment) came (Output.Posted answer components) s new g un = absurd (cc)
 unwritten_is (Step.Lost frame moment) came (Output.Posted answer components) s new g un = absurd (cc)
-unwritten_is Step.Take came (Output.Took local position) s new g un = absurd (cc)
-unwritten_is (Step.Give local) came (Output.Gave l position given) s new g un = absurd (cc)
+unwritten_is Step.Take came (Output.Took local position count) s new g un = absurd (cc)
+unwritten_is (Step.Give local) came (Output.Gave l position served given) s new g un = absurd (cc)
 unwritten_is Step.Pick came (Output.Picked local frame) s new g un = absurd (cc)
 unwritten_is Step.Down came Output.Down s new g un = absurd (cc)
 unwritten_is step came output s new g un = absurd g
@@ -114,8 +114,8 @@ pub line_step : (h : List Event) (step : Step) (came : Option Prepared) (output 
 line_step h (Step.Post frame moment) came (Output.Posted answer components) old new g other e = step_is other (LoggedStep.Post moment frame answer) (Step.Post frame moment) e refl
 line_step h (Step.Lost frame moment) came (Output.Posted answer components) old new g other e = step_is other (LoggedStep.Lost moment frame answer) (Step.Lost frame moment) e refl
 line_step h (Step.Tick moment) came (Output.Ticked added wanting) old new g other e = step_is other (LoggedStep.Tick moment added wanting) (Step.Tick moment) e refl
-line_step h Step.Take came (Output.Took local position) old new g other e = step_is other (LoggedStep.Take local position) Step.Take e refl
-line_step h (Step.Give local) came (Output.Gave l position given) old new g other e = step_is other (LoggedStep.Give l position given) (Step.Give local) e (ap (λ n. Some (Step.Give n)) g.0)
+line_step h Step.Take came (Output.Took local position count) old new g other e = step_is other (LoggedStep.Take local position count) Step.Take e refl
+line_step h (Step.Give local) came (Output.Gave l position served given) old new g other e = step_is other (LoggedStep.Give l position served given) (Step.Give local) e (ap (λ n. Some (Step.Give n)) g.0)
 line_step h (Step.PutBack local) came Output.WentBack old new g other e = over_step (named h local) (λ d. LoggedStep.PutBack local (length (positions h d))) other (Step.PutBack local) e (λ n. refl)
 line_step h Step.Pick came (Output.Picked local frame) old new g other e = step_is other (LoggedStep.Pick local) Step.Pick e refl
 line_step h Step.Sent came Output.Sent old new g other e = over_step (out h) (λ (o : Handed). LoggedStep.Sent o.local) other Step.Sent e (λ n. refl)

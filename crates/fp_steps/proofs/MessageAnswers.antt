@@ -1,7 +1,7 @@
 -- Each message is answered as its history tells: by the first line that fits.
-use Rattle.fp_steps.proofs.Names.{AbortCause, Answers, Bool, Contents, Event, Follows, IsCame, IsLost, IsPrepared, IsTied, Kind, Lined, List, None, Option, Output, Posted, Prepared, Row, RowsKeepTheirOrder, SevenLinesDecide, Shelf, Some, Sound, Step, Tid, Tied, TiedAt, Verdict, [], abort_for, aborts_waiting, accepted, addressee, admits, admitted, answer_by, answer_to, answers_by, ap, arrival_of, begun, births, cases_Bool, components_in, cond, drop, entries_in, false, first_answer, first_lines, first_that_fits, frame_octets, get, going_on, held, identifier, inl, inr, is_admitted, is_begin, is_none, last_lines, len, length, length-map, local_of, map_list, named, named_in, none-some, of_row, option_and_then, option_map_or, refl, refused, row_unserved, same_Some, seven_lines, story, subst, sym, taking, true, unserved, unserved_in, verdict, ℕ, ⊎_elim, ◌++◌, ◌+◌, ◌∙◌, ◌∷◌, ◌≡◌, ◌⊎◌}
+use Rattle.fp_steps.proofs.Names.{AbortCause, Answers, Bool, Contents, Event, Follows, IsCame, IsLost, IsPrepared, IsTied, Kind, Lined, List, None, Option, Output, Posted, Prepared, Row, RowsKeepTheirOrder, SevenLinesDecide, Shelf, Some, Sound, Step, Tid, Tied, TiedAt, Verdict, [], abort_for, aborts_waiting, addressee, admits, admitted, answer_by, answer_to, answers_by, ap, arrival_of, begun, births, cases_Bool, components_in, cond, entries_in, false, first_answer, first_lines, first_that_fits, frame_octets, get, going_on, held, identifier, inl, inr, is_admitted, is_begin, is_none, last_lines, len, length, length-map, local_of, map_list, named, named_in, none-some, of_row, option_and_then, option_map_or, refl, refused, row_unserved, same_Some, seven_lines, story, subst, sym, taking, true, unserved_of, unserved_in, verdict, ℕ, ⊎_elim, ◌++◌, ◌+◌, ◌∙◌, ◌∷◌, ◌≡◌, ◌⊎◌}
 use Rattle.fp_steps.proofs.HeldCount.{held_is}
-use Rattle.fp_steps.proofs.HeldDialogues.{count_tied, held_of}
+use Rattle.fp_steps.proofs.HeldDialogues.{held_of, unserved_tied}
 use Rattle.fp_steps.proofs.TieAtMessages.{admits_is, number_in}
 use Rattle.fp_steps.proofs.WaitingAtSteps.{aborts_wait}
 
@@ -99,16 +99,16 @@ named_both {h} (Some local) t k = named_at local (named h local) t k refl
 record Asks (h : List Event) (s : Shelf) (kind : Kind) (o p : Option ℕ) : Type 0 where
   names : is_none o ≡ is_none p
   anew : is_none (going_on kind o) ≡ is_none (going_on kind p)
-  entries : unserved_in s (going_on kind o) ≡ unserved h (going_on kind p)
+  entries : unserved_in s (going_on kind o) ≡ unserved_of h (going_on kind p)
 
-asks_none : (h : List Event) (s : Shelf) (b : Bool) → unserved_in s (cond b None None) ≡ unserved h (cond b None None)
+asks_none : (h : List Event) (s : Shelf) (b : Bool) → unserved_in s (cond b None None) ≡ unserved_of h (cond b None None)
 asks_none h s true = refl
 asks_none h s false = refl
 
 asks_some : (h : List Event) (s : Shelf) (local : ℕ) {d : ℕ} {row : Row} (b : Bool) → get s.rows local ≡ Some row → IsTied d (story h d) row
-    → (is_none (cond b None (Some local)) ≡ is_none (cond b None (Some d))) × (unserved_in s (cond b None (Some local)) ≡ unserved h (cond b None (Some d)))
+    → (is_none (cond b None (Some local)) ≡ is_none (cond b None (Some d))) × (unserved_in s (cond b None (Some local)) ≡ unserved_of h (cond b None (Some d)))
 asks_some h s local true was k = (refl, refl)
-asks_some h s local {d} {row} false was k = (refl, ap (of_row row_unserved) was ∙ sym (ap (λ n. drop n (accepted h d)) (count_tied k) ∙ ap (drop row.served) k.accepts))
+asks_some h s local false was k = (refl, ap (of_row row_unserved) was ∙ sym (unserved_tied h k))
 
 asks : {h : List Event} {s : Shelf} (came : Prepared) → Tied h s → Sound s → Asks h s (arrival_of came).ids.kind (named_in s (arrival_of came).ids) (addressee h came)
 asks {h} {s} came t k =

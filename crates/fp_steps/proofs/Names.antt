@@ -3,17 +3,17 @@ pub use Rattle.std.proofs.Common.{All, AllPairs, Bool, List, None, Option, Some,
 pub use Rattle.std.proofs.lemmas.Bool.{and_left, and_parts, and_right, cases_Bool, cases_lt, cond_both, eq-eqb, eqb-false, eqb-true, false_from_ne_true, false≢true, le-leb, lt-leb, ltb-false, ltb-true, ne_eqb, not-true, or_parts, true_from_ne_false, true≢false}
 pub use Rattle.std.proofs.lemmas.Bool.Decides.{nat_tests}
 pub use Rattle.std.proofs.lemmas.Grind.{reverse_onto}
-pub use Rattle.std.proofs.lemmas.List.{drop_at, length-map, length-reverse, length-take-le, length_push, map-append, nil_from_length, reverse-append, reverse-reverse, same_from_push, take_all, take_more}
+pub use Rattle.std.proofs.lemmas.List.{drop-take, drop_at, length-map, length-reverse, length-take-le, length_push, map-append, nil_from_length, reverse-append, reverse-reverse, same_from_push, take-append-drop, take_all, take_at, take_more}
 pub use Rattle.std.proofs.lemmas.List.Elements.{All-filter, All-from_recursion, All-map, All-push, filter-append, filter_agree, recursion_from_All}
 pub use Rattle.std.proofs.lemmas.List.Sums.{passes_at_first, split_at_first, sum_by-append, sum_by-cons, sum_by_push}
 pub use Rattle.std.proofs.lemmas.Option.{cond_some, get_or_from_slice_get, none-some, same_Some}
 pub use Rattle.std.specs.FinMap.{FinMap, get, get-empty, insert, len, nat_cmp-IsAntisymmetric, remove, same_map}
-pub use Rattle.std.specs.List.{AllByRecursion, list_any, position, position_or_len}
+pub use Rattle.std.specs.List.{AllByRecursion, list_any, position, position_or_len, sum_by}
 pub use Rattle.std.specs.Option.{option_and_then, option_map_or}
 pub use Rattle.std.specs.Ordering.{nat_cmp}
-pub use Rattle.std.specs.Prelude.{Err, IfOk, IfSome, IsSome, Ok, Result, filter, find, min, option_map, option_to_list, remove as common_remove, reverse, slice_get, vec_len, ⊤}
+pub use Rattle.std.specs.Prelude.{Err, IfOk, IfSome, IsSome, Ok, Result, filter, find, min, option_map, option_to_list, remove as common_remove, reverse, slice_get, vec_len, ⊤, ◌-◌}
 pub use mathlib.Core.List.{IsPrefix}
-pub use Rattle.fp_book.proofs.Changes.{NotHeld, by_held, by_local, count, count_is, left_by, not_held, ready}
+pub use Rattle.fp_book.proofs.Changes.{NotHeld, by_held, by_local, count, count_is, left_by, not_held, ready, turns_none}
 pub use Rattle.fp_book.proofs.Queue.{count-append, count-cons, count_without_other, count_without_own}
 pub use Rattle.fp_book.proofs.Sums.{OneChanges, Rows, amount, get-removed, inserted, kept, left_of, len-sum, removed, sum-le, sum-none, sum-remove}
 pub use Rattle.fp_book.proofs.Tells.{BeginsAnew, Tells, followed_log, names_by, unnamed_by, verdict_tells}
@@ -21,7 +21,7 @@ pub use Rattle.fp_book.proofs.Turns.{frames_at}
 pub use Rattle.fp_book.specs.Calls.{Answers, ClocksAt, ClosesAt, ClosesOne, ComesFirst, Discards, Due, EndsDialogue, ExtendsDialogue, Follows, GivesDone, GoesDown, IsDue, OpensDialogue, PicksParcel, PutsTurnBack, Refuses, Sends, TakesTurn, Ticks, Unsends, abort_for, due_at, entries_in, given_of, is_idle, joins, more_accepted, posted_line, posted_totals, turn_of, waiting_in, without}
 pub use Rattle.fp_book.specs.Lines.{SevenLinesDecide, admitted, first_lines, first_that_fits, going_on, is_begin, is_full as book_is_full, is_lost, last_lines, named as named_in, number_of, seven_lines, unserved_in, verdict}
 pub use Rattle.fp_book.specs.Log.{logged as book_logged}
-pub use Rattle.fp_book.specs.Outbox.{IsNext as BookNext, Outbox, is_of_other, nothing, places_out}
+pub use Rattle.fp_book.specs.Outbox.{IsNext as BookNext, Outbox, is_of_other, nothing, places_out, waiting_frames}
 pub use Rattle.fp_book.specs.Parcel.{local_of as parcel_local, octets_of as parcel_octets}
 pub use Rattle.fp_book.specs.Sending.{is_frame_of}
 pub use Rattle.fp_book.specs.Shelf.{IsOwn, Shelf, Sound, empty_shelf, frame_out, frames_for, keep, no_totals, of_row, one_if, places_held, turns_of, unsent_for}
@@ -48,9 +48,12 @@ pub use Rattle.fp_q773.specs.declared.provider_abort.AbortCause.{AbortCause}
 pub use Rattle.fp_records.specs.Table.{Contents}
 pub use Rattle.fp_reply.specs.ProviderAbort.{AbortFrame, frame_octets}
 pub use Rattle.fp_reply.specs.Reply.{frame_of}
+pub use Rattle.fp_row.proofs.Keeping.{IsOut, known_turn}
+pub use Rattle.fp_row.proofs.Waiting.{waiting_ready}
 pub use Rattle.fp_row.specs.Calls.{Ends, Extends, IsSame, ended_by, frames_in, requested_of}
 pub use Rattle.fp_row.specs.Laws.{KeepsOrder, RowsKeepTheirOrder}
-pub use Rattle.fp_row.specs.Row.{frames_of, has_clock, is_admitted, is_closed, is_due as row_is_due, is_held, is_ready as row_is_ready, kept_of, queued_of, requests_of, sent_of, served_of, start_of, turn_of as row_turn_of, turn_out as row_turn, unserved as row_unserved, waits as row_waits}
+pub use Rattle.fp_row.specs.Row.{entries_out as row_entries_out, frames_of, has_clock, is_admitted, is_closed, is_due as row_is_due, is_held, is_ready as row_is_ready, kept_of, queued_of, requests_of, sent_of, served_of, start_of, turn_of as row_turn_of, turn_out as row_turn, unserved as row_unserved, waits as row_waits}
+pub use Rattle.fp_row.specs.Turn.{frames_for as turn_frames, frames_under, most_entries, served_in as turn_served}
 pub use Rattle.fp_row.specs.declared.done.Done.{Done}
 pub use Rattle.fp_row.specs.declared.ending.Ending.{Ending}
 pub use Rattle.fp_row.specs.declared.row.Row.{Row}
@@ -58,30 +61,29 @@ pub use Rattle.fp_row.specs.declared.turn.Turn.{Turn}
 pub use Rattle.fp_service.proofs.Folding.{cut-closed, cut-cut, cut-front, requests-append}
 pub use Rattle.fp_service.specs.Dialogue.{fresh, is_over, next_due}
 pub use Rattle.fp_service.specs.Fold.{core_after, cut, requests}
-pub use Rattle.fp_service.specs.Serve.{request_of}
 pub use Rattle.fp_service.specs.declared.dialogue.Core.{Core}
 pub use Rattle.fp_service.specs.declared.request.Request.{Request}
 pub use Rattle.fp_tids.specs.Identifiers.{identifier}
-pub use Rattle.fp_steps.specs.Accepted.{accepted, accepted_in, admits, admits_on, core_of, core_on, course, ending, ending_at, ending_by, ending_in, entry_count, has_clock_on, in_places, is_due, is_ended, is_ending, is_full, position_in, positions, receiver, served, start}
+pub use Rattle.fp_steps.specs.Accepted.{accepted, accepted_in, admits, admits_on, core_of, core_on, course, ending, ending_at, ending_by, ending_in, entry_count, has_clock_on, in_places, is_due, is_ended, is_ending, is_full, numbers_from, position_in, positions, receiver, served, start}
 pub use Rattle.fp_steps.specs.After.{Follows as FollowsHistory, IsAfter, LeadsTo}
-pub use Rattle.fp_steps.specs.Answers.{AllAnswered, IsAnswer, IsLongestReady, IsNext, IsPicked, IsPosted, IsTaken, gave, given_for, if_out, next_request, put_back, ticked}
-pub use Rattle.fp_steps.specs.Births.{Beginning, beginning, beginning_after, births, births_after, destination, for_one, is_one, local_of, named, named_after, opened_by, opened_in, sender_of}
+pub use Rattle.fp_steps.specs.Answers.{AllAnswered, IsAnswer, IsLongestReady, IsNext, IsPicked, IsPosted, IsTaken, gave, given_for, if_out, put_back, ticked}
+pub use Rattle.fp_steps.specs.Births.{Beginning, beginning, beginning_after, births, births_after, destination, for_one, how_many, is_one, local_of, named, named_after, opened_by, opened_in, sender_of, sum_to}
 pub use Rattle.fp_steps.specs.Headline.{Headline, InOrder, Runs, numbers}
 pub use Rattle.fp_steps.specs.History.{AtEachMoment, Event, IsCame, IsNone, IsRead, Tells as HistoryTells, outputs_of}
 pub use Rattle.fp_steps.specs.Idle.{IdleIsDone}
 pub use Rattle.fp_steps.specs.Laws.{AnswersAreOne, HeadlineHolds, LinesAreRetoldOnce, RetoldLinesAreCounted, RunsAreOne, SentAlike, log_with}
 pub use Rattle.fp_steps.specs.Lined.{ByAge, Lined, Sorted, as_waiting}
-pub use Rattle.fp_steps.specs.Lines.{addressee, answer_by, answer_to, answers_by, begun, components_in, first_answer, refused, taking, unserved}
+pub use Rattle.fp_steps.specs.Lines.{addressee, answer_by, answer_to, answers_by, begun, components_in, first_answer, refused, taking, unserved_of}
 pub use Rattle.fp_steps.specs.Log.{back_by, back_of, others, place_in, sending_of, told_by, told_where, turns_after}
 pub use Rattle.fp_steps.specs.LogLines.{IsLine, IsLog}
 pub use Rattle.fp_steps.specs.Makes.{MakesOf, MakesStep, PostsTo}
 pub use Rattle.fp_steps.specs.Retold.{Retells, RetellsOne, step_of}
-pub use Rattle.fp_steps.specs.Sending.{Handed, abort_out, aborts, aborts_sent, asked, frame_at, frame_for, frame_from, if_queued, out, out_after, queued, queued_in, sent, sent_in}
+pub use Rattle.fp_steps.specs.Sending.{Handed, abort_out, aborts, aborts_sent, asked, asked_at, frame_for, frame_from, if_queued, out, out_after, queued, queued_in, sent, sent_in}
 pub use Rattle.fp_steps.specs.Tied.{AbortsTied, IsGone, IsStraight, IsTied, Opened, OpenedTo, Story, Tied, TiedAt, asked_in, began_with, beginning_of, core_in, handed, served_in, start_in, story, untold, waits_in}
 pub use Rattle.fp_steps.specs.Tokens.{Holds, IsPlace, ParcelIs, TakesFirst, TakesOut, turns_at}
 pub use Rattle.fp_steps.specs.Told.{is_written, lines_told, log_of, logged, told, told_back, told_message, told_tick, written}
-pub use Rattle.fp_steps.specs.Totals.{AddUp, AreFew, added_by, capped, capped_totals, components_of, frames_sent, is_gave, is_sent, local_after, local_out, plus, sum_to, totals_of, totals_over}
-pub use Rattle.fp_steps.specs.Turns.{IsReadyBefore, due_of, is_ready, ready_for, turn_after, turn_out, waits}
-pub use Rattle.fp_steps.specs.Waiting.{QueuedFrame, aborts_waiting, frame_is_out, frames, frames_after, frames_by, has_frame, held, how_many, is_down, is_held as dialogue_held, is_sending, is_waiting, picked, places, waiting}
+pub use Rattle.fp_steps.specs.Totals.{AddUp, AreFew, added_by, capped, capped_totals, components_of, entries_served, frames_sent, is_sent, local_after, local_out, plus, totals_of, totals_over}
+pub use Rattle.fp_steps.specs.Turns.{IsReadyBefore, count_after, count_out, due_of, is_ready, next_served, ready_for, turn_out, unserved, waits}
+pub use Rattle.fp_steps.specs.Waiting.{QueuedFrame, aborts_waiting, frame_is_out, frames, frames_after, frames_by, has_frame, held, is_down, is_held as dialogue_held, is_sending, is_waiting, numbered, picked, places, waiting}
 pub use Rattle.fp_steps.specs.declared.output.Output.{Output}
 pub use Rattle.fp_steps.specs.declared.step.Step.{Step}

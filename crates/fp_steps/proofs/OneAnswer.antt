@@ -1,5 +1,5 @@
 -- What is answered and retold is one.
-use Rattle.fp_steps.proofs.Names.{AllAnswered, AllByRecursion, AnswersAreOne, Arrival, Contents, Event, IsAnswer, IsCame, IsLongestReady, IsLost, IsNext, IsNone, IsPicked, IsPosted, IsReadyBefore, IsTaken, LinesAreRetoldOnce, List, None, Option, Output, Prepared, QueuedFrame, RetellsOne, RunsAreOne, SameAnswers as Answers, SameArrival, SameIncoming, Some, Step, Tid, [], aborts_waiting, ap, arith, cases_Bool, eqb, eqb-true, false, false≢true, is_lost, is_some, length, local_of, map_list as map, octets_of, option_map, out, outputs_of, places, positions, refl, reverse, reverse-reverse, subst, sym, true, waiting, ℕ, ⊎_elim, ◌<◌, ◌∙◌, ◌∷◌, ◌≡◌, ◌≤◌}
+use Rattle.fp_steps.proofs.Names.{AllAnswered, AllByRecursion, AnswersAreOne, Arrival, Contents, Event, IsAnswer, IsCame, IsLongestReady, IsLost, IsNext, IsNone, IsPicked, IsPosted, IsReadyBefore, IsTaken, LinesAreRetoldOnce, List, None, Option, Output, Prepared, QueuedFrame, RetellsOne, RunsAreOne, SameAnswers as Answers, SameArrival, SameIncoming, Some, Step, Tid, [], aborts_waiting, ap, arith, cases_Bool, eqb, eqb-true, false, false≢true, is_lost, is_some, length, local_of, map_list as map, octets_of, option_map, out, outputs_of, places, positions, refl, reverse, reverse-reverse, subst, sym, true, waiting, ℕ, ⊎_elim, ◌<◌, ◌∙◌, ◌∷◌, ◌≡◌, ◌≤◌, min, most_entries, unserved, ◌-◌}
 use Rattle.fp_entry.specs.Laws.{PreparedIsOne}
 use Rattle.fp_entry.specs.declared.incoming.Incoming.{Incoming}
 use Rattle.fp_steps.proofs.MessageAnswers.{lost_prepared}
@@ -57,24 +57,27 @@ came_is_one one contents contexts step x y p q = no_message x y p q
 never_both : (h : List Event) (c d : ℕ) → IsReadyBefore h c d → IsReadyBefore h d c → ⊥
 never_both h c d a b = grind arith
 
-one_longest : {h : List Event} {l p m q : ℕ} → IsLongestReady h l p → IsLongestReady h m q → Output.Took l p ≡ Output.Took m q
-one_longest {h} {p} {m} a b =
+one_longest : {h : List Event} {l p n m q k : ℕ} → IsLongestReady h l p n → IsLongestReady h m q k → Output.Took l p n ≡ Output.Took m q k
+one_longest {h} a b =
     let same : a.dialogue ≡ b.dialogue = ⊎_elim (λ e. eqb-true a.dialogue b.dialogue e)
     (λ ne. absurd (never_both h b.dialogue a.dialogue (b.longest a.dialogue a.stands ne) (a.longest b.dialogue b.stands (eqb_swap a.dialogue b.dialogue ne))))
     (cases_Bool (eqb a.dialogue b.dialogue)) in
-    ap (λ x. Output.Took x p) (a.local_is ∙ ap (local_of h) same ∙ sym b.local_is) ∙ ap (λ x. Output.Took m x) (a.next ∙ ap (λ d. length (positions h d)) same ∙ sym b.next)
+    let local = a.local_is ∙ ap (local_of h) same ∙ sym b.local_is in
+    let position = a.next ∙ ap (λ d. length (positions h d)) same ∙ sym b.next in
+    let count = a.count_is ∙ ap (λ d. min most_entries (min (length (unserved h d)) (8192 - places h))) same ∙ sym b.count_is in
+    λ i. Output.Took (local i) (position i) (count i)
 
 one_taken : (h : List Event) (x y : Output) → IsTaken h x → IsTaken h y → x ≡ y
-one_taken h (Output.Took l p) (Output.Took m q) a b = one_longest a.0 b.0
-one_taken h (Output.Took l p) Output.NoRoom a b = absurd (let lt : places h < 8192 = a.1 in let le : 8192 ≤ places h = b.1 in omega (arith, lt, le))
-one_taken h (Output.Took l p) Output.Nothing a b = absurd (false≢true (sym (b a.0.dialogue) ∙ a.0.stands))
-one_taken h Output.NoRoom (Output.Took m q) a b = absurd (let lt : places h < 8192 = b.1 in let le : 8192 ≤ places h = a.1 in omega (arith, lt, le))
+one_taken h (Output.Took l p n) (Output.Took m q k) a b = one_longest a.0 b.0
+one_taken h (Output.Took l p n) Output.NoRoom a b = absurd (let lt : places h < 8192 = a.1 in let le : 8192 ≤ places h = b.1 in omega (arith, lt, le))
+one_taken h (Output.Took l p n) Output.Nothing a b = absurd (false≢true (sym (b a.0.dialogue) ∙ a.0.stands))
+one_taken h Output.NoRoom (Output.Took m q k) a b = absurd (let lt : places h < 8192 = b.1 in let le : 8192 ≤ places h = a.1 in omega (arith, lt, le))
 one_taken h Output.NoRoom Output.NoRoom a b = refl
 one_taken h Output.NoRoom Output.Nothing a b = absurd (false≢true (sym (b a.0.0) ∙ a.0.1))
-one_taken h Output.Nothing (Output.Took m q) a b = absurd (false≢true (sym (a b.0.dialogue) ∙ b.0.stands))
+one_taken h Output.Nothing (Output.Took m q k) a b = absurd (false≢true (sym (a b.0.dialogue) ∙ b.0.stands))
 one_taken h Output.Nothing Output.NoRoom a b = absurd (false≢true (sym (a b.0.0) ∙ b.0.1))
 one_taken h Output.Nothing Output.Nothing a b = refl
-one_taken h (Output.Took l p) y a b = absurd b
+one_taken h (Output.Took l p n) y a b = absurd b
 one_taken h Output.NoRoom y a b = absurd b
 one_taken h Output.Nothing y a b = absurd b
 one_taken h x y a b = absurd a

@@ -1,5 +1,5 @@
 -- Which dialogue an identifier names, and of which a turn may be out, by the answers of a history.
-use Rattle.fp_steps.proofs.Names.{AbortCause, AllAnswered, AllByRecursion, Beginning, Bool, Event, IsAnswer, IsLongestReady, List, None, Opened, OpenedTo, Option, Output, Posted, Prepared, Some, Step, Tid, [], abort_for, aborts_waiting, addressee, answer_by, answer_to, answers_by, ap, arith, arrival_of, beginning_after, begun, births, births_after, cond, cond_both, entries_in, entry_count, eqb, eqb-true, false, false≢true, first_answer, gave, going_on, held, identifier, if_out, inl, inr, is_down, is_none, is_one, length, local_of, named, named_after, nat_tests, opened_in, option_map_or, out, put_back, refl, subst, sym, true, turn_after, turn_out, unserved, ℕ, ⊎_elim, ⊤, ◌+◌, ◌<◌, ◌∙◌, ◌∷◌, ◌≡◌, ◌≤◌, ◌⊎◌}
+use Rattle.fp_steps.proofs.Names.{AbortCause, AllAnswered, AllByRecursion, Beginning, Bool, Event, IsAnswer, IsLongestReady, List, None, Opened, OpenedTo, Option, Output, Posted, Prepared, Some, Step, Tid, [], abort_for, aborts_waiting, addressee, answer_by, answer_to, answers_by, ap, arith, arrival_of, beginning_after, begun, births, births_after, cond, cond_both, entries_in, entry_count, eqb, eqb-true, false, false≢true, first_answer, gave, going_on, held, identifier, if_out, inl, inr, is_down, is_none, is_one, length, local_of, named, named_after, nat_tests, opened_in, option_map_or, out, put_back, refl, subst, sym, true, turn_out, ℕ, ⊎_elim, ⊤, ◌+◌, ◌<◌, ◌∙◌, ◌∷◌, ◌≡◌, ◌≤◌, ◌⊎◌, count_after, count_out, nat_lt, unserved_of}
 use Rattle.fp_steps.proofs.Cases.{IsPost}
 use Rattle.fp_steps.proofs.HeldDialogues.{by_option}
 
@@ -44,7 +44,7 @@ opens link h came =
     let refused : (named : Option AbortCause) (b : Bool) → OpensOnly next (answer_by (abort_for waiting named orig) b) = λ named b. refuses next (abort_for waiting named orig) b in
     let goes_on : (b : Bool) (count : ℕ) → OpensOnly next (cond b Posted.Discarded (Posted.Accepted count)) = λ b count. opens_if next b Posted.Discarded (Posted.Accepted count) none (accepts next count) in
     let anew = is_none (going_on kind (addressee h came)) in let count = length (entries_in came) in
-    first_opens next (answers_by (is_down h) waiting names_none anew (unserved h (going_on kind (addressee h came))) (entry_count h) (held h) (births h) (begun link h came) came kind)
+    first_opens next (answers_by (is_down h) waiting names_none anew (unserved_of h (going_on kind (addressee h came))) (entry_count h) (held h) (births h) (begun link h came) came kind)
     (also none (also none
     (also (refused (Some AbortCause.ResourceLimitation) true) (also (refused (Some AbortCause.UnrecognizedTransactionIdentifier) true)
     (also (refused (Some AbortCause.ResourceLimitation) names_none) (also (refused None names_none)
@@ -58,8 +58,8 @@ opens link h came =
 -- which step has which answer: a message alone is posted, and a turn is taken at a Take
 abbrev Fits : Output → Step → Type 0
 Fits (Output.Posted answer components) step = IsPost step
-Fits (Output.Took local position) Step.Take = ⊤
-Fits (Output.Took local position) step = ⊥
+Fits (Output.Took local position count) Step.Take = ⊤
+Fits (Output.Took local position count) step = ⊥
 Fits output step = ⊤
 
 fits : (link : ℕ) (h : List Event) (step : Step) (came : Option Prepared) (output : Output) → IsAnswer link h step came output → Fits output step
@@ -76,7 +76,7 @@ fits link h Step.Sent came output is = subst (λ o. Fits o Step.Sent) (sym is) (
 fits link h Step.Unsent came output is = subst (λ o. Fits o Step.Unsent) (sym is) (by_option (λ o. Fits (if_out o Output.Unsent) Step.Unsent) (out h) (λ none. tt) (λ handed some. tt))
 fits link h Step.Down came output is = subst (λ o. Fits o Step.Down) (sym is) tt
 fits link h step came (Output.Posted answer components) is = absurd is
-fits link h Step.Pick came (Output.Took local position) is = absurd is
+fits link h Step.Pick came (Output.Took local position count) is = absurd is
 fits link h step came output is = tt
 
 -- an event opens no dialogue, or the one with the next birth, for a message
@@ -95,9 +95,9 @@ opened_next link h (Step.Lost frame moment) None local components is = absurd is
 opened_next link h step came local components is = absurd (fits link h step came (Output.Posted (Posted.Opened local) components) is)
 
 -- a turn is taken for the dialogue that has been ready longest
-pub took_is : (link : ℕ) (h : List Event) (step : Step) (came : Option Prepared) (local position : ℕ) → IsAnswer link h step came (Output.Took local position) → IsLongestReady h local position
-took_is link h Step.Take came local position is = is.0
-took_is link h step came local position is = absurd (fits link h step came (Output.Took local position) is)
+pub took_is : (link : ℕ) (h : List Event) (step : Step) (came : Option Prepared) (local position count : ℕ) → IsAnswer link h step came (Output.Took local position count) → IsLongestReady h local position count
+took_is link h Step.Take came local position count is = is.0
+took_is link h step came local position count is = absurd (fits link h step came (Output.Took local position count) is)
 
 -- THE DIALOGUES THAT WERE OPENED
 
@@ -139,20 +139,21 @@ place_stays link other h e d same g k first last =
     k.locals d first (births_grow h e d last) ∙ ap (λ n. identifier n d) same ∙ sym (g.locals d first last)
 
 -- a turn is out of a dialogue that was born
-pub turned_if : (b before : Bool) → cond b false before ≡ true → before ≡ true
-turned_if b before e = grind (arith, nat_tests)
+pub turned_if : (b : Bool) (before : ℕ) → nat_lt 0 (cond {A = ℕ} b 0 before) ≡ true → nat_lt 0 before ≡ true
+turned_if true before e = absurd (false≢true e)
+turned_if false before e = e
 
-pub taken_if : (b before : Bool) → cond b true before ≡ true → (b ≡ true) ⊎ (before ≡ true)
-taken_if true before e = inl refl
-taken_if false before e = inr e
+pub taken_if : (b : Bool) (count before : ℕ) → nat_lt 0 (cond b count before) ≡ true → (b ≡ true) ⊎ (nat_lt 0 before ≡ true)
+taken_if true count before e = inl refl
+taken_if false count before e = inr e
 
-out_by : (link : ℕ) (h : List Event) (output : Output) (step : Step) (d : ℕ) (before : Bool) → Opened link h → (before ≡ true → d ≤ births h) → turn_after output step h d before ≡ true → d ≤ births h
-out_by link h (Output.Took l position) step d before g was e = ⊎_elim (λ is. (g.names l d (the_one (named h l) d is)).2) was (taken_if (is_one (named h l) d) before e)
-out_by link h (Output.Gave l position given) step d before g was e = was (turned_if (is_one (named h l) d) before e)
+out_by : (link : ℕ) (h : List Event) (output : Output) (step : Step) (d before : ℕ) → Opened link h → (nat_lt 0 before ≡ true → d ≤ births h) → nat_lt 0 (count_after output step h d before) ≡ true → d ≤ births h
+out_by link h (Output.Took l position count) step d before g was e = ⊎_elim (λ is. (g.names l d (the_one (named h l) d is)).2) was (taken_if (is_one (named h l) d) count before e)
+out_by link h (Output.Gave l position served given) step d before g was e = was (turned_if (is_one (named h l) d) before e)
 out_by link h Output.WentBack (Step.PutBack lo) d before g was e = was (turned_if (is_one (named h lo) d) before e)
 out_by link h output step d before g was e = was e
 
 pub out_born : (link : ℕ) (h : List Event) (d : ℕ) → AllAnswered link h → turn_out h d ≡ true → d ≤ births h
 out_born link [] d all e = absurd (false≢true e)
 out_born link (e ∷ h) d (answer, all) is =
-    births_grow h e d (out_by link h e.output e.step d (turn_out h d) (all_opened link h all) (out_born link h d all) is)
+    births_grow h e d (out_by link h e.output e.step d (count_out h d) (all_opened link h all) (out_born link h d all) is)

@@ -1,5 +1,5 @@
 -- Totals, and what each output adds to them.
-use Rattle.fp_steps.proofs.Names.{AreFew, Bool, Event, Handed, List, None, Option, Output, Totals, [], added_by, ap, arith, capped, capped_totals, components_of, cond, frames_sent, is_gave, length, local_after, local_out, map_list, no_totals, option_map, out, out_after, outputs_of, plus, refl, reverse, reverse-append, reverse-reverse, reverse_onto, slice_index_or, subst, sum_by_push, sym, take, take_all, take_more, totals_of, ℕ, ◌++◌, ◌+◌, ◌<◌, ◌^◌, ◌∙◌, ◌∷◌, ◌≡◌, ◌≤◌}
+use Rattle.fp_steps.proofs.Names.{AreFew, Bool, Event, Handed, List, None, Option, Output, Totals, [], added_by, ap, arith, capped, capped_totals, components_of, cond, frames_sent, length, local_after, local_out, map_list, no_totals, option_map, out, out_after, outputs_of, plus, refl, reverse, reverse-append, reverse-reverse, reverse_onto, slice_index_or, subst, sum_by_push, sym, take, take_all, take_more, totals_of, ℕ, ◌++◌, ◌+◌, ◌<◌, ◌^◌, ◌∙◌, ◌∷◌, ◌≡◌, ◌≤◌, entries_served}
 
 abbrev pub one_if : Bool → ℕ
 one_if b = cond {A = ℕ} b 1 0
@@ -27,7 +27,7 @@ newest list output = reverse-append list (output ∷ [])
 totals_more : (list : List Output) (output : Output) → totals_of (list ++ output ∷ []) ≡ plus (totals_of list) (added_by output (local_out (reverse list)))
 totals_more list output =
     same (totals_of (list ++ output ∷ [])) (plus (totals_of list) (added_by output (local_out (reverse list))))
-    (sum_by_push components_of list output) (sum_by_push (λ o. one_if (is_gave o)) list output) (ap frames_sent (newest list output))
+    (sum_by_push components_of list output) (sum_by_push entries_served list output) (ap frames_sent (newest list output))
 
 -- HISTORIES
 

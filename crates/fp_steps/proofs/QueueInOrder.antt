@@ -1,5 +1,5 @@
 -- The queue of a book is in the order in which its dialogues became ready; and what each call makes of it.
-use Rattle.fp_steps.proofs.Names.{All-filter, All-from_recursion, AllByRecursion, Bool, ByAge, ClocksAt, ClosesAt, ComesFirst, Content, Due, Event, GoesDown, IsReadyBefore, List, LoggedStep, None, OneChanges, Option, Row, Rows, Shelf, Some, Sorted, Sound, Ticks, Tied, TiedAt, [], amount, and_parts, and_right, ap, append-nil, arith, births, by_local, cases_Bool, cases_lt, cond, cond_both, count, count-append, count-cons, count_is, count_without_other, count_without_own, due_of, eq-eqb, eqb, eqb-true, false, false≢true, filter, get, inl, inr, insert, inserted, is_frame_of, is_held, is_ready, joins, keep, kept, left_by, left_of, local_of, named, nat_tests, next_due, not, not-true, one_if, ready, ready_for, recursion_from_All, refl, row_is_ready, row_waits, same_Some, story, subst, suc, sym, true, true_from_ne_false, turn_out, without, ℕ, ⊎_elim, ◌&&◌, ◌++◌, ◌<◌, ◌∙◌, ◌∷◌, ◌≡◌, ◌≤◌, ◌⊎◌}
+use Rattle.fp_steps.proofs.Names.{All-filter, All-from_recursion, AllByRecursion, Bool, ByAge, ClocksAt, ClosesAt, ComesFirst, Content, Due, Event, GoesDown, IsReadyBefore, List, LoggedStep, None, OneChanges, Option, Row, Rows, Shelf, Some, Sorted, Sound, Ticks, Tied, TiedAt, [], amount, and_parts, and_right, ap, append-nil, arith, births, by_local, cases_Bool, cases_lt, cond, cond_both, count, count-append, count-cons, count_is, count_without_other, count_without_own, due_of, eq-eqb, eqb, eqb-true, false, false≢true, filter, get, inl, inr, insert, inserted, is_frame_of, is_held, is_ready, joins, keep, kept, left_by, left_of, local_of, named, nat_tests, next_due, not, not-true, one_if, ready, ready_for, recursion_from_All, refl, row_is_ready, row_waits, same_Some, story, subst, suc, sym, true, true_from_ne_false, turn_out, without, ℕ, ⊎_elim, ◌&&◌, ◌++◌, ◌<◌, ◌∙◌, ◌∷◌, ◌≡◌, ◌≤◌, ◌⊎◌, nat_lt}
 use Rattle.fp_steps.proofs.HeldDialogues.{Held, core_tied, held_at, held_of, waits_tied, by_option}
 use Rattle.fp_steps.proofs.TieAtTicks.{among}
 use Rattle.fp_steps.proofs.OpenedDialogues.{births_grow, place_stays}
@@ -49,7 +49,7 @@ ready_at (Some row) = row_is_ready row
 
 ready_by : (n d : ℕ) (h : List Event) (o : Option Row) → TiedAt n d (story h d) o → is_ready h d ≡ ready_at o
 ready_by n d h None k = ap (λ b. not (turn_out h d) && b) k.waits ∙ and_right (not (turn_out h d)) false refl
-ready_by n d h (Some row) k = λ i. not (k.outs i) && waits_tied k i
+ready_by n d h (Some row) k = λ i. not (nat_lt 0 (k.outs i)) && waits_tied k i
 
 pub ready_is : (h : List Event) (s : Shelf) (d : ℕ) → Tied h s → is_ready h d ≡ ready_at (get s.rows (local_of h d))
 ready_is h s d t = ready_by (births h) d h (get s.rows (local_of h d)) (t.rows d)

@@ -1,17 +1,16 @@
 -- Each step is answered as its history tells, and keeps its link.
-use Rattle.fp_steps.proofs.Names.{Bool, ByAge, Content, Done, Ending, Event, Given, GivesDone, Handed, IsAnswer, IsLongestReady, IsNext, IsPosted, IsTied, KeepsOrder, Lined, List, MakesOf, None, Option, Outbox, Output, PicksParcel, Prepared, PutsTurnBack, QueuedFrame, Request, Row, RowsKeepTheirOrder, Sends, Shelf, Some, Sorted, Sound, Step, TakesTurn, Ticks, Tied, TiedAt, Turn, Waiting, [], aborts_waiting, accepted, amount, ap, arith, as_waiting, births, cond, core_of, count, count-cons, due_at, ending, eqb, false, frame_octets, frame_of, gave, get, given_for, given_of, handed, how_many, if_out, is_due, is_ready, is_sending, is_some, length, length-map, local_of, map_list, named, nat_tests, next_request, not, octets_of, one_if, option_and_then, option_map, option_map_or, out, parcel_local, parcel_octets, places, places_held, places_out, positions, put_back, refl, request_of, requested_of, row_turn, slice_get, story, subst, sum_of, sym, ticked, true, turn_of, turn_out, turns_of, waiting, ℕ, ◌<◌, ◌||◌, ◌∙◌, ◌∷◌, ◌≡◌, ◌≢◌}
+use Rattle.fp_steps.proofs.Names.{Bool, ByAge, Content, Done, Ending, Event, Given, GivesDone, Handed, IsAnswer, IsLongestReady, IsNext, IsPosted, IsTied, KeepsOrder, Lined, List, MakesOf, None, Option, Outbox, Output, PicksParcel, Prepared, PutsTurnBack, QueuedFrame, Request, Row, RowsKeepTheirOrder, Sends, Shelf, Some, Sorted, Sound, Step, TakesTurn, Ticks, Tied, TiedAt, Turn, Waiting, [], aborts_waiting, amount, ap, arith, as_waiting, births, cond, core_of, count, count-cons, due_at, ending, eqb, false, frame_octets, frame_of, gave, get, given_for, given_of, handed, how_many, if_out, is_due, is_ready, is_sending, is_some, length, length-map, local_of, map_list, named, nat_tests, not, octets_of, one_if, option_map, option_map_or, out, parcel_local, parcel_octets, places, places_held, places_out, positions, put_back, refl, requested_of, row_turn, story, subst, sum_of, sym, ticked, true, turn_of, turn_out, turns_of, waiting, ℕ, ◌<◌, ◌||◌, ◌∙◌, ◌∷◌, ◌≡◌, ◌≢◌, IsOut, count_out, cut, is_closed, is_over, known_turn, min, most_entries, nat_lt, next_served, requests, take, unserved, waiting_ready, ◌-◌}
 use Rattle.fp_steps.proofs.Cases.{Cases, IsPost, by_made}
-use Rattle.fp_steps.proofs.HeldDialogues.{Held, apart, core_tied, count_tied, held_at, held_of, not_abort, by_option, eqb_swap}
+use Rattle.fp_steps.proofs.HeldDialogues.{Held, apart, core_tied, count_tied, held_at, held_of, not_abort, by_option, eqb_swap, unserved_tied}
 use Rattle.fp_steps.proofs.MessageAnswers.{Decided, posted_is}
 use Rattle.fp_steps.proofs.QueueInOrder.{InQueue, all_at, in_queue, queued_at, ready_at, ready_is, stands_not, first_in}
-use Rattle.fp_steps.proofs.SumsOverBirths.{many_is}
+use Rattle.fp_steps.proofs.SumsOverBirths.{sum_is}
 use Rattle.fp_steps.proofs.TieAtParcels.{out_there}
 use Rattle.fp_steps.proofs.TieAtTicks.{due_at_is}
-use Rattle.fp_steps.proofs.TieAtTurns.{IsTurn, out_by, turn_is}
+use Rattle.fp_steps.proofs.TieAtTurns.{count_served, frames_served, place_of as turn_place, served_now}
 use Rattle.fp_steps.proofs.TokensKept.{follows_untouched}
 use Rattle.fp_steps.proofs.WaitingAtSteps.{First, aborts_wait, first_of}
-use Rattle.fp_row.specs.Row.{has_turn_out}
-use Rattle.fp_book.proofs.Changes.{turns_are}
+use Rattle.fp_row.specs.Row.{has_turn_out, waiting_of}
 
 -- no turn of a dialogue is out where the book has none
 no_turn : RowsKeepTheirOrder → (row : Row) (b : Bool) → has_turn_out row ≡ b → row_turn row ≡ None → b ≡ false
@@ -20,50 +19,49 @@ no_turn law row false out none = refl
 
 none_out : RowsKeepTheirOrder → {h : List Event} {s : Shelf} (local d : ℕ) → Tied h s → named h local ≡ Some d → turn_of (get s.rows local) ≡ None → turn_out h d ≡ false
 none_out law {h} {s} local d t name none = by_option (λ o. TiedAt (births h) d (story h d) o → turn_of o ≡ None → turn_out h d ≡ false) (get s.rows (local_of h d))
-    (λ was tied no. tied.outs) (λ row was tied no. tied.outs ∙ no_turn law row (has_turn_out row) refl no)
+    (λ was tied no. ap (nat_lt 0) tied.outs) (λ row was tied no. ap (nat_lt 0) tied.outs ∙ no_turn law row (has_turn_out row) refl no)
     (t.rows d) (ap (λ l. turn_of (get s.rows l)) (sym (t.opened.names local d name).0) ∙ none)
 
 -- GIVE
 
 pub gave_none : RowsKeepTheirOrder → {h : List Event} {s : Shelf} (local : ℕ) → Tied h s → turn_of (get s.rows local) ≡ None → Output.Nothing ≡ gave h local (named h local)
 gave_none law {h} local t none = by_option (λ o. Output.Nothing ≡ gave h local o) (named h local) (λ name. refl) (λ d name.
-    sym (ap (λ b. cond b (Output.Gave local (length (positions h d)) (given_for (is_sending h d) (next_request h d))) Output.Nothing) (none_out law local d t name none)))
+    sym (ap (λ b. cond b (Output.Gave local (length (positions h d)) (length (next_served h d)) (given_for (is_sending h d) (requests (core_of h d) (next_served h d)))) Output.Nothing) (none_out law local d t name none)))
 
-given_by : (ended : Option Ending) (request : Option Request) (frame : Request → List ℕ) → given_of (requested_of ended (option_map frame request)) ≡ given_for (not (is_some ended)) request
-given_by None None frame = refl
-given_by None (Some request) frame = refl
-given_by (Some ending) None frame = refl
-given_by (Some ending) (Some request) frame = refl
+given_by : (ended : Option Ending) (asked : List Request) (frame : Request → List ℕ) → given_of (requested_of ended (map_list frame asked)) ≡ given_for (not (is_some ended)) asked
+given_by None [] frame = refl
+given_by None (request ∷ asked) frame = ap Given.Queued (length-map (request ∷ asked) frame)
+given_by (Some ending) [] frame = refl
+given_by (Some ending) (request ∷ asked) frame = ap Given.Dropped (length-map (request ∷ asked) frame)
 
--- what is requested at the entry of the turn that is out
-requested_at : (h : List Event) {row : Row} {turn : Turn} {d : ℕ} → IsTied d (story h d) row → IsTurn row turn → next_request h d ≡ request_of turn.before turn.entry
-requested_at h {row} {turn} {d} k is =
-    let place : length (positions h d) ≡ row.served = count_tied k in
-    let at : slice_get (accepted h d) (length (positions h d)) ≡ Some turn.entry =
-    (λ i. slice_get (k.accepts i) (place i)) ∙ is.entry_is in
-    ap (option_and_then (request_of (core_of h d))) at ∙ ap (λ c. request_of c turn.entry) (core_tied k ∙ is.core_is)
+-- the entries of a dialogue that are served next are those of its row
+next_tied : (h : List Event) {row : Row} {d : ℕ} → IsTied d (story h d) row → next_served h d ≡ served_now row
+next_tied h k = λ i. cut (core_tied k i) (take (k.outs i) (unserved_tied h k i))
 
 -- the end of the link closes all dialogues
 sends_by : (down : Bool) (ended : Option Ending) → (down ≡ true → ended ≡ Some Ending.Closed) → not (down || is_some ended) ≡ not (is_some ended)
 sends_by down ended closed = grind (arith, nat_tests)
 
 pub gave_done : {h : List Event} {old new : Shelf} {done : Done} {given : Given} → Tied h old → Sound old → Lined h old → GivesDone old done given new
-    → Output.Gave done.turn.local done.turn.position given ≡ gave h done.turn.local (named h done.turn.local)
+    → Output.Gave done.turn.local done.turn.position done.served given ≡ gave h done.turn.local (named h done.turn.local)
 gave_done {h} {old} {done} {given} t k line g =
     let l = done.turn.local in let b = g.before.birth in
     let held : Held h l b g.before = held_of l g.before t k g.was in
-    let is : IsTurn g.before done.turn = turn_is g.before done.turn g.gives.was_out in
-    let place : length (positions h b) ≡ done.turn.position = count_tied held.tied ∙ is.position_is in
-    let frame : Request → List ℕ = λ request. frame_of request l (octets_of done.turn.peer) in
-    let given_is : given_for (is_sending h b) (next_request h b) ≡ given =
-    (λ i. given_for (not (line.down i || is_some (held.tied.ends i))) (requested_at h held.tied is i))
-    ∙ ap (λ x. given_for x (request_of done.turn.before done.turn.entry)) (sends_by old.is_down g.before.ended (k.own l g.before g.was).closed)
-    ∙ sym (given_by g.before.ended (request_of done.turn.before done.turn.entry) frame)
-    ∙ ap (λ f. given_of (requested_of g.before.ended f)) (sym done.frame_is)
+    let is : IsOut g.before done.turn = known_turn g.before done.turn g.gives.was_out in
+    let place : length (positions h b) ≡ done.turn.position = count_tied held.tied ∙ turn_place is in
+    let next : next_served h b ≡ served_now g.before = next_tied h held.tied in
+    let count : length (next_served h b) ≡ done.served = ap length next ∙ sym (count_served done is) in
+    let asked : List Request = requests g.before.core (served_now g.before) in
+    let frame : Request → List ℕ = λ request. frame_of request g.before.local (octets_of g.before.peer) in
+    let given_is : given_for (is_sending h b) (requests (core_of h b) (next_served h b)) ≡ given =
+    (λ i. given_for (not (line.down i || is_some (held.tied.ends i))) (requests (core_tied held.tied i) (next i)))
+    ∙ ap (λ x. given_for x asked) (sends_by old.is_down g.before.ended (k.own l g.before g.was).closed)
+    ∙ sym (given_by g.before.ended asked frame)
+    ∙ ap (λ fs. given_of (requested_of g.before.ended fs)) (sym (frames_served done is))
     ∙ sym (g.given_is ∙ ap given_of g.gives.requested_is) in
-    let there : turn_out h b ≡ true = held.tied.outs ∙ out_by (has_turn_out g.before) _ done.turn g.gives.was_out in
+    let there : turn_out h b ≡ true = ap (nat_lt 0) held.tied.outs ∙ is.is_out in
     sym (ap (gave h l) held.name
-    ∙ (λ i. cond (there i) (Output.Gave l (place i) (given_is i)) Output.Nothing))
+    ∙ (λ i. cond (there i) (Output.Gave l (place i) (count i) (given_is i)) Output.Nothing))
 
 -- PUT BACK
 
@@ -74,7 +72,7 @@ back_none law {h} local t none = by_option (λ o. Output.Nothing ≡ put_back h 
 pub back_done : {h : List Event} {old new : Shelf} {turn : Turn} → Tied h old → Sound old → PutsTurnBack old turn new → Output.WentBack ≡ put_back h (named h turn.local)
 back_done {h} {turn} t k g =
     let held : Held h turn.local g.before.birth g.before = held_of turn.local g.before t k g.was in
-    sym (ap (put_back h) held.name ∙ ap (λ x. cond x Output.WentBack Output.Nothing) (held.tied.outs ∙ out_by (has_turn_out g.before) _ turn g.puts.was_out))
+    sym (ap (put_back h) held.name ∙ ap (λ x. cond x Output.WentBack Output.Nothing) (ap (nat_lt 0) held.tied.outs ∙ (known_turn g.before turn g.puts.was_out).is_out))
 
 -- SENT, UNSENT
 
@@ -90,7 +88,7 @@ if_is {h} output t was = sym (ap (λ o. if_out o output) (t.is_out ∙ ap (optio
 pub ticked_is : {h : List Event} {old new : Shelf} {moment added wanting : ℕ} → Tied h old → Sound old → wanting ≡ 0 → Ticks old moment added wanting new → Output.Ticked added wanting ≡ ticked h moment
 ticked_is {h} {old} {moment} {added} t k none g =
     let due : how_many (births h) (is_due h moment) ≡ sum_of (λ row. cond {A = ℕ} (due_at old moment row) 1 0) old.rows =
-    many_is (λ row. cond {A = ℕ} (due_at old moment row) 1 0) (is_due h moment) t k (λ d first last. due_at_is moment d (get old.rows (local_of h d)) t k refl (t.rows d))
+    sum_is (λ row. cond {A = ℕ} (due_at old moment row) 1 0) (λ d. cond {A = ℕ} (is_due h moment d) 1 0) t k (λ d first last. due_at_is moment d (get old.rows (local_of h d)) t k refl (t.rows d))
     in
     let is : added ≡ how_many (births h) (is_due h moment) = omega (arith, g.wanting_is, none, due) in
     λ i. Output.Ticked (is i) (none i)
@@ -106,23 +104,25 @@ out_place (Some (Content.Abort frame)) t k is = refl
 out_place (Some (Content.Frame w)) t k is =
     let row = out_there w k is in ap (λ b. cond {A = ℕ} b 0 1) (not_abort w.local row.0 t k row.1)
 
-turn_place : (n d : ℕ) (h : List Event) (o : Option Row) → TiedAt n d (story h d) o → amount turns_of o ≡ cond {A = ℕ} (turn_out h d) 1 0
-turn_place n d h None k = ap (λ b. cond {A = ℕ} b 1 0) (sym k.outs)
-turn_place n d h (Some row) k = turns_are row (turn_out h d) (sym k.outs)
+turn_places : (n d : ℕ) (h : List Event) (o : Option Row) → TiedAt n d (story h d) o → amount turns_of o ≡ count_out h d
+turn_places n d h None k = sym k.outs
+turn_places n d h (Some row) k = sym k.outs
 
 pub places_are : {h : List Event} {s : Shelf} → Tied h s → Sound s → Lined h s → places h ≡ places_held s
 places_are {h} {s} t k l =
     let fs : length (waiting h) ≡ length s.outbox.frames = sym (length-map (waiting h) (as_waiting h)) ∙ ap length l.frames in
     let o : place_of (out h) ≡ places_out s.outbox.out = ap place_of t.is_out ∙ out_place s.outbox.out t k refl in
-    omega (arith, fs, o, many_is turns_of (turn_out h) t k (λ d first last. turn_place (births h) d h (get s.rows (local_of h d)) (t.rows d)))
+    omega (arith, fs, o, sum_is turns_of (count_out h) t k (λ d first last. turn_places (births h) d h (get s.rows (local_of h d)) (t.rows d)))
 
 -- TAKE
 
-pub longest_is : {h : List Event} {old new : Shelf} {turn : Turn} → Tied h old → Sound old → Lined h old → TakesTurn old turn new → IsLongestReady h turn.local turn.position
+pub longest_is : {h : List Event} {old new : Shelf} {turn : Turn} → Tied h old → Sound old → Lined h old → TakesTurn old turn new → IsLongestReady h turn.local turn.position (length turn.entries)
 longest_is {h} {old} {turn} t k l g =
     let lo = turn.local in let b = g.before.birth in
     let held : Held h lo b g.before = held_of lo g.before t k g.was in
-    let is : IsTurn g.after turn = turn_is g.after turn g.takes.turn_is in
+    let waits : waiting_of g.before ≡ unserved h b =
+    waiting_ready (is_closed g.before.ended) (is_over g.before.core) g.before.accepted g.before.served g.before.out g.takes.was_ready ∙ sym (unserved_tied h held.tied)
+    in
     let order : Sorted (ByAge h) (lo ∷ g.rest) = subst (Sorted (ByAge h)) g.first l.order in
     record {
       dialogue = b;
@@ -134,7 +134,8 @@ longest_is {h} {old} {turn} t k l g =
           let q : InQueue h old n = queued_at n t k (omega (arith, there)) in
           let none : one_if (eqb lo n) ≡ 0 = ap one_if (eqb_swap n lo (ap (eqb n) held.place ∙ apart old.link h c b t.opened held.first held.last ne)) in
           all_at (ByAge h lo) g.rest n order.0 (omega (arith, there, ap (count n) g.first, count-cons n lo g.rest, none)) b c held.name (held_at c q.row t k q.was).name;
-      next = sym is.position_is ∙ g.takes.stay.served ∙ sym (count_tied held.tied);
+      next = sym (turn_place (known_turn g.after turn g.takes.turn_is)) ∙ g.takes.stay.served ∙ sym (count_tied held.tied);
+      count_is = g.takes.count ∙ (λ i. min most_entries (min (length (waits i)) (8192 - sym (places_are t k l) i)));
     }
 
 pub some_ready : {h : List Event} {s : Shelf} (xs : List ℕ) → Tied h s → Sound s → s.ready ≡ xs → s.ready ≢ [] → (d : ℕ) × (is_ready h d ≡ true)

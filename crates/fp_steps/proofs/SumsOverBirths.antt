@@ -1,15 +1,11 @@
 -- Sums over the dialogues that a book holds, by their births.
-use Rattle.fp_steps.proofs.Names.{Bool, Event, List, None, Option, Row, Rows, Shelf, Some, Sound, Tied, amount, ap, arith, births, cases_Bool, cases_lt, cond, eqb, eqb-false, false, get, get-removed, how_many, local_of, ne_eqb, none-some, refl, remove, suc, sum-none, sum-remove, sum_of, sum_to, sym, zero, ℕ, ⊎_elim, ◌+◌, ◌<◌, ◌∙◌, ◌≡◌, ◌≤◌}
+use Rattle.fp_steps.proofs.Names.{Event, List, None, Option, Row, Rows, Shelf, Some, Sound, Tied, amount, ap, arith, births, cases_Bool, cases_lt, cond, eqb, eqb-false, false, get, get-removed, local_of, ne_eqb, none-some, refl, remove, suc, sum-none, sum-remove, sum_of, sum_to, sym, zero, ℕ, ⊎_elim, ◌<◌, ◌∙◌, ◌≡◌, ◌≤◌}
 use Rattle.fp_steps.proofs.HeldDialogues.{Held, apart, held_of}
 
 pub sum_to_same : (n : ℕ) (f g : ℕ → ℕ) → ((d : ℕ) → 0 < d → d ≤ n → f d ≡ g d) → sum_to n f ≡ sum_to n g
 sum_to_same zero f g same = refl
 sum_to_same (suc n) f g same =
     omega (arith, sum_to_same n f g (λ d first last. same d first (omega (arith, last))), same (suc n) (omega arith) (omega arith))
-
-pub how_many_is : (n : ℕ) (is : ℕ → Bool) → how_many n is ≡ sum_to n (λ d. cond {A = ℕ} (is d) 1 0)
-how_many_is zero is = refl
-how_many_is (suc n) is = ap (λ m. m + cond {A = ℕ} (is (suc n)) 1 0) (how_many_is n is)
 
 -- each dialogue has one of these births, under the identifier that it has
 abbrev pub AreBorn : (ℕ → ℕ) → ℕ → Rows → Type 0
@@ -47,10 +43,9 @@ sum_births f place (suc n) rows apart born =
     (λ d first last. ap (amount f) (removed_at rows top (place d) (apart d (suc n) (omega arith) (omega arith) (ne_eqb d (suc n) (λ e. omega (arith, last, e))))))
     in omega (arith, rest, same, sum-remove f rows top)
 
--- how many dialogues of a history are such, by those that its book holds
-pub many_is : (f : Row → ℕ) (is : ℕ → Bool) {h : List Event} {s : Shelf} → Tied h s → Sound s
-    → ((d : ℕ) → 0 < d → d ≤ births h → amount f (get s.rows (local_of h d)) ≡ cond {A = ℕ} (is d) 1 0) → how_many (births h) is ≡ sum_of f s.rows
-many_is f is {h} {s} t k same = how_many_is (births h) is
-    ∙ sym (sum_births f (local_of h) (births h) s.rows (λ c d first last ne. apart s.link h c d t.opened first last ne)
+-- a number of each dialogue of a history, added up, by those that its book holds
+pub sum_is : (f : Row → ℕ) (of : ℕ → ℕ) {h : List Event} {s : Shelf} → Tied h s → Sound s
+    → ((d : ℕ) → 0 < d → d ≤ births h → amount f (get s.rows (local_of h d)) ≡ of d) → sum_to (births h) of ≡ sum_of f s.rows
+sum_is f of {h} {s} t k same = sym (sum_births f (local_of h) (births h) s.rows (λ c d first last ne. apart s.link h c d t.opened first last ne)
     (λ l row was. let b : Held h l row.birth row = held_of l row t k was in (row.birth, b.first, b.last, b.place))
-    ∙ sum_to_same (births h) (λ d. amount f (get s.rows (local_of h d))) (λ d. cond {A = ℕ} (is d) 1 0) same)
+    ∙ sum_to_same (births h) (λ d. amount f (get s.rows (local_of h d))) of same)

@@ -1,5 +1,5 @@
 -- A message keeps the tie between a book and its history.
-use Rattle.fp_steps.proofs.Names.{AbortCause, AbortFrame, AbortsTied, Answers, Beginning, Bool, ClosesOne, Content, Discards, Ending, EndsDialogue, Entry, Event, Extends, ExtendsDialogue, IsTied, List, LoggedStep, None, OneChanges, Opened as OpenedAs, OpensDialogue, Option, Output, Posted, Prepared, Refuses, Row, RowsKeepTheirOrder, Shelf, Some, Sound, Step, Story, Tid, Tied, TiedAt, [], abort_for, abort_out, aborts, aborts_sent, accepted, add-zero, admits, admitted as admitted_in, and_right, ap, append-nil, append_assoc, arith, arrival_of, began_with, beginning, births, book_logged as logged, by_local, cases_Bool, cond, cond_some, core_in, core_of, destination, ended_by, ending, ending_at, ending_by, entries_in, entry_count, eq-eqb, eqb, false, for_one, frame_octets, frames_of, get, identifier, insert, inserted, is_admitted, is_ending, is_one, is_over, is_some, length, local_of, map-append, map_list, named, named_in, names_by, nat_le, nat_lt, nat_tests, ne_eqb, not, number_of, numbers, octets_of, opened_in, option_and_then, option_map_or, out, parcel_local, positions, posted_line, queued, refl, rules, sender_of, sent, story, subst, sym, take, true, turn_out, unnamed_by, untold, ℕ, ⊎_elim, ◌&&◌, ◌++◌, ◌+◌, ◌∙◌, ◌∷◌, ◌≡◌}
+use Rattle.fp_steps.proofs.Names.{AbortCause, AbortFrame, AbortsTied, Answers, Beginning, Bool, ClosesOne, Content, Discards, Ending, EndsDialogue, Entry, Event, Extends, ExtendsDialogue, IsTied, List, LoggedStep, None, OneChanges, Opened as OpenedAs, OpensDialogue, Option, Output, Posted, Prepared, Refuses, Row, RowsKeepTheirOrder, Shelf, Some, Sound, Step, Story, Tid, Tied, TiedAt, [], abort_for, abort_out, aborts, aborts_sent, accepted, add-zero, admits, admitted as admitted_in, and_right, ap, append-nil, append_assoc, arith, arrival_of, began_with, beginning, births, book_logged as logged, by_local, cases_Bool, cond, cond_some, core_in, core_of, destination, ended_by, ending, ending_at, ending_by, entries_in, entry_count, eq-eqb, eqb, false, for_one, frame_octets, frames_of, get, identifier, insert, inserted, is_admitted, is_ending, is_one, is_over, is_some, length, local_of, map-append, map_list, named, named_in, names_by, nat_le, nat_lt, nat_tests, ne_eqb, not, number_of, numbers, octets_of, opened_in, option_and_then, option_map_or, out, parcel_local, positions, posted_line, queued, refl, rules, sender_of, sent, story, subst, sym, take, true, unnamed_by, untold, ℕ, ⊎_elim, ◌&&◌, ◌++◌, ◌+◌, ◌∙◌, ◌∷◌, ◌≡◌, count_out}
 use Rattle.fp_ber.specs.Canon.{canon}
 use Rattle.fp_frames.specs.Frame.{framed}
 use Rattle.fp_q773.specs.ProviderAbort.{cause_code, provider_abort}
@@ -122,7 +122,7 @@ tied_refused law {h} step came answer components {old} mid answered (Some local)
     let e = posts step came Posted.Ended components in
     subst (λ a. Tied (posts step came a components ∷ h) (record answered { log = log })) (sym answer_is)
     (subst (λ (s : Shelf). Tied (e ∷ h) (record s { log = log })) (sym same)
-    (closes_tied law e mid came (Some local) mid.outbox.aborts log t k names (λ d. becomes e h d _ (turn_out h d) refl refl refl refl refl refl refl) refl refl refl
+    (closes_tied law e mid came (Some local) mid.outbox.aborts log t k names (λ d. becomes e h d _ (count_out h d) refl refl refl refl refl refl refl) refl refl refl
     (λ s down waits. aborts_stay e s t.aborts_are refl refl refl down (waits ∙ closed_aborts old (Some local) mid c)) c))
 tied_refused law {h} step came answer components {old} mid answered closes log (Some (peer, cause)) t k names c from (answer_is, queues) =
     let e = posts step came (Posted.Aborted cause) components in
@@ -132,7 +132,7 @@ tied_refused law {h} step came answer components {old} mid answered closes log (
     let frame_is : x ≡ framed (canon (provider_abort (sender_of came) (cause_code cause))) = queues.frame_is ∙ ap (λ o. framed (canon (provider_abort o (cause_code cause)))) sender in
     subst (λ a. Tied (posts step came a components ∷ h) (record answered { log = log })) (sym answer_is)
     (subst (λ (s : Shelf). Tied (e ∷ h) (record s { log = log })) (sym queues.new_is)
-    (closes_tied law e mid came closes (mid.outbox.aborts ++ frame ∷ []) log t k names (λ d. becomes e h d _ (turn_out h d) refl refl refl refl refl refl refl) refl refl refl
+    (closes_tied law e mid came closes (mid.outbox.aborts ++ frame ∷ []) log t k names (λ d. becomes e h d _ (count_out h d) refl refl refl refl refl refl refl) refl refl refl
     (λ s down waits. record {
       rest = a.rest ++ x ∷ [];
       all = ap (λ xs. xs ++ (abort_out (out h) ++ (a.rest ++ x ∷ []))) (append-nil (aborts_sent h))
@@ -248,7 +248,7 @@ Tied-opens {h} step {came} components {old} {new} {peer} t k orig g =
     let place : l ≡ identifier old.link b = ap (λ m. identifier old.link (m + 1)) (sym (all ∙ k.births)) in
     let untold_yet : story h b ≡ untold = t.later b (omega arith) in
     let start : Beginning = record { local = l; peer = sender_of came; moment = (arrival_of came).moment } in
-    let fresh_one : Story = record { began = Some start; accepts = entries_in came; places = []; queues = []; sends = []; ended = None; out = false } in
+    let fresh_one : Story = record { began = Some start; accepts = entries_in came; places = []; queues = []; sends = []; ended = None; out = 0 } in
     let told : story (e ∷ h) b ≡ fresh_one = same_story (story (e ∷ h) b) fresh_one
     (ap (λ y. cond y (Some start) (beginning h b)) (eq-eqb b b refl))
     (ap (λ (s : Story). s.accepts ++ for_one (Some b) b (entries_in came)) untold_yet ∙ for_own (Some b) b (entries_in came) refl)
@@ -270,7 +270,7 @@ Tied-opens {h} step {came} components {old} {new} {peer} t k orig g =
       queues = sym (g.extends.stay.queued_frames ∙ ap (λ n. take n (frames_of g.opened)) g.opens.queued);
       sends = sym (g.extends.stay.sent_frames ∙ ap (λ n. take n (frames_of g.opened)) g.opens.sent);
       ends = sym (g.extends.ended ∙ g.opens.ended);
-      outs = sym (ap (nat_lt 0) (g.extends.out ∙ g.opens.out));
+      outs = sym (g.extends.out ∙ g.opens.out);
     } in
     let one : OneChanges old.rows rows l (get old.rows l) (Some g.after) = inserted old.rows l (get old.rows l) g.after refl in
     let opened : OpenedAs old.link (e ∷ h) = opened_after (Some l) (Some came) t.opened place in

@@ -1,5 +1,5 @@
 -- Steps of parcels, and the end of a link, keep the tie between a book and its history.
-use Rattle.fp_steps.proofs.Names.{AbortFrame, AbortsTied, BookNext as IsNext, Bool, ClosesAt, Content, Ending, Ends, Event, GoesDown, IsGone, IsStraight, IsTied, List, LoggedStep, None, Option, Outbox, Output, Parcel, PicksParcel, Prepared, Row, RowsKeepTheirOrder, Sends, Shelf, Some, Sound, Step, Story, Tied, TiedAt, Unsends, Waiting, [], abort_out, aborts, aborts_sent, accepted, add-zero, and_right, ap, append-nil, append_assoc, arith, births, cases_Bool, cond, ended_by, ending, entry_count, false, for_one, frame_for, frame_octets, frame_out, frames_at, frames_for, get, handed, is_frame_of, kept_of, le-leb, local_of, lt-leb, map_list, named, nat_le, nat_lt, numbers, opened_in, option_map, out, parcel_local, parcel_octets as octets_of, positions, queued, refl, sent, sent_of, story, subst, sym, true, true≢false, turn_out, ℕ, ⊎_elim, ◌&&◌, ◌++◌, ◌+◌, ◌∙◌, ◌∷◌, ◌≡◌}
+use Rattle.fp_steps.proofs.Names.{AbortFrame, AbortsTied, BookNext as IsNext, Bool, ClosesAt, Content, Ending, Ends, Event, GoesDown, IsGone, IsStraight, IsTied, List, LoggedStep, None, Option, Outbox, Output, Parcel, PicksParcel, Prepared, Row, RowsKeepTheirOrder, Sends, Shelf, Some, Sound, Step, Story, Tied, TiedAt, Unsends, Waiting, [], abort_out, aborts, aborts_sent, accepted, add-zero, and_right, ap, append-nil, append_assoc, arith, births, cases_Bool, cond, ended_by, ending, entry_count, false, for_one, frame_for, frame_octets, frame_out, frames_at, frames_for, get, handed, is_frame_of, kept_of, le-leb, local_of, lt-leb, map_list, named, nat_le, nat_lt, numbers, opened_in, option_map, out, parcel_local, parcel_octets as octets_of, positions, queued, refl, sent, sent_of, story, subst, sym, true, true≢false, ℕ, ⊎_elim, ◌&&◌, ◌++◌, ◌+◌, ◌∙◌, ◌∷◌, ◌≡◌, count_out}
 use Rattle.fp_book.proofs.Unsent.{first_own}
 use Rattle.fp_steps.proofs.HeldDialogues.{Held, becomes, event, for_other, for_own, held_at, held_of, left_tied, none_named, not_abort, same_beginning, stays, by_option}
 use Rattle.fp_steps.proofs.TieNext.{Next, Tied-next, Tied-quiet, Tied-left}
@@ -107,7 +107,7 @@ Tied-sends law {h} came {old} new (Content.Frame w) t k g =
       sends = ap (λ o. sent h b ++ frame_for o b) was ∙ ap (λ xs. sent h b ++ xs) (for_own (named h l) b (w.frame ∷ []) held.name)
           ∙ ap (λ xs. xs ++ w.frame ∷ []) before.sends ∙ sym (g.sends.one_more w.frame waits_for all);
       ends = before.ends ∙ sym g.sends.ended;
-      outs = before.outs ∙ sym (ap (nat_lt 0) g.sends.out);
+      outs = before.outs ∙ sym g.sends.out;
     } in subst (Tied (e ∷ h)) (sym g.new_is)
     (Tied-left law l g.before t k (sent_rest came _ t refl refl refl refl refl refl) g.was refl tied
     (λ d ne. stays e h d refl refl refl refl (ap (λ o. frame_for o d) was ∙ for_other (named h l) d b (w.frame ∷ []) held.name ne) refl refl))
@@ -180,7 +180,7 @@ Tied-down law {h} came {old} t k g =
     let e = event Step.Down came Output.Down in let a : AbortsTied h old = t.aborts_are in
     closes_all law e t k g refl refl (t.is_out ∙ ap (λ (s : Shelf). option_map (handed h) s.outbox.out) (sym g.new_is)) a.rest
     (ap (λ xs. xs ++ (abort_out (out h) ++ a.rest)) (append-nil (aborts_sent h)) ∙ a.all ∙ sym (append-nil (aborts h)))
-    (λ d. becomes e h d _ (turn_out h d) refl refl refl refl refl refl refl)
+    (λ d. becomes e h d _ (count_out h d) refl refl refl refl refl refl refl)
 
 -- what was being sent wasn't
 pub Tied-unsends : RowsKeepTheirOrder → {h : List Event} (came : Option Prepared) {old new : Shelf} {parcel : Parcel} → Tied h old → Sound old → Unsends old parcel new
@@ -189,4 +189,4 @@ Tied-unsends law {h} came {old} t k u =
     let e = event Step.Unsent came Output.Unsent in let a : AbortsTied h old = t.aborts_are in
     closes_all law e t k u.down refl refl (ap (λ (s : Shelf). option_map (handed h) s.outbox.out) (sym u.down.new_is)) (abort_out (out h) ++ a.rest)
     (ap (λ xs. xs ++ (abort_out (out h) ++ a.rest)) (append-nil (aborts_sent h)) ∙ a.all ∙ sym (append-nil (aborts h)))
-    (λ d. becomes e h d _ (turn_out h d) refl refl refl refl refl refl refl)
+    (λ d. becomes e h d _ (count_out h d) refl refl refl refl refl refl refl)

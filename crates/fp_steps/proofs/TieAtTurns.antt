@@ -1,13 +1,7 @@
 -- Steps of turns keep the tie between a book and its history.
-use Rattle.fp_steps.proofs.Names.{Bool, Done, Ending, Entry, Event, Given, GivesDone, IsTied, List, None, Option, Output, Prepared, PutsTurnBack, Row, RowsKeepTheirOrder, Shelf, Some, Sound, Step, TakesTurn, Tied, Turn, [], accepted, add-one, add-zero, ap, append-nil, arith, beginning, cond, core_of, ending, entry_count, false, frame_at, frame_from, frames_in, given_of, if_queued, named, nat_lt, nat_tests, numbers, octets_of, option_and_then, option_map, option_to_list, positions, queued, queued_in, refl, request_of, requested_of, row_turn, row_turn_of as turn_of, rules, sent, slice_get, story, subst, sym, true, turn_out, ℕ, ◌++◌, ◌∙◌, ◌∷◌, ◌≡◌}
-use Rattle.fp_row.specs.Turn.{frame_for}
-use Rattle.fp_row.specs.Row.{has_turn_out}
-use Rattle.fp_steps.proofs.HeldDialogues.{Held, becomes, core_tied, event, for_other, for_own, held_of, is_other, is_own, same_beginning, stays, tied_same}
+use Rattle.fp_steps.proofs.Names.{Done, Ending, Entry, Event, Given, GivesDone, IsTied, List, None, Option, Output, Prepared, PutsTurnBack, Row, RowsKeepTheirOrder, Shelf, Some, Sound, Step, TakesTurn, Tied, Turn, [], accepted, add-zero, ap, append-nil, arith, cond, ending, entry_count, frame_from, frames_in, given_of, if_queued, named, numbers, positions, queued, queued_in, refl, requested_of, sent, story, subst, sym, ℕ, ◌++◌, ◌∙◌, ◌∷◌, ◌≡◌, IsOut, append_assoc, asked_at, count_out, cut, cut-front, drop, frames_under, in_places, known_turn, length, map_list, numbers_from, requests, row_entries_out, take, take-append-drop, take_at, turn_frames, turn_served, ◌≤◌}
+use Rattle.fp_steps.proofs.HeldDialogues.{Held, becomes, core_tied, event, for_other, for_own, held_of, is_other, is_own, next_places, numbers_more, same_beginning, stays, tied_same}
 use Rattle.fp_steps.proofs.TieNext.{quiet, Tied-left, Tied-put}
-
--- a turn is out of a row of which one is told
-pub out_by : (b : Bool) (o : Option Turn) (turn : Turn) → cond b o None ≡ Some turn → b ≡ true
-out_by b o turn e = grind (arith, nat_tests)
 
 pub none_queued : (given : Given) → if_queued given [] ≡ []
 none_queued Given.Silent = refl
@@ -15,18 +9,19 @@ none_queued given = refl
 
 -- a turn is handed out
 pub Tied-takes : {h : List Event} (came : Option Prepared) {old new : Shelf} {turn : Turn} → Tied h old → Sound old → TakesTurn old turn new
-    → Tied (event Step.Take came (Output.Took turn.local turn.position) ∷ h) new
+    → Tied (event Step.Take came (Output.Took turn.local turn.position (length turn.entries)) ∷ h) new
 Tied-takes {h} came {turn} t k g =
-    let e = event Step.Take came (Output.Took turn.local turn.position) in let l = turn.local in
+    let l = turn.local in let n = length turn.entries in
+    let e = event Step.Take came (Output.Took turn.local turn.position n) in
     let b = g.before.birth in let held : Held h l b g.before = held_of l g.before t k g.was in
-    let told : story (e ∷ h) b ≡ record (story h b) { out = true } =
-    becomes e h b (ending h b) true refl refl refl refl refl refl (ap (λ x. cond x true (turn_out h b)) (is_own (named h l) b held.name))
+    let told : story (e ∷ h) b ≡ record (story h b) { out = n } =
+    becomes e h b (ending h b) n refl refl refl refl refl refl (ap (λ x. cond x n (count_out h b)) (is_own (named h l) b held.name))
     in
     subst (Tied (e ∷ h)) (sym g.new_is)
     (Tied-put l g.before t k (quiet e _ t refl (add-zero (entry_count h) ∙ t.entries_are) refl refl refl refl refl refl refl refl) g.was refl
     (subst (λ s. IsTied b s g.after) (sym told)
-    (tied_same true held.tied g.takes.same g.takes.accepted g.takes.stay.served g.takes.stay.queued_frames g.takes.stay.sent_frames g.takes.stay.core g.takes.ended (ap (nat_lt 0) g.takes.out)))
-    (λ d ne. stays e h d refl refl refl refl refl refl (ap (λ x. cond x true (turn_out h d)) (is_other (named h l) d b held.name ne))))
+    (tied_same n held.tied g.takes.same g.takes.accepted g.takes.stay.served g.takes.stay.queued_frames g.takes.stay.sent_frames g.takes.stay.core g.takes.ended g.takes.out))
+    (λ d ne. stays e h d refl refl refl refl refl refl (ap (λ x. cond x n (count_out h d)) (is_other (named h l) d b held.name ne))))
 
 -- a turn is put back
 pub Tied-puts_back : RowsKeepTheirOrder → {h : List Event} (came : Option Prepared) {old new : Shelf} {turn : Turn} → Tied h old → Sound old → PutsTurnBack old turn new
@@ -34,65 +29,73 @@ pub Tied-puts_back : RowsKeepTheirOrder → {h : List Event} (came : Option Prep
 Tied-puts_back law {h} came {turn} t k g =
     let e = event (Step.PutBack turn.local) came Output.WentBack in let l = turn.local in
     let b = g.before.birth in let held : Held h l b g.before = held_of l g.before t k g.was in
-    let told : story (e ∷ h) b ≡ record (story h b) { out = false } =
-    becomes e h b (ending h b) false refl refl refl refl refl refl (ap (λ x. cond x false (turn_out h b)) (is_own (named h l) b held.name))
+    let told : story (e ∷ h) b ≡ record (story h b) { out = 0 } =
+    becomes e h b (ending h b) 0 refl refl refl refl refl refl (ap (λ x. cond {A = ℕ} x 0 (count_out h b)) (is_own (named h l) b held.name))
     in
     subst (Tied (e ∷ h)) (sym g.new_is)
     (Tied-left law l g.before t k (quiet e _ t refl (add-zero (entry_count h) ∙ t.entries_are) refl refl refl refl refl refl refl refl) g.was refl
     (subst (λ s. IsTied b s g.after) (sym told)
-    (tied_same false held.tied g.puts.same g.puts.accepted g.puts.stay.served g.puts.stay.queued_frames g.puts.stay.sent_frames g.puts.stay.core g.puts.ended (ap (nat_lt 0) g.puts.out)))
-    (λ d ne. stays e h d refl refl refl refl refl refl (ap (λ x. cond x false (turn_out h d)) (is_other (named h l) d b held.name ne))))
+    (tied_same 0 held.tied g.puts.same g.puts.accepted g.puts.stay.served g.puts.stay.queued_frames g.puts.stay.sent_frames g.puts.stay.core g.puts.ended g.puts.out))
+    (λ d ne. stays e h d refl refl refl refl refl refl (ap (λ x. cond {A = ℕ} x 0 (count_out h d)) (is_other (named h l) d b held.name ne))))
 
--- the turn that is out is that of the next entry
-pub record IsTurn (row : Row) (turn : Turn) : Type 0 where
-  pub entry_is : slice_get row.accepted row.served ≡ Some turn.entry
-  pub local_is : row.local ≡ turn.local
-  pub peer_is : row.peer ≡ turn.peer
-  pub position_is : row.served ≡ turn.position
-  pub core_is : row.core ≡ turn.before
+-- what is served of the turn that is out, by its row alone
+abbrev pub served_now : Row → List Entry
+served_now row = cut row.core (row_entries_out row)
 
-turn_from : (row : Row) (turn : Turn) (out : Bool) (o : Option Entry) → slice_get row.accepted row.served ≡ o → cond out (option_map (turn_of row) o) None ≡ Some turn → IsTurn row turn
-turn_from row turn false o at e = absurd (cc)
-turn_from row turn true None at e = absurd (cc)
-turn_from row turn true (Some entry) at e =
-    let is : turn_of row entry ≡ turn = cc in subst (IsTurn row) is (search rules)
+pub count_served : {row : Row} (done : Done) → IsOut row done.turn → done.served ≡ length (served_now row)
+count_served done is = done.served_is ∙ ap (λ (t : Turn). length (turn_served t)) (sym is.turn_is)
 
-pub turn_is : (row : Row) (turn : Turn) → row_turn row ≡ Some turn → IsTurn row turn
-turn_is row turn e = turn_from row turn (has_turn_out row) (slice_get row.accepted row.served) refl e
+pub frames_served : {row : Row} (done : Done) → IsOut row done.turn → done.frames ≡ frames_under row.local row.peer (requests row.core (served_now row))
+frames_served done is = done.frames_are ∙ ap turn_frames (sym is.turn_is)
 
--- the request is accepted for sending where the frame is queued
-pub queued_by : (ended : Option Ending) (frame : Option (List ℕ)) → if_queued (given_of (requested_of ended frame)) (option_to_list frame) ≡ frames_in (requested_of ended frame)
-queued_by None None = refl
-queued_by None (Some frame) = refl
-queued_by (Some ending) None = refl
-queued_by (Some ending) (Some frame) = refl
+pub place_of : {row : Row} {turn : Turn} → IsOut row turn → row.served ≡ turn.position
+place_of is = ap (λ (t : Turn). t.position) is.turn_is
 
--- the frame of what is requested at the entry of a turn
-pub frame_is : (h : List Event) {row : Row} {turn : Turn} {d : ℕ} → IsTied d (story h d) row → IsTurn row turn → frame_at h d turn.position ≡ frame_for turn
-frame_is h {row} {turn} {d} k is =
-    let at : slice_get (accepted h d) turn.position ≡ Some turn.entry =
-    (λ i. slice_get (k.accepts i) (sym is.position_is i)) ∙ is.entry_is in
-    let core : core_of h d ≡ turn.before = core_tied k ∙ is.core_is in
-    let begun : beginning h d ≡ Some (record { local = turn.local; peer = octets_of turn.peer; moment = row.opened }) =
-    k.begins ∙ (λ i. Some (record { local = is.local_is i; peer = octets_of (is.peer_is i); moment = row.opened }))
-    in λ i. option_map (frame_from (begun i)) (option_and_then (request_of (core i)) (at i))
+-- a front of so many entries after others
+front_is : (xs front rest : List Entry) (n k : ℕ) → front ++ rest ≡ take k (drop n xs) → take (length front) (drop n xs) ≡ front
+front_is xs front rest n k split =
+    let after = drop k (drop n xs) in
+    let whole : front ++ (rest ++ after) ≡ drop n xs = sym (append_assoc front rest after) ∙ ap (λ ys. ys ++ after) split ∙ take-append-drop k (drop n xs) in
+    ap (take (length front)) (sym whole) ∙ take_at front (rest ++ after) (length front) refl
+
+-- its places are those from its position on
+pub places_served : (h : List Event) {row : Row} (done : Done) {d : ℕ} → IsTied d (story h d) row → IsOut row done.turn → done.served ≤ row.out
+    → in_places (accepted h d) (numbers_from done.turn.position done.served) ≡ served_now row
+places_served h {row} done k is few =
+    let count : done.served ≡ length (served_now row) = count_served done is in
+    let front = cut-front row.core (row_entries_out row) in
+    (λ i. in_places (k.accepts i) (numbers_from (sym (place_of is) i) (count i)))
+    ∙ next_places row.accepted row.served (length (served_now row)) (omega (arith, count, few, row.out_within))
+    ∙ front_is row.accepted (served_now row) front.0 row.served row.out front.1
+
+-- and the frames of what is requested there are those of the turn
+frames_there : (h : List Event) {row : Row} (done : Done) {d : ℕ} → IsTied d (story h d) row → IsOut row done.turn → done.served ≤ row.out → asked_at h d done.turn.position done.served ≡ done.frames
+frames_there h done k is few = (λ i. map_list (frame_from (k.begins i)) (requests (core_tied k i) (places_served h done k is few i))) ∙ sym (frames_served done is)
+
+-- the requests are accepted for sending where their frames are queued
+queued_by : (ended : Option Ending) (frames : List (List ℕ)) → if_queued (given_of (requested_of ended frames)) frames ≡ frames_in (requested_of ended frames)
+queued_by None [] = refl
+queued_by None (frame ∷ frames) = refl
+queued_by (Some ending) [] = refl
+queued_by (Some ending) (frame ∷ frames) = refl
 
 -- what is accepted for sending where a turn is given back
-pub queued_asked : {h : List Event} {old new : Shelf} {done : Done} {given : Given} → Tied h old → Sound old → (g : GivesDone old done given new) → queued_in (Output.Gave done.turn.local done.turn.position given) h g.before.birth ≡ frames_in g.asked
+pub queued_asked : {h : List Event} {old new : Shelf} {done : Done} {given : Given} → Tied h old → Sound old → (g : GivesDone old done given new)
+    → queued_in (Output.Gave done.turn.local done.turn.position done.served given) h g.before.birth ≡ frames_in g.asked
 queued_asked {h} {done} {given} t k g =
-    let l = done.turn.local in let p = done.turn.position in let b = g.before.birth in
+    let l = done.turn.local in let b = g.before.birth in
     let held : Held h l b g.before = held_of l g.before t k g.was in
-    let frame : frame_at h b p ≡ done.frame = frame_is h held.tied (turn_is g.before done.turn g.gives.was_out) ∙ sym done.frame_is in
-    let same : given ≡ given_of (requested_of g.before.ended done.frame) = g.given_is ∙ ap given_of g.gives.requested_is in
-    ap (if_queued given) (for_own (named h l) b (option_to_list (frame_at h b p)) held.name)
-    ∙ (λ i. if_queued (same i) (option_to_list (frame i))) ∙ queued_by g.before.ended done.frame ∙ ap frames_in (sym g.gives.requested_is)
+    let frames : asked_at h b done.turn.position done.served ≡ done.frames = frames_there h done held.tied (known_turn g.before done.turn g.gives.was_out) g.gives.few_served in
+    let same : given ≡ given_of (requested_of g.before.ended done.frames) = g.given_is ∙ ap given_of g.gives.requested_is in
+    ap (if_queued given) (for_own (named h l) b (asked_at h b done.turn.position done.served) held.name)
+    ∙ (λ i. if_queued (same i) (frames i)) ∙ queued_by g.before.ended done.frames ∙ ap frames_in (sym g.gives.requested_is)
 
 -- a turn that was served is given back
 pub Tied-gives : RowsKeepTheirOrder → {h : List Event} (came : Option Prepared) {old new : Shelf} {done : Done} {given : Given} → Tied h old → Sound old → GivesDone old done given new
-    → Tied (event (Step.Give done.turn.local) came (Output.Gave done.turn.local done.turn.position given) ∷ h) new
+    → Tied (event (Step.Give done.turn.local) came (Output.Gave done.turn.local done.turn.position done.served given) ∷ h) new
 Tied-gives law {h} came {done} {given} t k g =
-    let l = done.turn.local in let p = done.turn.position in let b = g.before.birth in
-    let e = event (Step.Give l) came (Output.Gave l p given) in
+    let l = done.turn.local in let p = done.turn.position in let n = done.served in let b = g.before.birth in
+    let e = event (Step.Give l) came (Output.Gave l p n given) in
     let held : Held h l b g.before = held_of l g.before t k g.was in
     let name : named h l ≡ Some b = held.name in
     let before : IsTied b (story h b) g.before = held.tied in
@@ -101,14 +104,15 @@ Tied-gives law {h} came {done} {given} t k g =
       birth = g.gives.same.birth;
       begins = before.begins ∙ ap Some (sym (same_beginning g.gives.same));
       accepts = append-nil (accepted h b) ∙ before.accepts ∙ sym g.gives.accepted;
-      serves = ap (λ ps. positions h b ++ ps) (for_own (named h l) b (p ∷ []) name) ∙ ap (λ ps. ps ++ p ∷ []) before.serves
-          ∙ ap (λ n. numbers g.before.served ++ n ∷ []) (sym (turn_is g.before done.turn g.gives.was_out).position_is) ∙ sym (ap numbers (g.gives.served ∙ add-one g.before.served));
+      serves = ap (λ ps. positions h b ++ ps) (for_own (named h l) b (numbers_from p n) name)
+          ∙ (λ i. before.serves i ++ numbers_from (sym (place_of (known_turn g.before done.turn g.gives.was_out)) i) n)
+          ∙ numbers_more g.before.served n ∙ sym (ap numbers g.gives.served);
       queues = ap (λ fs. queued h b ++ fs) (queued_asked t k g) ∙ ap (λ fs. fs ++ frames_in g.asked) before.queues ∙ sym g.gives.queued_frames;
       sends = append-nil (sent h b) ∙ before.sends ∙ sym g.gives.sent_frames;
       ends = before.ends ∙ sym g.gives.ended;
-      outs = ap (λ x. cond x false (turn_out h b)) (is_own (named h l) b name) ∙ sym (ap (nat_lt 0) g.gives.out);
+      outs = ap (λ x. cond {A = ℕ} x 0 (count_out h b)) (is_own (named h l) b name) ∙ sym g.gives.out;
     } in subst (Tied (e ∷ h)) (sym g.new_is)
     (Tied-left law l g.before t k (quiet e _ t refl (add-zero (entry_count h) ∙ t.entries_are) refl refl refl refl refl refl refl refl) g.was refl tied
-    (λ d ne. stays e h d refl refl (for_other (named h l) d b (p ∷ []) name ne)
-    (ap (if_queued given) (for_other (named h l) d b (option_to_list (frame_at h d p)) name ne) ∙ none_queued given)
-    refl refl (ap (λ x. cond x false (turn_out h d)) (is_other (named h l) d b name ne))))
+    (λ d ne. stays e h d refl refl (for_other (named h l) d b (numbers_from p n) name ne)
+    (ap (if_queued given) (for_other (named h l) d b (asked_at h d p n) name ne) ∙ none_queued given)
+    refl refl (ap (λ x. cond {A = ℕ} x 0 (count_out h d)) (is_other (named h l) d b name ne))))

@@ -1,5 +1,5 @@
 -- The tokens that a run keeps are those that its book handed out.
-use Rattle.fp_steps.proofs.Names.{AbortCause, Answers, Bool, ClosesOne, Content, Done, EndsDialogue, ExtendsDialogue, FinMap, Follows, Given, GivesDone, Holds, IsOwn, List, LoggedStep, None, OneChanges, OpensDialogue, Option, Parcel, ParcelIs, Posted, Prepared, PutsTurnBack, Refuses, Row, Sends, Shelf, Some, Sound, TakesFirst, TakesOut, TakesTurn, Tid, Turn, Verdict, [], abort_for, add-one, and_parts, ap, append-nil, arith, arrival_of, by_held, by_local, common_remove as remove, cond, cond_some, drop, eq-eqb, eqb, eqb-true, false, filter, filter-append, find, get, identifier, inserted, kept, left_of, length, ltb-false, ltb-true, nat_cmp, nat_lt, nat_tests, not, not-true, not_held, option_map, option_to_list, passes_at_first, position, position_or_len, refl, row_turn as turn_out, row_waits as waits, rules, slice_get, slice_index_or, split_at_first, subst, suc, sym, take, take_all, true, turn_of, turns_at, ℕ, ◌++◌, ◌+◌, ◌<◌, ◌∙◌, ◌∷◌, ◌≡◌, ◌≤◌}
+use Rattle.fp_steps.proofs.Names.{AbortCause, Answers, Bool, ClosesOne, Content, Done, EndsDialogue, ExtendsDialogue, FinMap, Follows, Given, GivesDone, Holds, IsOwn, List, LoggedStep, None, OneChanges, OpensDialogue, Option, Parcel, ParcelIs, Posted, Prepared, PutsTurnBack, Refuses, Row, Sends, Shelf, Some, Sound, TakesFirst, TakesOut, TakesTurn, Tid, Turn, Verdict, [], abort_for, add-one, and_parts, ap, append-nil, arith, arrival_of, by_held, by_local, common_remove as remove, cond, cond_some, drop, eq-eqb, eqb, eqb-true, false, filter, filter-append, find, get, identifier, inserted, kept, left_of, length, ltb-false, ltb-true, nat_cmp, nat_lt, nat_tests, not, not-true, not_held, option_map, option_to_list, passes_at_first, position, position_or_len, refl, row_turn as turn_out, row_waits as waits, rules, slice_index_or, split_at_first, subst, suc, sym, take, take_all, true, turn_of, turns_at, ℕ, ◌++◌, ◌+◌, ◌<◌, ◌∙◌, ◌∷◌, ◌≡◌, ◌≤◌}
 use Rattle.fp_row.specs.Row as row
 use Rattle.fp_row.specs.Row.{has_turn_out}
 use Rattle.fp_steps.proofs.HeldDialogues.{one_put, by_option, eqb_swap}
@@ -31,7 +31,7 @@ untouched_then u v = grind arith
 
 -- where no turn is out none is told
 no_turn : (r : Row) → has_turn_out r ≡ false → turn_out r ≡ None
-no_turn r e = ap (λ b. cond b (option_map (row.turn_of r) (slice_get r.accepted r.served)) None) e
+no_turn r e = ap (λ b. cond b (Some (row.turn_of r (row.entries_out r))) None) e
 
 -- what goes has no turn out
 pub turn_left : (r : Row) → turn_of (left_of r) ≡ turn_out r

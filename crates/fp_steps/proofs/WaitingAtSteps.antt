@@ -1,12 +1,11 @@
 -- Steps of turns and parcels, and the end of a link, keep what waits in a book as its history tells.
-use Rattle.fp_steps.proofs.Names.{AbortsTied, ByAge, Content, Done, Ending, Event, Given, GivesDone, GoesDown, Lined, List, LoggedStep, None, Option, Output, PicksParcel, Prepared, PutsTurnBack, QueuedFrame, Sends, Shelf, Some, Sorted, Sound, Step, TakesTurn, Tied, Turn, Waiting, [], abort_out, aborts, aborts_sent, aborts_waiting, ap, append_assoc, arith, as_waiting, cond, cond_both, count, count-cons, drop, drop_at, ending, eq-eqb, eqb-true, false, false_from_ne_true, filter, filter-append, filter_agree, frame_octets, frames, frames_by, frames_in, is_down, is_ended, is_one, is_sending, is_some, is_waiting, le-leb, length, length-append, local_of, map-append, map_list, named, nat_le, nat_tests, none-some, not, out, parcel_local, picked, queued, refl, requested_of, row_is_ready, subst, suc, sym, true, true≢false, waiting, waiting_in, ℕ, ◌&&◌, ◌++◌, ◌+◌, ◌<◌, ◌||◌, ◌∙◌, ◌∷◌, ◌≡◌, ◌≤◌}
+use Rattle.fp_steps.proofs.Names.{AbortsTied, ByAge, Content, Done, Ending, Event, Given, GivesDone, GoesDown, Lined, List, LoggedStep, None, Option, Output, PicksParcel, Prepared, PutsTurnBack, QueuedFrame, Sends, Shelf, Some, Sorted, Sound, Step, TakesTurn, Tied, Turn, Waiting, [], abort_out, aborts, aborts_sent, aborts_waiting, ap, append_assoc, arith, as_waiting, cond, cond_both, count, count-cons, drop, drop_at, ending, eq-eqb, eqb-true, false, false_from_ne_true, filter, filter-append, filter_agree, frame_octets, frames, frames_by, frames_in, is_down, is_ended, is_one, is_sending, is_some, is_waiting, le-leb, length, length-append, local_of, map-append, map_list, named, nat_le, nat_tests, none-some, not, out, parcel_local, picked, queued, refl, requested_of, row_is_ready, subst, suc, sym, true, true≢false, waiting, waiting_in, ℕ, ◌&&◌, ◌++◌, ◌+◌, ◌<◌, ◌||◌, ◌∙◌, ◌∷◌, ◌≡◌, ◌≤◌, known_turn, numbered, waiting_frames}
 use Rattle.fp_row.specs.declared.requested.Requested.{Requested}
-use Rattle.fp_row.specs.Row.{has_turn_out}
-use Rattle.fp_steps.proofs.FramesInOrder.{Goes, bump, counted, first_goes, made_of, n_of, numbered, waits_by, zero_of}
+use Rattle.fp_steps.proofs.FramesInOrder.{Goes, all_numbered, bump, counted, first_goes, n_of, waits_by, zero_of}
 use Rattle.fp_steps.proofs.HeldDialogues.{Held, event, held_of, none_named, same_local}
 use Rattle.fp_steps.proofs.QueueInOrder.{Joins, Order-next, cores_closed, cores_same, joins_none, joins_one, joins_same, cores_left, cores_put}
 use Rattle.fp_steps.proofs.TieAtParcels.{held}
-use Rattle.fp_steps.proofs.TieAtTurns.{out_by, queued_asked}
+use Rattle.fp_steps.proofs.TieAtTurns.{queued_asked}
 
 -- what a step owes
 pub record Moves (h : List Event) (e : Event) (old new : Shelf) : Type 0 where
@@ -35,9 +34,9 @@ same_moves {h} e {old} new l same down frames picks =
     subst (Moves h e old) (sym same) (moves_to l down picks refl (frames ∙ l.frames) (joins_same refl refl l.order (cores_same old.rows)))
 
 -- a turn is handed out
-pub moves_took : {h : List Event} (step : Step) (came : Option Prepared) {old new : Shelf} {turn : Turn} → Lined h old → TakesTurn old turn new → Moves h (event step came (Output.Took turn.local turn.position)) old new
+pub moves_took : {h : List Event} (step : Step) (came : Option Prepared) {old new : Shelf} {turn : Turn} → Lined h old → TakesTurn old turn new → Moves h (event step came (Output.Took turn.local turn.position (length turn.entries))) old new
 moves_took {h} step came {old} {turn} l g =
-    let e = event step came (Output.Took turn.local turn.position) in
+    let e = event step came (Output.Took turn.local turn.position (length turn.entries)) in
     let order : Sorted (ByAge h) (turn.local ∷ g.rest) = subst (Sorted (ByAge h)) g.first l.order in
     subst (Moves h e old) (sym g.new_is) (moves_to l refl (λ d. refl) refl l.frames
     (joins_none g.rest refl refl (λ y c. omega (arith, ap (count y) g.first, count-cons y turn.local g.rest, c)) order.1
@@ -52,41 +51,50 @@ moves_back {h} step came {old} {turn} l m g =
 
 -- a turn that was served comes back
 
-asked_live : (ended : Option Ending) (frame : Option (List ℕ)) (f : List ℕ) → requested_of ended frame ≡ Requested.Frame f → ended ≡ None
-asked_live None frame f e = refl
-asked_live (Some ending) None f e = absurd (cc)
-asked_live (Some ending) (Some frame) f e = absurd (cc)
+asked_live : (ended : Option Ending) (frames fs : List (List ℕ)) → requested_of ended frames ≡ Requested.Frames fs → ended ≡ None
+asked_live None frames fs e = refl
+asked_live (Some ending) [] fs e = absurd (cc)
+asked_live (Some ending) (frame ∷ frames) fs e = absurd (cc)
 
-one_more : (h : List Event) (l d : ℕ) (asked : Requested) → l ≡ local_of h d → ((frame : List ℕ) → asked ≡ Requested.Frame frame → is_waiting h (made_of h d frame) ≡ true)
-    → map_list (as_waiting h) (filter (is_waiting h) (map_list (made_of h d) (frames_in asked))) ≡ waiting_in l asked
-one_more h l d Requested.Nothing place waits = refl
-one_more h l d Requested.Dropped place waits = refl
-one_more h l d (Requested.Frame frame) place waits =
-    ap (λ b. map_list (as_waiting h) (cond b (made_of h d frame ∷ []) [])) (waits frame refl)
-    ∙ ap (λ n. record { local = n; frame = frame } ∷ []) (sym place)
+-- its frames wait where its dialogue's go out
+all_wait : (h : List Event) (l d place : ℕ) (frames : List (List ℕ)) → l ≡ local_of h d → is_sending h d ≡ true → picked h d ≤ place
+    → map_list (as_waiting h) (filter (is_waiting h) (numbered d place frames)) ≡ waiting_frames l frames
+all_wait h l d place [] own sends few = refl
+all_wait h l d place (frame ∷ frames) own sends few =
+    let first : QueuedFrame = record { dialogue = d; place = place; frame = frame } in
+    let rest = filter (is_waiting h) (numbered d (place + 1) frames) in
+    let waits : is_waiting h first ≡ true = (λ i. sends i && nat_le (picked h d) place) ∙ le-leb (picked h d) place few in
+    let before : ℕ → List Waiting → List Waiting = λ n others. record { local = n; frame = frame } ∷ others in
+    ap (λ b. map_list (as_waiting h) (cond b (first ∷ rest) rest)) waits ∙ (λ i. before (sym own i) (all_wait h l d (place + 1) frames own sends (omega (arith, few)) i))
+
+more_wait : (h : List Event) (l d : ℕ) (asked : Requested) → l ≡ local_of h d → picked h d ≤ length (queued h d) → ((frames : List (List ℕ)) → asked ≡ Requested.Frames frames → is_sending h d ≡ true)
+    → map_list (as_waiting h) (filter (is_waiting h) (numbered d (length (queued h d)) (frames_in asked))) ≡ waiting_in l asked
+more_wait h l d Requested.Nothing own few sends = refl
+more_wait h l d (Requested.Dropped count) own few sends = refl
+more_wait h l d (Requested.Frames frames) own few sends = all_wait h l d (length (queued h d)) frames own (sends frames refl) few
 
 pub moves_gave : {h : List Event} (step : Step) (came : Option Prepared) {old new : Shelf} {done : Done} {given : Given} → Lined h old → Tied h old → Sound old → Sound new → GivesDone old done given new
-    → Moves h (event step came (Output.Gave done.turn.local done.turn.position given)) old new
+    → Moves h (event step came (Output.Gave done.turn.local done.turn.position done.served given)) old new
 moves_gave {h} step came {old} {done} {given} l t k m g =
     let lo = done.turn.local in let b = g.before.birth in
-    let output = Output.Gave lo done.turn.position given in
+    let output = Output.Gave lo done.turn.position done.served given in
     let held : Held h lo b g.before = held_of lo g.before t k g.was in
-    let waits : (frame : List ℕ) → g.asked ≡ Requested.Frame frame → is_waiting h (made_of h b frame) ≡ true = λ frame is.
-    let live : g.before.ended ≡ None = asked_live g.before.ended done.frame frame (sym g.gives.requested_is ∙ is) in
+    let sends : (frames : List (List ℕ)) → g.asked ≡ Requested.Frames frames → is_sending h b ≡ true = λ frames is.
+    let live : g.before.ended ≡ None = asked_live g.before.ended done.frames frames (sym g.gives.requested_is ∙ is) in
     let not_ended : is_ended h b ≡ false = ap is_some (held.tied.ends ∙ live) in
     let up : is_down h ≡ false = false_from_ne_true (is_down h) (λ down. none-some Ending.Closed (sym live ∙ (k.own lo g.before g.was).closed (sym l.down ∙ down))) in
-    (λ i. not (up i || not_ended i) && nat_le (picked h b) (length (queued h b))) ∙ le-leb (picked h b) (length (queued h b)) (l.few b)
+    λ i. not (up i || not_ended i)
     in
     let more : map_list (as_waiting h) (filter (is_waiting h) (frames_by (named h lo) output h)) ≡ waiting_in lo g.asked =
     ap (λ o. map_list (as_waiting h) (filter (is_waiting h) (frames_by o output h))) held.name
-    ∙ ap (λ xs. map_list (as_waiting h) (filter (is_waiting h) (map_list (made_of h b) xs))) (queued_asked t k g)
-    ∙ one_more h lo b g.asked held.place waits in
+    ∙ ap (λ xs. map_list (as_waiting h) (filter (is_waiting h) (numbered b (length (queued h b)) xs))) (queued_asked t k g)
+    ∙ more_wait h lo b g.asked held.place (l.few b) sends in
     subst (λ (s : Shelf). Sound s → Moves h (event step came output) old s) (sym g.new_is)
     (λ m. moves_to l refl (λ d. refl) refl
     (ap (map_list (as_waiting h)) (filter-append (is_waiting h) (frames h) (frames_by (named h lo) output h))
     ∙ map-append (as_waiting h) (waiting h) (filter (is_waiting h) (frames_by (named h lo) output h))
     ∙ (λ i. l.frames i ++ more i)) (joins_one lo (row_is_ready g.after) m refl refl
-    (cores_left old.rows lo g.before g.after g.was (λ free. absurd (true≢false (sym (out_by (has_turn_out g.before) _ done.turn g.gives.was_out) ∙ free)))) l.order)) m
+    (cores_left old.rows lo g.before g.after g.was (λ free. absurd (true≢false (sym (known_turn g.before done.turn g.gives.was_out).is_out ∙ free)))) l.order)) m
 
 -- what was being sent was
 pub moves_sent : {h : List Event} (step : Step) (came : Option Prepared) {old : Shelf} (new : Shelf) (content : Content) → Lined h old → Sends old content new → Moves h (event step came Output.Sent) old new
@@ -156,7 +164,7 @@ moves_picked {h} step came {old} (Content.Frame w) frame l t k g =
     let f : First h (waiting h) w g.rest.frames = first_of h (waiting h) w g.rest.frames (l.frames ∙ g.next.2) in
     let d = f.first.dialogue in
     let one : (c : ℕ) → picked (e ∷ h) c ≡ bump d (picked h) c = λ c. ap (λ o. picks h o c) (first_named f t k g.next.2) in
-    let goes : Goes (is_sending h) (picked h) zero_of (frames h) f.first f.others = first_goes (is_sending h) (picked h) zero_of (frames h) f.first f.others (numbered h) (λ c alive. omega arith) f.is in
+    let goes : Goes (is_sending h) (picked h) zero_of (frames h) f.first f.others = first_goes (is_sending h) (picked h) zero_of (frames h) f.first f.others (all_numbered h) (λ c alive. omega arith) f.is in
     subst (Moves h e old) (sym g.new_is) (record {
       down = l.down;
       frames = ap (map_list (as_waiting h))

@@ -1,5 +1,5 @@
 -- The entries that each dialogue of a run accepts, and those of them that are served.
-use Rattle.std.specs.Prelude.{ℕ, ◌+◌, ◌^◌, ◌&&◌, not, Bool, true, false, List, [], ◌∷◌, ◌++◌, Option, Some, None, length, drop, count_by, is_some, slice_get, option_to_list, nat_le, nat_lt, if◌then◌else◌}
+use Rattle.std.specs.Prelude.{ℕ, ◌+◌, ◌^◌, ◌&&◌, not, Bool, true, false, List, [], ◌∷◌, ◌++◌, Option, Some, None, length, drop, count_by, is_some, slice_get, option_to_list, nat_le, nat_lt, suc, zero, if◌then◌else◌}
 use Rattle.std.specs.List.{flat_map}
 use Rattle.std.specs.Option.{option_map_or}
 use Rattle.fp_book.specs.declared.answers.Posted.{Posted}
@@ -24,9 +24,14 @@ use Rattle.fp_steps.specs.declared.step.Step.TheVariants as steps
 use Rattle.fp_steps.specs.Births.{Beginning, beginning, births, destination, for_one, is_one, named}
 use Rattle.fp_steps.specs.History.{Event}
 
--- the place of the entry that was served
+-- this many numbers, from this one on
+abbrev pub numbers_from : ℕ → ℕ → List ℕ
+numbers_from first zero = []
+numbers_from first (suc n) = numbers_from first n ++ (first + n) ∷ []
+
+-- the places of the entries that were served: those of a turn, from its own on
 abbrev pub position_in : Output → List Event → ℕ → List ℕ
-position_in (outputs.Gave local position given) h d = for_one (named h local) d (position ∷ [])
+position_in (outputs.Gave local position served given) h d = for_one (named h local) d (numbers_from position served)
 position_in _ h d = []
 
 -- the places of the entries that were served, in the order in which they were

@@ -1,22 +1,22 @@
 -- What each step of a run is answered, from what its history tells before it.
-use Rattle.std.specs.Prelude.{◌≡◌, ◌≤◌, ◌<◌, ℕ, ◌==◌, Bool, true, false, List, [], ◌∷◌, Option, Some, None, length, is_some, slice_get, ⊤, if◌then◌else◌}
-use Rattle.std.specs.Option.{option_and_then}
+use Rattle.std.specs.Prelude.{◌≡◌, ◌≤◌, ◌<◌, ℕ, ◌-◌, ◌==◌, Bool, true, false, List, [], ◌∷◌, Option, Some, None, length, min, is_some, ⊤, if◌then◌else◌}
 use Rattle.fp_book.specs.declared.answers.Given.{Given}
 use Rattle.fp_book.specs.declared.answers.Given.TheVariants.{Silent, Queued, Dropped}
 use Rattle.fp_entry.specs.declared.prepared.Prepared.{Prepared}
+use Rattle.fp_row.specs.Turn.{most_entries}
 use Rattle.fp_service.specs.declared.request.Request.{Request}
-use Rattle.fp_service.specs.Serve.{request_of}
+use Rattle.fp_service.specs.Fold.{requests}
 use Rattle.fp_steps.specs.declared.output.Output.{Output}
 use Rattle.fp_steps.specs.declared.output.Output.TheVariants as outputs
 use Rattle.fp_steps.specs.declared.step.Step.{Step}
 use Rattle.fp_steps.specs.declared.step.Step.TheVariants as steps
-use Rattle.fp_steps.specs.Accepted.{accepted, core_of, is_due, positions}
-use Rattle.fp_steps.specs.Births.{births, local_of, named}
+use Rattle.fp_steps.specs.Accepted.{core_of, is_due, positions}
+use Rattle.fp_steps.specs.Births.{births, how_many, local_of, named}
 use Rattle.fp_steps.specs.History.{Event}
 use Rattle.fp_steps.specs.Lines.{answer_to, components_in}
 use Rattle.fp_steps.specs.Sending.{Handed, out}
-use Rattle.fp_steps.specs.Turns.{IsReadyBefore, is_ready, turn_out}
-use Rattle.fp_steps.specs.Waiting.{QueuedFrame, aborts_waiting, how_many, is_sending, places, waiting}
+use Rattle.fp_steps.specs.Turns.{IsReadyBefore, is_ready, next_served, turn_out, unserved}
+use Rattle.fp_steps.specs.Waiting.{QueuedFrame, aborts_waiting, is_sending, places, waiting}
 
 -- POST, LOST
 
@@ -27,20 +27,19 @@ IsPosted link h (Some came) output = output ≡ outputs.Posted (answer_to link h
 
 -- GIVE
 
--- what the service logic requests at the next entry of a dialogue
-abbrev pub next_request : List Event → ℕ → Option Request
-next_request h d = option_and_then (request_of (core_of h d)) (slice_get (accepted h d) (length (positions h d)))
-
--- a request is accepted for sending where its dialogue's frames go out: the link is up, and nothing ended it from outside
-abbrev pub given_for : Bool → Option Request → Given
-given_for sends None = Silent
-given_for sends (Some request) = if sends then Queued else Dropped
+-- the requests are accepted for sending if their dialogue's frames go out: the link is up, and nothing ended it from
+-- outside
+abbrev pub given_for : Bool → List Request → Given
+given_for sends [] = Silent
+given_for sends (request ∷ others) = if sends then Queued (length (request ∷ others)) else Dropped (length (request ∷ others))
 
 -- the turn of this dialogue is served, if it is out
 abbrev pub gave : List Event → ℕ → Option ℕ → Output
 gave h local None = outputs.Nothing
 gave h local (Some d) =
-    if turn_out h d then outputs.Gave local (length (positions h d)) (given_for (is_sending h d) (next_request h d)) else outputs.Nothing
+    if turn_out h d
+    then outputs.Gave local (length (positions h d)) (length (next_served h d)) (given_for (is_sending h d) (requests (core_of h d) (next_served h d)))
+    else outputs.Nothing
 
 -- PUT BACK
 
@@ -65,17 +64,18 @@ ticked h moment = outputs.Ticked (how_many (births h) (is_due h moment)) 0
 -- TAKE
 
 -- the dialogue that has been ready longest
-pub record IsLongestReady (h : List Event) (local position : ℕ) : Type 0 where
+pub record IsLongestReady (h : List Event) (local position count : ℕ) : Type 0 where
   pub dialogue : ℕ
   pub local_is : local ≡ local_of h dialogue
   pub stands : is_ready h dialogue ≡ true
   pub longest : (other : ℕ) → is_ready h other ≡ true → (other == dialogue) ≡ false → IsReadyBefore h dialogue other
-  -- its next entry
+  -- its next entries, as many as wait and have a free place each, at most sixteen
   pub next : position ≡ length (positions h dialogue)
+  pub count_is : count ≡ min most_entries (min (length (unserved h dialogue)) (8192 - places h))
 
 -- that one gets a turn; or all places are held; or no dialogue is ready
 abbrev pub IsTaken : List Event → Output → Type 0
-IsTaken h (outputs.Took local position) = IsLongestReady h local position × (places h < 8192)
+IsTaken h (outputs.Took local position count) = IsLongestReady h local position count × (places h < 8192)
 IsTaken h outputs.NoRoom = ((d : ℕ) × (is_ready h d ≡ true)) × (8192 ≤ places h)
 IsTaken h outputs.Nothing = (d : ℕ) → is_ready h d ≡ false
 IsTaken h _ = ⊥

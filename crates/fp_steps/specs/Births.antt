@@ -1,5 +1,5 @@
 -- The dialogues of a run, by their births: the n-th that is opened has birth n.
-use Rattle.std.specs.Prelude.{ℕ, ◌+◌, ◌==◌, Bool, false, List, [], ◌∷◌, Option, Some, None, if◌then◌else◌}
+use Rattle.std.specs.Prelude.{ℕ, ◌+◌, ◌==◌, Bool, false, List, [], ◌∷◌, Option, Some, None, suc, zero, if◌then◌else◌}
 use Rattle.std.specs.Option.{option_and_then, option_map_or}
 use Rattle.fp_book.specs.declared.answers.Posted.{Posted}
 use Rattle.fp_book.specs.declared.answers.Posted.TheVariants.{Opened, Accepted, Aborted, Ended, Discarded}
@@ -82,3 +82,12 @@ for_one (Some other) d list = if d == other then list else []
 abbrev pub is_one : Option ℕ → ℕ → Bool
 is_one None d = false
 is_one (Some other) d = d == other
+
+-- a number of each of the births 1 to n, added up
+abbrev pub sum_to : ℕ → (ℕ → ℕ) → ℕ
+sum_to zero of = 0
+sum_to (suc n) of = sum_to n of + of (suc n)
+
+-- how many of the births 1 to n are such
+abbrev pub how_many : ℕ → (ℕ → Bool) → ℕ
+how_many n is = sum_to n (λ d. if is d then 1 else 0)

@@ -1,5 +1,6 @@
 -- What can be counted in the lines of a log.
-use Rattle.std.specs.Prelude.{ℕ, ◌+◌, ◌==◌, Bool, true, false, not, List, [], ◌∷◌, Option, count_by}
+use Rattle.std.specs.Prelude.{ℕ, ◌+◌, ◌==◌, Bool, false, not, List, [], ◌∷◌, Option, count_by}
+use Rattle.std.specs.List.{sum_by}
 use Rattle.std.specs.Option.{option_map_or}
 use Rattle.fp_book.specs.declared.answers.Posted.{Posted}
 use Rattle.fp_book.specs.declared.answers.Posted.TheVariants.{Opened, Accepted, Aborted, Ended, Discarded}
@@ -10,10 +11,10 @@ use Rattle.fp_entry.specs.declared.prepared.Prepared.{Prepared}
 use Rattle.fp_entry.specs.Prepared.{components_of}
 use Rattle.fp_steps.specs.History.{Event}
 
--- a turn that was given back, served
-abbrev pub is_give : LoggedStep → Bool
-is_give (line.Give local position given) = true
-is_give _ = false
+-- how many entries a turn that was given back served
+abbrev pub entries_served : LoggedStep → ℕ
+entries_served (line.Give local position served given) = served
+entries_served _ = 0
 
 -- a frame of a dialogue that was sent, and no Abort of the provider
 abbrev pub is_sent_frame : LoggedStep → Bool
@@ -41,6 +42,6 @@ accepted_along (line ∷ lines) (e ∷ h) = accepted_along lines h + accepted_in
 abbrev pub totals_in : List LoggedStep → List Event → Totals
 totals_in lines h = record {
   accepted = accepted_along lines h;
-  served = count_by is_give lines;
+  served = sum_by entries_served lines;
   sent = count_by is_sent_frame lines;
 }

@@ -26,7 +26,7 @@ pub record InOrder (h : List Event) (d : ℕ) : Type 0 where
   pub served_first : IsPrefix (served h d) (cut (start h d) (accepted h d))
   -- and what was sent of what it requests on that
   pub sent_first : IsPrefix (sent h d) (asked h d)
-  -- its turns were served in the places 0, 1, 2 and so on
+  -- its entries were served in the places 0, 1, 2 and so on
   pub each_once : positions h d ≡ numbers (length (positions h d))
   -- what was sent was accepted for sending, and no request is accepted after one that wasn't
   pub sent_queued : IsPrefix (sent h d) (queued h d)

@@ -1,6 +1,6 @@
 -- What a message of a run is answered: the lines of the profile, one behind the other, of which the first that fits
 -- decides. A message names a dialogue only while that takes messages.
-use Rattle.std.specs.Prelude.{ℕ, ◌+◌, ◌^◌, ◌&&◌, ◌||◌, Bool, true, List, [], ◌∷◌, ◌++◌, Option, Some, None, drop, is_none, length, nat_eq, nat_le, nat_lt, if◌then◌else◌}
+use Rattle.std.specs.Prelude.{ℕ, ◌+◌, ◌^◌, ◌&&◌, ◌||◌, Bool, true, List, [], ◌∷◌, ◌++◌, Option, Some, None, is_none, length, nat_eq, nat_le, nat_lt, if◌then◌else◌}
 use Rattle.std.specs.Option.{option_and_then, option_map_or}
 use Rattle.fp_book.specs.declared.answers.Posted.{Posted}
 use Rattle.fp_book.specs.declared.answers.Posted.TheVariants as answers
@@ -17,9 +17,10 @@ use Rattle.fp_q773.specs.declared.provider_abort.AbortCause.{AbortCause}
 use Rattle.fp_q773.specs.declared.provider_abort.AbortCause.TheVariants as cause
 use Rattle.fp_q773.specs.Tid.{Tid}
 use Rattle.fp_tids.specs.Identifiers.{identifier}
-use Rattle.fp_steps.specs.Accepted.{accepted, admits, entry_count, positions}
+use Rattle.fp_steps.specs.Accepted.{admits, entry_count}
 use Rattle.fp_steps.specs.Births.{births, destination}
 use Rattle.fp_steps.specs.History.{Event}
+use Rattle.fp_steps.specs.Turns.{unserved}
 use Rattle.fp_steps.specs.Waiting.{aborts_waiting, held, is_down}
 
 -- each line is a test, and what is answered where it is met: the first that fits decides
@@ -90,9 +91,9 @@ abbrev pub addressee : List Event → Prepared → Option ℕ
 addressee h came = option_and_then (taking h) (destination h (Some came))
 
 -- the entries of a dialogue that were accepted and not yet served
-abbrev pub unserved : List Event → Option ℕ → List Entry
-unserved h None = []
-unserved h (Some d) = drop (length (positions h d)) (accepted h d)
+abbrev pub unserved_of : List Event → Option ℕ → List Entry
+unserved_of h None = []
+unserved_of h (Some d) = unserved h d
 
 -- a Begin that is taken opens a dialogue with the next identifier; one without its sender's identifier isn't a message
 abbrev pub begun : ℕ → List Event → Prepared → Posted
@@ -103,4 +104,4 @@ abbrev pub answer_to : ℕ → List Event → Prepared → Posted
 answer_to link h came =
     first_answer
     (answers_by (is_down h) (length (aborts_waiting h)) (is_none (addressee h came)) (is_none (going_on (arrival_of came).ids.kind (addressee h came)))
-    (unserved h (going_on (arrival_of came).ids.kind (addressee h came))) (entry_count h) (held h) (births h) (begun link h came) came (arrival_of came).ids.kind)
+    (unserved_of h (going_on (arrival_of came).ids.kind (addressee h came))) (entry_count h) (held h) (births h) (begun link h came) came (arrival_of came).ids.kind)

@@ -26,8 +26,8 @@ back_in (steps.PutBack local) = Some local
 back_in _ = None
 
 abbrev pub moves : Step → Output → Option ℕ
-moves step (outputs.Took local position) = Some local
-moves step (outputs.Gave local position given) = Some local
+moves step (outputs.Took local position count) = Some local
+moves step (outputs.Gave local position served given) = Some local
 moves step outputs.WentBack = back_in step
 moves step _ = None
 
@@ -37,7 +37,7 @@ others_if (Some local) turns = others local turns
 
 -- the turn that goes out
 abbrev pub taken_in : Output → List TurnOut
-taken_in (outputs.Took local position) = record { local = local; position = position } ∷ []
+taken_in (outputs.Took local position count) = record { local = local; position = position } ∷ []
 taken_in _ = []
 
 -- the turns that are out after a step
@@ -66,9 +66,9 @@ sending_of parcel = option_map (λ (parcel : Parcel). local_of parcel.content) p
 abbrev pub told_by : Option LoggedStep → Option ℕ → Step → Output → Option LoggedStep
 told_by back sending step (outputs.Posted answer components) = told_message step answer
 told_by back sending step (outputs.Ticked added wanting) = told_tick step added wanting
-told_by back sending step (outputs.Took local position) = Some (line.Take local position)
+told_by back sending step (outputs.Took local position count) = Some (line.Take local position count)
 told_by back sending step outputs.NoRoom = None
-told_by back sending step (outputs.Gave local position given) = Some (line.Give local position given)
+told_by back sending step (outputs.Gave local position served given) = Some (line.Give local position served given)
 told_by back sending step outputs.WentBack = back
 told_by back sending step (outputs.Picked local frame) = Some (line.Pick local)
 told_by back sending step outputs.Busy = None

@@ -8,6 +8,8 @@ use Rattle.fp_book.specs.declared.answers.Posted.TheVariants.{Aborted, Accepted,
 use Rattle.fp_book.specs.declared.line.Line.{Line}
 use Rattle.fp_book.specs.declared.line.Line.TheVariants as lines
 use Rattle.fp_book.specs.declared.line.LoggedStep.{LoggedStep}
+use Rattle.fp_book.specs.declared.answers.Given.{Given}
+use Rattle.fp_book.specs.declared.answers.Given.TheVariants.{Dropped, Queued, Silent}
 use Rattle.fp_book.specs.declared.line.LoggedStep.TheVariants.{Down, Gap, Give, Lost, Pick, Post, PutBack, Sent, Take, Tick, Unsent}
 use Rattle.fp_records.specs.Table.{Contents}
 use Rattle.fp_steps.specs.declared.output.Output.{Output}
@@ -35,14 +37,20 @@ pub record IsPosting (moment : ℕ) (message : List ℕ) (answer : Posted) : Typ
   pub octets : AreOctets message
   pub numbers : IsInRange answer
 
--- what a step may hold: moments before the year 2100, identifiers and numbers of dialogues of at most 32 bits,
--- positions and numbers of lost steps of at most 64
+-- the numbers of what became of requests have at most 32 bits
+abbrev pub IsCounted : Given → Type 0
+IsCounted Silent = ⊤
+IsCounted (Queued count) = count < 2 ^ 32
+IsCounted (Dropped count) = count < 2 ^ 32
+
+-- what a step may hold: moments before the year 2100, identifiers and numbers of dialogues and of entries of at most 32
+-- bits, positions and numbers of lost steps of at most 64
 abbrev pub IsStep : LoggedStep → Type 0
 IsStep (Post moment message answer) = IsPosting moment message answer
 IsStep (Lost moment message answer) = IsPosting moment message answer
 IsStep (Tick moment added wanting) = (moment < END) × (added < 2 ^ 32) × (wanting < 2 ^ 32)
-IsStep (Take local position) = (local < 2 ^ 32) × (position < 2 ^ 64)
-IsStep (Give local position given) = (local < 2 ^ 32) × (position < 2 ^ 64)
+IsStep (Take local position count) = (local < 2 ^ 32) × (position < 2 ^ 64) × (count < 2 ^ 32)
+IsStep (Give local position served given) = (local < 2 ^ 32) × (position < 2 ^ 64) × (served < 2 ^ 32) × IsCounted given
 IsStep (PutBack local position) = (local < 2 ^ 32) × (position < 2 ^ 64)
 IsStep (Pick local) = local < 2 ^ 32
 IsStep (Sent local) = local < 2 ^ 32

@@ -1,5 +1,5 @@
 -- What a step makes of the book of a run.
-use Rattle.std.specs.Prelude.{◌≡◌, ◌≢◌, ◌≤◌, ℕ, List, [], Option, Some, None, IsSome}
+use Rattle.std.specs.Prelude.{◌≡◌, ◌≢◌, ◌≤◌, ℕ, List, [], Option, Some, None, IsSome, length}
 use Rattle.std.specs.FinMap.{get}
 use Rattle.fp_book.specs.declared.line.LoggedStep.TheVariants as line
 use Rattle.fp_book.specs.declared.parcel.Content.{Content}
@@ -30,14 +30,16 @@ TicksTo moment (outputs.Ticked added wanting) old new = (wanting ≡ 0) × Ticks
 TicksTo moment _ old new = ⊥
 
 abbrev pub TakesTo : Output → Shelf → Shelf → Type 0
-TakesTo (outputs.Took local position) old new = (turn : Turn) × (turn.local ≡ local) × (turn.position ≡ position) × TakesTurn old turn new
+TakesTo (outputs.Took local position count) old new =
+    (turn : Turn) × (turn.local ≡ local) × (turn.position ≡ position) × (length turn.entries ≡ count) × TakesTurn old turn new
 TakesTo outputs.NoRoom old new = (old.ready ≢ []) × (8192 ≤ places_held old) × (new ≡ old)
 TakesTo outputs.Nothing old new = (old.ready ≡ []) × (new ≡ old)
 TakesTo _ old new = ⊥
 
 abbrev pub GivesTo : ℕ → Output → Shelf → Shelf → Type 0
-GivesTo local (outputs.Gave given_local position given) old new =
-    (given_local ≡ local) × ((done : Done) × (done.turn.local ≡ local) × (done.turn.position ≡ position) × GivesDone old done given new)
+GivesTo local (outputs.Gave given_local position served given) old new =
+    (given_local ≡ local)
+    × ((done : Done) × (done.turn.local ≡ local) × (done.turn.position ≡ position) × (done.served ≡ served) × GivesDone old done given new)
 GivesTo local outputs.Nothing old new = (turn_of (get old.rows local) ≡ None) × (new ≡ old)
 GivesTo local _ old new = ⊥
 

@@ -15,8 +15,8 @@ abbrev pub step_of : LoggedStep → Option Step
 step_of (line.Post moment message answer) = Some (steps.Post message moment)
 step_of (line.Lost moment message answer) = Some (steps.Lost message moment)
 step_of (line.Tick moment added wanting) = Some (steps.Tick moment)
-step_of (line.Take local position) = Some steps.Take
-step_of (line.Give local position given) = Some (steps.Give local)
+step_of (line.Take local position count) = Some steps.Take
+step_of (line.Give local position served given) = Some (steps.Give local)
 step_of (line.PutBack local position) = Some (steps.PutBack local)
 step_of (line.Pick local) = Some steps.Pick
 step_of (line.Sent local) = Some steps.Sent

@@ -1,6 +1,5 @@
 -- What the service logic of each dialogue of a run requests, what of that is accepted for sending, and what is sent.
-use Rattle.std.specs.Prelude.{ℕ, ◌==◌, List, [], ◌∷◌, ◌++◌, Option, Some, None, map, option_map, option_to_list, slice_get, if◌then◌else◌}
-use Rattle.std.specs.Option.{option_and_then}
+use Rattle.std.specs.Prelude.{ℕ, ◌==◌, List, [], ◌∷◌, ◌++◌, Option, Some, None, map, if◌then◌else◌}
 use Rattle.fp_ber.specs.Canon.{canon}
 use Rattle.fp_book.specs.declared.answers.Given.{Given}
 use Rattle.fp_book.specs.declared.answers.Given.TheVariants.{Silent, Queued, Dropped}
@@ -12,10 +11,9 @@ use Rattle.fp_q773.specs.ProviderAbort.{cause_code, provider_abort}
 use Rattle.fp_reply.specs.Reply.{frame_of}
 use Rattle.fp_service.specs.declared.request.Request.{Request}
 use Rattle.fp_service.specs.Fold.{requests}
-use Rattle.fp_service.specs.Serve.{request_of}
 use Rattle.fp_steps.specs.declared.output.Output.{Output}
 use Rattle.fp_steps.specs.declared.output.Output.TheVariants as outputs
-use Rattle.fp_steps.specs.Accepted.{accepted, core_of, served, start}
+use Rattle.fp_steps.specs.Accepted.{accepted, core_of, in_places, numbers_from, served, start}
 use Rattle.fp_steps.specs.Births.{Beginning, beginning, for_one, named, sender_of}
 use Rattle.fp_steps.specs.History.{Event}
 
@@ -28,18 +26,18 @@ frame_from (Some b) request = frame_of request b.local b.peer
 abbrev pub asked : List Event → ℕ → List (List ℕ)
 asked h d = map (frame_from (beginning h d)) (requests (start h d) (served h d))
 
--- the frame of what it requests at the entry in this place
-abbrev pub frame_at : List Event → ℕ → ℕ → Option (List ℕ)
-frame_at h d place = option_map (frame_from (beginning h d)) (option_and_then (request_of (core_of h d)) (slice_get (accepted h d) place))
+-- the frames of what it requests at this number of entries from this place on
+abbrev pub asked_at : List Event → ℕ → ℕ → ℕ → List (List ℕ)
+asked_at h d place count = map (frame_from (beginning h d)) (requests (core_of h d) (in_places (accepted h d) (numbers_from place count)))
 
--- the request was accepted for sending
+-- the requests were accepted for sending
 abbrev pub if_queued : Given → List (List ℕ) → List (List ℕ)
 if_queued Silent frames = []
-if_queued Queued frames = frames
-if_queued Dropped frames = []
+if_queued (Queued count) frames = frames
+if_queued (Dropped count) frames = []
 
 abbrev pub queued_in : Output → List Event → ℕ → List (List ℕ)
-queued_in (outputs.Gave local position given) h d = if_queued given (for_one (named h local) d (option_to_list (frame_at h d position)))
+queued_in (outputs.Gave local position served given) h d = if_queued given (for_one (named h local) d (asked_at h d position served))
 queued_in _ h d = []
 
 -- the frames of those requests that were accepted for sending, in order

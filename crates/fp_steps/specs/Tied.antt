@@ -11,7 +11,7 @@ use Rattle.fp_q773.specs.Tid.{octets_of as octets_of_tid}
 use Rattle.fp_reply.specs.ProviderAbort.{frame_octets}
 use Rattle.fp_row.specs.declared.ending.Ending.{Ending}
 use Rattle.fp_row.specs.declared.row.Row.{Row}
-use Rattle.fp_row.specs.Row.{is_closed, queued_of, sent_of, has_turn_out}
+use Rattle.fp_row.specs.Row.{is_closed, queued_of, sent_of}
 use Rattle.fp_service.specs.declared.dialogue.Core.{Core}
 use Rattle.fp_service.specs.Dialogue.{fresh, is_over}
 use Rattle.fp_service.specs.Fold.{core_after, cut, requests}
@@ -21,7 +21,7 @@ use Rattle.fp_steps.specs.Births.{Beginning, beginning, births, local_of, named}
 use Rattle.fp_steps.specs.Headline.{numbers}
 use Rattle.fp_steps.specs.History.{Event}
 use Rattle.fp_steps.specs.Sending.{Handed, abort_out, aborts, aborts_sent, frame_from, out, queued, sent}
-use Rattle.fp_steps.specs.Turns.{turn_out}
+use Rattle.fp_steps.specs.Turns.{count_out}
 
 -- all that a history tells of a dialogue
 pub record Story : Type 0 where
@@ -31,7 +31,7 @@ pub record Story : Type 0 where
   pub queues : List (List ℕ)
   pub sends : List (List ℕ)
   pub ended : Option Ending
-  pub out : Bool
+  pub out : ℕ
 
 abbrev pub story : List Event → ℕ → Story
 story h d = record {
@@ -41,7 +41,7 @@ story h d = record {
   queues = queued h d;
   sends = sent h d;
   ended = ending h d;
-  out = turn_out h d;
+  out = count_out h d;
 }
 
 -- the core with which it begins, what was served, the core then, and the frames that were requested
@@ -87,14 +87,14 @@ pub record IsTied (d : ℕ) (t : Story) (row : Row) : Type 0 where
   pub queues : t.queues ≡ queued_of row
   pub sends : t.sends ≡ sent_of row
   pub ends : t.ended ≡ row.ended
-  pub outs : t.out ≡ has_turn_out row
+  pub outs : t.out ≡ row.out
 
 -- nothing is left of it, or it isn't opened yet
 pub record IsGone (births : ℕ) (d : ℕ) (t : Story) : Type 0 where
   pub straight : IsStraight d t
   pub admitted : admits_in births d t ≡ false
   pub waits : waits_in d t ≡ false
-  pub outs : t.out ≡ false
+  pub outs : t.out ≡ 0
   -- all that it requested was sent, where nothing ended it from outside
   pub all_sent : t.ended ≡ None → t.sends ≡ asked_in d t
 
@@ -104,7 +104,7 @@ TiedAt births d t (Some row) = IsTied d t row
 
 -- a dialogue that isn't opened yet
 abbrev pub untold : Story
-untold = record { began = None; accepts = []; places = []; queues = []; sends = []; ended = None; out = false }
+untold = record { began = None; accepts = []; places = []; queues = []; sends = []; ended = None; out = 0 }
 
 -- the local transaction identifier with which a dialogue was opened, and 0 for one that wasn't
 abbrev pub began_with : Option Beginning → ℕ

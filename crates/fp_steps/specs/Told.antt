@@ -26,7 +26,7 @@ abbrev pub told_tick : Step → ℕ → ℕ → Option LoggedStep
 told_tick (steps.Tick moment) added wanting = Some (line.Tick moment added wanting)
 told_tick _ added wanting = None
 
--- of a turn that went back its dialogue, and the place of its entry, which is the next one of that to be served
+-- of a turn that went back its dialogue, and the place of its first entry, which is the next one of that to be served
 abbrev pub told_back : List Event → Step → Option LoggedStep
 told_back h (steps.PutBack local) = option_map (λ d. line.PutBack local (length (positions h d))) (named h local)
 told_back h _ = None
@@ -35,9 +35,9 @@ told_back h _ = None
 abbrev pub told : List Event → Step → Output → Option LoggedStep
 told h step (outputs.Posted answer components) = told_message step answer
 told h step (outputs.Ticked added wanting) = told_tick step added wanting
-told h step (outputs.Took local position) = Some (line.Take local position)
+told h step (outputs.Took local position count) = Some (line.Take local position count)
 told h step outputs.NoRoom = None
-told h step (outputs.Gave local position given) = Some (line.Give local position given)
+told h step (outputs.Gave local position served given) = Some (line.Give local position served given)
 told h step outputs.WentBack = told_back h step
 told h step (outputs.Picked local frame) = Some (line.Pick local)
 told h step outputs.Busy = None

@@ -1,5 +1,5 @@
 -- The totals of a run, from its outputs alone; and the sums over its dialogues, which they are.
-use Rattle.std.specs.Prelude.{◌≡◌, ℕ, ◌+◌, ◌^◌, ◌≤◌, ◌==◌, Bool, true, false, not, List, [], ◌∷◌, Option, Some, None, count_by, length, min, reverse, zero, suc, if◌then◌else◌}
+use Rattle.std.specs.Prelude.{◌≡◌, ℕ, ◌+◌, ◌^◌, ◌≤◌, ◌==◌, Bool, false, not, List, [], ◌∷◌, Option, Some, None, length, min, reverse, if◌then◌else◌}
 use Rattle.std.specs.List.{sum_by}
 use Rattle.std.specs.Option.{option_map_or}
 use Rattle.fp_book.specs.declared.totals.Totals.{Totals}
@@ -7,7 +7,7 @@ use Rattle.fp_steps.specs.declared.output.Output.{Output}
 use Rattle.fp_steps.specs.declared.output.Output.TheVariants as outputs
 use Rattle.fp_entry.specs.Entries.{component_count}
 use Rattle.fp_steps.specs.Accepted.{accepted, served}
-use Rattle.fp_steps.specs.Births.{births}
+use Rattle.fp_steps.specs.Births.{births, sum_to}
 use Rattle.fp_steps.specs.History.{Event}
 use Rattle.fp_steps.specs.Sending.{sent}
 
@@ -16,10 +16,10 @@ abbrev pub components_of : Output → ℕ
 components_of (outputs.Posted answer components) = components
 components_of _ = 0
 
--- whether an entry was served
-abbrev pub is_gave : Output → Bool
-is_gave (outputs.Gave local position given) = true
-is_gave _ = false
+-- how many entries were served
+abbrev pub entries_served : Output → ℕ
+entries_served (outputs.Gave local position served given) = served
+entries_served _ = 0
 
 -- what is out to be sent, by the identifier of its dialogue
 abbrev pub local_after : Output → Option ℕ → Option ℕ
@@ -47,7 +47,7 @@ frames_sent (output ∷ before) = frames_sent before + (if is_sent output (local
 abbrev pub totals_of : List Output → Totals
 totals_of list = record {
   accepted = sum_by components_of list;
-  served = count_by is_gave list;
+  served = sum_by entries_served list;
   sent = frames_sent (reverse list);
 }
 
@@ -55,7 +55,7 @@ totals_of list = record {
 abbrev pub added_by : Output → Option ℕ → Totals
 added_by output out = record {
   accepted = components_of output;
-  served = if is_gave output then 1 else 0;
+  served = entries_served output;
   sent = if is_sent output out then 1 else 0;
 }
 
@@ -68,11 +68,6 @@ capped n = min n 18446744073709551615
 
 abbrev pub capped_totals : Totals → Totals
 capped_totals t = record { accepted = capped t.accepted; served = capped t.served; sent = capped t.sent }
-
--- a number of each of the births 1 to n, added up
-abbrev pub sum_to : ℕ → (ℕ → ℕ) → ℕ
-sum_to zero of = 0
-sum_to (suc n) of = sum_to n of + of (suc n)
 
 -- over all dialogues: how many of the entries that each accepted come from components, how many of them were served,
 -- and how many frames were sent for it

@@ -1,8 +1,10 @@
--- Which dialogues of a run have a turn out, which are ready for one, and for how long.
-use Rattle.std.specs.Prelude.{◌≡◌, ℕ, ◌<◌, ◌&&◌, Bool, true, false, not, List, [], ◌∷◌, length, nat_lt, suc, ◌⊎◌, if◌then◌else◌}
+-- Which dialogues of a run have a turn out, of how many entries, which are ready for one, and for how long.
+use Rattle.std.specs.Prelude.{◌≡◌, ℕ, ◌<◌, ◌&&◌, Bool, not, List, [], ◌∷◌, drop, length, take, nat_lt, suc, ◌⊎◌, if◌then◌else◌}
 use Rattle.fp_book.specs.Calls.{ComesFirst}
+use Rattle.fp_entry.specs.declared.entry.Entry.{Entry}
 use Rattle.fp_row.specs.Row.{is_closed}
 use Rattle.fp_service.specs.Dialogue.{is_over, next_due}
+use Rattle.fp_service.specs.Fold.{cut}
 use Rattle.fp_steps.specs.declared.output.Output.{Output}
 use Rattle.fp_steps.specs.declared.output.Output.TheVariants as outputs
 use Rattle.fp_steps.specs.declared.step.Step.{Step}
@@ -11,22 +13,39 @@ use Rattle.fp_steps.specs.Accepted.{accepted, core_of, ending, positions}
 use Rattle.fp_steps.specs.Births.{is_one, local_of, named}
 use Rattle.fp_steps.specs.History.{Event}
 
--- whether a turn of a dialogue is out after one was put back: no more, where the step names that dialogue
-abbrev pub put_back_after : Step → List Event → ℕ → Bool → Bool
-put_back_after (steps.PutBack local) h d before = if is_one (named h local) d then false else before
+-- how many entries of a dialogue are out after a turn was put back: none, if the step names that dialogue
+abbrev pub put_back_after : Step → List Event → ℕ → ℕ → ℕ
+put_back_after (steps.PutBack local) h d before = if is_one (named h local) d then 0 else before
 put_back_after _ h d before = before
 
--- whether a turn of a dialogue is out after an event, by its answer
-abbrev pub turn_after : Output → Step → List Event → ℕ → Bool → Bool
-turn_after (outputs.Took local position) step h d before = if is_one (named h local) d then true else before
-turn_after (outputs.Gave local position given) step h d before = if is_one (named h local) d then false else before
-turn_after outputs.WentBack step h d before = put_back_after step h d before
-turn_after _ step h d before = before
+-- how many entries of a dialogue are out after an event, by its answer
+abbrev pub count_after : Output → Step → List Event → ℕ → ℕ → ℕ
+count_after (outputs.Took local position count) step h d before = if is_one (named h local) d then count else before
+count_after (outputs.Gave local position served given) step h d before = if is_one (named h local) d then 0 else before
+count_after outputs.WentBack step h d before = put_back_after step h d before
+count_after _ step h d before = before
 
--- whether a turn of a dialogue is out: it was taken, and since then neither given nor put back
+-- how many entries of a dialogue are out as a turn: those of the one that was taken, and since then neither given nor put
+-- back
+abbrev pub count_out : List Event → ℕ → ℕ
+count_out [] d = 0
+count_out (e ∷ h) d = count_after e.output e.step h d (count_out h d)
+
+-- whether a turn of a dialogue is out
 abbrev pub turn_out : List Event → ℕ → Bool
-turn_out [] d = false
-turn_out (e ∷ h) d = turn_after e.output e.step h d (turn_out h d)
+turn_out h d = nat_lt 0 (count_out h d)
+
+-- the entries of a dialogue that weren't served
+abbrev pub unserved : List Event → ℕ → List Entry
+unserved h d = drop (length (positions h d)) (accepted h d)
+
+-- those of them that are out
+abbrev pub entries_out : List Event → ℕ → List Entry
+entries_out h d = take (count_out h d) (unserved h d)
+
+-- those of these that are served if the turn is: up to the first after which the core is over, or all
+abbrev pub next_served : List Event → ℕ → List Entry
+next_served h d = cut (core_of h d) (entries_out h d)
 
 -- whether an entry is still to be served: none is, once the dialogue was closed or its core is over
 abbrev pub waits : List Event → ℕ → Bool

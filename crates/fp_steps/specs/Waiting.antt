@@ -1,14 +1,14 @@
 -- What of a run waits to be sent, and how much it holds.
-use Rattle.std.specs.Prelude.{ℕ, ◌+◌, ◌==◌, ◌&&◌, ◌||◌, Bool, true, false, not, List, [], ◌∷◌, ◌++◌, Option, Some, None, drop, filter, length, map, zero, suc, nat_le, if◌then◌else◌}
+use Rattle.std.specs.Prelude.{ℕ, ◌+◌, ◌==◌, ◌&&◌, ◌||◌, Bool, true, false, not, List, [], ◌∷◌, ◌++◌, Option, Some, None, drop, filter, length, suc, nat_le, if◌then◌else◌}
 use Rattle.std.specs.List.{list_any}
 use Rattle.std.specs.Option.{option_map_or}
 use Rattle.fp_steps.specs.declared.output.Output.{Output}
 use Rattle.fp_steps.specs.declared.output.Output.TheVariants as outputs
 use Rattle.fp_steps.specs.Accepted.{admits, is_ended}
-use Rattle.fp_steps.specs.Births.{births, is_one, named}
+use Rattle.fp_steps.specs.Births.{births, how_many, is_one, named, sum_to}
 use Rattle.fp_steps.specs.History.{Event}
 use Rattle.fp_steps.specs.Sending.{Handed, abort_out, aborts, aborts_sent, out, queued, queued_in}
-use Rattle.fp_steps.specs.Turns.{turn_out, waits}
+use Rattle.fp_steps.specs.Turns.{count_out, turn_out, waits}
 
 -- whether the link is down after an event, by its answer
 abbrev pub down_after : Output → Bool → Bool
@@ -27,14 +27,19 @@ pub record QueuedFrame : Type 0 where
   pub place : ℕ
   pub frame : List ℕ
 
+-- frames of a dialogue, in places one after the other from this one on
+abbrev pub numbered : ℕ → ℕ → List (List ℕ) → List QueuedFrame
+numbered d place [] = []
+numbered d place (frame ∷ frames) = record { dialogue = d; place = place; frame = frame } ∷ numbered d (place + 1) frames
+
 -- those that are accepted for sending by an answer, of the dialogue that it names
 abbrev pub frames_by : Option ℕ → Output → List Event → List QueuedFrame
 frames_by None output h = []
-frames_by (Some d) output h = map (λ frame. record { dialogue = d; place = length (queued h d); frame = frame }) (queued_in output h d)
+frames_by (Some d) output h = numbered d (length (queued h d)) (queued_in output h d)
 
 -- all of them after an event
 abbrev pub frames_after : Output → List Event → List QueuedFrame → List QueuedFrame
-frames_after (outputs.Gave local position given) h before = before ++ frames_by (named h local) (outputs.Gave local position given) h
+frames_after (outputs.Gave local position served given) h before = before ++ frames_by (named h local) (outputs.Gave local position served given) h
 frames_after _ h before = before
 
 -- the frames that were accepted for sending, of all dialogues, in order
@@ -69,11 +74,6 @@ waiting h = filter (is_waiting h) (frames h)
 abbrev pub aborts_waiting : List Event → List (List ℕ)
 aborts_waiting h = if is_down h then [] else drop (length (aborts_sent h ++ abort_out (out h))) (aborts h)
 
--- how many of the births 1 to n are such
-abbrev pub how_many : ℕ → (ℕ → Bool) → ℕ
-how_many zero is = 0
-how_many (suc n) is = how_many n is + (if is (suc n) then 1 else 0)
-
 -- whether a frame of a dialogue waits
 abbrev pub has_frame : List Event → ℕ → Bool
 has_frame h d = list_any (λ (a : QueuedFrame). a.dialogue == d) (waiting h)
@@ -91,8 +91,8 @@ is_held h d = admits h d || (turn_out h d || (waits h d || (has_frame h d || fra
 abbrev pub held : List Event → ℕ
 held h = how_many (births h) (is_held h)
 
--- how many places for frames are held: by frames that wait, by one that is out to be sent, and by turns that are out
+-- how many places for frames are held: by frames that wait, by one that is out to be sent, and by entries that are out
 abbrev pub places : List Event → ℕ
 places h =
     (length (waiting h) + option_map_or (λ (handed : Handed). if handed.local == 0 then 0 else 1) (out h) 0)
-    + how_many (births h) (turn_out h)
+    + sum_to (births h) (count_out h)

@@ -3,7 +3,7 @@
 ghost use Rattle.std.specs.Prelude.{◌≡◌, ◌+◌, ℕ, List, if◌then◌else◌};
 ghost use Rattle.fp_records.specs.Table.{Contents};
 ghost use Rattle.fp_steps.specs.Headline.{Runs};
-ghost use Rattle.fp_steps.specs.Totals.{added_by, capped, capped_totals, components_of, is_gave, is_sent, local_after, plus, totals_of};
+ghost use Rattle.fp_steps.specs.Totals.{added_by, capped, capped_totals, components_of, entries_served, is_sent, local_after, plus, totals_of};
 ghost use Rattle.fp_steps.specs.declared.step.Step.{Step};
 
 use crate::Output;
@@ -19,11 +19,14 @@ fn components_of(output: &Output) -> u32
     }
 }
 
-/// Whether an entry was served.
-fn is_gave(output: &Output) -> bool
-    ensures { result ≡ is_gave output.now }
+/// How many entries were served.
+fn entries_served(output: &Output) -> u64
+    ensures { result ≡ entries_served output.now }
 {
-    matches!(output, Output::Gave { .. })
+    match output {
+        Output::Gave { served, .. } => u64::from(*served),
+        _ => 0,
+    }
 }
 
 /// Whether a frame of a dialogue was sent, where this was out.
@@ -64,7 +67,7 @@ fn with_output(totals: Totals, output: &Output, out: Option<u32>) -> Totals
     let accepted = totals
         .accepted
         .saturating_add(u64::from(components_of(output)));
-    let served = one_more(totals.served, is_gave(output));
+    let served = totals.served.saturating_add(entries_served(output));
     let sent = one_more(totals.sent, is_sent(output, out));
     Totals {
         accepted,

@@ -73,8 +73,13 @@ impl Engine {
             Taken::Turn(turn) => {
                 let local = turn.local();
                 let position = turn.position();
+                let count = turn.count();
                 self.turns.push_reserved(turn);
-                Ok(Output::Took { local, position })
+                Ok(Output::Took {
+                    local,
+                    position,
+                    count: count as u32,
+                })
             }
         }
     }
@@ -97,10 +102,12 @@ impl Engine {
             }
             Ok(done) => {
                 let position = done.turn().position();
+                let served = done.served();
                 match self.book.give(done) {
                     Ok(given) => Ok(Output::Gave {
                         local,
                         position,
+                        served: served as u32,
                         given,
                     }),
                     Err(strange) => {

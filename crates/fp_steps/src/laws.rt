@@ -43,7 +43,7 @@ pub fn lines_are_retold_once()
 }
 
 /// The totals of a history that retells the lines of a log are what can be counted in those: the components of the
-/// messages that were accepted, the turns that were given back, and the frames of dialogues that were sent.
+/// messages that were accepted, the entries that were served, and the frames of dialogues that were sent.
 #[tactic(auto, using(crate::proofs::LogTotals::retold_counted))]
 pub fn retold_lines_are_counted()
     ensures { RetoldLinesAreCounted }

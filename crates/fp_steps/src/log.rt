@@ -20,7 +20,7 @@ use std::alloc::{AllocError, Global};
 pub(crate) struct TurnOut {
     /// The local transaction identifier of its dialogue.
     pub(crate) local: u32,
-    /// The place of its entry.
+    /// The place of its first entry.
     pub(crate) position: u64,
 }
 
@@ -74,7 +74,12 @@ fn follow_turns(turns: &mut Vec<TurnOut>, step: &Step, output: &Output) -> Resul
     ensures { IfOk result (λ _. turns.new.items ≡ turns_after step.now output.now turns.old.items) }
 {
     forget_if(turns, moves(step, output));
-    if let Output::Took { local, position } = output {
+    if let Output::Took {
+        local,
+        position,
+        ..
+    } = output
+    {
         turns.push(TurnOut {
             local: *local,
             position: *position,
@@ -138,17 +143,24 @@ pub(crate) fn told_by(
     Ok(match output {
         Output::Posted { answer, .. } => told_message(step, *answer)?,
         Output::Ticked { added, wanting } => told_tick(step, *added, *wanting),
-        Output::Took { local, position } => Some(LoggedStep::Take {
+        Output::Took {
+            local,
+            position,
+            count,
+        } => Some(LoggedStep::Take {
             local: *local,
             position: *position,
+            count: *count,
         }),
         Output::Gave {
             local,
             position,
+            served,
             given,
         } => Some(LoggedStep::Give {
             local: *local,
             position: *position,
+            served: *served,
             given: *given,
         }),
         Output::WentBack => back,

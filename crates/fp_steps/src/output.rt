@@ -24,8 +24,10 @@ pub enum Output {
     Took {
         /// The local transaction identifier of its dialogue.
         local: u32,
-        /// The place of its entry among those that the dialogue accepted, from 0.
+        /// The place of its first entry among those that the dialogue accepted, from 0.
         position: u64,
+        /// How many entries it has.
+        count: u32,
     },
     /// All places for frames are held.
     NoRoom,
@@ -33,9 +35,11 @@ pub enum Output {
     Gave {
         /// The local transaction identifier of its dialogue.
         local: u32,
-        /// The place of its entry.
+        /// The place of its first entry.
         position: u64,
-        /// What became of its request.
+        /// How many entries were served.
+        served: u32,
+        /// What became of their requests.
         given: Given,
     },
     /// A turn was put back, not served.

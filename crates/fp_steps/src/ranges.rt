@@ -2,9 +2,9 @@
 
 ghost use Rattle.std.specs.Prelude.{◌<◌, ◌^◌, length};
 ghost use Rattle.fp_frames.specs.Frame.{IsMessageLength};
-ghost use Rattle.fp_steps.specs.LogLines.{AreOctets, IsInRange, IsPosting, IsStep};
+ghost use Rattle.fp_steps.specs.LogLines.{AreOctets, IsCounted, IsInRange, IsPosting, IsStep};
 
-use fp_book::{LoggedStep, Posted};
+use fp_book::{Given, LoggedStep, Posted};
 use fp_digits::Moment;
 use fp_frames::Frame;
 
@@ -52,7 +52,18 @@ fn posting_is_in_range(moment: Moment, message: &Frame, answer: Posted)
     answer_is_in_range(answer);
 }
 
-/// The numbers of a dialogue and of due dialogues have at most 32 bits.
+/// The numbers of what became of requests have at most 32 bits.
+fn given_is_in_range(given: Given)
+    ensures { IsCounted given }
+{
+    match given {
+        Given::Silent => {}
+        Given::Queued(_count) => {}
+        Given::Dropped(_count) => {}
+    }
+}
+
+/// The numbers of a dialogue, of due dialogues and of the entries of a turn have at most 32 bits.
 fn is_number(number: u32)
     ensures { number < 2 ^ 32 }
 {
@@ -90,17 +101,25 @@ pub(crate) fn step_is_in_range(step: &LoggedStep)
             is_number(*added);
             is_number(*wanting);
         }
-        LoggedStep::Take { local, position } => {
+        LoggedStep::Take {
+            local,
+            position,
+            count,
+        } => {
             is_number(*local);
             is_long_number(*position);
+            is_number(*count);
         }
         LoggedStep::Give {
             local,
             position,
-            ..
+            served,
+            given,
         } => {
             is_number(*local);
             is_long_number(*position);
+            is_number(*served);
+            given_is_in_range(*given);
         }
         LoggedStep::PutBack { local, position } => {
             is_number(*local);

@@ -28,8 +28,8 @@ const PLAN: Plan = Plan {
 };
 
 /// Asserts that each message of a plan was answered, under its own identifier, once, and the stranger after all of
-/// them; that nothing else was sent; and that this was counted and logged: seven lines for each message, three for the
-/// stranger, and one for the end.
+/// them; that nothing else was sent; and that this was counted and logged: five lines for each message, whose two
+/// entries are served in one turn, three for the stranger, and one for the end.
 fn assert_answered<R: Abort>(
     rt: &R,
     alloc: Global,
@@ -60,32 +60,24 @@ fn assert_answered<R: Abort>(
         sent: count,
     };
     assert_eq!(rt; relayed.totals, Some(wanted));
-    let line_count = 7 * count + 3 * u64::from(plan.has_stranger) + 1;
+    let line_count = 5 * count + 3 * u64::from(plan.has_stranger) + 1;
     assert_eq!(rt; relayed.line_count, Some(line_count as usize));
     Ok(())
 }
 
-/// One worker waits between taking a turn of the first dialogue and serving it, with no lock held: the other one serves
-/// the second dialogue meanwhile, whose answer is sent. Each turn passes the gate once. If there is only one hint for
-/// both messages, the workers hint to each other.
+/// One worker waits between taking the turn of the first dialogue and serving it, with no lock held: the other one serves
+/// the second dialogue meanwhile, whose answer is sent. Each turn passes the gate once.
 #[test]
 fn one_waits_and_the_other_serves(rt: HostRuntime) -> Result<(), Fail> {
     let alloc = rt.alloc();
     let table = Table::read(alloc, RECORDS.as_bytes())?;
-    for is_hinted_once in [false, true] {
-        let plan = Plan {
-            link: 5,
-            is_hinted_once,
-            ..PLAN
-        };
-        let marks = Marks::new();
-        let gate = SecondFirst::new(&rt, plan.link, &marks.is_second_picked);
-        let relayed = relay(&rt, alloc, &gate, &table, &marks, plan);
-        assert!(rt; !gate.is_late(), "the second dialogue had to wait");
-        assert_eq!(rt; gate.seen(), EACH_ONCE);
-        assert_answered(&rt, alloc, plan, relayed)?;
-    }
-    Ok(())
+    let plan = Plan { link: 5, ..PLAN };
+    let marks = Marks::new();
+    let gate = SecondFirst::new(&rt, plan.link, &marks.is_second_picked);
+    let relayed = relay(&rt, alloc, &gate, &table, &marks, plan);
+    assert!(rt; !gate.is_late(), "the second dialogue had to wait");
+    assert_eq!(rt; gate.seen(), EACH_ONCE);
+    assert_answered(&rt, alloc, plan, relayed)
 }
 
 /// Threads that sleep are woken: each of five messages comes when all of them do, and so does one to a dialogue that

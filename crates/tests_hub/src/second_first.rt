@@ -9,17 +9,17 @@ use std::time::Duration;
 /// How many milliseconds a test waits for something, or how often it looks for it, once a millisecond.
 pub const MOST_WAITS: u32 = 10_000;
 
-/// What a gate has counted ([`SecondFirst::seen`]) once the two turns of its first dialogue and the two of its second
-/// one have passed it once each, and nothing else has.
-pub const EACH_ONCE: u64 = 0x1111;
+/// What a gate has counted ([`SecondFirst::seen`]) once the turn of its first dialogue and that of its second one have
+/// passed it once each, and nothing else has.
+pub const EACH_ONCE: u64 = 0x11;
 
 /// How the turn counts that is held.
-const HELD: u64 = 0x10;
+const HELD: u64 = 0x1;
 
 /// How any turn counts but those of the two dialogues.
-const OTHERS: u64 = 0x1_0000;
+const OTHERS: u64 = 0x100;
 
-/// A gate that holds the second turn of the first dialogue of a link until a mark says that the second dialogue was
+/// A gate that holds the first turn of the first dialogue of a link until a mark says that the second dialogue was
 /// answered, and counts the turns that come.
 #[derive(Drop)]
 pub struct SecondFirst<'a, R: Clock> {
@@ -44,9 +44,8 @@ impl<'a, R: Clock> SecondFirst<'a, R> {
         }
     }
 
-    /// How often each turn has come: from the last four bits up the first and the second one of the first dialogue, and
-    /// the first and the second one of the second dialogue; above these sixteen bits all other turns, and those of
-    /// another link.
+    /// How often each turn has come: in the last four bits the first one of the first dialogue, in the four above them
+    /// that of the second dialogue; above these eight bits all other turns, and those of another link.
     pub fn seen(&self) -> u64 {
         self.seen.load(Ordering::SeqCst)
     }
@@ -60,10 +59,8 @@ impl<'a, R: Clock> SecondFirst<'a, R> {
 impl<R: Clock> Gate for SecondFirst<'_, R> {
     fn pass(&self, link: u8, birth: u64, position: u64) {
         let one: u64 = match (birth, position) {
-            (1, 0) => 0x1,
-            (1, 1) => HELD,
-            (2, 0) => 0x100,
-            (2, 1) => 0x1000,
+            (1, 0) => HELD,
+            (2, 0) => 0x10,
             _ => OTHERS,
         };
         let counted = if link == self.link { one } else { OTHERS };

@@ -75,7 +75,7 @@ fn a_call_is_answered(rt: HostRuntime) -> Result<(), Fail> {
     assert_eq!(rt; given.ok_or("no answer")?.as_str(), ANSWER_WITH_CONTEXT);
     let outcome = assert_told(&rt, outcome, "link 0 accepted 1 served 2 sent 1\n")?;
     let log = str::from_utf8(outcome.log.as_slice())?;
-    let line = log.strip_prefix("fplog 1 1\n0 P ").ok_or("no such line")?;
+    let line = log.strip_prefix("fplog 2 1\n0 P ").ok_or("no such line")?;
     let (moment, _) = line.split_once(' ').ok_or("no moment")?;
     let moment: u64 = moment.parse()?;
     assert!(rt; before <= moment && moment <= after, "not the time of day");

@@ -1,6 +1,6 @@
 //! The lines of a log, as a log has them.
 
-use super::texts::{given_letter, push_posted};
+use super::texts::{push_given, push_posted};
 use cases::push_octets;
 use fp_book::{Book, Line, LoggedStep, Posted};
 use fp_digits::Moment;
@@ -57,14 +57,21 @@ fn push_step(out: &mut String, step: &LoggedStep) -> anyhow::Result<()> {
             added,
             wanting,
         } => write!(out, "{} {added} {wanting}", moment.milliseconds())?,
-        LoggedStep::Take { local, position } | LoggedStep::PutBack { local, position } => {
-            write!(out, "{local:08X} {position}")?;
-        }
+        LoggedStep::Take {
+            local,
+            position,
+            count,
+        } => write!(out, "{local:08X} {position} {count}")?,
+        LoggedStep::PutBack { local, position } => write!(out, "{local:08X} {position}")?,
         LoggedStep::Give {
             local,
             position,
+            served,
             given,
-        } => write!(out, "{local:08X} {position} {}", given_letter(*given))?,
+        } => {
+            write!(out, "{local:08X} {position} {served} ")?;
+            push_given(out, *given)?;
+        }
         LoggedStep::Pick { local } | LoggedStep::Sent { local } | LoggedStep::Unsent { local } =>
             write!(out, "{local:08X}")?,
         LoggedStep::Gap { lost } => write!(out, "{lost}")?,
@@ -77,7 +84,7 @@ fn push_step(out: &mut String, step: &LoggedStep) -> anyhow::Result<()> {
 fn push_line(out: &mut String, line: &Line) -> anyhow::Result<()> {
     match line {
         Line::Head { links } => {
-            write!(out, "fplog 1 {links}")?;
+            write!(out, "fplog 2 {links}")?;
             Ok(())
         }
         Line::Step { link, step } => {

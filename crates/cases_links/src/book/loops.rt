@@ -15,25 +15,28 @@ use std::fmt::Write;
 /// The limit on turns and on parcels of a step.
 const MOST: u32 = 100_000;
 
-/// How many turns were served, and for how many of them a frame waited to be sent.
+/// How many turns were given, how many entries were served, and how many frames then waited to be sent.
 #[derive(Clone, Copy)]
 pub(super) struct Served {
-    turns: u32,
-    queued: u32,
+    turns: u64,
+    served: u64,
+    queued: u64,
 }
 
 /// No turns.
 pub(super) const NONE: Served = Served {
     turns: 0,
+    served: 0,
     queued: 0,
 };
 
 impl Served {
-    /// Counts one more turn, and what became of its request.
-    fn count(&mut self, given: Given) {
+    /// Counts one more turn, how many of its entries were served, and what became of their requests.
+    fn count(&mut self, served: usize, given: Given) {
         self.turns = self.turns.saturating_add(1);
-        if let Given::Queued = given {
-            self.queued = self.queued.saturating_add(1);
+        self.served = self.served.saturating_add(served as u64);
+        if let Given::Queued(count) = given {
+            self.queued = self.queued.saturating_add(u64::from(count));
         }
     }
 }
@@ -75,10 +78,15 @@ pub(crate) fn push_posts(
     push_posted(out, last)
 }
 
-/// Serves a turn and gives it back.
-fn give(alloc: Global, book: &mut Book, turn: Turn) -> anyhow::Result<Given> {
-    match book.give(served(alloc, turn)?) {
-        Ok(given) => Ok(given),
+/// Serves a turn and gives it back, and counts it.
+fn give(alloc: Global, book: &mut Book, turn: Turn, all: &mut Served) -> anyhow::Result<()> {
+    let done = served(alloc, turn)?;
+    let count = done.served();
+    match book.give(done) {
+        Ok(given) => {
+            all.count(count, given);
+            Ok(())
+        }
         Err(done) => {
             done.abandon();
             bail!("strange turn");
@@ -90,7 +98,7 @@ fn give(alloc: Global, book: &mut Book, turn: Turn) -> anyhow::Result<Given> {
 pub(super) fn serve_all(alloc: Global, book: &mut Book, served: &mut Served) -> anyhow::Result<()> {
     for _ in 0..MOST {
         match book.take() {
-            Taken::Turn(turn) => served.count(give(alloc, book, turn)?),
+            Taken::Turn(turn) => give(alloc, book, turn, served)?,
             Taken::Nothing | Taken::NoRoom => return Ok(()),
             Taken::Memory => bail!("out of memory"),
         }
@@ -98,9 +106,10 @@ pub(super) fn serve_all(alloc: Global, book: &mut Book, served: &mut Served) -> 
     bail!("too many turns")
 }
 
-/// Writes how many turns were served, and for how many of them a frame waited.
-pub(super) fn push_served(out: &mut String, served: Served) -> anyhow::Result<()> {
-    write!(out, "{} turns, {} frames", served.turns, served.queued)?;
+/// Writes how many turns were given, how many entries were served, and how many frames then waited.
+pub(super) fn push_served(out: &mut String, all: Served) -> anyhow::Result<()> {
+    write!(out, "{} turns, {} served", all.turns, all.served)?;
+    write!(out, ", {} frames", all.queued)?;
     Ok(())
 }
 
@@ -174,14 +183,8 @@ pub(super) fn calls(
     for _ in 0..count {
         let came = prepared(alloc, table, moment_after(now)?, message)?;
         last = book.post(alloc, came);
-        serve_all(
-            alloc,
-            book,
-            &mut Served {
-                turns: 0,
-                queued: 0,
-            },
-        )?;
+        let mut served = NONE;
+        serve_all(alloc, book, &mut served)?;
         send_each(book, &mut sent)?;
     }
     Ok(last)

@@ -30,8 +30,8 @@ pub(crate) fn push_posted(out: &mut String, posted: Posted) -> anyhow::Result<()
 pub(crate) fn given_letter(given: Given) -> &'static str {
     match given {
         Given::Silent => "S",
-        Given::Queued => "Q",
-        Given::Dropped => "D",
+        Given::Queued(_) => "Q",
+        Given::Dropped(_) => "D",
     }
 }
 
@@ -43,5 +43,15 @@ pub(crate) fn push_totals(out: &mut String, totals: Totals) -> anyhow::Result<()
         sent,
     } = totals;
     write!(out, "accepted {accepted} served {served} sent {sent}")?;
+    Ok(())
+}
+
+/// Writes what became of requests.
+pub(crate) fn push_given(out: &mut String, given: Given) -> anyhow::Result<()> {
+    out.push_str(given_letter(given))?;
+    match given {
+        Given::Silent => {}
+        Given::Queued(count) | Given::Dropped(count) => write!(out, "{count}")?,
+    }
     Ok(())
 }

@@ -1,7 +1,9 @@
 //! Turns and parcels of a book that a case has out.
 
-use super::texts::given_letter;
-use crate::held::{Held, Named, find, find_parcel, find_served, keep, push_parcel};
+use super::texts::push_given;
+use crate::held::{
+    Held, Named, find, find_parcel, find_served, keep, push_parcel, push_served_count,
+};
 use crate::texts::{name_of, push_text};
 use fp_book::{Book, Picked, Taken};
 use std::alloc::Global;
@@ -20,9 +22,9 @@ pub(super) fn take(
         Taken::NoRoom => out.push_str("no room")?,
         Taken::Memory => out.push_str("no memory")?,
         Taken::Turn(turn) => {
-            let (local, position) = (turn.local(), turn.position());
+            let (local, position, count) = (turn.local(), turn.position(), turn.count());
             keep(turns, name, Held::Turn(turn));
-            write!(out, "{local:08X} {position}")?;
+            write!(out, "{local:08X} {position} {count}")?;
         }
     }
     Ok(())
@@ -38,8 +40,12 @@ pub(super) fn give(
 ) -> anyhow::Result<()> {
     let name = name_of(name)?;
     let done = find_served(alloc, turns, name)?;
+    let count = done.served();
     match book.give(done) {
-        Ok(given) => push_text(out, given_letter(given)),
+        Ok(given) => {
+            push_served_count(out, count)?;
+            push_given(out, given)
+        }
         Err(done) => {
             keep(turns, name, Held::Done(done));
             push_text(out, "strange")

@@ -45,7 +45,7 @@ fn push_message(
     push_posted(out, answer)
 }
 
-/// Writes a turn: the place of its entry, and its dialogue.
+/// Writes a turn: the place of its first entry, and its dialogue.
 fn push_turn(out: &mut String, local: u32, position: u64) -> anyhow::Result<()> {
     push_number(out, "", position)?;
     push_number(out, " of ", u64::from(local))
@@ -58,12 +58,12 @@ fn push_tick(out: &mut String, moment: Moment, added: u32, wanting: u32) -> anyh
     push_number(out, ", wanting ", u64::from(wanting))
 }
 
-/// What became of a request.
-fn given_word(given: Given) -> &'static str {
+/// Writes what became of requests.
+fn push_given(out: &mut String, given: Given) -> anyhow::Result<()> {
     match given {
-        Given::Silent => ", silent",
-        Given::Queued => ", queued",
-        Given::Dropped => ", dropped",
+        Given::Silent => Ok(out.push_str(", silent")?),
+        Given::Queued(count) => push_number(out, ", queued ", u64::from(count)),
+        Given::Dropped(count) => push_number(out, ", dropped ", u64::from(count)),
     }
 }
 
@@ -103,16 +103,24 @@ fn push_step(out: &mut String, step: &LoggedStep) -> anyhow::Result<()> {
             added,
             wanting,
         } => push_tick(out, *moment, *added, *wanting),
-        LoggedStep::Take { local, position } | LoggedStep::PutBack { local, position } => {
-            push_turn(out, *local, *position)
+        LoggedStep::Take {
+            local,
+            position,
+            count,
+        } => {
+            push_turn(out, *local, *position)?;
+            push_number(out, ", count ", u64::from(*count))
         }
+        LoggedStep::PutBack { local, position } => push_turn(out, *local, *position),
         LoggedStep::Give {
             local,
             position,
+            served,
             given,
         } => {
             push_turn(out, *local, *position)?;
-            Ok(out.push_str(given_word(*given))?)
+            push_number(out, ", served ", u64::from(*served))?;
+            push_given(out, *given)
         }
         LoggedStep::Pick { local } | LoggedStep::Sent { local } | LoggedStep::Unsent { local } => {
             push_number(out, "", u64::from(*local))

@@ -51,8 +51,8 @@ fn posted_kind(posted: Posted) -> usize {
 fn given_kind(given: Given) -> usize {
     match given {
         Given::Silent => 5,
-        Given::Queued => 6,
-        Given::Dropped => 7,
+        Given::Queued(_) => 6,
+        Given::Dropped(_) => 7,
     }
 }
 

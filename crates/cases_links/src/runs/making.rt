@@ -8,7 +8,7 @@ use fp_steps::Step;
 use std::alloc::Global;
 
 /// How many steps a call of `calls` has.
-pub(super) const STEPS_OF_A_CALL: usize = 7;
+pub(super) const STEPS_OF_A_CALL: usize = 5;
 
 /// What a part of a script must answer.
 #[derive(Clone, Copy)]
@@ -145,15 +145,15 @@ impl Making {
         Ok(Asked::Last(1))
     }
 
-    /// A Begin, its turns and its frame.
+    /// A Begin, its turn and its frame.
     fn call(&mut self, local: u32, message: &str) -> anyhow::Result<()> {
         self.post(message)?;
-        self.turns(2, local)?;
+        self.turns(1, local)?;
         self.add(Step::Pick)?;
         self.add(Step::Sent)
     }
 
-    /// COUNT times a Begin, its turns and its frame.
+    /// COUNT times a Begin, its turn and its frame.
     fn calls(&mut self, text: &str) -> anyhow::Result<Asked> {
         let (count, rest) = first_word(text);
         let (serial, message) = first_word(rest);

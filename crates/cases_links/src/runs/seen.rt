@@ -11,10 +11,12 @@ pub(super) struct Seen {
     /// How many frames of it rejected something, after another such frame.
     pub(super) compared: u32,
     peer: u32,
-    // How many turns it gave.
+    // How many entries the turn has that is out.
+    count: u32,
+    // How many entries its turns served.
     gave: u64,
-    queued: u32,
-    picked: u32,
+    queued: u64,
+    picked: u64,
     was_dropped: bool,
     // The invoke identifier that its last Reject is about, 0 before the first one.
     rejected: u8,
@@ -28,6 +30,7 @@ impl Seen {
             is_out: false,
             compared: 0,
             peer,
+            count: 0,
             gave: 0,
             queued: 0,
             picked: 0,
@@ -37,9 +40,10 @@ impl Seen {
     }
 
     /// Its turn is taken.
-    pub(super) fn take(&mut self, position: u64) -> bool {
-        let is_right = !self.is_out && position == self.gave;
+    pub(super) fn take(&mut self, position: u64, count: u32) -> bool {
+        let is_right = !self.is_out && position == self.gave && (1..=16).contains(&count);
         self.is_out = true;
+        self.count = count;
         is_right
     }
 
@@ -50,27 +54,27 @@ impl Seen {
         is_right
     }
 
-    /// What becomes of its request.
-    fn request(&mut self, given: Given, is_down: bool) -> bool {
+    /// What becomes of the requests of a turn of which this number of entries was served.
+    fn request(&mut self, served: u32, given: Given, is_down: bool) -> bool {
         match given {
             Given::Silent => true,
-            Given::Queued => {
-                self.queued = self.queued.saturating_add(1);
-                !is_down && !self.was_dropped
+            Given::Queued(count) => {
+                self.queued = self.queued.saturating_add(u64::from(count));
+                !is_down && !self.was_dropped && (1..=served).contains(&count)
             }
-            Given::Dropped => {
+            Given::Dropped(count) => {
                 self.was_dropped = true;
-                true
+                (1..=served).contains(&count)
             }
         }
     }
 
     /// Its turn is given.
-    pub(super) fn give(&mut self, position: u64, given: Given, is_down: bool) -> bool {
-        let is_right = self.is_out && position == self.gave;
+    pub(super) fn give(&mut self, position: u64, served: u32, given: Given, is_down: bool) -> bool {
+        let is_right = self.is_out && position == self.gave && (1..=self.count).contains(&served);
         self.is_out = false;
-        self.gave = self.gave.saturating_add(1);
-        self.request(given, is_down) && is_right
+        self.gave = self.gave.saturating_add(u64::from(served));
+        self.request(served, given, is_down) && is_right
     }
 
     /// The invoke identifier that its frame rejects is above those before.

@@ -2,7 +2,7 @@
 
 use super::making::{Asked, Part};
 use crate::book::loops::push_posts;
-use crate::book::texts::{given_letter, letter_of, push_posted, push_totals};
+use crate::book::texts::{letter_of, push_given, push_posted, push_totals};
 use anyhow::bail;
 use cases::push_octets;
 use fp_book::{Posted, Totals};
@@ -40,12 +40,20 @@ pub(super) fn push_output(out: &mut String, output: &Output) -> anyhow::Result<(
     match output {
         Output::Posted { answer, components } => push_message(out, *answer, *components)?,
         Output::Ticked { added, wanting } => write!(out, "ticked {added} {wanting}")?,
-        Output::Took { local, position } => write!(out, "took {local:08X} {position}")?,
+        Output::Took {
+            local,
+            position,
+            count,
+        } => write!(out, "took {local:08X} {position} {count}")?,
         Output::Gave {
             local,
             position,
+            served,
             given,
-        } => write!(out, "gave {local:08X} {position} {}", given_letter(*given))?,
+        } => {
+            write!(out, "gave {local:08X} {position} {served} ")?;
+            push_given(out, *given)?;
+        }
         Output::Picked { local, frame } => push_parcel(out, *local, frame.as_slice())?,
         _ => out.push_str(word_of(output))?,
     }
@@ -67,7 +75,9 @@ fn count(totals: &mut Totals, output: &Output, out: u32) {
         Output::Posted { components, .. } => {
             totals.accepted = totals.accepted.saturating_add(u64::from(*components));
         }
-        Output::Gave { .. } => totals.served = totals.served.saturating_add(1),
+        Output::Gave { served, .. } => {
+            totals.served = totals.served.saturating_add(u64::from(*served));
+        }
         Output::Sent if out != 0 => totals.sent = totals.sent.saturating_add(1),
         _ => {}
     }

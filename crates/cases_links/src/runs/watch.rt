@@ -2,8 +2,10 @@
 //!
 //! * Each Begin that is accepted gets the next local identifier of the link. A message is accepted, or ends a dialogue,
 //!   only if it is aimed at one that was opened. As many components are accepted as it has.
-//! * The turns of a dialogue are given at the places 0, 1, 2 and so on, and it has one turn out at a time.
-//! * After a request that was dropped none of its dialogue is queued.
+//! * The turns of a dialogue are given one after the other: each begins where what the ones before it served ends. It has
+//!   one turn out at a time, of 1 to 16 entries, of which at least one is served, and no more are served than it has.
+//! * A turn queues or drops at most as many requests as it served entries. After requests that were dropped none of its
+//!   dialogue is queued.
 //! * A frame carries the identifiers of its dialogue; a dialogue has never more frames picked than queued; and the
 //!   Rejects of its components go out in the order in which these came.
 //! * Aborts of the provider are picked in the order in which they were answered, each to the sender of its message.
@@ -155,10 +157,10 @@ impl Watch {
     }
 
     /// A turn was taken.
-    fn took(&mut self, local: u32, position: u64) -> bool {
+    fn took(&mut self, local: u32, position: u64, count: u32) -> bool {
         let is_up = !self.is_down;
         match self.seen(local) {
-            Some(seen) => seen.take(position) && is_up,
+            Some(seen) => seen.take(position, count) && is_up,
             None => false,
         }
     }
@@ -166,18 +168,22 @@ impl Watch {
     /// What a take answers.
     fn take(&mut self, output: &Output) -> bool {
         match output {
-            Output::Took { local, position } => self.took(*local, *position),
+            Output::Took {
+                local,
+                position,
+                count,
+            } => self.took(*local, *position, *count),
             Output::Nothing => true,
             _ => false,
         }
     }
 
     /// A turn was given.
-    fn gave(&mut self, local: u32, position: u64, given: Given) -> bool {
-        self.totals.served = self.totals.served.saturating_add(1);
+    fn gave(&mut self, local: u32, position: u64, served: u32, given: Given) -> bool {
+        self.totals.served = self.totals.served.saturating_add(u64::from(served));
         let is_down = self.is_down;
         match self.seen(local) {
-            Some(seen) => seen.give(position, given, is_down),
+            Some(seen) => seen.give(position, served, given, is_down),
             None => false,
         }
     }
@@ -188,8 +194,9 @@ impl Watch {
             Output::Gave {
                 local,
                 position,
+                served,
                 given,
-            } => self.gave(*local, *position, *given) && *local == asked,
+            } => self.gave(*local, *position, *served, *given) && *local == asked,
             Output::Nothing => !self.is_out(asked),
             _ => false,
         }

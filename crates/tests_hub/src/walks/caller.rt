@@ -88,8 +88,9 @@ impl<R: Wait + Clock, A: Ledger, B: Ledger, C: Ledger> Caller<'_, R, A, B, C> {
         };
         match self.hub.give(self.rt, &mut self.seat, done) {
             Ok(Given::Silent) => "silent",
-            Ok(Given::Queued) => "queued",
-            Ok(Given::Dropped) => "dropped",
+            Ok(Given::Queued(1)) => "queued",
+            Ok(Given::Queued(_)) => "all queued",
+            Ok(Given::Dropped(_)) => "dropped",
             Err(foreign) => {
                 foreign.abandon();
                 "foreign"
@@ -105,15 +106,10 @@ impl<R: Wait + Clock, A: Ledger, B: Ledger, C: Ledger> Caller<'_, R, A, B, C> {
         }
     }
 
-    /// Takes the next turn, which has this position, posts a malformed End, which closes the dialogue, and then serves
+    /// Takes the next turn, which has position 0, posts a malformed End, which closes the dialogue, and then serves
     /// the turn or puts it back.
-    pub(super) fn turn_of_closed(
-        &mut self,
-        position: u64,
-        end: &str,
-        is_served: bool,
-    ) -> &'static str {
-        let turn = match self.take(position) {
+    pub(super) fn turn_of_closed(&mut self, end: &str, is_served: bool) -> &'static str {
+        let turn = match self.take(0) {
             Ok(turn) => turn,
             Err(word) => return word,
         };
@@ -357,7 +353,7 @@ pub(crate) fn make_walk<
     match walk {
         Walk::EachCall => {
             caller.make_calls(&mut words);
-            caller.rest_often(18, &mut words);
+            caller.rest_often(16, &mut words);
         }
         Walk::AllPlaces => caller.fill_places(&mut words),
         Walk::Hints => caller.hint_workers(&mut words),

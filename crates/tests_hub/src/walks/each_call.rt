@@ -23,14 +23,13 @@ const FILLING: usize = Outbox::MOST_FRAMES / CALLS_COUNT + 1;
 const LONG: u64 = 100_000;
 
 impl<R: Wait + Clock, A: Ledger, B: Ledger, C: Ledger> Caller<'_, R, A, B, C> {
-    /// Makes each call of a hub, of which 18 lines of the log come; the last parcel can't be sent, which takes the link
+    /// Makes each call of a hub, of which 16 lines of the log come; the last parcel can't be sent, which takes the link
     /// down.
     pub(super) fn make_calls(&mut self, words: &mut Words) {
         let alloc = self.alloc;
         words.say(self.post(begin(alloc, 0x2A)));
         words.say(self.turn(0, false));
         words.say(self.turn(0, true));
-        words.say(self.turn(1, true));
         words.say(self.turn(2, true));
         words.say(self.send(true));
         words.say(self.send(true));
@@ -87,7 +86,6 @@ impl<R: Wait + Clock, A: Ledger, B: Ledger, C: Ledger> Caller<'_, R, A, B, C> {
         };
         words.say(self.post(calls(self.alloc)));
         words.say(self.turn(0, true));
-        words.say(self.turn(1, true));
         words.say(self.await_and_send());
         for _ in 1..FILLING {
             if self.post(calls(self.alloc)) != "opened" {

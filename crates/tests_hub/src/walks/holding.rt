@@ -37,14 +37,14 @@ const END_OF_THIRD: &str = "64064904000000030000";
 /// What a thread does while another one sleeps.
 #[derive(Clone, Copy)]
 enum Act {
-    /// Takes the turn at position 2 and puts it back, which makes no room; and gives it more than a second later.
+    /// Takes the turn at position 17 and puts it back, which makes no room; and gives it more than a second later.
     GivesLate,
     /// Takes, serves and gives the turn at position 1.
     Gives,
-    /// Takes the turn at position 1 of the second dialogue, closes the dialogue, and serves and gives the turn, whose
-    /// request is dropped.
+    /// Takes the turn of the second dialogue, closes the dialogue, and serves and gives the turn, whose request is
+    /// dropped.
     GivesDropped,
-    /// Takes the turn at position 0 of the third dialogue, closes the dialogue, and puts the turn back.
+    /// Takes the turn of the third dialogue, closes the dialogue, and puts the turn back.
     PutsBack,
     /// Serves all turns.
     Serves,
@@ -240,7 +240,6 @@ impl<
         words.say(self.offer(begin(alloc, 0x2B)));
         words.say(self.offer_text(EMPTY_BEGIN));
         words.say(self.turn(0, true));
-        words.say(self.turn(1, true));
         words.say(self.offer_text(EMPTY_BEGIN));
         words.say(self.send(true));
         words.say(self.offer_text(EMPTY_BEGIN));
@@ -252,13 +251,13 @@ impl<
     fn make_act(&mut self, act: Act) -> &'static str {
         match act {
             Act::GivesLate => {
-                self.turn(2, false);
+                self.turn(17, false);
                 thread::sleep(self.rt, Duration::from_millis(LATE));
-                self.turn(2, true)
+                self.turn(17, true)
             }
             Act::Gives => self.turn(1, true),
-            Act::GivesDropped => self.turn_of_closed(1, END_OF_SECOND, true),
-            Act::PutsBack => self.turn_of_closed(0, END_OF_THIRD, false),
+            Act::GivesDropped => self.turn_of_closed(END_OF_SECOND, true),
+            Act::PutsBack => self.turn_of_closed(END_OF_THIRD, false),
             Act::Serves => self.serve_all(),
             Act::Sends => self.send_late(PAUSE, true),
             Act::SendsLate => self.send_late(LATE, true),
@@ -302,9 +301,10 @@ impl<
     /// Lets another thread sleep at each limit, until it is woken or its time is up.
     pub(super) fn wake(self, words: &mut Words) -> Self {
         let mut caller = self;
+        let alloc = caller.alloc;
         caller.open_full_dialogue(words);
         let mut caller = caller.act_while(Sleep::ForRoom(REJECT), Act::Gives, words);
-        words.say(caller.offer_text(REJECT));
+        words.say(caller.offer(rejects(alloc)));
         let mut caller = caller.act_while(Sleep::ForRoom(REJECT), Act::GivesLate, words);
         words.say(caller.offer_text(REJECT));
         words.say(caller.serve_all());
@@ -332,7 +332,6 @@ impl<
         words.say(caller.offer_text(REJECT));
         let mut caller = caller.act_while(Sleep::ForQuiet, Act::Serves, words);
         words.say(caller.offer(begin(alloc, 0x2A)));
-        words.say(caller.turn(0, true));
         let mut caller = caller.act_while(Sleep::ForQuiet, Act::GivesDropped, words);
         words.say(caller.offer(begin(alloc, 0x2B)));
         caller.act_while(Sleep::ForQuiet, Act::PutsBack, words)

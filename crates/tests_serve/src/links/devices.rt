@@ -57,7 +57,7 @@ fn a_log_that_hangs_holds_nobody_up(rt: HostRuntime) -> Result<(), Fail> {
 }
 
 /// A device that takes a second for each write: calls are answered at once all the same, and the run ends once the log
-/// has all of it, ten seconds later.
+/// has all of it, some seconds later.
 #[test]
 fn a_slow_log_holds_nobody_up(rt: HostRuntime) -> Result<(), Fail> {
     let alloc = rt.alloc();
@@ -154,9 +154,9 @@ fn gap_in(log: &str) -> Result<u128, Fail> {
     let (gap, _) = after.split_once('\n').ok_or("no line")?;
     let lost: usize = gap.parse()?;
     let lines = count_lines(log, "0 ");
-    // Three calls of seven lines each, the other frames, the end, and the gap; and three calls and the end.
-    if lost.saturating_add(lines) != MANY_FRAMES + 23
-        || count_lines(log, "1 ") != 22
+    // Three calls of five lines each, the other frames, the end, and the gap; and three calls and the end.
+    if lost.saturating_add(lines) != MANY_FRAMES + 17
+        || count_lines(log, "1 ") != 16
         || after.contains("\n0 Z ")
         || !log.ends_with('\n')
     {

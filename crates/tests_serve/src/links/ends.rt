@@ -51,7 +51,7 @@ struct Row {
 
 /// The line of the log that says that the last of 7,000 calls is served. So many answers block the sending thread. Of
 /// 10,000 calls some are held back then: 4,096 dialogues wait for their answers to be sent.
-const SERVED_7000: &str = "\n0 T 00001B58 1\n";
+const SERVED_7000: &str = "\n0 T 00001B58 0 2\n";
 
 /// The ways in which link 0 ends.
 const ROWS: [Row; 5] = [

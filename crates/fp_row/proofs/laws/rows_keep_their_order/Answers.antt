@@ -3,7 +3,7 @@ use Rattle.std.proofs.lemmas.List.{length-take-le, take-append-drop, take_all}
 use Rattle.std.specs.Prelude.{is_some}
 use Rattle.fp_row.proofs.Fronts.{shorter_front}
 use Rattle.fp_row.proofs.Keeping.{all_of, frames_count, going, queued_within, sent_within, turn_is_next}
-use Rattle.fp_row.proofs.Waiting.{entry_is_out, out_count, parts_by, whole_by}
+use Rattle.fp_row.proofs.Waiting.{entries_are_out, out_count, parts_by, whole_by}
 use Rattle.fp_row.specs.Row.{frames_of, has_turn_out, is_closed, requests_of, served_of, start_of, unserved}
 use Rattle.fp_service.specs.declared.dialogue.Core.{Core}
 use Rattle.fp_service.specs.Dialogue.{is_over}
@@ -41,7 +41,7 @@ returns c = λ row.
       parts = parts_by (is_closed row.ended || is_over row.core) row.accepted row.served row.out;
       whole = λ unclosed live. whole_by (is_closed row.ended) (is_over row.core) row.accepted row.served row.out unclosed live;
       next = turn_is_next row;
-      turn = entry_is_out row;
+      turn = entries_are_out row;
       live = going (has_turn_out row) (is_over row.core) row.out_is_live;
       birth = ap (λ (core : Core). core.birth) row.core_is ∙ c.births_stay.ensures.core_after_has_birth (start_of row) (served_of row);
     }

@@ -1,18 +1,24 @@
-use Rattle.fp_book.proofs.Names.{GivesAt, GivesDone, HasRoom, Inside, Left, Turn, ap, arith, gone_with, joins, logged, nat_lt, one_served, shelf_of, subst, sym, waiting_in, with_deadline, ◌++◌, ◌-◌, ◌∙◌, ◌≡◌}
+use Rattle.fp_book.proofs.Names.{Done, GivesAt, GivesDone, HasRoom, Inside, Left, Turn, ap, arith, frames_in, gone_with, is_ready, joins, length, logged, more_served, refl, shelf_of, subst, sym, waiting_in, with_deadline, with_dialogue, ◌++◌, ◌-◌, ◌∙◌, ◌≡◌}
 use Rattle.fp_book.specs.declared.line.LoggedStep.TheVariants as line
-use Rattle.fp_book.proofs.Kept.{Leaves, few_entries, few_served, leaves, place_to_join, place_to_queue, room_for, same_parts, timed_by}
-use Rattle.fp_book.proofs.Turns.{fewer_turns, is_out, not_ready_out, turn_there}
+use Rattle.fp_book.proofs.Kept.{Leaves, few_entries, few_served, leaves, out_few, place_to_join, place_to_queue, room_for, same_parts, timed_by}
+use Rattle.fp_book.proofs.Turns.{few_requests, fewer_turns, is_out, not_ready_out, turn_there}
 use Rattle.fp_book.proofs.book.Book.give.Goals as goal
 
 pub overflow_sub-self : goal.overflow_sub-self
 overflow_sub-self c =
     let h = c.in-Ok.ensures.ok in
-    turn_there c.self.inside c.args.done.turn.local h.before c.self.invariant h.was (is_out h.before c.args.done.turn h.does.0.was_out).is_out
+    turn_there c.self.inside c.args.done.turn.local h.before c.count-count.result c.self.invariant h.was (c.count-count.ensures ∙ ap (λ (turn : Turn). length turn.entries) c.turn-3.ensures ∙ h.does.0.count)
 
 pub overflow_add-self : goal.overflow_add-self
 overflow_add-self c =
     let s = shelf_of c.self.inside in
-    omega (arith, few_served s c.self.invariant.sound, few_entries s c.self.invariant.sound)
+    let h = c.in-Ok.ensures.ok in
+    omega (arith, few_served s c.self.invariant.sound, few_entries s c.self.invariant.sound, c.served-served_count.ensures, h.does.0.few_served, out_few s c.args.done.turn.local h.before c.self.invariant.sound h.was)
+
+pub overflow_cast-served_count : goal.overflow_cast-served_count
+overflow_cast-served_count c =
+    let h = c.in-Ok.ensures.ok in
+    omega (arith, c.served-served_count.ensures, h.does.0.few_served, out_few (shelf_of c.self.inside) c.args.done.turn.local h.before c.self.invariant.sound h.was)
 
 pub set_deadline-requires : goal.set_deadline-requires
 set_deadline-requires c =
@@ -27,10 +33,17 @@ join-requires c = λ _.
     place_to_join (shelf_of c.self.inside) c.args.done.turn.local h.before c.self.invariant.sound h.was
     (not_ready_out h.before (is_out h.before c.args.done.turn h.does.0.was_out).is_out)
 
-pub queue-given-requires : goal.queue-given-requires
-queue-given-requires c =
+pub queue-given-requires-clause-place : goal.queue-given-requires-clause-place
+queue-given-requires-clause-place c =
     let h = c.in-Ok.ensures.ok in
-    place_to_queue (shelf_of c.self.inside) c.args.done.turn.local h.before c.self.invariant.sound h.was (is_out h.before c.args.done.turn h.does.0.was_out).is_out
+    place_to_queue (shelf_of c.self.inside) c.args.done.turn.local h.before (length (frames_in c.in-Ok.served.requested)) c.self.invariant.sound h.was h.does.0.few_frames
+
+-- no more than the entries that were out, which have a place each
+pub queue-given-requires-clause-few : goal.queue-given-requires-clause-few
+queue-given-requires-clause-few c =
+    let s = shelf_of c.self.inside in
+    let h = c.in-Ok.ensures.ok in
+    omega (arith, few_requests h.before h.after c.args.done c.in-Ok.served.requested h.does.0 (c.turns_are_served_by_the_step.ensures c.args.done), out_few s c.args.done.turn.local h.before c.self.invariant.sound h.was, c.self.invariant.sound.places)
 
 -- the parts of the book then
 abbrev after : goal.After-add → Inside
@@ -39,8 +52,8 @@ after c = record c.self.inside {
   deadlines = c.set_deadline.new.deadlines;
   ready = c.join.new.ready;
   outbox = c.queue-given.new.outbox;
-  turns = c.self.inside.turns - 1;
-  totals = one_served c.self.inside.totals;
+  turns = c.self.inside.turns - c.count-count.result;
+  totals = more_served c.self.inside.totals c.served-served_count.result;
   log = c.add.new.self;
 }
 
@@ -54,6 +67,7 @@ given c =
     let h : GivesAt b.rows done asked left c.give.new.rows = c.in-Ok.ensures.ok in
     let here : c.local-local.result ≡ l = c.local-local.ensures ∙ ap (λ (turn : Turn). turn.local) c.turn.ensures in
     let place : c.position-position.result ≡ done.turn.position = c.position-position.ensures ∙ ap (λ (turn : Turn). turn.position) c.turn-2.ensures in
+    let count = c.count-count.ensures ∙ ap (λ (turn : Turn). length turn.entries) c.turn-3.ensures in
     leaves (after c) (gone_with (shelf_of b).gone h.after) (GivesDone (shelf_of b) done c.queue-given.result)
     (λ s does. c.turns_keep_a_book_sound.ensures.gives (shelf_of b) s done c.queue-given.result c.self.invariant.sound does)
     (record {
@@ -63,13 +77,20 @@ given c =
       was = h.was;
       gives = h.does.0;
       given_is = c.queue-given.ensures.given;
-      new_is = same_parts (record (shelf_of b) { totals = one_served b.totals; gone = gone_with (shelf_of b).gone h.after }) h.rows
+      new_is = same_parts (record (shelf_of b) { totals = more_served b.totals c.served-served_count.result; gone = gone_with (shelf_of b).gone h.after }) h.rows
           (c.join.ensures ∙ ap (λ l. b.ready ++ joins l left.is_ready) here ∙ ap (λ (x : Left). b.ready ++ joins l x.is_ready) h.does.1)
           (c.queue-given.ensures.value ∙ ap (λ l. record b.outbox { frames = b.outbox.frames ++ waiting_in l asked }) here)
-          (c.add.ensures ∙ ap (λ l. logged b.log (line.Give l c.position-position.result c.queue-given.result)) here ∙ ap (λ p. logged b.log (line.Give l p c.queue-given.result)) place);
+          (c.add.ensures ∙ ap (λ l. logged b.log (line.Give l c.position-position.result c.served-served_count.result c.queue-given.result)) here
+          ∙ (λ i. logged b.log (line.Give l (place i) (c.served-served_count.ensures i) c.queue-given.result)))
+          ∙ ap (λ n. record (with_dialogue (shelf_of b) l h.after) {
+            ready = b.ready ++ joins l (is_ready h.after);
+            outbox = record b.outbox { frames = b.outbox.frames ++ waiting_in l asked };
+            totals = more_served b.totals n;
+            log = logged b.log (line.Give l done.turn.position done.served c.queue-given.result);
+          }) c.served-served_count.ensures;
     })
     c.self.invariant.links
-    (fewer_turns b h c.self.invariant (is_out h.before done.turn h.does.0.was_out).is_out (ap (nat_lt 0) h.does.0.out))
+    (fewer_turns b c.count-count.result h c.self.invariant (count ∙ h.does.0.count) h.does.0.out)
     (timed_by b.deadlines c.set_deadline.new.deadlines h c.self.invariant.timed
     (c.set_deadline.ensures ∙ ap (λ l. with_deadline b.deadlines l left.deadline) here ∙ ap (λ (x : Left). with_deadline b.deadlines l x.deadline) h.does.1))
 

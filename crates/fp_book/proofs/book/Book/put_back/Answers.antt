@@ -1,4 +1,4 @@
-use Rattle.fp_book.proofs.Names.{Inside, PutsBackAt, PutsTurnBack, ap, gone_with, joins, logged, nat_lt, refl, shelf_of, ◌++◌, ◌-◌, ◌∙◌}
+use Rattle.fp_book.proofs.Names.{Inside, PutsBackAt, PutsTurnBack, Turn, ap, gone_with, joins, length, logged, refl, shelf_of, sym, ◌++◌, ◌-◌, ◌∙◌}
 use Rattle.fp_book.specs.declared.line.LoggedStep.TheVariants as line
 use Rattle.fp_book.proofs.Kept.{Leaves, leaves, place_to_join, same_parts, timed_still}
 use Rattle.fp_book.proofs.Turns.{fewer_turns, is_out, not_ready_out, turn_there}
@@ -7,7 +7,7 @@ use Rattle.fp_book.proofs.book.Book.put_back.Goals as goal
 pub overflow_sub-self : goal.overflow_sub-self
 overflow_sub-self c =
     let h = c.in-Ok.ensures.ok in
-    turn_there c.self.inside c.args.turn.local h.before c.self.invariant h.was (is_out h.before c.args.turn h.does.0.was_out).is_out
+    turn_there c.self.inside c.args.turn.local h.before c.count-count.result c.self.invariant h.was (c.count-count.ensures ∙ h.does.0.count)
 
 pub join-requires : goal.join-requires
 join-requires c = λ _.
@@ -16,7 +16,7 @@ join-requires c = λ _.
 
 -- the parts of the book then
 abbrev after : goal.After-add → Inside
-after c = record c.self.inside { rows = c.put_back.new.rows; ready = c.join.new.ready; turns = c.self.inside.turns - 1; log = c.add.new.self }
+after c = record c.self.inside { rows = c.put_back.new.rows; ready = c.join.new.ready; turns = c.self.inside.turns - c.count-count.result; log = c.add.new.self }
 
 put : (c : goal.After-add) → Leaves (after c) (PutsTurnBack (shelf_of c.self.inside) c.args.turn)
 put c =
@@ -36,7 +36,7 @@ put c =
           ∙ ap (λ p. logged b.log (line.PutBack turn.local p)) c.position-position.ensures);
     })
     c.self.invariant.links
-    (fewer_turns b h c.self.invariant (is_out h.before turn h.does.0.was_out).is_out (ap (nat_lt 0) h.does.0.out))
+    (fewer_turns b c.count-count.result h c.self.invariant (c.count-count.ensures ∙ h.does.0.count) h.does.0.out)
     (timed_still b.deadlines h c.self.invariant.timed h.does.0.deadline)
 
 pub invariant_of-self-2 : goal.invariant_of-self-2

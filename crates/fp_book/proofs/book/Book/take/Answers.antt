@@ -1,25 +1,34 @@
-use Rattle.fp_book.proofs.Names.{HandsOutAt, Inside, TakesTurn, ap, arith, false, logged, nat_lt, places_held, refl, shelf_of, subst, sym, ◌+◌, ◌<◌, ◌∙◌, ◌∷◌, ◌≡◌}
+use Rattle.fp_book.proofs.Names.{HandsOutAt, Inside, TakesTurn, ap, arith, false, length, logged, nat_lt, places_held, refl, shelf_of, subst, sym, ◌+◌, ◌-◌, ◌<◌, ◌∙◌, ◌∷◌, ◌≡◌}
 use Rattle.fp_book.specs.declared.line.LoggedStep.TheVariants as line
 use Rattle.fp_book.specs.declared.taken.Taken.TheVariants.{Turn as ATurn}
-use Rattle.fp_book.proofs.Changes.{turns_are}
+use Rattle.fp_book.proofs.Changes.{turns_none}
 use Rattle.fp_book.proofs.Kept.{Leaves, leaves, same_parts, timed_still, turns_by}
-use Rattle.fp_book.proofs.Turns.{first_is, first_is_ready, held_out, idle, turn_is_of}
+use Rattle.fp_book.proofs.Turns.{first_is, first_is_ready, held_out, idle, taken_out, turn_is_of}
 use Rattle.fp_book.proofs.Sums.{put_held}
 use Rattle.fp_book.proofs.book.Book.take.Goals as goal
 
-pub take-requires : goal.take-requires
-take-requires c = first_is_ready (shelf_of c.self.inside) c.in-Some.local c.self.invariant.sound (sym c.first.ensures ∙ c.in-Some.is)
+pub take-requires-clause-ready : goal.take-requires-clause-ready
+take-requires-clause-ready c = first_is_ready (shelf_of c.self.inside) c.in-Some.local c.self.invariant.sound (sym c.first.ensures ∙ c.in-Some.is)
+
+-- the places that are held, and the turn
+held_is : (c : goal.After-add) → c.places_held-held.result ≡ places_held (shelf_of c.self.inside)
+held_is c = c.places_held-held.ensures ∙ sym (ap places_held c.self.view_is)
+
+handed : (c : goal.After-add) → HandsOutAt (8192 - places_held (shelf_of c.self.inside)) c.self.inside.rows c.in-Some.local c.in-Ok.turn c.take.new.rows
+handed c = subst (λ n. HandsOutAt (8192 - n) c.self.inside.rows c.in-Some.local c.in-Ok.turn c.take.new.rows) (held_is c) c.in-Ok.ensures.ok
 
 -- the parts of the book then
 abbrev after : goal.After-add → Inside
-after c = record c.self.inside { rows = c.take.new.rows; ready = c.next.new.self; turns = c.self.inside.turns + 1; log = c.add.new.self }
+after c = record c.self.inside { rows = c.take.new.rows; ready = c.next.new.self; turns = c.self.inside.turns + c.count-count.result; log = c.add.new.self }
 
 taken : (c : goal.After-add) → Leaves (after c) (TakesTurn (shelf_of c.self.inside) c.in-Ok.turn)
 taken c =
     let b = c.self.inside in
     let turn = c.in-Ok.turn in
-    let here : turn.local ≡ c.in-Some.local = turn_is_of (shelf_of b) c.in-Some.local turn c.take.new.rows c.self.invariant.sound c.in-Ok.ensures.ok in
-    let h : HandsOutAt b.rows turn.local turn c.take.new.rows = subst (λ l. HandsOutAt b.rows l turn c.take.new.rows) (sym here) c.in-Ok.ensures.ok in
+    let free = 8192 - places_held (shelf_of b) in
+    let taken = handed c in
+    let here : turn.local ≡ c.in-Some.local = turn_is_of free (shelf_of b) c.in-Some.local turn c.take.new.rows c.self.invariant.sound taken in
+    let h : HandsOutAt free b.rows turn.local turn c.take.new.rows = subst (λ l. HandsOutAt free b.rows l turn c.take.new.rows) (sym here) taken in
     leaves (after c) (shelf_of b).gone (TakesTurn (shelf_of b) turn)
     (λ s does. c.turns_keep_a_book_sound.ensures.takes (shelf_of b) s (ATurn turn) c.self.invariant.sound does)
     (record {
@@ -29,12 +38,12 @@ taken c =
       was = h.was;
       takes = h.does;
       first = first_is b.ready c.next.new.self c.in-Some.local c.next.result (sym c.first.ensures ∙ c.in-Some.is) c.next.ensures.taken c.next.ensures.none ∙ ap (λ l. l ∷ c.next.new.self) (sym here);
-      room = subst (λ n. n < 8192) (c.places_held.ensures ∙ sym (ap places_held c.self.view_is)) c.if-places_held-ge-MOST_FRAMES.false;
-      new_is = same_parts (shelf_of b) (h.rows ∙ sym (put_held b.rows turn.local h.after (held_out h.after (ap (nat_lt 0) h.does.out)))) refl refl
-          (c.add.ensures ∙ ap (λ l. logged b.log (line.Take l c.position-position.result)) (sym here) ∙ ap (λ p. logged b.log (line.Take turn.local p)) c.position-position.ensures);
+      room = subst (λ n. n < 8192) (held_is c) c.if-held-ge-MOST_FRAMES.false;
+      new_is = same_parts (shelf_of b) (h.rows ∙ sym (put_held b.rows turn.local h.after (held_out h.after (taken_out free h.before turn h.after h.does)))) refl refl
+          (c.add.ensures ∙ ap (λ l. logged b.log (line.Take l c.position-position.result c.count-count.result)) (sym here) ∙ (λ i. logged b.log (line.Take turn.local (c.position-position.ensures i) (c.count-count.ensures i))));
     })
     c.self.invariant.links
-    (turns_by b.turns (b.turns + 1) h c.self.invariant.turns (omega (arith, turns_are h.before false (idle h.before h.does.was_ready), h.does.out)))
+    (turns_by b.turns (b.turns + c.count-count.result) h c.self.invariant.turns (omega (arith, turns_none h.before (idle h.before h.does.was_ready), h.does.out, c.count-count.ensures)))
     (timed_still b.deadlines h c.self.invariant.timed h.does.deadline)
 
 pub invariant_of-self-2 : goal.invariant_of-self-2
