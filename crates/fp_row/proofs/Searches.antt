@@ -1,5 +1,5 @@
 -- What a binary search finds among entries in order.
-use Rattle.std.proofs.Common.{◌≡◌, ℕ, ◌<◌, ◌≤◌, List, [], ◌∷◌, length, slice_index, slice_index_or, Result, Ok, Err, IfOk, IfErr, sym, ap, subst, ◌∙◌, arith}
+use Rattle.std.proofs.Common.{◌≡◌, ℕ, ◌-◌, ◌<◌, ◌≤◌, List, [], ◌∷◌, length, slice_index, slice_index_or, Result, Ok, Err, IfOk, IfErr, sym, ap, subst, ◌∙◌, arith}
 use Rattle.std.specs.List.Sorted.{IsSearchInRange, IsBinarySearchResult, IsNonDecreasingBy}
 use Rattle.std.specs.Ordering.{nat_cmp, ordering_index}
 use Rattle.std.proofs.lemmas.Cmp.{ranked}
@@ -40,3 +40,18 @@ module _ {X : Type 0} where
     missing = record { in_range = in_range; smaller_before = λ j lt. absurd (omega (arith, lt, in_range)); greater_after = λ j le lt. absurd (omega (arith, lt)) };
   }
   searched (e ∷ l) sorted k r in_range answer = searched_by (e ∷ l) sorted k e r in_range answer
+
+  -- a key above the last one goes to the end
+  pub gap_after : (l : List (ℕ × X)) → IsInOrder (keys_of l) → (k n : ℕ) (last : ℕ × X) → n ≡ length l → 0 < n → last ≡ slice_index_or l (n - 1) last → last.0 < k
+      → IsGapFor (keys_of l) k n
+  gap_after l sorted k n last all some read below =
+      let long = length-keys_of l in
+      let key : slice_index (keys_of l) (n - 1) ≡ last.0 = sym (ap (λ e. e.0) read ∙ key_at l (n - 1) last (omega (arith, all, some, long))) in
+      record {
+        in_range = omega (arith, all, long);
+        smaller_before = λ i lt.
+            let rise : slice_index (keys_of l) i ≤ slice_index (keys_of l) (n - 1) =
+            grind (arith, sorted i (n - 1), λ (same : i ≡ n - 1). ap (λ m. slice_index (keys_of l) m) same, all, long, some) in
+            omega (arith, rise, key, below);
+        greater_after = λ i le lt. absurd (omega (arith, le, lt, all, long));
+      }

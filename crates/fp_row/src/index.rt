@@ -35,12 +35,21 @@ impl Model for Index {
     ghost invariant = { λ index. IsInOrder (keys_of index.keys.items) };
 }
 
-/// The place of the identifier's entry, or, if it has none, the place at which one would go.
+/// The place of the identifier's entry, or, if it has none, the place at which one would go. Most are new identifiers,
+/// which come last, or that of the newest entry.
 fn place_of(keys: &VecDeque<(u32, usize)>, local: u32) -> Result<usize, usize>
     requires { IsInOrder (keys_of keys.now.items) }
     ensures found { IfOk result (IsAt (keys_of keys.now.items) local) }
     ensures missing { IfErr result (IsGapFor (keys_of keys.now.items) local) }
 {
+    if let Some(last) = keys.back() {
+        if last.0 < local {
+            return Err(keys.len());
+        }
+        if last.0 == local {
+            return Ok(keys.len() - 1);
+        }
+    }
     keys.binary_search_by_key(&local, |entry| entry.0)
 }
 

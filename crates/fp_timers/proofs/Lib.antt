@@ -1,4 +1,5 @@
 mod Dues
+mod Lanes
 mod Lookups
 mod Maps
 mod Names

@@ -1,5 +1,5 @@
 -- A timer that is added where it belongs leaves the timers in order, whatever the order is.
-use Rattle.fp_timers.proofs.Names.{Err, List, Ok, OnErr, OnOk, Result, Timer, ap, arith, cases_order, get_or-insert_above, get_or-insert_at, get_or-insert_below, inl, inr, insert, length, length-insert, subst, timer_at, ℕ, ◌+◌, ◌-◌, ◌<◌, ◌≡◌, ◌≤◌, ◌⊎◌}
+use Rattle.fp_timers.proofs.Names.{Err, List, Ok, OnErr, OnOk, Result, Timer, ap, arith, cases_lt, cases_order, get_or-insert_above, get_or-insert_at, get_or-insert_below, get_or-remove_above, get_or-remove_below, inl, inr, insert, length, length-insert, length-remove, remove, subst, timer_at, ℕ, ◌+◌, ◌-◌, ◌<◌, ◌≡◌, ◌≤◌, ◌⊎◌}
 
 -- the default that `timer_at` reads beyond the end
 abbrev pub past_end : Timer
@@ -36,6 +36,25 @@ module _ (R : Timer → Timer → Type 0) (l : List Timer) (rises : Rises R l) (
       by (inr (inr q)) (inl p) = alike _ _ _ _ (here i p) (above j q) (after (j - 1) (omega arith) (omega (arith, fits)))
       by (inr (inr q)) (inr (inl p)) = alike _ _ _ _ (below i p) (above j q) (rises i (j - 1) (omega arith) (omega (arith, fits)))
       by (inr (inr q)) (inr (inr p)) = alike _ _ _ _ (above i p) (above j q) (rises (i - 1) (j - 1) (omega arith) (omega (arith, fits)))
+
+  -- each timer is an old one below the place, or one moved down by one
+  pub rises_remove : at < length l → Rises R (remove l at)
+  rises_remove within i j lt in_range = by (cases_lt i at) (cases_lt j at)
+    where
+      below : (k : ℕ) → k < at → timer_at (remove l at) k ≡ timer_at l k
+      below k h = get_or-remove_below l at past_end k h within
+
+      above : (k : ℕ) → at ≤ k → timer_at (remove l at) k ≡ timer_at l (k + 1)
+      above k h = get_or-remove_above l at past_end k h within
+
+      fits : j + 1 < length l
+      fits = omega (arith, length-remove l at within)
+
+      by : (i < at) ⊎ (at ≤ i) → (j < at) ⊎ (at ≤ j) → R (timer_at (remove l at) i) (timer_at (remove l at) j)
+      by (inl p) (inl q) = alike _ _ _ _ (below i p) (below j q) (rises i j lt (omega (arith, fits)))
+      by (inl p) (inr q) = alike _ _ _ _ (below i p) (above j q) (rises i (j + 1) (omega arith) fits)
+      by (inr p) (inl q) = absurd (omega arith)
+      by (inr p) (inr q) = alike _ _ _ _ (above i p) (above j q) (rises (i + 1) (j + 1) (omega arith) fits)
 
 -- an insert for which there is room has happened
 pub grown : {A E : Type 0} (r : Result A E) (l new : List Timer) (at : ℕ) (t : Timer) (len capacity : ℕ) → len ≡ length l → length l < 4096 → 4096 ≤ capacity → at ≤ length l → OnErr r (capacity ≤ len) → OnOk r (new ≡ insert l at t) → (new ≡ insert l at t) × (length new ≤ 4096)

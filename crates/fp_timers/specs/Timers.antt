@@ -1,5 +1,5 @@
 -- Timers in the order of their local identifiers, or of their deadlines, and what a search finds among them.
-use Rattle.std.specs.Prelude.{◌≡◌, ◌≢◌, ℕ, ◌<◌, ◌≤◌, ◌==◌, nat_lt, Bool, false, true, ◌&&◌, ◌||◌, List, map, length, slice_index_or}
+use Rattle.std.specs.Prelude.{◌≡◌, ◌≢◌, ℕ, ◌<◌, ◌≤◌, ◌==◌, nat_lt, Bool, false, true, ◌&&◌, ◌||◌, cond, List, [], ◌∷◌, ◌++◌, All, map, length, slice_index_or, Option, Some, None}
 use Rattle.fp_timers.specs.declared.timers.Timer.{Timer}
 
 -- the identifiers, each with its deadline
@@ -32,12 +32,42 @@ pub record IsKept (timers : List Timer) (capacity : ℕ) : Type 0 where
   pub most : length timers ≤ 4096
   pub room : 4096 ≤ capacity
 
--- what a list by deadline keeps: its timers in order, each of another identifier, at most 4,096, and memory for as many
+-- what a lane keeps: its timers in the order of deadlines, and memory for 4,096
 pub record IsKeptInTime (timers : List Timer) (capacity : ℕ) : Type 0 where
   pub in_order : IsInTimeOrder timers
+  pub room : 4096 ≤ capacity
+
+-- the timers of four lanes
+abbrev pub joined : List Timer → List Timer → List Timer → List Timer → List Timer
+joined first second third fourth = first ++ (second ++ (third ++ fourth))
+
+-- what all lanes together keep: each timer is of another identifier, and there are at most 4,096
+pub record AreFew (timers : List Timer) : Type 0 where
   pub apart : AreApart timers
   pub most : length timers ≤ 4096
-  pub room : 4096 ≤ capacity
+
+-- these are the others and one timer more, at any place
+pub record IsWith (others : List Timer) (timer : Timer) (timers : List Timer) : Type 0 where
+  pub before : List Timer
+  pub after : List Timer
+  pub without : others ≡ before ++ after
+  pub whole : timers ≡ before ++ timer ∷ after
+
+-- the timer is at this place
+pub record IsTimerAt (timers : List Timer) (timer : Timer) (place : ℕ) : Type 0 where
+  pub in_range : place < length timers
+  pub is_timer : timer_at timers place ≡ timer
+
+-- the one of two timers that comes before the other, if there is one
+abbrev pub earlier : Option Timer → Option Timer → Option Timer
+earlier None other = other
+earlier (Some timer) None = Some timer
+earlier (Some timer) (Some other) = cond (comes_before other timer) (Some other) (Some timer)
+
+-- the timer that comes before all others, if there is one
+abbrev pub IsEarliestOf : List Timer → Option Timer → Type 0
+IsEarliestOf timers None = timers ≡ []
+IsEarliestOf timers (Some timer) = ((place : ℕ) × IsTimerAt timers timer place) × All (λ other. comes_before other timer ≡ false) timers
 
 -- the identifier's timer is at this place
 pub record IsAt (timers : List Timer) (local place : ℕ) : Type 0 where

@@ -6,34 +6,38 @@ ghost use Rattle.std.specs.FinMap as map;
 ghost use Rattle.fp_timers.specs.Deadlines.{HasRoom, IsEarliestDue};
 
 use crate::Deadlines;
-use crate::timers::{Timer, place_in_time};
+use crate::lane::Lane;
+use crate::timers::{Timer, earlier};
 use fp_digits::Moment;
 use std::alloc::{AllocError, Global};
-use std::collections::VecDeque;
 use std::marker::Model;
 
-/// At most 4,096 timers in the order of their deadlines, and of their identifiers if those are the same. Contracts see
-/// them as a finite map.
+/// At most 4,096 timers in four lanes, each in the order of deadlines, and of identifiers if those are the same.
+/// Contracts see them as a finite map.
 #[derive(Debug, Drop)]
 pub(crate) struct ByDeadline {
-    timers: VecDeque<Timer>,
+    // A deadline is a fixed time after a message, and there are few such times. Those of one kind come in order, so
+    // each kind finds a lane where it comes last. What finds none, as after a clock was set back, goes into the fourth.
+    first: Lane,
+    second: Lane,
+    third: Lane,
+    fourth: Lane,
 }
 
 impl Model for ByDeadline {
     ghost use Rattle.std.specs.Prelude.{ℕ};
     ghost use Rattle.std.specs.Ordering.{nat_cmp};
-    ghost use Rattle.std.specs.VecDeque.{deque_capacity};
     ghost use Rattle.std.specs.FinMap as map;
     ghost use Rattle.std.specs.Coded.{coded_ℕ};
-    ghost use Rattle.fp_timers.specs.Timers.{entries, IsKeptInTime};
+    ghost use Rattle.fp_timers.specs.Timers.{entries, joined, AreFew};
 
     ghost Value = { map.FinMap nat_cmp ℕ };
 
     ghost coded = { map.code coded_ℕ coded_ℕ };
 
-    ghost view = { λ own. map.from_entries (entries own.timers.items) };
+    ghost view = { λ own. map.from_entries (entries (joined own.first own.second own.third own.fourth)) };
 
-    ghost invariant = { λ own. IsKeptInTime own.timers.items (deque_capacity own.timers) };
+    ghost invariant = { λ own. AreFew (joined own.first own.second own.third own.fourth) };
 }
 
 impl ByDeadline {
@@ -42,19 +46,30 @@ impl ByDeadline {
         ensures { IfOk result (λ own. own ≡ map.empty) }
     {
         Ok(ByDeadline {
-            timers: VecDeque::with_capacity(alloc, Deadlines::MOST)?,
+            first: Lane::new(alloc)?,
+            second: Lane::new(alloc)?,
+            third: Lane::new(alloc)?,
+            fourth: Lane::new(alloc)?,
         })
     }
 
-    /// Adds a timer of an identifier that has none. Takes no memory.
+    /// Adds a timer of an identifier that has none: at the end of the first lane where it comes last, and else into the
+    /// fourth lane. Takes no memory.
     pub(crate) fn add(&mut self, timer: Timer)
         requires absent { map.get self.old timer.local ≡ None }
         requires room { map.len self.old < Deadlines.MOST }
         ensures { self.new ≡ map.insert self.old timer.local timer.deadline }
     {
-        let place = place_in_time(&self.timers, timer);
-        // There is room, so this takes no memory and succeeds.
-        drop(self.timers.insert(place, timer));
+        if self.first.push(timer) {
+            return;
+        }
+        if self.second.push(timer) {
+            return;
+        }
+        if self.third.push(timer) {
+            return;
+        }
+        self.fourth.add(timer);
     }
 
     /// Takes the identifier's timer away, if it has one: its deadline is handed in. Then there is room for another one.
@@ -67,15 +82,26 @@ impl ByDeadline {
         let Some(deadline) = deadline else {
             return;
         };
-        let place = place_in_time(&self.timers, Timer { local, deadline });
-        drop(self.timers.remove(place));
+        let timer = Timer { local, deadline };
+        if self.first.remove(timer) {
+            return;
+        }
+        if self.second.remove(timer) {
+            return;
+        }
+        if self.third.remove(timer) {
+            return;
+        }
+        let _removed = self.fourth.remove(timer);
     }
 
     /// The first timer's identifier, if its deadline is at or before the moment.
     pub(crate) fn due(&self, moment: Moment) -> Option<u32>
         ensures { IsEarliestDue self.now moment result }
     {
-        let Some(first) = self.timers.front() else {
+        let late = earlier(self.third.front(), self.fourth.front());
+        let rest = earlier(self.second.front(), late);
+        let Some(first) = earlier(self.first.front(), rest) else {
             return None;
         };
         if first.deadline > moment.milliseconds() {
@@ -88,6 +114,9 @@ impl ByDeadline {
     pub(crate) fn clear_all(&mut self)
         ensures { self.new ≡ map.empty }
     {
-        self.timers.clear();
+        self.first.clear();
+        self.second.clear();
+        self.third.clear();
+        self.fourth.clear();
     }
 }

@@ -1,7 +1,7 @@
 //! Timers, and where they go among others in the order of their identifiers or of their deadlines.
 
-ghost use Rattle.std.specs.Prelude.{◌≡◌, IfOk, IfErr};
-ghost use Rattle.fp_timers.specs.Timers.{IsInOrder, IsAt, IsGapFor, IsInTimeOrder, IsPlaceFor, comes_before};
+ghost use Rattle.std.specs.Prelude.{◌≡◌, ◌≢◌, ◌<◌, ◌↔◌, All, None, false, length, IfErr, IfOk, IfSome, IsTrue};
+ghost use Rattle.fp_timers.specs.Timers.{IsInOrder, IsAt, IsGapFor, IsInTimeOrder, IsPlaceFor, IsTimerAt, comes_before, earlier};
 
 use std::collections::VecDeque;
 
@@ -12,21 +12,103 @@ pub(crate) struct Timer {
     pub(crate) deadline: u64,
 }
 
-/// The place of the identifier's timer, or, if it has none, the place at which one would go.
+/// The place of the identifier's timer, or, if it has none, the place at which one would go. Most are new identifiers,
+/// which come last.
 pub(crate) fn place_of(timers: &VecDeque<Timer>, local: u32) -> Result<usize, usize>
     requires { IsInOrder timers.now.items }
     ensures found { IfOk result (IsAt timers.now.items local) }
     ensures missing { IfErr result (IsGapFor timers.now.items local) }
 {
+    if let Some(last) = timers.back() {
+        if last.local < local {
+            return Err(timers.len());
+        }
+        if last.local == local {
+            return Ok(timers.len() - 1);
+        }
+    }
     timers.binary_search_by_key(&local, |timer| timer.local)
 }
 
-/// The place of the timer among others in the order of their deadlines, or the place at which it would go.
+/// Whether the timer comes after all others in the order of their deadlines.
+pub(crate) fn comes_last(timers: &VecDeque<Timer>, timer: Timer) -> bool
+    requires { IsInTimeOrder timers.now.items }
+    ensures { IsTrue result → IsPlaceFor timers.now.items timer (length timers.now.items) }
+{
+    match timers.back() {
+        Some(last) => is_before(last, &timer),
+        None => true,
+    }
+}
+
+/// Whether a timer comes before this one in the order of their deadlines: then the first does.
+fn any_before(timers: &VecDeque<Timer>, timer: Timer) -> bool
+    requires { IsInTimeOrder timers.now.items }
+    ensures { result ≡ false → IsPlaceFor timers.now.items timer 0 }
+{
+    match timers.front() {
+        Some(first) => is_before(first, &timer),
+        None => false,
+    }
+}
+
+/// The place of the timer among others in the order of their deadlines, or the place at which it would go. Most go to
+/// one of the ends.
 pub(crate) fn place_in_time(timers: &VecDeque<Timer>, timer: Timer) -> usize
     requires { IsInTimeOrder timers.now.items }
     ensures { IsPlaceFor timers.now.items timer result }
 {
+    if comes_last(timers, timer) {
+        return timers.len();
+    }
+    if !any_before(timers, timer) {
+        return 0;
+    }
     timers.partition_point(|other| is_before(other, &timer))
+}
+
+/// The place of the timer among others in the order of their deadlines, if it is there.
+pub(crate) fn place_if_there(timers: &VecDeque<Timer>, timer: Timer) -> Option<usize>
+    requires { IsInTimeOrder timers.now.items }
+    ensures found { IfSome result (IsTimerAt timers.now.items timer) }
+    ensures missing { result ≡ None → All (λ other. other ≢ timer) timers.now.items }
+{
+    let last = timers.len().saturating_sub(1);
+    if is_at(timers, timer, last) {
+        return Some(last);
+    }
+    let place = place_in_time(timers, timer);
+    if is_at(timers, timer, place) {
+        return Some(place);
+    }
+    None
+}
+
+/// Whether the timer is at this place.
+fn is_at(timers: &VecDeque<Timer>, timer: Timer, place: usize) -> bool
+    ensures { IsTrue result ↔ IsTimerAt timers.now.items timer place }
+{
+    match timers.get(place) {
+        Some(other) => other.local == timer.local && other.deadline == timer.deadline,
+        None => false,
+    }
+}
+
+/// The one of two timers that comes before the other, if there is one.
+pub(crate) fn earlier(timer: Option<Timer>, other: Option<Timer>) -> Option<Timer>
+    ensures { result ≡ earlier timer other }
+{
+    match (timer, other) {
+        (Some(timer), Some(other)) => {
+            if is_before(&other, &timer) {
+                Some(other)
+            } else {
+                Some(timer)
+            }
+        }
+        (Some(timer), None) => Some(timer),
+        (None, other) => other,
+    }
 }
 
 /// Whether the deadline is earlier, or the same with a smaller identifier.

@@ -1,32 +1,47 @@
-use Rattle.fp_timers.proofs.Names.{AreApart, IsInTimeOrder, None, ap, arith, comes_before, get, insert, len, length, map_insert, subst, sym, timer_at, true, ◌<◌, ◌≤◌, ◌∙◌, ◌≡◌, ◌≢◌}
-use Rattle.fp_timers.proofs.Maps.{map_of, len-map_of, map_of-insert, others}
-use Rattle.fp_timers.proofs.Order.{rises_insert, grown}
-use Rattle.fp_timers.proofs.Times.{comes_before_other}
+use Rattle.fp_timers.proofs.Names.{arith, sym, ◌≢◌}
+use Rattle.fp_timers.proofs.Lanes.{All-fourth, few_with, fewer, in_first, in_fourth, in_second, in_third, length-joined, others_apart, view_with}
 use Rattle.fp_timers.proofs.by_deadline.ByDeadline.add.Goals as goal
 
--- no timer is the identifier's
-absent : (c : goal.After-drop) → get (map_of c.self.inside.timers.items) c.args.timer.local ≡ None
-absent c = ap (λ m. get m c.args.timer.local) c.self.view_is ∙ c.requires.absent
+-- each lane has room
+pub push-requires : goal.push-requires
+push-requires c = omega (arith, fewer c.args.timer _ _ c.self.invariant c.self.view_is c.requires.absent c.requires.room, length-joined c.self.inside.first c.self.inside.second c.self.inside.third c.self.inside.fourth)
 
--- one is added at its place
-added : (c : goal.After-drop) → (c.insert.new.self.items ≡ insert c.self.inside.timers.items c.place_in_time-place.result c.args.timer) × (length c.insert.new.self.items ≤ 4096)
-added c =
-    let has_room : length c.self.inside.timers.items < 4096 = omega (arith, sym (len-map_of _ c.self.invariant.apart) ∙ ap len c.self.view_is, c.requires.room) in
-    grown c.insert.result _ _ _ _ _ _ c.self.inside.timers.ok.0 has_room c.self.invariant.room c.place_in_time-place.ensures.in_range c.insert.ensures.full c.insert.ensures.items
+pub push-requires-2 : goal.push-requires-2
+push-requires-2 c = omega (arith, fewer c.args.timer _ _ c.self.invariant c.self.view_is c.requires.absent c.requires.room, length-joined c.self.inside.first c.self.inside.second c.self.inside.third c.self.inside.fourth)
+
+pub push-requires-3 : goal.push-requires-3
+push-requires-3 c = omega (arith, fewer c.args.timer _ _ c.self.invariant c.self.view_is c.requires.absent c.requires.room, length-joined c.self.inside.first c.self.inside.second c.self.inside.third c.self.inside.fourth)
+
+pub add-requires-clause-room : goal.add-requires-clause-room
+add-requires-clause-room c = omega (arith, fewer c.args.timer _ _ c.self.invariant c.self.view_is c.requires.absent c.requires.room, length-joined c.self.inside.first c.self.inside.second c.self.inside.third c.self.inside.fourth)
+
+pub add-requires-clause-absent : goal.add-requires-clause-absent
+add-requires-clause-absent c = All-fourth (λ other. other.local ≢ c.args.timer.local) c.self.inside.first c.self.inside.second c.self.inside.third c.self.inside.fourth (others_apart c.args.timer _ _ c.self.invariant c.self.view_is c.requires.absent c.requires.room)
+
+-- it is at the end of the first
+pub invariant_of-self : goal.invariant_of-self
+invariant_of-self c = few_with c.args.timer _ _ c.self.invariant c.self.view_is c.requires.absent c.requires.room _ (in_first c.args.timer _ _ c.self.inside.second c.self.inside.third c.self.inside.fourth (c.push.ensures.added c.if-push.true))
+
+pub returns-then-push : goal.returns-then-push
+returns-then-push c = view_with c.args.timer _ _ c.self.invariant c.self.view_is c.requires.absent c.requires.room _ (in_first c.args.timer _ _ c.self.inside.second c.self.inside.third c.self.inside.fourth (c.push.ensures.added c.if-push.true))
+
+-- it is at the end of the second
+pub invariant_of-self-then-push-2 : goal.invariant_of-self-then-push-2
+invariant_of-self-then-push-2 c = few_with c.args.timer _ _ c.self.invariant c.self.view_is c.requires.absent c.requires.room _ (in_second c.args.timer _ _ _ _ c.self.inside.third c.self.inside.fourth (sym (c.push.ensures.refused c.if-push.false)) (c.push-2.ensures.added c.if-push-2.true))
+
+pub returns-then-push-2 : goal.returns-then-push-2
+returns-then-push-2 c = view_with c.args.timer _ _ c.self.invariant c.self.view_is c.requires.absent c.requires.room _ (in_second c.args.timer _ _ _ _ c.self.inside.third c.self.inside.fourth (sym (c.push.ensures.refused c.if-push.false)) (c.push-2.ensures.added c.if-push-2.true))
+
+-- it is at the end of the third
+pub invariant_of-self-then-push-3 : goal.invariant_of-self-then-push-3
+invariant_of-self-then-push-3 c = few_with c.args.timer _ _ c.self.invariant c.self.view_is c.requires.absent c.requires.room _ (in_third c.args.timer _ _ _ _ _ _ c.self.inside.fourth (sym (c.push.ensures.refused c.if-push.false)) (sym (c.push-2.ensures.refused c.if-push-2.false)) (c.push-3.ensures.added c.if-push-3.true))
+
+pub returns-then-push-3 : goal.returns-then-push-3
+returns-then-push-3 c = view_with c.args.timer _ _ c.self.invariant c.self.view_is c.requires.absent c.requires.room _ (in_third c.args.timer _ _ _ _ _ _ c.self.inside.fourth (sym (c.push.ensures.refused c.if-push.false)) (sym (c.push-2.ensures.refused c.if-push-2.false)) (c.push-3.ensures.added c.if-push-3.true))
+
+-- it is in the fourth
+pub invariant_of-self-2 : goal.invariant_of-self-2
+invariant_of-self-2 c = few_with c.args.timer _ _ c.self.invariant c.self.view_is c.requires.absent c.requires.room _ (in_fourth c.args.timer _ _ _ _ _ _ _ _ (sym (c.push.ensures.refused c.if-push.false)) (sym (c.push-2.ensures.refused c.if-push-2.false)) (sym (c.push-3.ensures.refused c.if-push-3.false)) c.add.ensures)
 
 pub returns : goal.returns
-returns c =
-    ap map_of (added c).0
-    ∙ map_of-insert _ c.self.invariant.apart _ (absent c) _ c.args.timer.deadline
-    ∙ ap (λ m. map_insert m c.args.timer.local c.args.timer.deadline) c.self.view_is
-
-pub invariant_of-self : goal.invariant_of-self
-invariant_of-self c =
-    let place = c.place_in_time-place.ensures in
-    let other = others _ c.self.invariant.apart _ (absent c) in
-    record {
-      in_order = subst IsInTimeOrder (sym (added c).0) (rises_insert (λ a b. comes_before a b ≡ true) _ c.self.invariant.in_order _ c.args.timer place.in_range place.earlier_before (λ i le lt. comes_before_other c.args.timer (timer_at c.self.inside.timers.items i) (place.none_after i le lt) (other i lt)));
-      apart = subst AreApart (sym (added c).0) (rises_insert (λ a b. a.local ≢ b.local) _ c.self.invariant.apart _ c.args.timer place.in_range (λ i lt. other i (omega (arith, place.in_range))) (λ i le lt e. other i lt (sym e)));
-      most = (added c).1;
-      room = omega (arith, c.self.invariant.room, c.insert.ensures.capacity);
-    }
+returns c = view_with c.args.timer _ _ c.self.invariant c.self.view_is c.requires.absent c.requires.room _ (in_fourth c.args.timer _ _ _ _ _ _ _ _ (sym (c.push.ensures.refused c.if-push.false)) (sym (c.push-2.ensures.refused c.if-push-2.false)) (sym (c.push-3.ensures.refused c.if-push-3.false)) c.add.ensures)

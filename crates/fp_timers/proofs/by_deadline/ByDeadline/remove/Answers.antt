@@ -1,26 +1,52 @@
-use Rattle.fp_timers.proofs.Names.{ap, arith, cond, contains_key, get, is_some, len, len-remove, map_remove, nat_cmp_total, sym, true, ◌-◌, ◌∙◌, ◌≡◌}
-use Rattle.fp_timers.proofs.Lookups.{found}
-use Rattle.fp_timers.proofs.Maps.{map_of, get-map_of, len-map_of, map_of-remove, remove_absent}
-use Rattle.fp_timers.proofs.Order.{past_end}
-use Rattle.fp_timers.proofs.Times.{at_place}
+use Rattle.std.proofs.Common.{IsTrue}
+use Rattle.fp_timers.proofs.Names.{◌≢◌, sym, ◌∙◌}
+use Rattle.fp_timers.proofs.Lanes.{All-joined, few_without, in_first, in_fourth, in_second, in_third, room_without, somewhere, unless_false, view_without}
+use Rattle.fp_timers.proofs.Maps.{remove_absent}
 use Rattle.fp_timers.proofs.by_deadline.ByDeadline.remove.Goals as goal
 
 -- there is none to take away
 pub returns-in_default-clause-removed : goal.returns-in_default-clause-removed
 returns-in_default-clause-removed c = remove_absent _ _ (sym c.requires ∙ c.in_default.is)
 
--- the timer is at its place, and is removed
+-- it was in the first lane
+pub invariant_of-self : goal.invariant_of-self
+invariant_of-self c = few_without (record { local = c.args.local; deadline = c.in-Some.deadline }) _ _ c.self.invariant c.self.view_is _ (in_first (record { local = c.args.local; deadline = c.in-Some.deadline }) _ _ c.self.inside.second c.self.inside.third c.self.inside.fourth (c.remove.ensures.removed c.if-remove.true))
+
+pub returns-then-remove-clause-removed : goal.returns-then-remove-clause-removed
+returns-then-remove-clause-removed c = view_without (record { local = c.args.local; deadline = c.in-Some.deadline }) _ _ c.self.invariant c.self.view_is _ (in_first (record { local = c.args.local; deadline = c.in-Some.deadline }) _ _ c.self.inside.second c.self.inside.third c.self.inside.fourth (c.remove.ensures.removed c.if-remove.true))
+
+pub returns-then-remove-clause-room : goal.returns-then-remove-clause-room
+returns-then-remove-clause-room c = λ _. room_without (record { local = c.args.local; deadline = c.in-Some.deadline }) _ _ c.self.invariant c.self.view_is _ (in_first (record { local = c.args.local; deadline = c.in-Some.deadline }) _ _ c.self.inside.second c.self.inside.third c.self.inside.fourth (c.remove.ensures.removed c.if-remove.true))
+
+-- it was in the second
+pub invariant_of-self-then-remove-2 : goal.invariant_of-self-then-remove-2
+invariant_of-self-then-remove-2 c = few_without (record { local = c.args.local; deadline = c.in-Some.deadline }) _ _ c.self.invariant c.self.view_is _ (in_second (record { local = c.args.local; deadline = c.in-Some.deadline }) _ _ _ _ c.self.inside.third c.self.inside.fourth (c.remove.ensures.kept c.if-remove.false) (c.remove-2.ensures.removed c.if-remove-2.true))
+
+pub returns-then-remove-2-clause-removed : goal.returns-then-remove-2-clause-removed
+returns-then-remove-2-clause-removed c = view_without (record { local = c.args.local; deadline = c.in-Some.deadline }) _ _ c.self.invariant c.self.view_is _ (in_second (record { local = c.args.local; deadline = c.in-Some.deadline }) _ _ _ _ c.self.inside.third c.self.inside.fourth (c.remove.ensures.kept c.if-remove.false) (c.remove-2.ensures.removed c.if-remove-2.true))
+
+pub returns-then-remove-2-clause-room : goal.returns-then-remove-2-clause-room
+returns-then-remove-2-clause-room c = λ _. room_without (record { local = c.args.local; deadline = c.in-Some.deadline }) _ _ c.self.invariant c.self.view_is _ (in_second (record { local = c.args.local; deadline = c.in-Some.deadline }) _ _ _ _ c.self.inside.third c.self.inside.fourth (c.remove.ensures.kept c.if-remove.false) (c.remove-2.ensures.removed c.if-remove-2.true))
+
+-- it was in the third
+pub invariant_of-self-then-remove-3 : goal.invariant_of-self-then-remove-3
+invariant_of-self-then-remove-3 c = few_without (record { local = c.args.local; deadline = c.in-Some.deadline }) _ _ c.self.invariant c.self.view_is _ (in_third (record { local = c.args.local; deadline = c.in-Some.deadline }) _ _ _ _ _ _ c.self.inside.fourth (c.remove.ensures.kept c.if-remove.false) (c.remove-2.ensures.kept c.if-remove-2.false) (c.remove-3.ensures.removed c.if-remove-3.true))
+
+pub returns-then-remove-3-clause-removed : goal.returns-then-remove-3-clause-removed
+returns-then-remove-3-clause-removed c = view_without (record { local = c.args.local; deadline = c.in-Some.deadline }) _ _ c.self.invariant c.self.view_is _ (in_third (record { local = c.args.local; deadline = c.in-Some.deadline }) _ _ _ _ _ _ c.self.inside.fourth (c.remove.ensures.kept c.if-remove.false) (c.remove-2.ensures.kept c.if-remove-2.false) (c.remove-3.ensures.removed c.if-remove-3.true))
+
+pub returns-then-remove-3-clause-room : goal.returns-then-remove-3-clause-room
+returns-then-remove-3-clause-room c = λ _. room_without (record { local = c.args.local; deadline = c.in-Some.deadline }) _ _ c.self.invariant c.self.view_is _ (in_third (record { local = c.args.local; deadline = c.in-Some.deadline }) _ _ _ _ _ _ c.self.inside.fourth (c.remove.ensures.kept c.if-remove.false) (c.remove-2.ensures.kept c.if-remove-2.false) (c.remove-3.ensures.removed c.if-remove-3.true))
+
+-- it is in no other lane, so it was in the fourth
+there : (c : goal.After-remove-removed) → IsTrue c.remove-removed.result
+there c = unless_false _ (λ kept. somewhere (record { local = c.args.local; deadline = c.in-Some.deadline }) _ _ c.self.invariant c.self.view_is (sym c.requires ∙ c.in-Some.is) (All-joined (λ other. other ≢ (record { local = c.args.local; deadline = c.in-Some.deadline })) _ _ _ _ (c.remove.ensures.absent c.if-remove.false) (c.remove-2.ensures.absent c.if-remove-2.false) (c.remove-3.ensures.absent c.if-remove-3.false) (c.remove-removed.ensures.absent kept)))
+
+pub invariant_of-self-2 : goal.invariant_of-self-2
+invariant_of-self-2 c = few_without (record { local = c.args.local; deadline = c.in-Some.deadline }) _ _ c.self.invariant c.self.view_is _ (in_fourth (record { local = c.args.local; deadline = c.in-Some.deadline }) _ _ _ _ _ _ _ _ (c.remove.ensures.kept c.if-remove.false) (c.remove-2.ensures.kept c.if-remove-2.false) (c.remove-3.ensures.kept c.if-remove-3.false) (c.remove-removed.ensures.removed (there c)))
+
 pub returns-clause-removed : goal.returns-clause-removed
-returns-clause-removed c =
-    let there = sym (get-map_of _ c.args.local) ∙ ap (λ m. get m c.args.local) c.self.view_is ∙ sym c.requires ∙ c.in-Some.is in
-    let is_at = at_place _ c.self.invariant.in_order (record { local = c.args.local; deadline = c.in-Some.deadline }) _ c.place_in_time-place.ensures (found _ _ _ there) in
-    let removed = c.remove.ensures.succeeds past_end (omega (arith, is_at.in_range, c.self.inside.timers.ok.0)) in
-    ap map_of (rw removed at c.remove.ensures.items)
-    ∙ map_of-remove _ c.self.invariant.apart _ _ is_at
-    ∙ ap (λ m. map_remove m c.args.local) c.self.view_is
+returns-clause-removed c = view_without (record { local = c.args.local; deadline = c.in-Some.deadline }) _ _ c.self.invariant c.self.view_is _ (in_fourth (record { local = c.args.local; deadline = c.in-Some.deadline }) _ _ _ _ _ _ _ _ (c.remove.ensures.kept c.if-remove.false) (c.remove-2.ensures.kept c.if-remove-2.false) (c.remove-3.ensures.kept c.if-remove-3.false) (c.remove-removed.ensures.removed (there c)))
 
 pub returns-clause-room : goal.returns-clause-room
-returns-clause-room c = λ has_room.
-    let there : contains_key c.args.self.now c.args.local ≡ true = ap is_some (sym c.requires ∙ c.in-Some.is) in
-    let fewer = ap len (returns-clause-removed c) ∙ len-remove nat_cmp_total c.args.self.now c.args.local ∙ ap (λ b. cond b (len c.args.self.now - 1) (len c.args.self.now)) there in
-    omega (arith, fewer, sym (len-map_of _ c.self.invariant.apart) ∙ ap len c.self.view_is, c.self.invariant.most)
+returns-clause-room c = λ _. room_without (record { local = c.args.local; deadline = c.in-Some.deadline }) _ _ c.self.invariant c.self.view_is _ (in_fourth (record { local = c.args.local; deadline = c.in-Some.deadline }) _ _ _ _ _ _ _ _ (c.remove.ensures.kept c.if-remove.false) (c.remove-2.ensures.kept c.if-remove-2.false) (c.remove-3.ensures.kept c.if-remove-3.false) (c.remove-removed.ensures.removed (there c)))
