@@ -12,10 +12,12 @@ use fp_linkio::{Inbox, Outlet};
 use std::alloc::{AllocError, Global};
 use std::cell::Cell;
 
-/// The frames that were handed on.
+/// The frames that were handed on, and at which places those of a read ended.
 #[derive(Drop)]
 pub(crate) struct Frames<'a> {
     pub(crate) frames: Vec<Frame>,
+    // How many frames there were at the end of each read.
+    pub(crate) ends: Vec<usize>,
     // Whether all of them are kept.
     pub(crate) is_whole: bool,
     // How many there were.
@@ -31,6 +33,12 @@ impl Inbox for Frames<'_> {
             return;
         }
         if self.frames.push(frame).is_err() {
+            self.is_whole = false;
+        }
+    }
+
+    fn end_of_read(&mut self) {
+        if self.ends.push(self.frames.len()).is_err() {
             self.is_whole = false;
         }
     }

@@ -2,16 +2,16 @@
 //!
 //! | Case | What it gives |
 //! |---|---|
-//! | `receive TURNS READ ..` | the messages that were handed on, why the loop ended, how many reads were made, and how often the reader failed |
+//! | `receive TURNS READ ..` | the messages that were handed on, and `end` where the inbox was told that those of a read end; why the loop ended, how many reads were made, and how often the reader failed |
 //! | `receive-cuts HEX` | the messages of these octets, why the loop ended, and in how many ways of cutting them into up to three reads and one octet a read they are the same |
 //! | `receive-faults HEX` | how many messages were handed on if the first read of one octet fails, the second, and so on up to the one after the last; each is to end with `ReadFault`, and the messages to be the first ones |
-//! | `waits PIECE COUNT ..` | why the loop ended, where each read is made only after COUNT frames were handed on |
+//! | `waits PIECE COUNT ..` | the messages and ends of reads, and why the loop ended, where each read is made only after COUNT frames were handed on |
 //!
 //! A READ is the octets that one read gives, `interrupted`, or `fault`. After the last one the input is at its end.
 
 use crate::devices::{Octets, Reads, Waits};
 use crate::memory::Frames;
-use crate::texts::push_frames;
+use crate::texts::{push_frames, push_listed, push_message};
 use anyhow::ensure;
 use cases::{first_word, octets_of};
 use fp_frames::Frame;
@@ -23,26 +23,52 @@ use std::fmt::Write;
 /// More reads than any case makes.
 const MANY: u64 = 1_000_000;
 
-/// Reads a link, and adds the frames that were handed on to `frames`; returns why the loop ended.
+/// An inbox that took nothing yet, and counts there.
+fn inbox(alloc: Global, count: &Cell<u32>) -> Frames<'_> {
+    Frames {
+        frames: Vec::new(alloc),
+        ends: Vec::new(alloc),
+        is_whole: true,
+        count,
+    }
+}
+
+/// Reads a link into an inbox; returns why the loop ended.
 fn received<R: LinkRead>(
     alloc: Global,
     reader: &mut R,
     turns: u64,
-    count: &Cell<u32>,
-    frames: &mut Vec<Frame>,
+    inbox: &mut Frames<'_>,
 ) -> anyhow::Result<Ended> {
-    let mut inbox = Frames {
-        frames: Vec::new(alloc),
-        is_whole: true,
-        count,
-    };
-    let ended = receive(alloc, reader, turns, &mut inbox);
+    let ended = receive(alloc, reader, turns, inbox);
     ensure!(inbox.is_whole, "out of memory");
-    *frames = inbox.frames;
     Ok(ended)
 }
 
-/// Reads a link, and writes the messages that were handed on and why the loop ended.
+/// Writes `end` for each read whose frames ended after this number of frames.
+fn push_ends(out: &mut String, ends: &[usize], count: usize) -> anyhow::Result<()> {
+    for end in ends {
+        if *end == count {
+            push_listed(out, "end")?;
+        }
+    }
+    Ok(())
+}
+
+/// Writes the messages of frames, and where those of a read end, or `no frame`.
+fn push_reads(out: &mut String, frames: &[Frame], ends: &[usize]) -> anyhow::Result<()> {
+    for (place, frame) in frames.iter().enumerate() {
+        push_ends(out, ends, place)?;
+        push_message(out, frame.octets())?;
+    }
+    push_ends(out, ends, frames.len())?;
+    if out.is_empty() {
+        out.push_str("no frame")?;
+    }
+    Ok(())
+}
+
+/// Reads a link, and writes the messages that were handed on, where those of a read ended, and why the loop ended.
 fn push_received<R: LinkRead>(
     alloc: Global,
     reader: &mut R,
@@ -50,9 +76,9 @@ fn push_received<R: LinkRead>(
     count: &Cell<u32>,
     out: &mut String,
 ) -> anyhow::Result<()> {
-    let mut frames = Vec::new(alloc);
-    let ended = received(alloc, reader, turns, count, &mut frames)?;
-    push_frames(out, frames.as_slice())?;
+    let mut inbox = inbox(alloc, count);
+    let ended = received(alloc, reader, turns, &mut inbox)?;
+    push_reads(out, inbox.frames.as_slice(), inbox.ends.as_slice())?;
     Ok(write!(out, ": {ended:?}")?)
 }
 
@@ -86,7 +112,11 @@ fn reader_of(octets: &[u8], most: usize, cuts: [usize; 2], failing: u32) -> Coun
 fn text_of(alloc: Global, octets: &[u8], most: usize, cuts: [usize; 2]) -> anyhow::Result<String> {
     let mut text = String::new(alloc);
     let mut reader = reader_of(octets, most, cuts, 0);
-    push_received(alloc, &mut reader, MANY, &Cell::new(0), &mut text)?;
+    let count = Cell::new(0);
+    let mut inbox = inbox(alloc, &count);
+    let ended = received(alloc, &mut reader, MANY, &mut inbox)?;
+    push_frames(&mut text, inbox.frames.as_slice())?;
+    write!(text, ": {ended:?}")?;
     Ok(text)
 }
 
@@ -161,10 +191,18 @@ fn push_failing(
     all: &[Frame],
     out: &mut String,
 ) -> anyhow::Result<()> {
-    let mut frames = Vec::new(alloc);
+    let count = Cell::new(0);
+    let mut inbox = inbox(alloc, &count);
     let mut reader = reader_of(octets, 1, [0, 0], failing);
-    let ended = received(alloc, &mut reader, MANY, &Cell::new(0), &mut frames)?;
-    push_front(all, frames.as_slice(), ended, reader.failed, failing, out)
+    let ended = received(alloc, &mut reader, MANY, &mut inbox)?;
+    push_front(
+        all,
+        inbox.frames.as_slice(),
+        ended,
+        reader.failed,
+        failing,
+        out,
+    )
 }
 
 /// Writes how many messages were handed on if each read fails in turn.
@@ -184,10 +222,11 @@ fn push_faults(
 
 /// Writes how many of the messages of octets were handed on if each read fails in turn.
 fn push_all_faults(alloc: Global, octets: &[u8], out: &mut String) -> anyhow::Result<()> {
-    let mut all = Vec::new(alloc);
+    let count = Cell::new(0);
+    let mut inbox = inbox(alloc, &count);
     let mut reader = reader_of(octets, 1, [0, 0], 0);
-    received(alloc, &mut reader, MANY, &Cell::new(0), &mut all)?;
-    push_faults(alloc, octets, all.as_slice(), out)
+    received(alloc, &mut reader, MANY, &mut inbox)?;
+    push_faults(alloc, octets, inbox.frames.as_slice(), out)
 }
 
 /// How many messages were handed on if each read fails in turn.

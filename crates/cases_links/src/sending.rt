@@ -1,4 +1,4 @@
-//! The loop that writes a link.
+//! The loop that writes a link. `gathered` has the cases of a writer that gathers octets before its device.
 //!
 //! A case has a book in which ABORTS Aborts of the provider wait, for the peer's identifiers 00000001, 00000002 and so
 //! on: messages that began a dialogue were lost, since an allocation failed.
@@ -12,6 +12,8 @@
 //! The writer takes at most MOST octets a write. FAILING is the number of the write that fails, 0 for none, or
 //! `none-at-` and the number of the write that takes no octet.
 
+mod gathered;
+
 use crate::devices::Pieces;
 use crate::memory::{Call, Desk};
 use anyhow::{bail, ensure};
@@ -21,7 +23,7 @@ use fp_book::{Book, Posted};
 use fp_digits::Moment;
 use fp_entry::Prepared;
 use fp_frames::Frame;
-use fp_linkio::{Counted, Ended, send_loop};
+use fp_linkio::{Counted, Ended, LinkWrite, send_loop};
 use std::alloc::Global;
 use std::fmt::Write;
 
@@ -119,6 +121,19 @@ fn push_writer(out: &mut String, writer: &Counted<Pieces>) -> anyhow::Result<()>
     Ok(write!(out, " in {made} writes, {} failed", writer.failed)?)
 }
 
+/// Writes a link, and to `out` the calls that were made of the outlet, and why the loop ended.
+fn push_loop<W: LinkWrite>(
+    desk: &mut Desk,
+    turns: u64,
+    writer: &mut W,
+    out: &mut String,
+) -> anyhow::Result<()> {
+    let ended = send_loop(writer, turns, desk);
+    ensure!(desk.is_whole, "out of memory");
+    push_calls(out, desk.calls.as_slice())?;
+    Ok(write!(out, ": {ended:?}; ")?)
+}
+
 /// Writes a link, and to `out` what that gives.
 fn push_sending(
     desk: &mut Desk,
@@ -126,10 +141,7 @@ fn push_sending(
     writer: &mut Counted<Pieces>,
     out: &mut String,
 ) -> anyhow::Result<()> {
-    let ended = send_loop(writer, turns, desk);
-    ensure!(desk.is_whole, "out of memory");
-    push_calls(out, desk.calls.as_slice())?;
-    write!(out, ": {ended:?}; ")?;
+    push_loop(desk, turns, writer, out)?;
     push_writer(out, writer)
 }
 
@@ -296,6 +308,9 @@ pub(crate) fn answer(
         "send" => send(alloc, rest, out),
         "send-strange" => send_strange(alloc, rest, out),
         "send-faults" => faults(alloc, rest, out),
+        "gathered" => gathered::send(alloc, rest, out),
+        "gathered-faults" => gathered::faults(alloc, rest, out),
+        "gathered-writes" => gathered::writes(alloc, rest, out),
         _ => return Ok(false),
     };
     written?;

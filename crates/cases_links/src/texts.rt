@@ -77,6 +77,14 @@ pub(crate) fn push_message(out: &mut String, octets: &[u8]) -> anyhow::Result<()
     push_octets(out, octets)
 }
 
+/// Writes words after others, with a comma between them.
+pub(crate) fn push_listed(out: &mut String, words: &str) -> anyhow::Result<()> {
+    if !out.is_empty() {
+        out.push_str(", ")?;
+    }
+    push_text(out, words)
+}
+
 /// Writes the messages of frames, or `no frame`, where nothing was written before.
 pub(crate) fn push_frames(out: &mut String, frames: &[Frame]) -> anyhow::Result<()> {
     for frame in frames {

@@ -1,9 +1,9 @@
 //! What comes between taking a turn and serving it.
 
-/// What a worker passes between taking a turn and serving it, with no lock held: tests hold a worker there.
+/// What a thread passes between taking a turn and serving it, with no lock held: tests hold one there.
 pub trait Gate {
-    /// Returns once the turn of this link, of the dialogue of this birth, and of the entries from this position on may be
-    /// served.
+    /// Returns once the turn of this link, of the dialogue of this birth, and of the entries from this position on may
+    /// be served.
     fn pass(&self, link: u8, birth: u64, position: u64);
 }
 

@@ -1,7 +1,7 @@
 //! Hints to workers that there may be a turn to take.
 
 use crate::Looks;
-use crate::waiting::{await_hint, take_lock};
+use crate::waiting::{Looking, await_hint};
 use crossbeam_channel::{Receiver, Sender, unbounded};
 use std::alloc::{AllocError, Global};
 use std::sync::atomic::{AtomicBool, AtomicUsize, Ordering};
@@ -11,14 +11,14 @@ use std::sync::{Mutex, Wait};
 #[derive(Drop)]
 pub struct Hints {
     receiver: Receiver<()>,
-    looks: Looks,
+    looking: Looking,
 }
 
 impl Hints {
     /// Waits for a hint, and takes it, as [`worker`](crate::worker) does before it takes turns. `false`: the hub is
     /// closed, and no hint waits.
     pub fn wait<R: Wait>(&self, rt: &R) -> bool {
-        await_hint(rt, &self.receiver, self.looks)
+        await_hint(rt, &self.receiver, &self.looking)
     }
 }
 
@@ -35,7 +35,7 @@ pub(crate) struct HintChannel {
     receiver: Receiver<()>,
     // How many ends were given to workers.
     workers: AtomicUsize,
-    // How often the lock, and a worker, looks before it sleeps.
+    // How often a worker looks before it sleeps.
     looks: Looks,
 }
 
@@ -58,27 +58,27 @@ impl HintChannel {
         self.workers.fetch_add(1, Ordering::SeqCst);
         Ok(Hints {
             receiver,
-            looks: self.looks,
+            looking: Looking::new(self.looks),
         })
     }
 
-    /// How many hints may wait: one for each worker, and one if there is no worker yet.
-    fn most(&self) -> usize {
+    /// How many workers have an end, at least one. As many hints may wait.
+    pub(crate) fn worker_count(&self) -> usize {
         self.workers.load(Ordering::SeqCst).max(1)
     }
 
     /// Whether as many hints wait as may.
     fn is_full(&self) -> bool {
-        self.receiver.len() >= self.most()
+        self.receiver.len() >= self.worker_count()
     }
 
     /// Sends a hint, unless as many wait as there are workers. `false`: the channel is closed, or memory ran out.
     ///
     /// A hint that waits is as good as a new one: it says that there may be a turn, and no more. Each worker that takes
-    /// it takes turns until none is ready, there is no place for a frame, or memory runs out (a sent frame or the next tick
-    /// hints again), and does so after this call, so it finds what was ready before it. If as many hints wait as there
-    /// are workers, each worker has yet to do so, and a further hint would wake nobody else. That needs no lock to be
-    /// seen.
+    /// it takes turns until none is ready, there is no place for a frame, or memory runs out (a sent frame or the next
+    /// tick hints again), and does so after this call, so it finds what was ready before it. If as many hints wait as
+    /// there are workers, each worker has yet to do so, and a further hint would wake nobody else. That needs no lock
+    /// to be seen.
     pub(crate) fn hint<R: Wait>(&self, rt: &R) -> bool {
         if !self.is_open.load(Ordering::SeqCst) {
             return false;
@@ -88,7 +88,7 @@ impl HintChannel {
 
     /// Sends a hint, unless as many wait by now as there are workers. `false`: as for [`hint`](Self::hint).
     fn add<R: Wait>(&self, rt: &R) -> bool {
-        match &*take_lock(rt, &self.sender, self.looks) {
+        match &*self.sender.lock(rt) {
             None => false,
             Some(sender) => self.is_full() || sender.try_send(rt, ()).is_ok(),
         }
@@ -97,6 +97,6 @@ impl HintChannel {
     /// No hint is sent from now on. Those that wait are still taken, and then each worker's wait ends.
     pub(crate) fn close<R: Wait>(&self, rt: &R) {
         self.is_open.store(false, Ordering::SeqCst);
-        let _ = take_lock(rt, &self.sender, self.looks).take();
+        let _ = self.sender.lock(rt).take();
     }
 }

@@ -1,26 +1,27 @@
 //! The hub of a link.
 
-ghost use Rattle.std.specs.Prelude.{◌≡◌, ◌<◌, IfErr, IfOk, vec_capacity};
+ghost use Rattle.std.specs.Prelude.{◌≡◌, ◌<◌, ◌≤◌, IfErr, IfOk, vec_capacity};
+ghost use Rattle.fp_hub.specs.Holds.{CountsPosts, CountsWork};
 ghost use Rattle.fp_hub.specs.Lines.{KeepsFront};
 ghost use Rattle.fp_hub.specs.Shares.{AreBlanks, after_give, after_post, after_sent, blank};
 
 use crate::hints::HintChannel;
 use crate::hold::Hold;
-use crate::next::Next;
 use crate::resting::Resting;
-use crate::waiting::{Patience, take_lock};
-use crate::{Hints, Kept, Looks, Seat};
+use crate::waiting::{Looking, Patience, pause};
+use crate::{Hints, Kept, Looks, Next, Seat, SentAndNext, Stopped, Work, Worked};
+use crossbeam_utils::CachePadded;
 use fp_book::{Given, Line, Parcel, Picked, Posted, Taken, Ticked};
 use fp_digits::Moment;
 use fp_entry::Prepared;
 use fp_row::{Done, Turn};
 use fp_tids::LocalIds;
 use std::alloc::{AllocError, Global};
+use std::collections::VecDeque;
 use std::rt::Clock;
 use std::sync::atomic::{AtomicBool, Ordering};
 use std::sync::ledger::{Blank, Ledger};
 use std::sync::{Condvar, Mutex, Wait};
-use std::thread;
 use std::time::Duration;
 
 /// How many seconds a thread that awaits room sleeps at most before it looks again.
@@ -28,27 +29,29 @@ const SECONDS_FOR_ROOM: u64 = 1;
 
 /// The book of a link under its lock, which all threads of the link share.
 ///
-/// After [`Hub::new`] only [`Hub::post`], [`Hub::post_unless_held_back`], [`Hub::tick`], [`Hub::take`], [`Hub::hints`]
-/// and [`Hub::hint`] take memory, and [`Hub::await_parcel`] if it hints.
+/// After it was made only [`Hub::post`], [`Hub::post_unless_held_back`], [`Hub::post_front`], [`Hub::tick`],
+/// [`Hub::take`], [`Hub::give_and_take`], [`Hub::hints`] and [`Hub::hint`] take memory, and [`Hub::hint_after_no_room`]
+/// and [`Hub::await_parcel`] if they hint.
 #[derive(Drop)]
 pub struct Hub<A: Ledger, B: Ledger, C: Ledger> {
     kept: Mutex<Kept<A, B, C>>,
-    // How often a thread looks again before it sleeps.
-    looks: Looks,
+    // How often the sending thread looks again before it sleeps. What threads write without the lock lies apart from
+    // all else, so that they don't wait for each other's cache line.
+    looking: CachePadded<Looking>,
     // There may be a parcel to pick, or the link went down, since this was last looked at.
-    is_moved: AtomicBool,
+    is_moved: CachePadded<AtomicBool>,
     // The sending thread sleeps here until then.
-    moved: Condvar,
+    moved: CachePadded<Condvar>,
     // A thread may sleep until there is room, or quiet. It is set and cleared under the lock, so that a thread that
     // looked and found neither misses no call after its look.
-    awaits_room: AtomicBool,
+    awaits_room: CachePadded<AtomicBool>,
     // The threads that await room or quiet sleep here until a turn comes back, a parcel is handed out or reported, or
     // the link goes down.
-    room_came: Condvar,
-    hints: HintChannel,
+    room_came: CachePadded<Condvar>,
+    hints: CachePadded<HintChannel>,
     // A take found no place for a frame, and no worker was hinted for it since.
-    lacks_room: AtomicBool,
-    resting: Resting,
+    lacks_room: CachePadded<AtomicBool>,
+    resting: CachePadded<Resting>,
 }
 
 /// Whether a mark is set, which is cleared then. It is read before it is written, since it is mostly not set.
@@ -57,9 +60,22 @@ fn take_mark(mark: &AtomicBool) -> bool {
 }
 
 impl<A: Ledger, B: Ledger, C: Ledger> Hub<A, B, C> {
-    /// The hub of a link, 0 to 7, which is up, and its first seat, which has all parts. `looks` says how often its
-    /// threads look again before they sleep. If memory runs out, the blanks are spent.
+    /// The hub of a link, 0 to 7, which is up, and its first seat, which has all parts. Its threads sleep at once if
+    /// they find nothing to do. If memory runs out, the blanks are spent.
     pub fn new(
+        alloc: Global,
+        link: u8,
+        blanks: (Blank, Blank, Blank),
+    ) -> Result<(Hub<A, B, C>, Seat<A, B, C>), AllocError>
+        requires link { link < LocalIds.LINKS }
+        requires blanks { AreBlanks blanks A.name A.parts B.name B.parts C.name C.parts }
+        ensures { IfOk result (λ made. made.1 ≡ blank 64) }
+    {
+        Self::with_looks(alloc, link, Looks::FEW, blanks)
+    }
+
+    /// The hub of a link, as [`Hub::new`], whose threads look again this often before they sleep.
+    pub fn with_looks(
         alloc: Global,
         link: u8,
         looks: Looks,
@@ -73,21 +89,21 @@ impl<A: Ledger, B: Ledger, C: Ledger> Hub<A, B, C> {
         let (kept, seat) = Kept::new(alloc, link, blanks)?;
         let hub = Hub {
             kept: Mutex::new(kept),
-            looks,
-            is_moved: AtomicBool::new(false),
-            moved: Condvar::new(),
-            awaits_room: AtomicBool::new(false),
-            room_came: Condvar::new(),
-            hints,
-            lacks_room: AtomicBool::new(false),
-            resting: Resting::new(),
+            looking: CachePadded::new(Looking::new(looks)),
+            is_moved: CachePadded::new(AtomicBool::new(false)),
+            moved: CachePadded::new(Condvar::new()),
+            awaits_room: CachePadded::new(AtomicBool::new(false)),
+            room_came: CachePadded::new(Condvar::new()),
+            hints: CachePadded::new(hints),
+            lacks_room: CachePadded::new(AtomicBool::new(false)),
+            resting: CachePadded::new(Resting::new()),
         };
         Ok((hub, seat))
     }
 
     /// Takes the lock of the link.
     fn hold<R: Wait>(&self, rt: &R) -> Hold<'_, A, B, C> {
-        Hold::new(take_lock(rt, &self.kept, self.looks), &self.resting)
+        Hold::new(self.kept.lock(rt), &*self.resting)
     }
 
     /// Releases the lock after a call by which there may be room, or quiet, and wakes the threads that await it.
@@ -96,6 +112,15 @@ impl<A: Ledger, B: Ledger, C: Ledger> Hub<A, B, C> {
         drop(hold);
         if is_awaited {
             self.room_came.notify_all();
+        }
+    }
+
+    /// Releases the lock. If the call may have brought room, or quiet, wakes the threads that await it.
+    fn release(&self, hold: Hold<'_, A, B, C>, brings_room: bool) {
+        if brings_room {
+            self.release_and_wake(hold);
+        } else {
+            drop(hold);
         }
     }
 
@@ -147,6 +172,21 @@ impl<A: Ledger, B: Ledger, C: Ledger> Hub<A, B, C> {
         posted
     }
 
+    /// Posts messages from the front of a list in their order, as [`Kept::post_front`]: 64 at most, and none from the
+    /// first on that is held back. The others stay in the list. `true`: an Abort of the provider answers one of them,
+    /// of which the sending thread doesn't know: [`Hub::tell_sender`] wakes it.
+    pub fn post_front<R: Wait>(
+        &self,
+        rt: &R,
+        alloc: Global,
+        seat: &mut Seat<A, B, C>,
+        came: &mut VecDeque<Prepared>,
+    ) -> bool
+        ensures grows { CountsPosts came.old.items came.new.items seat.old seat.new }
+    {
+        self.hold(rt).kept.post_front(alloc, seat, came)
+    }
+
     /// Time goes by, as for [`Kept::tick`].
     pub fn tick<R: Wait>(&self, rt: &R, moment: Moment) -> Ticked {
         self.hold(rt).kept.tick(moment)
@@ -163,7 +203,8 @@ impl<A: Ledger, B: Ledger, C: Ledger> Hub<A, B, C> {
     }
 
     /// Takes back a turn that was served, as [`Kept::give`]: the seat grows by the entries that were served. A stale or
-    /// foreign turn comes back, and nothing changes; the caller has to spend it, as by [`Done::abandon`]. Takes no memory.
+    /// foreign turn comes back, and nothing changes; the caller has to spend it, as by [`Done::abandon`]. Takes no
+    /// memory.
     pub fn give<R: Wait>(&self, rt: &R, seat: &mut Seat<A, B, C>, done: Done) -> Result<Given, Done>
         ensures same { IfErr result (λ back. back ≡ done) }
         ensures grows { seat.new ≡ after_give seat.old done result }
@@ -175,6 +216,37 @@ impl<A: Ledger, B: Ledger, C: Ledger> Hub<A, B, C> {
             self.notify();
         }
         given
+    }
+
+    /// Takes back the turns of a list, 32 at most, and then hands out others, which are put at its end, as
+    /// [`Kept::give_and_take`]: the share of one of this number of workers, `most` turns at most. The sending thread
+    /// isn't woken for frames that were queued: [`Hub::tell_sender`] does that. After a take that finds no place for a
+    /// frame a worker is hinted when a parcel is awaited next.
+    pub fn give_and_take<R: Wait>(
+        &self,
+        rt: &R,
+        seat: &mut Seat<A, B, C>,
+        work: &mut VecDeque<Work>,
+        workers: usize,
+        most: usize,
+    ) -> Worked
+        ensures works { CountsWork work.old.items work.new.items most seat.old seat.new }
+        ensures same { seat.new ≡ record seat.old { served = seat.new.served } }
+        ensures grows { seat.old.served ≤ seat.new.served }
+    {
+        let brings_room = !work.is_empty();
+        let mut hold = self.hold(rt);
+        let worked = hold.kept.give_and_take(seat, work, workers, most);
+        if worked.stopped == Stopped::NoRoom {
+            self.lacks_room.store(true, Ordering::SeqCst);
+        }
+        self.release(hold, brings_room);
+        worked
+    }
+
+    /// Wakes the sending thread: there may be a parcel to pick.
+    pub fn tell_sender(&self) {
+        self.notify();
     }
 
     /// Takes back a turn that wasn't served, as [`Kept::put_back`]. A stale or foreign turn comes back, and nothing
@@ -218,6 +290,24 @@ impl<A: Ledger, B: Ledger, C: Ledger> Hub<A, B, C> {
             self.notify();
         }
         sent
+    }
+
+    /// Takes back the parcel that was sent, and then hands out what is sent next, as [`Kept::sent_and_next`]: the seat
+    /// grows as by [`Hub::sent`]. A stale or foreign parcel comes back; the caller has to spend it, as by
+    /// [`Parcel::abandon`]. Takes no memory.
+    pub fn sent_and_next<R: Wait>(
+        &self,
+        rt: &R,
+        seat: &mut Seat<A, B, C>,
+        parcel: Parcel,
+    ) -> SentAndNext
+        ensures same { IfErr result.sent (λ back. back ≡ parcel) }
+        ensures grows { seat.new ≡ after_sent seat.old parcel result.sent }
+    {
+        let mut hold = self.hold(rt);
+        let answer = hold.kept.sent_and_next(seat, parcel);
+        self.release_and_wake(hold);
+        answer
     }
 
     /// Takes back the parcel that couldn't be sent, as [`Kept::unsent`]: the link goes down. A stale or foreign parcel
@@ -272,7 +362,7 @@ impl<A: Ledger, B: Ledger, C: Ledger> Hub<A, B, C> {
                 break;
             }
             self.awaits_room.store(true, Ordering::SeqCst);
-            hold = hold.wait_timeout(rt, &self.room_came, most);
+            hold = hold.wait_timeout(rt, &*self.room_came, most);
         }
     }
 
@@ -289,7 +379,7 @@ impl<A: Ledger, B: Ledger, C: Ledger> Hub<A, B, C> {
                 return false;
             };
             self.awaits_room.store(true, Ordering::SeqCst);
-            hold = hold.wait_timeout(rt, &self.room_came, left);
+            hold = hold.wait_timeout(rt, &*self.room_came, left);
         }
         unreachable!()
     }
@@ -321,10 +411,22 @@ impl<A: Ledger, B: Ledger, C: Ledger> Hub<A, B, C> {
         self.hints.listen()
     }
 
+    /// How many workers have an end of the hint channel, at least one.
+    pub(crate) fn worker_count(&self) -> usize {
+        self.hints.worker_count()
+    }
+
     /// Hints to a worker that there may be a turn to take. No hint is added if as many wait already as the link has
     /// workers. `false`: the hub is closed, or memory ran out. Doesn't take the lock of the link.
     pub fn hint<R: Wait>(&self, rt: &R) -> bool {
         self.hints.hint(rt)
+    }
+
+    /// Hints as [`Hub::hint`], once for each of this number of dialogues, and at most once for each worker.
+    pub(crate) fn hint_for<R: Wait>(&self, rt: &R, dialogues: usize) {
+        for _ in 0..dialogues.min(self.worker_count()) {
+            self.hint(rt);
+        }
     }
 
     /// No worker is hinted from now on: each ends once it has taken the hints that wait. Doesn't take the lock of the
@@ -333,26 +435,33 @@ impl<A: Ledger, B: Ledger, C: Ledger> Hub<A, B, C> {
         self.hints.close(rt);
     }
 
-    /// Waits until there is something to be sent, and hands it out. `None`: the link is down. If a take found no place
-    /// for a frame, a worker is hinted first: what was sent before may have freed one.
-    pub fn await_parcel<R: Wait>(&self, rt: &R) -> Option<Parcel> {
+    /// If a take found no place for a frame, hints to a worker: what was sent since may have freed one.
+    pub fn hint_after_no_room<R: Wait>(&self, rt: &R) {
         if take_mark(&self.lacks_room) {
             self.hint(rt);
         }
-        for _ in 0..self.looks.for_parcel() {
+    }
+
+    /// Waits until there is something to be sent, and hands it out. `None`: the link is down. Before that it hints as
+    /// [`Hub::hint_after_no_room`].
+    pub fn await_parcel<R: Wait>(&self, rt: &R) -> Option<Parcel> {
+        self.hint_after_no_room(rt);
+        for _ in 0..self.looking.count() {
             if take_mark(&self.is_moved) {
                 let mut hold = self.hold(rt);
                 match hold.kept.next() {
                     Next::Parcel(parcel) => {
                         self.release_and_wake(hold);
+                        self.looking.found();
                         return Some(parcel);
                     }
                     Next::Down => return None,
                     Next::Nothing => {}
                 }
             }
-            thread::yield_now();
+            pause();
         }
+        self.looking.found_nothing();
         self.sleep_for_parcel(rt)
     }
 
@@ -368,7 +477,7 @@ impl<A: Ledger, B: Ledger, C: Ledger> Hub<A, B, C> {
                 Next::Down => return None,
                 Next::Nothing => {}
             }
-            hold = hold.wait(rt, &self.moved);
+            hold = hold.wait(rt, &*self.moved);
         }
         unreachable!()
     }

@@ -9,40 +9,46 @@
 //!   [`sent`](Hub::sent), [`unsent`](Hub::unsent), [`down`](Hub::down) and [`drain`](Hub::drain), takes the lock once,
 //!   makes the one call of the book of that name, and releases it. [`Hub::post_unless_held_back`] asks the book whether
 //!   it holds the message back, and posts it in the same hold of the lock.
+//! * Three calls make several of these steps in one hold, a bounded number of them, each by the book's call of its name:
+//!   [`Hub::post_front`] posts messages of one read, [`Hub::give_and_take`] takes back turns and hands out the share of
+//!   a worker, and [`Hub::sent_and_next`] takes back a parcel and hands out the next one.
 //! * [`Kept`] is what the lock keeps: the book, and the books of three ledgers (of components accepted, entries served
 //!   and frames sent), whose totals its type keeps equal to the book's.
 //! * `Hold` (`src/hold.rt`) is the lock while it is held. Its release publishes whether the log is filling, or nearly
 //!   full, and wakes the clock if the lines of this hold made it [`LINES_OF_A_REST`].
 //! * [`Seat`] is what a thread has of the three ledgers. The first one has all 64 parts. It is split among the threads
 //!   of the link, each of which counts what it does in its own, and joined again when they have ended.
-//! * [`worker`] serves turns: it waits for a hint, and then takes, serves and gives until no turn is ready. Between
-//!   taking and serving it passes a [`Gate`], with no lock held.
+//! * [`worker`] serves turns: it waits for a hint, and then takes, serves and gives until no turn is ready. Before it
+//!   serves a turn it passes a [`Gate`], with no lock held. [`help`] does so by a thread that isn't a worker, up to a
+//!   bound.
 //! * [`finish`] returns what the link counted, if all parts came back.
 //!
 //! | Thread | Calls | Waits for |
 //! |---|---|---|
-//! | receiving | [`Hub::post_unless_held_back`] and then [`Hub::hint`] for each frame | the socket; room, by [`Hub::await_room`]; at the end of the input quiet, by [`Hub::await_quiet`] |
-//! | worker | [`Hub::take`], [`Turn::serve`](fp_row::Turn::serve), [`Hub::give`] and then [`Hub::hint`] | a hint |
-//! | sending | [`Hub::await_parcel`], then [`Hub::sent`] or [`Hub::unsent`] | a parcel |
+//! | receiving | [`Hub::post_front`], then [`help`], and [`Hub::pick`], [`Hub::sent_and_next`] or [`Hub::tell_sender`] | the socket; room, by [`Hub::await_room`]; at the end of the input quiet, by [`Hub::await_quiet`] |
+//! | worker | [`Hub::give_and_take`], [`Hub::hint`] if it leaves a dialogue ready, [`Turn::serve`](fp_row::Turn::serve) | a hint |
+//! | sending | [`Hub::await_parcel`], then [`Hub::sent_and_next`] until nothing is left, or [`Hub::unsent`] | a parcel |
 //! | clock | [`Hub::rest`], then [`Hub::tick`] and [`Hub::hint`], [`Hub::drain`] | the time, [`LINES_OF_A_REST`] lines of the log, or the end of the link |
 //!
 //! | Wait | Who wakes it |
 //! |---|---|
-//! | for a hint | [`Hub::hint`], also by [`Hub::await_parcel`] after a take found no place; [`Hub::close`] |
-//! | for a parcel | a post that queued an Abort of the provider, a give that queued a frame, sent, unsent, down |
-//! | for room, for quiet | each give, also of a turn that requests nothing or whose request is dropped, and put_back, a pick that hands out a parcel, sent, unsent, down |
+//! | for a hint | [`Hub::hint`], also by [`worker`] and [`help`] where they leave a dialogue ready, and by [`Hub::hint_after_no_room`], which [`Hub::await_parcel`] calls too, after a take found no place; [`Hub::close`] |
+//! | for a parcel | a post that queued an Abort of the provider, a give that queued a frame, sent, unsent, down; after [`Hub::post_front`] and [`Hub::give_and_take`] the caller, by [`Hub::tell_sender`] |
+//! | for room, for quiet | each give, also of a turn that requests nothing or whose request is dropped, and put_back, a pick that hands out a parcel, sent, unsent, down; each also among several steps |
 //! | of the clock | the time, [`LINES_OF_A_REST`] lines of the log, unsent, down |
 //!
 //! A thread that awaits room looks again each second, and one that awaits quiet has a bound that the caller gives.
 //!
-//! Each of them waits for the lock too, which is held for one or two calls of the book and never while a turn is served
-//! or a frame is sent. For the lock, a hint and a parcel each looks again a number of times before it sleeps
-//! ([`Looks`]), by the number of threads and of processors (`src/waiting.rt`).
+//! Each of them waits for the lock too, which is held for a bounded number of calls of the book (64 posts, 32 turns
+//! that come back and 32 that go out) and never while a turn is served or a frame is sent. For a hint and a parcel each
+//! looks again a number of times before it sleeps ([`Looks`]), by the number of threads and of processors and by what
+//! its looks brought before (`src/waiting.rt`).
 //!
 //! The layer above may rely on this. The book that a lock keeps is sound at each hold (`Sound` of `fp_book`), and each
-//! call of [`Kept`] makes of it what the book's call says. A seat grows by exactly what the book counts in the call to
-//! which the seat is lent: the message's components if it was accepted, the entries served if the turn doesn't come back,
-//! one frame if a dialogue's parcel doesn't come back. The book's totals are never less than a seat's amounts. A split
+//! call of [`Kept`] makes of it what the book's call says; one of several steps makes of it the chain of these
+//! (`specs/Holds.antt`). A seat grows by exactly what the book counts in the call to which the seat is lent: the
+//! message's components if it was accepted, the entries served if the turn doesn't come back, one frame if a dialogue's
+//! parcel doesn't come back. The book's totals are never less than a seat's amounts. A split
 //! moves no amount, a join adds both. So what [`finish`] returns is the totals of the book, and the sums of what the
 //! threads counted. No contract says that a call of a [`Hub`] makes the book's call, since no clause names what another
 //! thread may have changed: the tests in `tests_hub` show it.
@@ -58,6 +64,7 @@ mod next;
 mod resting;
 mod seat;
 mod waiting;
+mod work;
 mod workers;
 
 pub use finishing::finish;
@@ -65,7 +72,9 @@ pub use gate::{Gate, OpenGate};
 pub use hints::Hints;
 pub use hub::Hub;
 pub use kept::Kept;
+pub use next::{Next, SentAndNext};
 pub use resting::LINES_OF_A_REST;
 pub use seat::{PARTS, Seat};
 pub use waiting::Looks;
-pub use workers::worker;
+pub use work::{Stopped, Work, Worked};
+pub use workers::{abandon_all, help, worker};

@@ -1,61 +1,41 @@
-//! How a thread waits: it looks again a bounded number of times, and lets others run each time, before it sleeps, since
-//! to sleep and to be woken costs more than a call of the book. If there are more threads than processors, each look
-//! costs another thread its time, and the thread that looks loses its processor for a while; one that sleeps gets it
-//! back when it is woken. So such threads have bounds of their own, with no looks for hints and parcels. What each look
-//! brings is in `docs/performance.md`.
+//! How a thread waits: it looks again a bounded number of times, with pauses between that keep its processor, before it
+//! sleeps, since to sleep and to be woken costs more than a call of the book. How often, follows from what its waits
+//! brought before: it looks longer after a look that brought something, and shorter after it had to sleep. If there are
+//! more threads than processors, a thread that looks takes time from one that has something to do: then it sleeps at
+//! once. A lock is waited for as the library does, which looks a hundred times before it sleeps. What the looks bring
+//! is in `docs/performance.md`.
 
 ghost use Rattle.std.specs.Prelude.{◌≡◌, nat_le, if◌then◌else◌};
 
 use crossbeam_channel::{Receiver, TryRecvError};
+use std::hint;
 use std::rt::Clock;
-use std::sync::{Mutex, MutexGuard, Wait};
-use std::thread;
+use std::sync::Wait;
+use std::sync::atomic::{AtomicU32, Ordering};
 use std::time::{Duration, Instant};
 
-/// How often a worker looks for a hint before it sleeps, if it has a processor of its own.
-const LOOKS_FOR_A_HINT: u32 = 100;
+/// How often a worker looks for a hint, or the sending thread for a parcel, before it sleeps, if it has a processor of
+/// its own.
+const MOST_LOOKS: u32 = 400;
 
-/// How often it does so if there are more threads than processors: not at all.
-const FEW_LOOKS_FOR_A_HINT: u32 = 0;
+/// How often it does so at least, after it had to sleep.
+const LEAST_LOOKS: u32 = 25;
 
-/// How often the sending thread looks for a parcel before it sleeps, if it has a processor of its own.
-const LOOKS_FOR_A_PARCEL: u32 = 100;
+/// How many pauses of the processor there are between two looks.
+const PAUSES: u32 = 16;
 
-/// How often it does so if there are more threads than processors: not at all.
-const FEW_LOOKS_FOR_A_PARCEL: u32 = 0;
-
-/// How often a lock is tried before it is waited for, if each thread has a processor of its own: once a thread sleeps
-/// on it, each release wakes one.
-const TRIES_OF_A_LOCK: u32 = 20;
-
-/// How often it is tried if there are more threads than processors.
-const FEW_TRIES_OF_A_LOCK: u32 = 5;
-
-/// How often a thread looks again before it sleeps, for each kind of wait.
+/// How often a thread looks again before it sleeps.
 #[derive(Clone, Copy, Debug, PartialEq, Eq)]
 pub struct Looks {
-    // For a hint, by a worker.
-    hint: u32,
-    // For a parcel, by the sending thread.
-    parcel: u32,
-    // Whether a lock is free, by any thread.
-    lock: u32,
+    most: u32,
 }
 
 impl Looks {
     /// Those of threads that have a processor each.
-    pub const MANY: Looks = Looks {
-        hint: LOOKS_FOR_A_HINT,
-        parcel: LOOKS_FOR_A_PARCEL,
-        lock: TRIES_OF_A_LOCK,
-    };
+    pub const MANY: Looks = Looks { most: MOST_LOOKS };
 
     /// Those of threads that share processors.
-    pub const FEW: Looks = Looks {
-        hint: FEW_LOOKS_FOR_A_HINT,
-        parcel: FEW_LOOKS_FOR_A_PARCEL,
-        lock: FEW_TRIES_OF_A_LOCK,
-    };
+    pub const FEW: Looks = Looks { most: 0 };
 
     /// Those of a link, by the number of threads that look on all links of the program, and of processors:
     /// [`Looks::MANY`] if there is a processor for each thread, else [`Looks::FEW`].
@@ -68,10 +48,47 @@ impl Looks {
             Self::FEW
         }
     }
+}
 
-    /// How often the sending thread looks for a parcel.
-    pub(crate) fn for_parcel(&self) -> u32 {
-        self.parcel
+/// The looks of one thread, by what they brought before.
+#[derive(Drop)]
+pub(crate) struct Looking {
+    most: u32,
+    // How often it looks the next time.
+    next: AtomicU32,
+}
+
+impl Looking {
+    /// Those of a thread that didn't look yet.
+    pub(crate) fn new(looks: Looks) -> Looking {
+        Looking {
+            most: looks.most,
+            next: AtomicU32::new(looks.most),
+        }
+    }
+
+    /// How often it looks now.
+    pub(crate) fn count(&self) -> u32 {
+        self.next.load(Ordering::SeqCst)
+    }
+
+    /// A look brought something: the next time it may look twice as often.
+    pub(crate) fn found(&self) {
+        let next = self.count().saturating_mul(2).min(self.most);
+        self.next.store(next, Ordering::SeqCst);
+    }
+
+    /// No look brought anything, and it sleeps: the next time it looks half as often.
+    pub(crate) fn found_nothing(&self) {
+        let next = (self.count() / 2).max(LEAST_LOOKS).min(self.most);
+        self.next.store(next, Ordering::SeqCst);
+    }
+}
+
+/// Lets some time go by between two looks, and keeps the processor.
+pub(crate) fn pause() {
+    for _ in 0..PAUSES {
+        hint::spin_loop();
     }
 }
 
@@ -99,29 +116,18 @@ impl Patience {
     }
 }
 
-/// Takes a lock.
-pub(crate) fn take_lock<'a, T, R: Wait>(
-    rt: &R,
-    lock: &'a Mutex<T>,
-    looks: Looks,
-) -> MutexGuard<'a, T> {
-    for _ in 0..looks.lock {
-        if let Some(guard) = lock.try_lock() {
-            return guard;
-        }
-        thread::yield_now();
-    }
-    lock.lock(rt)
-}
-
 /// Waits for a hint. `false`: none waits, and none comes from now on.
-pub(crate) fn await_hint<R: Wait>(rt: &R, hints: &Receiver<()>, looks: Looks) -> bool {
-    for _ in 0..looks.hint {
+pub(crate) fn await_hint<R: Wait>(rt: &R, hints: &Receiver<()>, looking: &Looking) -> bool {
+    for _ in 0..looking.count() {
         match hints.try_recv(rt) {
-            Ok(()) => return true,
+            Ok(()) => {
+                looking.found();
+                return true;
+            }
             Err(TryRecvError::Disconnected) => return false,
-            Err(TryRecvError::Empty) => thread::yield_now(),
+            Err(TryRecvError::Empty) => pause(),
         }
     }
+    looking.found_nothing();
     hints.recv(rt).is_ok()
 }

@@ -14,7 +14,7 @@ use Rattle.fp_linkio.specs.declared.ended.Ended.{Ended}
 use Rattle.fp_linkio.proofs.HandedOn.{frames_longer, frames_none, frames_then, front_of}
 use Rattle.fp_linkio.proofs.Told.{told_more, told_none}
 
--- so many reads gave octets, and this is left of them behind the frames that were handed on
+-- this number of reads gave octets, and this is left of them after the frames that were handed on
 pub record Goes (made : ℕ) (had left : Option (List ℕ)) (before after old new : Option (List (List ℕ))) (rest : List ℕ) : Type 0 where
   pub pieces : List (List ℕ)
   pub count : length pieces ≡ made
@@ -25,7 +25,7 @@ pub record Goes (made : ℕ) (had left : Option (List ℕ)) (before after old ne
   pub handed_on : Grows old new messages
   pub frames : Frames (joined pieces) messages rest
 
--- one piece behind the others
+-- one piece after the others
 joined_more : (pieces : List (List ℕ)) (piece : List ℕ) → joined (pieces ++ piece ∷ []) ≡ joined pieces ++ piece
 joined_more pieces piece =
     flat_map-append (λ (p : List ℕ). p) pieces (piece ∷ []) ∙ ap (λ l. joined pieces ++ l) (append-nil piece)
@@ -62,6 +62,16 @@ goes_read made had left next before after later old new rest piece goes consumed
       frames = subst (λ o. Frames o goes.messages (rest ++ piece)) (sym more) (frames_longer (joined goes.pieces) rest piece goes.messages goes.frames);
     }
 
+-- and then the inbox was told that these were all
+pub hands_quietly : {A : Type 0} (result : Result A FrameFault) (old new later : Option (List (List ℕ))) (octets rest : List ℕ)
+    → HandsOn old new octets rest result → Grows new later [] → HandsOn old later octets rest result
+hands_quietly result old new later octets rest hands quiet = record {
+  messages = hands.messages;
+  handed_on = subst (Grows old later) (append-nil hands.messages) (told_more old new later hands.messages [] hands.handed_on quiet);
+  frames = hands.frames;
+  end = hands.end;
+}
+
 -- frames were handed on
 pub goes_handed : {A : Type 0} (result : Result A FrameFault) (made : ℕ) (had left : Option (List ℕ)) (before after old new later : Option (List (List ℕ))) (octets rest : List ℕ)
     → Goes made had left before after old new octets → HandsOn new later octets rest result
@@ -77,7 +87,7 @@ goes_handed result made had left before after old new later octets rest goes han
   frames = frames_then (joined goes.pieces) octets rest goes.messages hands.messages goes.frames hands.frames;
 }
 
--- it went no further, and no read was made behind those that gave octets, or one that failed
+-- it went no further, and no read was made after those that gave octets, or one that failed
 pub receives : (ended : Ended) (turns made : ℕ) (had left : Option (List ℕ)) (before after old new : Option (List (List ℕ))) (rest : List ℕ)
     → Goes made had left before after old new rest → ReceiveEnds ended turns made left [] rest
     → Receives turns had left before after old new ended

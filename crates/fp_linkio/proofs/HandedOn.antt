@@ -11,7 +11,7 @@ use Rattle.fp_frames.specs.Stream.{Begins, Frames}
 use Rattle.fp_streams.specs.Grows.{Grows}
 use Rattle.fp_linkio.proofs.Told.{told_more, told_none}
 
--- so many frames were handed on
+-- this number of frames was handed on
 pub record Handing (old new : Option (List (List ℕ))) (octets rest : List ℕ) : Type 0 where
   pub messages : List (List ℕ)
   pub handed_on : Grows old new messages

@@ -10,7 +10,7 @@ use Rattle.fp_book.specs.Parcel.{octets_in}
 use Rattle.fp_linkio.specs.Sending.{each_sent, octets_of_all}
 use Rattle.fp_linkio.proofs.Told.{told_more}
 
--- so many parcels were sent
+-- this number of parcels was sent
 pub record Sending (made : ℕ) (old new : Option (List ℕ)) (before after : Option (List OutletCall)) : Type 0 where
   pub parcels : List Parcel
   pub count : length parcels ≡ made

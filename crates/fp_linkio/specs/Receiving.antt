@@ -10,8 +10,8 @@ use Rattle.fp_streams.specs.Reads.{IsEnd, IsPiece, joined}
 use Rattle.fp_linkio.specs.declared.ended.Ended.{Ended}
 use Rattle.fp_linkio.specs.declared.ended.Ended.TheVariants.{EndOfInput, BadFrame, ReadFault, WriteFault, TurnLimit, Memory}
 
--- why it went no further: after so many reads of which each gave octets, the last one too, and with this rest after
--- the frames that were handed on
+-- why it went no further: after this number of reads of which each gave octets, the last one too, and with this rest
+-- after the frames that were handed on
 abbrev pub ReceiveEnds : Ended → ℕ → ℕ → Option (List ℕ) → List (List ℕ) → List ℕ → Type 0
 -- the input is at its end, and nothing is left of it
 ReceiveEnds EndOfInput turns count left last rest = IsEnd turns count left last × (rest ≡ [])

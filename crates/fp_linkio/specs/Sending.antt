@@ -32,7 +32,7 @@ pub record EndsUnsent (old new : Option (List ℕ)) (before after : Option (List
   pub wrote : Appends old new (octets_of_all parcels ++ front)
   pub calls : Grows before after (each_sent parcels ++ picks (Some parcel) ∷ reports_unsent parcel ∷ [])
 
--- why it went no further, after the parcels that were sent, so many at most
+-- why it went no further, after the parcels that were sent, this number at most
 abbrev pub SendEnds : Ended → ℕ → Option (List ℕ) → Option (List ℕ) → Option (List OutletCall) → Option (List OutletCall) → List Parcel → Type 0
 -- the outlet has no more
 SendEnds EndOfInput turns old new before after parcels = Writes old new before after parcels (no_more ∷ []) × (length parcels < turns)
@@ -40,7 +40,7 @@ SendEnds BadFrame turns old new before after parcels = ⊥
 SendEnds ReadFault turns old new before after parcels = ⊥
 -- the writer failed in the next one
 SendEnds WriteFault turns old new before after parcels = EndsUnsent old new before after parcels × (length parcels < turns)
--- so many were sent
+-- this number was sent
 SendEnds TurnLimit turns old new before after parcels = Writes old new before after parcels [] × (length parcels ≡ turns)
 SendEnds Memory turns old new before after parcels = ⊥
 

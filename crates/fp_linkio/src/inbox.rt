@@ -13,4 +13,10 @@ pub trait Inbox {
     /// Takes the next frame.
     fn frame(&mut self, frame: Frame)
         ensures { Grows (messages self.old) (messages self.new) (frame ∷ []) };
+
+    /// All frames that a read completed were handed on. An inbox that handles several of them at once handles those
+    /// that are left.
+    fn end_of_read(&mut self)
+        ensures { Grows (messages self.old) (messages self.new) [] }
+    {}
 }

@@ -6,7 +6,8 @@
 //! * [`receive`] reads a link, and hands each frame to its inbox, in their order.
 //! * [`send_loop`] writes each parcel of an outlet, and reports it sent; or unsent, where the device failed.
 //! * [`Ended`] says why a loop went no further.
-//! * [`LinkRead`] and [`LinkWrite`] are the devices, whose failures are counted.
+//! * [`LinkRead`] and [`LinkWrite`] are the devices, whose failures are counted. [`Gathered`] are octets that are
+//!   gathered before a device, so that it takes few writes, and [`Gathering`] is a device with them before it.
 //!
 //! The layer above may rely on this, if a device, an inbox or an outlet reports what went through it: each read gave
 //! an octet, but the last one at the end of the input; the frames that were handed on are those at the front of what
@@ -18,6 +19,7 @@
 #![tactic(auto)]
 
 mod ended;
+mod gathered;
 mod inbox;
 mod outlet;
 mod receiving;
@@ -25,6 +27,7 @@ mod sending;
 
 pub use ended::Ended;
 pub use fp_streams::{Counted, DeviceFault, LinkRead, LinkWrite};
+pub use gathered::{Gathered, Gathering};
 pub use inbox::Inbox;
 pub use outlet::Outlet;
 pub use receiving::receive;

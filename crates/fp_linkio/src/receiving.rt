@@ -10,7 +10,8 @@ use std::alloc::Global;
 const MOST_READ: usize = 65_536;
 
 /// Reads a link, in reads of up to 65,536 octets, and hands each frame to the inbox, in their order: all that a read
-/// completed before the next read is made (shown by cases). It makes at most `turns` reads.
+/// completed before the next read is made (shown by cases), and after those of a read says so
+/// ([`Inbox::end_of_read`]). It makes at most `turns` reads.
 ///
 /// It ends with [`Ended::EndOfInput`] if the input ends between two frames; with [`Ended::BadFrame`] if it ends inside
 /// one, or a length comes that no frame has; with [`Ended::ReadFault`] if the reader failed; with [`Ended::TurnLimit`]
@@ -53,8 +54,17 @@ pub fn receive<R: LinkRead, I: Inbox>(
     Ended::TurnLimit
 }
 
-/// Hands each frame that is there whole to the inbox, in their order.
+/// Hands each frame that is there whole to the inbox, in their order, and says that these were all.
 fn hand_on<I: Inbox>(frames: &mut FrameReader, inbox: &mut I) -> Result<(), FrameFault>
+    ensures { HandsOn (I.messages inbox.old) (I.messages inbox.new) frames.old frames.new result }
+{
+    let handed_on = hand_on_each(frames, inbox);
+    inbox.end_of_read();
+    handed_on
+}
+
+/// Hands each frame that is there whole to the inbox, in their order.
+fn hand_on_each<I: Inbox>(frames: &mut FrameReader, inbox: &mut I) -> Result<(), FrameFault>
     ensures { HandsOn (I.messages inbox.old) (I.messages inbox.new) frames.old frames.new result }
 {
     loop {

@@ -12,7 +12,8 @@ use fp_book::Parcel;
 use fp_streams::{WriteFault, write_all};
 
 /// Writes each parcel of an outlet, its head included, in one write where the device takes it (shown by cases), and
-/// then reports it sent. It sends at most `turns` parcels. It doesn't flush: hand it a writer that keeps nothing back.
+/// then reports it sent. It sends at most `turns` parcels. It doesn't flush: if the writer keeps octets back, the
+/// outlet or the caller flushes it.
 ///
 /// It ends with [`Ended::EndOfInput`] if the outlet has no more; with [`Ended::WriteFault`] if the writer failed: a
 /// prefix of that parcel was written and not the whole, and it is reported unsent; and with [`Ended::TurnLimit`] after

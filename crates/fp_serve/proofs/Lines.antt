@@ -6,7 +6,7 @@ use Rattle.fp_book.specs.declared.totals.Totals.{Totals}
 use Rattle.fp_replay.specs.Replayed.{report_line}
 use Rattle.fp_serve.specs.Report.{lines_from}
 
--- what is left from an element on is that and what is left behind it
+-- what is left from an element on is that and what is left after it
 next : (link : ℕ) (totals : List Totals) (d : Totals) → link < length totals → drop link totals ≡ get_or totals link d ∷ drop (link + 1) totals
 next link totals d below =
     let one : suc link ≡ link + 1 = omega arith in

@@ -15,7 +15,7 @@ abbrev pub lines_from : ℕ → List Totals → List ℕ
 lines_from link [] = []
 lines_from link (totals ∷ others) = report_line link totals ++ lines_from (link + 1) others
 
--- an address was told, and then what each of so many links counted, in their order, and nothing else was written
+-- an address was written, and then what each of this number of links counted, in their order, and nothing else
 pub record TellsLinks (links : ℕ) (old new : Option (List ℕ)) : Type 0 where
   pub address : SocketAddr
   pub totals : List Totals

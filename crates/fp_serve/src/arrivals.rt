@@ -1,12 +1,15 @@
 //! The frames of a link that came.
 
-use crate::Service;
+use crate::departures::send_waiting;
 use crate::link::Link;
 use crate::moment::now;
+use crate::turns::LineGate;
+use crate::{Service, Why};
 use fp_entry::Prepared;
 use fp_frames::Frame;
-use fp_hub::Seat;
+use fp_hub::{Gate, Seat, Work, abandon_all, help};
 use fp_linkio::{Counted, Ended, Inbox, receive};
+use std::collections::VecDeque;
 use std::rt::Clock;
 use std::sync::Wait;
 use std::sync::ledger::Ledger;
@@ -15,72 +18,179 @@ use std::time::Duration;
 /// How many reads a link may make.
 const MOST_READS: u64 = 1 << 40;
 
+/// How many frames are posted at once at most.
+const MOST_FRAMES: usize = 64;
+
 /// How many seconds a link whose input ended is up at most, so that what it accepted is served and sent.
 const SECONDS_OF_THE_END: u64 = 2;
 
-/// Puts the frames of a link into its book, and hints to its workers. A frame that is held back waits here, and no
-/// other is read meanwhile: TCP holds the peer back then. It is prepared again just before it is posted, so that its
-/// moment is that of the post; without memory for that it is posted as lost.
-#[derive(Drop)]
-struct Arrivals<'x, R, A: Ledger, B: Ledger, C: Ledger> {
+/// Puts the frames of a link into its book, those of a read in as few holds of its lock as it takes, and helps to serve
+/// and to send what they bring. A frame that is held back waits here with those after it, and no other is read
+/// meanwhile: TCP holds the peer back then. Each is prepared again just before it is posted, so that its moment is that
+/// of the post; without memory for that it is posted as lost.
+struct Arrivals<'x, R, G: Gate, A: Ledger, B: Ledger, C: Ledger> {
     link: Link<'x, R, A, B, C>,
     service: Service<'x>,
+    gate: LineGate<'x, R, G, A, B, C>,
     seat: Seat<A, B, C>,
+    // What was read and isn't prepared, at most 64, in room for as many.
+    frames: VecDeque<Frame>,
+    // What the first of them are prepared to, in room for 64. Empty between two calls.
+    came: VecDeque<Prepared>,
+    // The turns that it helps with. Empty between two calls.
+    work: VecDeque<Work>,
+    // How many are prepared for one hold: few after one that was held back.
+    portion: usize,
 }
 
-impl<R: Wait + Clock, A: Ledger, B: Ledger, C: Ledger> Arrivals<'_, R, A, B, C> {
-    /// What a frame is prepared to, at the present moment.
-    fn prepared(&self, frame: Frame) -> Prepared {
+impl<R: Wait + Clock, G: Gate, A: Ledger, B: Ledger, C: Ledger> Arrivals<'_, R, G, A, B, C> {
+    /// Prepares frames for the next hold, at the present moment. `false`: none is left.
+    fn prepare(&mut self) -> bool {
+        if self.frames.is_empty() {
+            return false;
+        }
         let Service {
             alloc,
             table,
             contexts,
         } = self.service;
-        Prepared::read(alloc, table, contexts, frame, now(self.link.rt))
+        let moment = now(self.link.rt);
+        for _ in 0..self.portion {
+            let Some(frame) = self.frames.pop_front() else {
+                break;
+            };
+            let came = Prepared::read(alloc, table, contexts, frame, moment);
+            if self.came.push_back(came).is_err() {
+                self.link.end(Why::Memory);
+            }
+        }
+        !self.came.is_empty()
+    }
+
+    /// Serves what is ready, as far as it may. `true`: frames were queued of which the sending thread doesn't know.
+    fn help(&mut self) -> bool {
+        let Link {
+            rt,
+            hub,
+            most_helped,
+            ..
+        } = self.link;
+        help(
+            rt,
+            self.service.alloc,
+            hub,
+            &self.gate,
+            &mut self.seat,
+            &mut self.work,
+            most_helped,
+        )
+    }
+
+    /// Sends what waits, unless another thread does: then the sending thread is woken.
+    fn send(&mut self) {
+        match self.link.outgoing.try_lock() {
+            Some(outgoing) => {
+                if let Err(why) = send_waiting(self.link, outgoing, &mut self.seat, None) {
+                    self.link.end(why);
+                }
+            }
+            None => self.link.hub.tell_sender(),
+        }
+    }
+
+    /// If a message is held back, waits until there is room, and takes it and those after it back to be prepared again.
+    fn await_room(&mut self) {
+        let Link { rt, hub, .. } = self.link;
+        let Some(first) = self.came.front() else {
+            self.portion = self.portion.saturating_mul(2).min(MOST_FRAMES);
+            return;
+        };
+        hub.await_room(rt, first);
+        self.portion = 1;
+        for _ in 0..MOST_FRAMES {
+            let Some(last) = self.came.pop_back() else {
+                break;
+            };
+            if self.frames.push_front(last.into_arrival().frame).is_err() {
+                self.link.end(Why::Memory);
+            }
+        }
     }
 }
 
-impl<R: Wait + Clock, A: Ledger, B: Ledger, C: Ledger> Inbox for Arrivals<'_, R, A, B, C> {
+impl<R: Wait + Clock, G: Gate, A: Ledger, B: Ledger, C: Ledger> Inbox
+    for Arrivals<'_, R, G, A, B, C> {
     fn frame(&mut self, frame: Frame) {
+        if self.frames.push_back(frame).is_err() {
+            self.link.end(Why::Memory);
+        }
+        if self.frames.len() >= MOST_FRAMES {
+            self.end_of_read();
+        }
+    }
+
+    fn end_of_read(&mut self) {
         let Link { rt, hub, .. } = self.link;
         let alloc = self.service.alloc;
-        let mut came = self.prepared(frame);
         for _ in rt.forever() {
-            match hub.post_unless_held_back(rt, alloc, &mut self.seat, came) {
-                Ok(_) => break,
-                Err(back) => {
-                    hub.await_room(rt, &back);
-                    came = self.prepared(back.into_arrival().frame);
-                }
+            if !self.prepare() {
+                break;
             }
+            let is_aborted = hub.post_front(rt, alloc, &mut self.seat, &mut self.came);
+            if self.help() || is_aborted {
+                self.send();
+            }
+            self.link.await_log();
+            self.await_room();
         }
-        hub.hint(rt);
-        self.link.move_lines_if_many();
     }
 }
 
 /// Receives until the link ends. At the end of the input the link stays up until what it accepted is served and sent,
 /// two seconds at most; in any other case it goes down at once. Returns the seat, with what was counted.
-pub(crate) fn receive_all<'x, R: Wait + Clock, A: Ledger, B: Ledger, C: Ledger>(
+pub(crate) fn receive_all<'x, R: Wait + Clock, G: Gate, A: Ledger, B: Ledger, C: Ledger>(
     link: Link<'x, R, A, B, C>,
     service: Service<'x>,
+    gate: &'x G,
     seat: Seat<A, B, C>,
 ) -> Seat<A, B, C> {
+    let alloc = service.alloc;
+    let (Ok(frames), Ok(came)) = (
+        VecDeque::with_capacity(alloc, MOST_FRAMES),
+        VecDeque::with_capacity(alloc, MOST_FRAMES),
+    ) else {
+        link.end(Why::Memory);
+        return seat;
+    };
     let mut arrivals = Arrivals {
         link,
         service,
+        gate: LineGate { link, gate },
         seat,
+        frames,
+        came,
+        work: VecDeque::new(alloc),
+        portion: MOST_FRAMES,
     };
     let mut reader = Counted::new(link.traced_stream());
-    let ended = receive(service.alloc, &mut reader, MOST_READS, &mut arrivals);
+    let ended = receive(alloc, &mut reader, MOST_READS, &mut arrivals);
     let why = reader.device.last.why(ended);
     // What ends the link after this follows from it.
     link.ending.note(link.rt, why);
     if ended == Ended::EndOfInput {
-        let most = Duration::from_secs(SECONDS_OF_THE_END);
-        link.hub.await_quiet(link.rt, most);
+        link.await_quiet(Duration::from_secs(SECONDS_OF_THE_END));
     }
     link.end(why);
-    let Arrivals { seat, .. } = arrivals;
+    let Arrivals {
+        link: _,
+        service: _,
+        gate: _,
+        seat,
+        frames: _,
+        came: _,
+        work,
+        portion: _,
+    } = arrivals;
+    abandon_all(work);
     seat
 }

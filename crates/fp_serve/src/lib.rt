@@ -4,10 +4,10 @@
 //! asks the system for connections, threads, the time, locks, sleep and memory; it opens no file and binds no address.
 //!
 //! * [`serve`] awaits one connection for each link, runs them all, and returns when all are down.
-//! * [`serve_through`] is the same with a gate that each worker passes before it serves a turn; tests wait there.
+//! * [`serve_through`] is the same with a gate that each thread passes before it serves a turn; tests wait there.
 //!   [`Service`] is what the messages are answered from.
 //! * [`Settings`] says how many links there are, how many workers each has, how many entries its dialogues may keep,
-//!   and what is done when the log can't be written ([`WhenLogFails`]).
+//!   how many turns its receiver serves, and what is done when the log can't be written ([`WhenLogFails`]).
 //! * [`ServeFault`] says why a run failed.
 //! * [`Events`] are lines on which link came or went and why, if they are asked for.
 //!
@@ -15,9 +15,9 @@
 //!                        serve: accepts, then joins
 //!                          |  one thread a link
 //!                          v
-//!   socket --> receiver --post--> +------------+ --await--> sender --> socket
-//!                    \--hint-->   |    Hub     |   ^--sent-----/
-//!   workers --take, give, hint--> | (the book) |
+//!   socket --> receiver --post--> +------------+ --await--> sender --> gathered --> socket
+//!        \--take, give, sent-->   |    Hub     |   ^--sent-----/          ^
+//!   workers --take, give, hint--> | (the book) |    receiver -------------/
 //!   clock  --tick, hint---------> +------------+
 //!     |                             |drain
 //!     \-- once a second, or 512 --->v
@@ -27,8 +27,12 @@
 //!                                LogWriter --> the log (one thread of the run, which belongs to no scope)
 //! ```
 //!
-//! If lines wait in a book, the clock is woken, and if many do the other threads move some of them too. Only the
-//! writing thread waits for the device of the log.
+//! After it posted frames, the receiver helps: it serves what is ready, up to a bound, and sends what waits to be sent
+//! if nobody else does at this moment. So with few calls open it wakes no other thread for them. What is sent is
+//! gathered first and then written at once, under a lock, by whichever thread sends.
+//!
+//! If lines wait in a book, the clock is woken, which makes their text; if many do the other threads move some of them
+//! out of the book too. Only the writing thread waits for the device of the log.
 //!
 //! | File | What it has |
 //! |---|---|
@@ -37,7 +41,8 @@
 //! | `service.rt`, `settings.rt` | what messages are answered from; how many links, workers and entries there are |
 //! | `link.rt`, `ending.rt` | a link: what its threads share, its end and the reason of it, and what it counted |
 //! | `threads.rt` | the threads of a link: their start and their end |
-//! | `arrivals.rt`, `departures.rt` | the receiving and the sending thread |
+//! | `arrivals.rt` | the receiving thread, and how it helps |
+//! | `departures.rt` | the sending thread, and what waits to be sent, which the receiving thread sends too |
 //! | `traced_stream.rt` | the connection of a link, and how the last call of these threads ended |
 //! | `ticking.rt`, `moment.rt` | the clock of a link, which takes it down if its dialogues keep too many entries |
 //! | `turns.rt` | a worker, and its part in moving lines |

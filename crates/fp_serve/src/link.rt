@@ -3,21 +3,32 @@
 ghost use Rattle.std.specs.Prelude.{◌<◌};
 ghost use Rattle.fp_hub.specs.Shares.{AreBlanks};
 
+use crate::departures::Outgoing;
 use crate::ending::Ending;
-use crate::link_log::{LinkLog, Moved};
+use crate::link_log::{Left, LinkLog, Made};
 use crate::log::Log;
 use crate::threads::run_threads;
+use crate::ticking::time_since;
 use crate::traced_stream::TracedStream;
 use crate::{Event, Events, ServeFault, Service, Why};
+use crossbeam_utils::CachePadded;
 use fp_book::Totals;
 use fp_hub::{Gate, Hub, Looks, PARTS, finish};
 use fp_tids::LocalIds;
 use std::marker::Brand;
 use std::net::{Shutdown, SocketAddr, TcpStream};
 use std::rt::Clock;
-use std::sync::Wait;
 use std::sync::ledger::{Blank, Ledger};
+use std::sync::{Mutex, Wait};
+use std::thread;
 use std::thread::Threads;
+use std::time::{Duration, Instant};
+
+/// How many milliseconds go by between two looks whether all was handed on to the socket, or lines of the log were.
+const LOOK_MILLISECONDS: u64 = 1;
+
+/// How often a thread that waits for the log looks at most.
+const LOOKS_AT_THE_LOG: usize = 100;
 
 /// What the threads of a link share.
 #[derive_where(Clone, Copy)]
@@ -29,8 +40,12 @@ pub(crate) struct Link<'x, R, A: Ledger, B: Ledger, C: Ledger> {
     // Where its lines wait for the thread that writes the log.
     pub(crate) lines: &'x LinkLog,
     pub(crate) log: &'x Log,
+    // What goes out to its socket.
+    pub(crate) outgoing: &'x Mutex<Outgoing>,
     // How many entries its dialogues may keep.
     pub(crate) most_entries: u64,
+    // How many turns its receiving thread serves at once at most.
+    pub(crate) most_helped: usize,
 }
 
 impl<'x, R: Wait + Clock, A: Ledger, B: Ledger, C: Ledger> Link<'x, R, A, B, C> {
@@ -51,41 +66,75 @@ impl<'x, R: Wait + Clock, A: Ledger, B: Ledger, C: Ledger> Link<'x, R, A, B, C> 
         self.hub.close(self.rt);
     }
 
-    /// Lines were moved. If memory ran out, all links are to go down.
-    fn count(&self, moved: Moved) {
-        self.log.add(moved.line_count);
-        if moved.is_out_of_memory {
-            self.log.stop.ask_for(self.rt, ServeFault::Memory);
+    /// Waits until nothing is left to be served or sent and all was handed on to the socket, or the link is down; at
+    /// most for this time.
+    pub(crate) fn await_quiet(&self, most: Duration) {
+        let start = Instant::now(self.rt).ok();
+        self.hub.await_quiet(self.rt, most);
+        for _ in self.rt.forever() {
+            let since = time_since(self.rt, start).unwrap_or(most);
+            if since >= most || self.outgoing.try_lock().is_some() {
+                break;
+            }
+            thread::sleep(self.rt, Duration::from_millis(LOOK_MILLISECONDS));
         }
     }
 
-    /// Hands lines that its book has to the thread that writes the log, as [`LinkLog::move_lines`]. `true`: others may
-    /// wait in the book that can be handed on at once.
-    pub(crate) fn move_lines(&self) -> bool {
-        let moved = self.lines.move_lines(self.rt, self.hub);
-        self.count(moved);
-        moved.leaves_some
+    /// Memory ran out for lines of the log: all links are to go down.
+    fn stop_for_memory(&self) {
+        self.log.stop.ask_for(self.rt, ServeFault::Memory);
     }
 
-    /// Does so if its book has many, as [`LinkLog::move_lines_if_many`].
+    /// Lines got their text. If memory ran out, all links are to go down.
+    fn count(&self, made: Made) {
+        self.log.add(made.line_count);
+        if made.is_out_of_memory {
+            self.stop_for_memory();
+        }
+    }
+
+    /// Makes the text of its lines, as [`LinkLog::make_text`], and says what is left.
+    pub(crate) fn make_text(&self) -> Left {
+        let made = self.lines.make_text(self.rt, self.hub);
+        self.count(made);
+        made.left
+    }
+
+    /// Moves lines out of its book if that has many, as [`LinkLog::move_lines_if_many`].
     pub(crate) fn move_lines_if_many(&self) {
-        self.count(self.lines.move_lines_if_many(self.rt, self.hub));
+        if !self.lines.move_lines_if_many(self.rt, self.hub) {
+            self.stop_for_memory();
+        }
     }
 
-    /// Does so with all of them, once the link is down and its other threads have ended.
-    fn move_last_lines(&self) {
-        self.count(self.lines.move_last_lines(self.rt, self.hub));
+    /// Does so, and waits while the log of its book is nearly full and text is being made, a tenth of a second at most: a
+    /// client that sends faster than lines get their text is read no faster. While the device of the log takes nothing
+    /// it doesn't wait, and lines may be lost in a gap.
+    pub(crate) fn await_log(&self) {
+        for _ in 0..LOOKS_AT_THE_LOG {
+            self.move_lines_if_many();
+            if !self.hub.is_log_nearly_full() || !self.lines.has_room_for_text() {
+                break;
+            }
+            thread::sleep(self.rt, Duration::from_millis(LOOK_MILLISECONDS));
+        }
+    }
+
+    /// Makes the text of all of them, once the link is down and its other threads have ended.
+    fn make_last_text(&self) {
+        self.count(self.lines.make_last_text(self.rt, self.hub));
     }
 }
 
-/// Which link it is, the address of its client, how many workers it has, how many entries its dialogues may keep, and
-/// how its threads wait.
+/// Which link it is, the address of its client, how many workers it has, how many entries its dialogues may keep, how
+/// many turns its receiving thread serves at once, and how its threads wait.
 #[derive(Clone, Copy)]
 pub(crate) struct Plan {
     pub(crate) link: u8,
     pub(crate) peer: SocketAddr,
     pub(crate) workers: u8,
     pub(crate) most_entries: u64,
+    pub(crate) most_helped: usize,
     pub(crate) looks: Looks,
 }
 
@@ -111,14 +160,16 @@ fn run_over<
     requires blanks { AreBlanks blanks A.name A.parts B.name B.parts C.name C.parts }
 {
     let alloc = service.alloc;
-    let (Some(lines), Ok((hub, seat))) = (
+    let (Some(lines), Ok((hub, seat)), Ok(outgoing)) = (
         log.lines_of(usize::from(plan.link)),
-        Hub::<A, B, C>::new(alloc, plan.link, plan.looks, blanks),
+        Hub::<A, B, C>::with_looks(alloc, plan.link, plan.looks, blanks),
+        Outgoing::new(alloc),
     ) else {
         log.stop.ask_for(rt, ServeFault::Memory);
         return None;
     };
     let ending = Ending::new(plan.link, events);
+    let outgoing = CachePadded::new(Mutex::new(outgoing));
     let link = Link {
         rt,
         hub: &hub,
@@ -126,7 +177,9 @@ fn run_over<
         ending: &ending,
         lines,
         log,
+        outgoing: &*outgoing,
         most_entries: plan.most_entries,
+        most_helped: plan.most_helped,
     };
     let Plan {
         link: number,
@@ -135,7 +188,7 @@ fn run_over<
     } = plan;
     events.report(rt, Event::Up { link: number, peer });
     let seat = run_threads(link, service, plan.workers, gate, seat);
-    link.move_last_lines();
+    link.make_last_text();
     let totals = finish(hub, seat);
     if totals.is_none() {
         log.stop.ask_for(rt, ServeFault::LostSeat);
@@ -143,7 +196,7 @@ fn run_over<
     totals
 }
 
-/// Runs a link over a connection, until it is down, and returns what it counted. Its workers pass this gate with each
+/// Runs a link over a connection, until it is down, and returns what it counted. Its threads pass this gate with each
 /// turn. `None`: what it counted isn't known, and all links are to go down.
 pub(crate) fn run_link<R: Threads + Wait + Clock + Sync, G: Gate + Sync>(
     rt: &R,

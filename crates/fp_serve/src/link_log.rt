@@ -1,9 +1,10 @@
 //! The lines of a link that wait for the thread that writes the log.
 
-use fp_book::Line;
+use fp_book::{Line, LoggedStep};
 use fp_hub::Hub;
 use fp_replay::write_line;
 use std::alloc::{AllocError, Global};
+use std::collections::VecDeque;
 use std::mem;
 use std::sync::ledger::Ledger;
 use std::sync::{Mutex, Wait};
@@ -11,15 +12,26 @@ use std::sync::{Mutex, Wait};
 /// How many lines are moved out of the book at once: the lock of the link is held for as long as that takes.
 const LINES_AT_ONCE: usize = 256;
 
-/// How many times lines are moved in one turn at most, four times as many lines as the book has places.
-const MOST_MOVES: usize = fp_book::Log::MOST / LINES_AT_ONCE * 4;
+/// How many lines may wait for their text, beside those whose text is being made.
+const MOST_LINES: usize = 32_768;
 
-/// From how many octets of text that it made a turn ends, so that nobody waits long for the next one. What is moved at
-/// once may be twice as much.
+/// From how many octets of messages that wait with their lines no more lines are moved.
+const MOST_OCTETS_OF_MESSAGES: usize = 4 << 20;
+
+/// How many times lines are moved in one turn at most: all that may wait.
+const MOST_MOVES: usize = MOST_LINES / LINES_AT_ONCE;
+
+/// How many times a thread moves lines in one turn that has other things to do.
+const MOST_MOVES_ASIDE: usize = 4;
+
+/// How many times text is made in one turn at most.
+const MOST_ROUNDS: usize = 64;
+
+/// From how many octets of text that it made a turn ends, so that nobody waits long for the next one.
 const OCTETS_OF_A_TURN: usize = 1 << 20;
 
-/// From how many octets of text that wait no more lines are moved while the link is up. At 100 calls a second, of five
-/// lines each, a device that takes nothing fills them in five minutes.
+/// From how many octets of text that wait no more is made while the link is up. At 100 calls a second, of five lines
+/// each, a device that takes nothing fills them in five minutes.
 const MOST_OCTETS: usize = 6 << 20;
 
 /// More octets than any line has, with its line feed.
@@ -37,7 +49,7 @@ impl LogText {
     /// No line, in room for as many as may wait, so that adding lines needs no memory while calls are served.
     pub(crate) fn new(alloc: Global) -> Result<LogText, AllocError> {
         Ok(LogText {
-            octets: Vec::with_capacity(alloc, MOST_OCTETS + LINES_AT_ONCE * LONGER_THAN_A_LINE)?,
+            octets: Vec::with_capacity(alloc, MOST_OCTETS + LONGER_THAN_A_LINE)?,
             line_count: 0,
         })
     }
@@ -56,141 +68,263 @@ impl LogText {
     }
 }
 
-/// What came of moving lines.
+/// What is left when a turn of making text ends.
+#[derive(Clone, Copy, PartialEq, Eq)]
+pub(crate) enum Left {
+    /// No line.
+    Nothing,
+    /// Lines may wait, and there is room for their text.
+    Lines,
+    /// Lines may wait, and there is no room for their text until the writing thread takes what there is.
+    NoRoom,
+}
+
+/// What came of making text.
 #[derive(Clone, Copy)]
-pub(crate) struct Moved {
-    /// How many were moved.
+pub(crate) struct Made {
+    /// How many lines the text got.
     pub(crate) line_count: u64,
-    /// Others may wait in the book, and there is room for them here.
-    pub(crate) leaves_some: bool,
-    /// Memory ran out for their text, so that others are lost.
+    /// What is left.
+    pub(crate) left: Left,
+    /// Memory ran out, so that lines are lost.
     pub(crate) is_out_of_memory: bool,
 }
 
-/// What the lock of a link's lines keeps.
+/// How many octets the message of a line has, if there is one.
+fn message_len(line: &Line) -> usize {
+    match line {
+        Line::Step {
+            link: _,
+            step: LoggedStep::Post { message, .. } | LoggedStep::Lost { message, .. },
+        } => message.octets().len(),
+        Line::Step { .. } | Line::Head { .. } => 0,
+    }
+}
+
+/// Lines that were moved out of the book of a link and wait for their text.
 #[derive(Drop)]
 struct Waiting {
-    // What was moved out of the book at once.
+    // What is moved at once.
     moved: Vec<Line>,
-    text: LogText,
+    lines: VecDeque<Line>,
+    // How many octets their messages have, which take most of the memory.
+    octets: usize,
 }
 
 impl Waiting {
-    /// Adds the lines that were moved to the text.
-    fn add_moved(&mut self) -> Result<(), AllocError> {
-        for line in self.moved.iter() {
-            self.text.add(line)?;
-        }
-        Ok(())
+    /// No line waits, in room for as many as may.
+    fn new(alloc: Global) -> Result<Waiting, AllocError> {
+        Ok(Waiting {
+            moved: Vec::with_capacity(alloc, LINES_AT_ONCE)?,
+            lines: VecDeque::with_capacity(alloc, MOST_LINES)?,
+            octets: 0,
+        })
     }
 
-    /// Moves lines of a book to the text, while that has fewer than `most` octets.
+    /// Whether others may be moved here.
+    fn has_room(&self) -> bool {
+        self.lines.len() <= MOST_LINES - LINES_AT_ONCE && self.octets < MOST_OCTETS_OF_MESSAGES
+    }
+
+    /// Moves lines of the book here, `most` times at most, while there is room.
     fn move_lines<R: Wait, A: Ledger, B: Ledger, C: Ledger>(
         &mut self,
         rt: &R,
         hub: &Hub<A, B, C>,
         most: usize,
-    ) -> Moved {
-        let before = self.text.line_count;
-        let mut leaves_some = true;
-        let mut is_out_of_memory = false;
-        for _ in 0..MOST_MOVES {
-            if self.text.octets.len() >= most {
+    ) -> Result<(), AllocError> {
+        for _ in 0..most {
+            if !self.has_room() {
                 break;
             }
             hub.drain(rt, &mut self.moved);
-            leaves_some = self.moved.len() == LINES_AT_ONCE;
-            is_out_of_memory = self.add_moved().is_err();
-            self.moved.clear();
-            if !leaves_some || is_out_of_memory {
+            let leaves_none = self.moved.len() < LINES_AT_ONCE;
+            for line in self.moved.drain(..) {
+                self.octets = self.octets.saturating_add(message_len(&line));
+                self.lines.push_back(line)?;
+            }
+            if leaves_none {
                 break;
             }
         }
-        Moved {
-            line_count: self.text.line_count.saturating_sub(before),
-            leaves_some: leaves_some && !is_out_of_memory && self.text.octets.len() < MOST_OCTETS,
-            is_out_of_memory,
-        }
+        Ok(())
+    }
+}
+
+/// Lines whose text is being made, and the text.
+#[derive(Drop)]
+struct Making {
+    lines: VecDeque<Line>,
+    text: LogText,
+}
+
+impl Making {
+    /// No line, in room for as many as may wait.
+    fn new(alloc: Global) -> Result<Making, AllocError> {
+        Ok(Making {
+            lines: VecDeque::with_capacity(alloc, MOST_LINES)?,
+            text: LogText::new(alloc)?,
+        })
     }
 
-    /// Moves lines of a book to the text in one turn, while there is room.
-    fn take_turn<R: Wait, A: Ledger, B: Ledger, C: Ledger>(
-        &mut self,
-        rt: &R,
-        hub: &Hub<A, B, C>,
-    ) -> Moved {
-        let most = self.text.octets.len().saturating_add(OCTETS_OF_A_TURN);
-        self.move_lines(rt, hub, most.min(MOST_OCTETS))
+    /// Makes the text of lines, while it has fewer than `most` octets. Drops each that has its text.
+    fn add_text(&mut self, most: usize) -> Result<(), AllocError> {
+        for _ in 0..self.lines.len() {
+            if self.text.octets.len() >= most {
+                break;
+            }
+            let Some(line) = self.lines.pop_front() else {
+                break;
+            };
+            self.text.add(&line)?;
+        }
+        Ok(())
     }
 }
 
 /// The lines of a link that wait for the thread that writes the log, in the order of its steps.
 ///
-/// A thread of the link, nearly always its clock, moves lines here and makes their text, so that the writing thread, the
-/// only one of the run, has nothing to do but to write. It takes all text at once. The lock is never held while the
-/// device of the log is written; the lock of the link is taken under it. If nothing is taken for long, lines stay in the
-/// book of the link, which counts those that find no place there in a gap.
+/// The clock of the link moves lines here and makes their text, so that the writing thread, the only one of the run,
+/// has nothing to do but to write; it takes all text at once. A thread that serves calls moves lines if the book is
+/// filling, and makes no text. No lock is held while the device of the log is written, and the one that lines are moved
+/// under not while text is made; the lock of the link is taken under both. If nothing is taken for long, lines stay
+/// here, and then in the book of the link, which counts those that find no place there in a gap.
 #[derive(Drop)]
 pub(crate) struct LinkLog {
+    // Taken before the lock of the lines that wait.
+    making: Mutex<Making>,
     waiting: Mutex<Waiting>,
 }
 
 impl LinkLog {
     /// No line waits.
     pub(crate) fn new(alloc: Global) -> Result<LinkLog, AllocError> {
-        let waiting = Waiting {
-            moved: Vec::with_capacity(alloc, LINES_AT_ONCE)?,
-            text: LogText::new(alloc)?,
-        };
         Ok(LinkLog {
-            waiting: Mutex::new(waiting),
+            making: Mutex::new(Making::new(alloc)?),
+            waiting: Mutex::new(Waiting::new(alloc)?),
         })
     }
 
-    /// Moves lines of the book of the link to the text in one turn, while there is room.
-    pub(crate) fn move_lines<R: Wait, A: Ledger, B: Ledger, C: Ledger>(
+    /// Exchanges the lines that wait, once all that the book has were moved, for these, of which there are none.
+    fn refill<R: Wait, A: Ledger, B: Ledger, C: Ledger>(
         &self,
         rt: &R,
         hub: &Hub<A, B, C>,
-    ) -> Moved {
-        self.waiting.lock(rt).take_turn(rt, hub)
+        lines: &mut VecDeque<Line>,
+    ) -> Result<(), AllocError> {
+        let mut waiting = self.waiting.lock(rt);
+        waiting.move_lines(rt, hub, MOST_MOVES)?;
+        mem::swap(&mut waiting.lines, lines);
+        waiting.octets = 0;
+        Ok(())
     }
 
-    /// Moves lines if five eighths of their places in the book are taken, unless another thread is moving some: it
-    /// waits for that thread only if seven eighths are taken. So lines find no place in the book only if there is no
-    /// room here either.
+    /// Makes the text of lines, also of those that the book has, until there are `most` octets of it. `true`: no line
+    /// is left.
+    fn add_text<R: Wait, A: Ledger, B: Ledger, C: Ledger>(
+        &self,
+        rt: &R,
+        hub: &Hub<A, B, C>,
+        making: &mut Making,
+        most: usize,
+    ) -> Result<bool, AllocError> {
+        for _ in 0..MOST_ROUNDS {
+            if making.lines.is_empty() {
+                self.refill(rt, hub, &mut making.lines)?;
+            }
+            if making.lines.is_empty() {
+                return Ok(true);
+            }
+            if making.text.octets.len() >= most {
+                break;
+            }
+            making.add_text(most)?;
+        }
+        Ok(false)
+    }
+
+    /// Does so, and says what came of it.
+    fn make<R: Wait, A: Ledger, B: Ledger, C: Ledger>(
+        &self,
+        rt: &R,
+        hub: &Hub<A, B, C>,
+        making: &mut Making,
+        most: usize,
+    ) -> Made {
+        let before = making.text.line_count;
+        let (is_all, is_out_of_memory) = match self.add_text(rt, hub, making, most) {
+            Ok(is_all) => (is_all, false),
+            Err(_) => (true, true),
+        };
+        let left = if is_all {
+            Left::Nothing
+        } else if making.text.octets.len() < MOST_OCTETS {
+            Left::Lines
+        } else {
+            Left::NoRoom
+        };
+        Made {
+            line_count: making.text.line_count.saturating_sub(before),
+            left,
+            is_out_of_memory,
+        }
+    }
+
+    /// Makes the text of lines in one turn, while there is room for it.
+    pub(crate) fn make_text<R: Wait, A: Ledger, B: Ledger, C: Ledger>(
+        &self,
+        rt: &R,
+        hub: &Hub<A, B, C>,
+    ) -> Made {
+        let mut making = self.making.lock(rt);
+        let most = making.text.octets.len().saturating_add(OCTETS_OF_A_TURN);
+        self.make(rt, hub, &mut making, most.min(MOST_OCTETS))
+    }
+
+    /// Makes the text of all lines, once the link is down and no thread adds any.
+    pub(crate) fn make_last_text<R: Wait, A: Ledger, B: Ledger, C: Ledger>(
+        &self,
+        rt: &R,
+        hub: &Hub<A, B, C>,
+    ) -> Made {
+        let mut making = self.making.lock(rt);
+        self.make(rt, hub, &mut making, usize::MAX)
+    }
+
+    /// Moves some lines out of the book if five eighths of their places there are taken, unless another thread moves
+    /// some: it waits for that thread only if seven eighths are taken. So lines find no place in the book only if there
+    /// is no room here either: between two such calls of each thread fewer lines come than the last eighth of the book
+    /// has, 1,024. They are two for each of the 32 turns that a thread gives back and takes, at most nine threads do,
+    /// and one for each of 64 messages. `false`: memory ran out, so that lines are lost.
     pub(crate) fn move_lines_if_many<R: Wait, A: Ledger, B: Ledger, C: Ledger>(
         &self,
         rt: &R,
         hub: &Hub<A, B, C>,
-    ) -> Moved {
-        let none = Moved {
-            line_count: 0,
-            leaves_some: false,
-            is_out_of_memory: false,
-        };
+    ) -> bool {
         if !hub.is_log_filling() {
-            return none;
+            return true;
         }
-        match self.waiting.try_lock() {
-            Some(mut waiting) => waiting.take_turn(rt, hub),
-            None if hub.is_log_nearly_full() => self.move_lines(rt, hub),
-            None => none,
+        let moved = match self.waiting.try_lock() {
+            Some(mut waiting) => waiting.move_lines(rt, hub, MOST_MOVES_ASIDE),
+            None if hub.is_log_nearly_full() => {
+                self.waiting.lock(rt).move_lines(rt, hub, MOST_MOVES_ASIDE)
+            }
+            None => Ok(()),
+        };
+        moved.is_ok()
+    }
+
+    /// Whether text is being made, or may be: there is room for it.
+    pub(crate) fn has_room_for_text(&self) -> bool {
+        match self.making.try_lock() {
+            Some(making) => making.text.octets.len() < MOST_OCTETS,
+            None => true,
         }
     }
 
-    /// Moves all lines that the book of the link has here, once the link is down and no thread adds any.
-    pub(crate) fn move_last_lines<R: Wait, A: Ledger, B: Ledger, C: Ledger>(
-        &self,
-        rt: &R,
-        hub: &Hub<A, B, C>,
-    ) -> Moved {
-        self.waiting.lock(rt).move_lines(rt, hub, usize::MAX)
-    }
-
-    /// Takes all lines that wait: exchanges their text for this one, which is empty.
+    /// Takes all text that waits: exchanges it for this one, which is empty.
     pub(crate) fn take<R: Wait>(&self, rt: &R, taken: &mut LogText) {
-        let mut waiting = self.waiting.lock(rt);
-        mem::swap(&mut waiting.text, taken);
+        let mut making = self.making.lock(rt);
+        mem::swap(&mut making.text, taken);
     }
 }

@@ -3,7 +3,7 @@
 //! | Thread | Waits for | Is woken by | At most |
 //! |---|---|---|---|
 //! | the run, before it accepts connections | the first line, written or failed | the writing thread | a second |
-//! | the writing thread | lines, or that no more come | a thread of a link that moved some; the run | a second |
+//! | the writing thread | lines, or that no more come | a thread of a link that made their text; the run | a second |
 //! | the writing thread | the device | the device | without a limit |
 //! | the writing thread, with gaps, after a write that failed | the next try | nobody | a second |
 //! | the run, at its end | the last line, written or failed | the writing thread | five idle seconds, a minute in all |
@@ -49,9 +49,9 @@ pub(crate) struct Log {
     links: Vec<LinkLog>,
     pub(crate) stop: Stop,
     events: Events,
-    // How many lines were moved out of the books, the head among them, and aren't written yet.
+    // How many lines have their text, the head among them, and aren't written yet.
     unwritten: AtomicU64,
-    // The writing thread rests here: lines were moved, or no more come.
+    // The writing thread rests here: lines got their text, or no more come.
     came: Parker,
     // No more lines come.
     is_over: AtomicBool,
@@ -97,7 +97,7 @@ impl Log {
         self.events.report(rt, event);
     }
 
-    /// Wakes the writing thread if lines were moved, this number of them. Doesn't wait.
+    /// Wakes the writing thread if lines got their text, this number of them. Doesn't wait.
     pub(crate) fn add(&self, count: u64) {
         if count > 0 {
             self.unwritten.fetch_add(count, Ordering::SeqCst);
@@ -112,7 +112,7 @@ impl Log {
         self.unwritten.fetch_sub(count, Ordering::SeqCst);
     }
 
-    /// The writing thread rests until lines were moved or no more come, a second at most.
+    /// The writing thread rests until lines got their text or no more come, a second at most.
     pub(crate) fn rest<R: Wait>(&self, rt: &R) {
         self.came
             .park_timeout(rt, Duration::from_secs(SECONDS_OF_A_REST));
@@ -188,9 +188,9 @@ impl Log {
         }
     }
 
-    /// Ends the log, once all links have moved their last lines: waits until these were written, or none of them for
-    /// five seconds, a minute at most. Lines that weren't written then are lost, and reported as such; the log can't be
-    /// written.
+    /// Ends the log, once the last lines of all links have their text: waits until these were written, or none of them
+    /// for five seconds, a minute at most. Lines that weren't written then are lost, and reported as such; the log
+    /// can't be written.
     pub(crate) fn finish<R: Wait + Clock>(&self, rt: &R) {
         self.is_over.store(true, Ordering::SeqCst);
         self.came.unpark();

@@ -19,8 +19,8 @@ use std::thread;
 use std::thread::Threads;
 use std::time::Duration;
 
-/// How many octets of text are written at once at most: the end of a line is among so many, so that what a slow device
-/// takes is counted in time.
+/// How many octets of text are written at once at most: more than a line has, so that what a slow device takes is
+/// counted in time.
 const OCTETS_AT_ONCE: usize = 16_384;
 
 /// How many seconds after a write that failed the next one is tried.
@@ -190,7 +190,7 @@ where
         let mut writer = writer;
         writer.write_all(&own);
         let LogWriter { log, output } = writer;
-        // The device is let go of first, with its lock: the next run may want it.
+        // The device is dropped first, with its lock: the next run may want it.
         drop(output);
         log.end(&own);
     };

@@ -22,8 +22,7 @@ use std::sync::Wait;
 use std::thread;
 use std::thread::Threads;
 
-/// How many threads of a link look for something to do before they sleep, beside its workers: the receiving thread and
-/// the sending one.
+/// How many threads of a link have work to do, beside its workers: the receiving thread and the sending one.
 const OTHER_THREADS: usize = 2;
 
 /// How the run's threads wait, given their number and the number of processors.
@@ -49,10 +48,10 @@ fn looks<R: Threads>(rt: &R, settings: Settings) -> Looks {
 /// written, and the thread is left to itself.
 ///
 /// A link ends if its client closes the connection; if it closes its sending side alone, once what was accepted is
-/// served and sent, two seconds later at most; if a length comes that no frame has; if a read or a write fails, also
-/// because the client acknowledges nothing, or takes nothing of what waits for it, for 110 seconds; if an allocation
-/// for a frame fails; if its dialogues keep more entries than [`Settings::most_entries`], at its next tick; and after
-/// 2^40 reads or frames.
+/// served and sent, at most two seconds after the end was read; if a length comes that no frame has; if a read or a
+/// write fails, also because the client acknowledges nothing, or takes nothing of what waits for it, for 110 seconds;
+/// if an allocation for a frame fails; if its dialogues keep more entries than [`Settings::most_entries`], at its next
+/// tick; and after 2^40 reads, or 2^40 frames and Aborts sent.
 ///
 /// After a fault each link that is up goes down at its next tick, a second later at most, and the run ends, even if it
 /// awaits a connection. The first fault is reported. A write to the log that fails is no fault if the settings say so
@@ -86,9 +85,11 @@ where
     )
 }
 
-/// Serves links as [`serve`] does, whose workers pass an [`OpenGate`]: here each worker passes this gate between taking
-/// a turn and serving it, with no lock held. A turn that waits there holds up its worker and its dialogue, and no
-/// others. The run ends only once no worker waits there.
+/// Serves links as [`serve`] does, whose workers pass an [`OpenGate`]: here each thread that serves turns passes this
+/// gate between taking a turn and serving it, with no lock held. A turn that waits there holds up its thread and the
+/// dialogues whose turns that thread took. In the receiving thread it also holds up the messages that come next, and
+/// frames of turns that this thread served just before; so if turns wait there, it is to serve none
+/// ([`Settings::with_most_helped`]). The run ends only once no thread waits there.
 pub fn serve_through<R, L, W, G>(
     rt: &R,
     service: Service<'_>,
@@ -143,6 +144,7 @@ fn run_links<'x, R: Threads + Wait + Clock + Sync, G: Gate + Sync>(
         links,
         workers,
         most_entries,
+        most_helped,
         ..
     } = settings;
     let looks = looks(rt, settings);
@@ -166,6 +168,7 @@ fn run_links<'x, R: Threads + Wait + Clock + Sync, G: Gate + Sync>(
                     peer,
                     workers,
                     most_entries,
+                    most_helped,
                     looks,
                 };
                 let run = move || -> Option<Totals>

@@ -14,7 +14,7 @@ pub enum WhenLogFails {
 }
 
 /// How many links a run has, 1 to 8, how many workers each of them, 1 to 8, how many entries the dialogues of a link
-/// may keep, and what the run does when its log can't be written.
+/// may keep, how many turns a receiving thread serves, and what the run does when its log can't be written.
 #[derive(Clone, Copy, Debug, PartialEq, Eq)]
 pub struct Settings {
     /// How many links there are.
@@ -23,6 +23,8 @@ pub struct Settings {
     pub workers: u8,
     /// How many entries the dialogues of a link may keep: one whose dialogues keep more goes down.
     pub most_entries: u64,
+    /// How many turns the receiving thread of a link serves at once at most, before workers have to.
+    pub most_helped: usize,
     /// What is done when the log can't be written.
     pub when_log_fails: WhenLogFails,
     ghost some_link: { 1 ≤ links },
@@ -40,12 +42,17 @@ impl Settings {
     /// take all memory. It is four times what 4,096 dialogues have with 64 entries each.
     pub const MOST_ENTRIES: u64 = 1_048_576;
 
+    /// How many turns the receiving thread of a link serves at once at most, unless [`Settings::with_most_helped`] says
+    /// it: one for each of the 64 messages that it posts at once.
+    pub const MOST_HELPED: usize = 64;
+
     /// This number of links with this number of workers each, of a run that ends when its log can't be written; or
     /// `None` if one of the two isn't 1 to 8.
     pub fn new(links: u8, workers: u8) -> Option<Settings>
         ensures some { IsSome result ↔ (((1 ≤ links) × (links ≤ 8)) × ((1 ≤ workers) × (workers ≤ 8))) }
         ensures value { IfSome result (λ settings. (settings.links ≡ links) × (settings.workers ≡ workers)) }
         ensures entries { IfSome result (λ settings. settings.most_entries ≡ 1048576) }
+        ensures helped { IfSome result (λ settings. settings.most_helped ≡ 64) }
         ensures fails { IfSome result (λ settings. settings.when_log_fails ≡ EndRun) }
     {
         if links == 0 || links > Self::MOST || workers == 0 || workers > Self::MOST {
@@ -55,6 +62,7 @@ impl Settings {
             links,
             workers,
             most_entries: Self::MOST_ENTRIES,
+            most_helped: Self::MOST_HELPED,
             when_log_fails: WhenLogFails::EndRun,
         })
     }
@@ -67,6 +75,7 @@ impl Settings {
             links: self.links,
             workers: self.workers,
             most_entries: self.most_entries,
+            most_helped: self.most_helped,
             when_log_fails: WhenLogFails::LeaveGap,
         }
     }
@@ -79,6 +88,21 @@ impl Settings {
             links: self.links,
             workers: self.workers,
             most_entries,
+            most_helped: self.most_helped,
+            when_log_fails: self.when_log_fails,
+        }
+    }
+
+    /// The same settings, with this number of turns that the receiving thread of a link serves at once at most. With
+    /// none, all turns are served by workers.
+    pub fn with_most_helped(self, most_helped: usize) -> Settings
+        ensures { result ≡ record self { most_helped = most_helped } }
+    {
+        Settings {
+            links: self.links,
+            workers: self.workers,
+            most_entries: self.most_entries,
+            most_helped,
             when_log_fails: self.when_log_fails,
         }
     }

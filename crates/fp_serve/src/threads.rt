@@ -129,14 +129,14 @@ impl<
         clock
     }
 
-    /// Starts the receiving thread.
-    fn start_receiver(&mut self, service: Service<'s>) {
+    /// Starts the receiving thread, which passes this gate with each turn that it serves.
+    fn start_receiver<G: Gate + Sync>(&mut self, service: Service<'s>, gate: &'s G) {
         let Some(seat) = self.seat.split() else {
             self.fail(ServeFault::LostSeat);
             return;
         };
         let link = self.link;
-        let run = move || receive_all(link, service, seat);
+        let run = move || receive_all(link, service, gate, seat);
         let handle = self.scope.spawn(run).ok();
         self.keep(handle);
     }
@@ -172,7 +172,7 @@ pub(crate) fn run_threads<
             starting.start_sender();
             let clock = starting.start_clock();
             if starting.fault.is_none() {
-                starting.start_receiver(service);
+                starting.start_receiver(service, gate);
             }
             let Starting {
                 mut seat,

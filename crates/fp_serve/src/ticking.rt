@@ -2,6 +2,7 @@
 
 use crate::Why;
 use crate::link::Link;
+use crate::link_log::Left;
 use crate::moment::now;
 use std::rt::Clock;
 use std::sync::Wait;
@@ -12,13 +13,17 @@ use std::time::{Duration, Instant};
 const SECONDS: u64 = 1;
 
 /// How long it was since the last tick. `None`: the clock gives no time.
-fn time_since<R: Clock>(rt: &R, last: Option<Instant>) -> Option<Duration> {
+pub(crate) fn time_since<R: Clock>(rt: &R, last: Option<Instant>) -> Option<Duration> {
     last?.elapsed(rt).ok()
 }
 
-/// Ticks once a second, and hints to a worker then; hands the lines of the link to the thread that writes the log once
-/// a second, and when 512 wait in the book, in one turn after another while some are left; and takes the link down if
-/// all links are to go down, or if its dialogues keep more entries than they may. Returns once the link is down.
+/// How many milliseconds the clock rests at most while lines wait and there is no room for their text.
+const MILLISECONDS_WITHOUT_ROOM: u64 = 10;
+
+/// Ticks once a second, and hints to a worker then; makes the text of the lines of the link, for the thread that writes
+/// the log, once a second, and when 512 wait in the book, in one turn after another while some are left; and takes the
+/// link down if all links are to go down, or if its dialogues keep more entries than they may. Returns once the link is
+/// down.
 ///
 /// If the clock gives no time, it ticks each time that it wakes, and after each turn.
 pub(crate) fn keep_time<R: Wait + Clock, A: Ledger, B: Ledger, C: Ledger>(
@@ -26,12 +31,16 @@ pub(crate) fn keep_time<R: Wait + Clock, A: Ledger, B: Ledger, C: Ledger>(
 ) {
     let Link { rt, hub, log, .. } = link;
     let second = Duration::from_secs(SECONDS);
+    let without_room = Duration::from_millis(MILLISECONDS_WITHOUT_ROOM);
     let mut last = Instant::now(rt).ok();
-    let mut lines_are_left = false;
+    let mut left = Left::Nothing;
     for _ in rt.forever() {
-        if !lines_are_left {
-            let since = time_since(rt, last).unwrap_or(Duration::ZERO);
-            hub.rest(rt, second.saturating_sub(since));
+        let since = time_since(rt, last).unwrap_or(Duration::ZERO);
+        let to_the_tick = second.saturating_sub(since);
+        match left {
+            Left::Nothing => hub.rest(rt, to_the_tick),
+            Left::Lines => {}
+            Left::NoRoom => hub.rest(rt, to_the_tick.min(without_room)),
         }
         if time_since(rt, last).unwrap_or(second) >= second {
             last = Instant::now(rt).ok();
@@ -43,7 +52,7 @@ pub(crate) fn keep_time<R: Wait + Clock, A: Ledger, B: Ledger, C: Ledger>(
                 link.end(Why::Entries);
             }
         }
-        lines_are_left = link.move_lines();
+        left = link.make_text();
         if hub.is_down(rt) {
             break;
         }

@@ -1,4 +1,4 @@
-//! The turns of a link that its workers serve.
+//! The turns of a link that are served.
 
 use crate::link::Link;
 use fp_hub::{Gate, Hints, Seat, worker};
@@ -7,11 +7,11 @@ use std::rt::Clock;
 use std::sync::Wait;
 use std::sync::ledger::Ledger;
 
-/// Passes another gate, and moves lines of the link if many wait, since a worker adds most of them.
+/// Passes another gate, and moves lines of the link if many wait, since a thread that serves adds most of them.
 #[derive(Drop)]
-struct LineGate<'x, R, G: Gate, A: Ledger, B: Ledger, C: Ledger> {
-    link: Link<'x, R, A, B, C>,
-    gate: &'x G,
+pub(crate) struct LineGate<'x, R, G: Gate, A: Ledger, B: Ledger, C: Ledger> {
+    pub(crate) link: Link<'x, R, A, B, C>,
+    pub(crate) gate: &'x G,
 }
 
 impl<R: Wait + Clock, G: Gate, A: Ledger, B: Ledger, C: Ledger> Gate

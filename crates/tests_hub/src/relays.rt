@@ -5,11 +5,12 @@ mod link;
 use crate::messages::{RECORDS, STRANGE_ANSWER, answer};
 use crate::{EACH_ONCE, SecondFirst};
 use fp_book::Totals;
-use fp_hub::{Looks, OpenGate};
+use fp_hub::{Gate, Looks, OpenGate};
 use fp_records::Table;
 use link::{Marks, Plan, Relayed, Sending, relay};
 use std::alloc::Global;
 use std::process::Abort;
+use std::sync::atomic::{AtomicU64, Ordering};
 use std::test::Fail;
 use std::thread;
 
@@ -20,6 +21,9 @@ const PLAN: Plan = Plan {
     looks: Looks::MANY,
     sending: Sending::Picks,
     is_hinted_once: false,
+    is_one_hold: false,
+    most_helped: 0,
+    is_long: false,
     pause: 0,
     has_stranger: false,
     count: 2,
@@ -66,18 +70,108 @@ fn assert_answered<R: Abort>(
 }
 
 /// One worker waits between taking the turn of the first dialogue and serving it, with no lock held: the other one serves
-/// the second dialogue meanwhile, whose answer is sent. Each turn passes the gate once.
+/// the second dialogue meanwhile, whose answer is sent. Each turn passes the gate once. If there is only one hint for
+/// both messages, the workers hint to each other; also if both messages were posted in one hold, so that the first
+/// worker finds both dialogues ready. And if the thread that posts serves one turn itself, it hints before it waits
+/// there.
 #[test]
 fn one_waits_and_the_other_serves(rt: HostRuntime) -> Result<(), Fail> {
     let alloc = rt.alloc();
     let table = Table::read(alloc, RECORDS.as_bytes())?;
-    let plan = Plan { link: 5, ..PLAN };
-    let marks = Marks::new();
-    let gate = SecondFirst::new(&rt, plan.link, &marks.is_second_picked);
-    let relayed = relay(&rt, alloc, &gate, &table, &marks, plan);
-    assert!(rt; !gate.is_late(), "the second dialogue had to wait");
-    assert_eq!(rt; gate.seen(), EACH_ONCE);
-    assert_answered(&rt, alloc, plan, relayed)
+    for (is_hinted_once, is_one_hold, most_helped) in [
+        (false, false, 0),
+        (true, false, 0),
+        (true, true, 0),
+        (false, true, 1),
+    ] {
+        let plan = Plan {
+            link: 5,
+            is_hinted_once,
+            is_one_hold,
+            most_helped,
+            ..PLAN
+        };
+        let marks = Marks::new();
+        let gate = SecondFirst::new(&rt, plan.link, &marks.is_second_picked);
+        let relayed = relay(&rt, alloc, &gate, &table, &marks, plan);
+        assert!(rt; !gate.is_late(), "the second dialogue had to wait");
+        assert_eq!(rt; gate.seen(), EACH_ONCE);
+        assert_answered(&rt, alloc, plan, relayed)?;
+    }
+    Ok(())
+}
+
+/// A gate that counts the turns that pass it, and adds up the numbers of their dialogues, by the position of their first
+/// entry.
+#[derive(Drop)]
+struct Passes {
+    // Those at position 0, 16, and any other one: the sum of the numbers, and above 32 bits how many.
+    first: AtomicU64,
+    second: AtomicU64,
+    others: AtomicU64,
+}
+
+/// How a turn counts.
+const ONE_TURN: u64 = 0x1_0000_0000;
+
+/// What is counted of 40 turns, one of each dialogue from 1 to 40: the sum of these numbers is 820.
+const ONE_OF_EACH: u64 = 40 * ONE_TURN + 820;
+
+impl Passes {
+    /// No turn has passed.
+    fn new() -> Passes {
+        Passes {
+            first: AtomicU64::new(0),
+            second: AtomicU64::new(0),
+            others: AtomicU64::new(0),
+        }
+    }
+}
+
+impl Gate for Passes {
+    fn pass(&self, _link: u8, birth: u64, position: u64) {
+        let counted = match position {
+            0 => &self.first,
+            16 => &self.second,
+            _ => &self.others,
+        };
+        counted.fetch_add(ONE_TURN.wrapping_add(birth), Ordering::SeqCst);
+    }
+}
+
+/// Each of 40 dialogues has an entry for its Begin and 16 for calls, so two turns: each of them passes the gate once,
+/// with the position of its first entry, whether two workers serve them, the thread that posts, or this one and a worker.
+#[test]
+fn each_turn_passes_the_gate_once(rt: HostRuntime) -> Result<(), Fail> {
+    let alloc = rt.alloc();
+    let table = Table::read(alloc, RECORDS.as_bytes())?;
+    for (workers, most_helped) in [(2, 0), (0, 128), (1, 8)] {
+        let plan = Plan {
+            workers,
+            most_helped,
+            is_one_hold: true,
+            is_long: true,
+            count: 40,
+            ..PLAN
+        };
+        let gate = Passes::new();
+        let relayed = relay(&rt, alloc, &gate, &table, &Marks::new(), plan);
+        let relayed = relayed.ok_or("out of memory")?;
+        assert!(rt; relayed.are_opened, "a message wasn't posted");
+        assert_eq!(rt; gate.first.load(Ordering::SeqCst), ONE_OF_EACH);
+        assert_eq!(rt; gate.second.load(Ordering::SeqCst), ONE_OF_EACH);
+        assert_eq!(rt; gate.others.load(Ordering::SeqCst), 0);
+        assert_eq!(rt; relayed.answers.len(), 640);
+        let wanted = Totals {
+            accepted: 640,
+            served: 680,
+            sent: 640,
+        };
+        assert_eq!(rt; relayed.totals, Some(wanted));
+        // A message, two turns that go out and come back, and 16 frames for each dialogue; and the end.
+        assert_eq!(rt; relayed.line_count, Some(1_481));
+    }
+    Ok(())
 }
 
 /// Threads that sleep are woken: each of five messages comes when all of them do, and so does one to a dialogue that

@@ -5,6 +5,7 @@ ghost use Rattle.fp_hub.specs.Shares.{AreBlanks};
 mod caller;
 mod each_call;
 mod holding;
+mod several;
 
 use crate::messages::{RECORDS, REJECT};
 use caller::make_walk;
@@ -28,8 +29,20 @@ enum Walk {
     EachCall,
     /// All places for frames are filled.
     AllPlaces,
+    /// The same by turns that are taken in shares.
+    AllPlacesInShares,
     /// Hints to three workers, before the hub is closed and after.
     Hints,
+    /// Calls of several steps.
+    Several,
+    /// Help with some of the turns that are ready.
+    Helps,
+    /// A worker whose hub is closed while it has turns.
+    Closes,
+    /// A thread that sleeps until there is an Abort of the provider to be sent.
+    SendsAbort,
+    /// A thread that sleeps until there is an answer to be sent.
+    SendsAnswer,
     /// Messages that are held back at each limit, and taken once there is room.
     Holds,
     /// Threads that sleep until there is room, or the link is quiet or down.
@@ -61,7 +74,12 @@ fn walk_over<
 ) -> Option<Walked>
     requires { AreBlanks blanks A.name A.parts B.name B.parts C.name C.parts }
 {
-    let (hub, seat) = Hub::<A, B, C>::new(alloc, 0, looks, blanks).ok()?;
+    let made = if looks == Looks::FEW {
+        Hub::<A, B, C>::new(alloc, 0, blanks)
+    } else {
+        Hub::<A, B, C>::with_looks(alloc, 0, looks, blanks)
+    };
+    let (hub, seat) = made.ok()?;
     let (words, seat) = make_walk(rt, alloc, &hub, seat, table, walk);
     Some(Walked {
         words,
@@ -113,8 +131,8 @@ fn each_call_makes_its_step(rt: HostRuntime) -> Result<(), Fail> {
     assert_walk(&rt, rt.alloc(), Looks::FEW, Walk::EachCall, words, totals)
 }
 
-/// If all 8,192 places for frames are held, a worker is hinted when the next parcel is awaited, and not before: 513
-/// messages of 16 calls have 8,208 answers, one of which is sent before that.
+/// If all 8,192 places for frames are held, a worker is hinted when the next parcel is awaited, or it is asked for, and
+/// not before: 513 messages of 16 calls have 8,208 answers, one of which is sent before that.
 #[test]
 fn free_places_are_hinted(rt: HostRuntime) -> Result<(), Fail> {
     let words = "opened all queued sent no room sent hinted closed no room ";
@@ -123,7 +141,68 @@ fn free_places_are_hinted(rt: HostRuntime) -> Result<(), Fail> {
         served: 8_707,
         sent: 2,
     };
-    assert_walk(&rt, rt.alloc(), Looks::FEW, Walk::AllPlaces, words, totals)
+    for walk in [Walk::AllPlaces, Walk::AllPlacesInShares] {
+        assert_walk(&rt, rt.alloc(), Looks::FEW, walk, words, totals)?;
+    }
+    Ok(())
+}
+
+/// A call of several steps makes them in their order, as the log says: of a list of messages at most 64 are posted, and
+/// none from the first on that is held back, and the call says if an Abort of the provider answers one of them; turns
+/// come back, served or not, before the share of a worker is taken, and no more than it asks for; and the parcel that
+/// is picked after one was sent is the next one, unless the link is down.
+#[test]
+fn holds_make_several_steps(rt: HostRuntime) -> Result<(), Fail> {
+    let words =
+        "six drained none opened silent accepted accepted accepted accepted drained four four silent none two three silent enough two three silent enough two one queued enough one none queued enough none one silent enough one none silent enough one none silent enough one none silent enough sent sent sent sent nothing none none silent enough none none silent nothing aborted none sent down P T1 G1 P P P P T2 T1 B2 B1 T3 T4 G3 G4 T5 T2 G5 G2 T1 G1 T1 G1 T1 G1 T1 Q3 Y3 Q4 Y4 Q5 Y5 Q2 Y2 G1 P P P Q0 N Y0 ";
+    let totals = Totals {
+        accepted: 69,
+        served: 74,
+        sent: 4,
+    };
+    assert_walk(&rt, rt.alloc(), Looks::FEW, Walk::Several, words, totals)
+}
+
+/// Who helps serves at most as many turns as it may, and hints to as many workers as it leaves turns, and not else.
+#[test]
+fn help_has_its_bound(rt: HostRuntime) -> Result<(), Fail> {
+    let words =
+        "none queued none hinted queued nothing none silent none hinted queued none queued none nothing none silent none hinted hinted closed queued queued drained ";
+    let totals = Totals {
+        accepted: 9,
+        served: 18,
+        sent: 0,
+    };
+    assert_walk(&rt, rt.alloc(), Looks::FEW, Walk::Helps, words, totals)
+}
+
+/// A worker that has many turns when its hub is closed serves them and gives them back, and those that were ready too.
+#[test]
+fn closed_worker_gives_back_its_turns(rt: HostRuntime) -> Result<(), Fail> {
+    let words = "none hint no hint all sent quiet drained ";
+    let totals = Totals {
+        accepted: 40,
+        served: 80,
+        sent: 40,
+    };
+    assert_walk(&rt, rt.alloc(), Looks::FEW, Walk::Closes, words, totals)
+}
+
+/// A thread that sleeps until there is something to be sent is woken by who tells it: after an Abort of the provider
+/// answered one of several messages, as the call that posted them says, and after turns came back.
+#[test]
+fn sender_is_woken(rt: HostRuntime) -> Result<(), Fail> {
+    for looks in [Looks::FEW, Looks::MANY] {
+        for (walk, served) in [(Walk::SendsAbort, 0), (Walk::SendsAnswer, 2)] {
+            let totals = Totals {
+                accepted: 1,
+                served,
+                sent: 0,
+            };
+            assert_walk(&rt, rt.alloc(), looks, walk, "opened woken down ", totals)?;
+        }
+    }
+    Ok(())
 }
 
 /// At most as many hints wait as there are workers, and they are taken after the hub was closed.
@@ -153,17 +232,19 @@ fn messages_are_held_back(rt: HostRuntime) -> Result<(), Fail> {
     assert_walk(&rt, rt.alloc(), Looks::FEW, Walk::Holds, words, totals)
 }
 
-/// A thread that sleeps until there is room is woken by a turn that is given, by a parcel that is handed out, whether
-/// it was picked or awaited, and by one that couldn't be sent, which ends the link; without them it sleeps on, also
-/// after a second. One that sleeps until the link is quiet is woken when the last parcel was sent, and by the last
-/// turn: one that is given, also if its request is dropped, or one that is put back.
+/// A thread that sleeps until there is room is woken by a turn that is given, alone or with others, also if messages were
+/// posted in one hold before; by a parcel that is handed out, whether it was picked, awaited or found after one was sent;
+/// and by one that couldn't be sent, which ends the link; without them it sleeps on, also after a second. One that
+/// sleeps until the link is quiet is woken when the last parcel was sent, alone or in the hold that picks the next one,
+/// and by the last turn: one that is given, also if its request is dropped, or one that is put back, alone or with
+/// others.
 #[test]
 fn waiting_threads_are_woken(rt: HostRuntime) -> Result<(), Fail> {
     let words =
-        "opened silent accepted accepted accepted accepted woken silent accepted waited silent accepted nothing all aborted woken sent aborted woken sent not quiet all sent woken sent accepted woken nothing opened woken dropped opened woken back accepted accepted accepted accepted aborted woken unsent quiet discarded ";
+        "opened silent accepted accepted accepted accepted woken silent accepted woken given accepted woken given accepted waited silent accepted nothing all aborted woken sent aborted woken sent not quiet aborted woken sent all sent woken sent aborted woken sent accepted woken nothing accepted woken given opened woken dropped opened woken back opened woken back opened woken given accepted accepted accepted accepted aborted woken unsent quiet discarded ";
     let totals = Totals {
-        accepted: 148,
-        served: 85,
+        accepted: 183,
+        served: 120,
         sent: 0,
     };
     for looks in [Looks::FEW, Looks::MANY] {

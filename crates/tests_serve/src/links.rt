@@ -11,7 +11,7 @@ use crate::talk::{
     ANSWER_WITH_CONTEXT, BEGIN_WITH_CONTEXT, END, LATE_ERROR, LATE_ERROR_REFUSED, REJECT,
     all_kinds, answer, begin, continues, long_begin,
 };
-use crowd::{make_all_calls, write_bursts};
+use crowd::{make_all_calls, make_calls, write_bursts};
 use device::Mood;
 use fp_hub::{Gate, OpenGate};
 use fp_serve::{ServeFault, Settings};
@@ -22,7 +22,7 @@ use std::os::fd::AsRawFd;
 use std::process::Abort;
 use std::rt::Clock;
 use std::sync::Wait;
-use std::sync::atomic::{AtomicBool, Ordering};
+use std::sync::atomic::{AtomicBool, AtomicU64, Ordering};
 use std::test::Fail;
 use std::thread;
 use std::thread::Threads;
@@ -34,6 +34,12 @@ use trial::{Outcome, Trial};
 fn links(alloc: Global, count: u8, mood: Mood) -> Result<Trial, Fail> {
     let settings = Settings::new(count, 2).ok_or("settings")?;
     Ok(Trial::new(alloc, settings, mood)?)
+}
+
+/// A run of one link, all turns of which are served by its two workers, so that one may wait at a gate.
+fn link_of_workers(alloc: Global) -> Result<Trial, Fail> {
+    let settings = Settings::new(1, 2).ok_or("settings")?;
+    Ok(Trial::new(alloc, settings.with_most_helped(0), Mood::Takes(0))?)
 }
 
 /// A listener on a port of its own.
@@ -99,7 +105,7 @@ fn one_call<R: Net<Stream = TcpStream> + Wait + Clock>(
 fn one_waits_and_the_other_serves(rt: HostRuntime) -> Result<(), Fail> {
     let alloc = rt.alloc();
     let listener = listener(&rt)?;
-    let trial = links(alloc, 1, Mood::Takes(0))?;
+    let trial = link_of_workers(alloc)?;
     let is_answered = AtomicBool::new(false);
     let gate = SecondFirst::new(&rt, 0, &is_answered);
     let (outcome, given) = run_through(&rt, alloc, &gate, listener, &trial, &is_answered);
@@ -145,6 +151,58 @@ fn two_calls<R: Net<Stream = TcpStream> + Wait + Clock>(
     let first = client.message(alloc)?;
     is_answered.store(true, Ordering::SeqCst);
     Some((first, client.message(alloc)?))
+}
+
+/// A gate that counts the turns that pass it, if they begin with the first entry of their dialogue, and else much more.
+#[derive(Drop)]
+struct CountingGate {
+    passed: AtomicU64,
+}
+
+impl Gate for CountingGate {
+    fn pass(&self, link: u8, _birth: u64, position: u64) {
+        let counted = if link == 0 && position == 0 {
+            1
+        } else {
+            1_000_000
+        };
+        self.passed.fetch_add(counted, Ordering::SeqCst);
+    }
+}
+
+/// The two entries of a call are one turn, which passes the gate once, whether workers serve all turns, or the thread
+/// that receives serves most of them.
+#[test]
+fn each_turn_passes_the_gate_once(rt: HostRuntime) -> Result<(), Fail> {
+    let alloc = rt.alloc();
+    for most_helped in [0, Settings::MOST_HELPED] {
+        let listener = listener(&rt)?;
+        let settings = Settings::new(1, 2).ok_or("settings")?;
+        let settings = settings.with_most_helped(most_helped);
+        let trial = Trial::new(alloc, settings, Mood::Takes(0))?;
+        let gate = CountingGate {
+            passed: AtomicU64::new(0),
+        };
+        let (outcome, given) = thread::join(
+            &rt,
+            || trial.serve(&rt, alloc, &gate, listener),
+            || call_often(&rt, alloc, &trial),
+        );
+        given.ok_or("no answer")?;
+        assert_told(&rt, outcome, "link 0 accepted 500 served 1000 sent 500\n")?;
+        assert_eq!(rt; gate.passed.load(Ordering::SeqCst), 500);
+    }
+    Ok(())
+}
+
+/// Makes 500 calls at once. `None`: one of them wasn't answered once, under its own identifier.
+fn call_often<R: Net<Stream = TcpStream> + Wait + Clock>(
+    rt: &R,
+    alloc: Global,
+    trial: &Trial,
+) -> Option<()> {
+    let mut client = Client::connect(rt, trial.address(rt)?)?;
+    make_calls(alloc, &mut client, 0, 500)
 }
 
 /// Eight links with calls of all kinds at once: each answer comes on its own link, under its own identifiers.
@@ -249,7 +307,7 @@ impl<R: Clock> Gate for SlowGate<R> {
 fn a_message_is_held_back(rt: HostRuntime) -> Result<(), Fail> {
     let alloc = rt.alloc();
     let listener = listener(&rt)?;
-    let trial = links(alloc, 1, Mood::Takes(0))?;
+    let trial = link_of_workers(alloc)?;
     let gate = SlowGate { rt };
     let (outcome, given) = thread::join(
         &rt,

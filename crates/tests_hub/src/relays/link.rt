@@ -3,14 +3,15 @@
 ghost use Rattle.fp_hub.specs.Shares.{AreBlanks, Whole};
 
 use crate::MOST_WAITS;
-use crate::messages::{STRANGE, begin, frame_of};
+use crate::messages::{CALLS_COUNT, STRANGE, begin, calls, frame_of};
 use fp_book::{Line, Log, Parcel, Picked, Posted, Totals};
 use fp_digits::Moment;
 use fp_entry::Prepared;
 use fp_frames::Frame;
-use fp_hub::{Gate, Hub, Looks, PARTS, Seat, finish, worker};
+use fp_hub::{Gate, Hub, Looks, PARTS, Seat, abandon_all, finish, help, worker};
 use fp_records::Table;
 use std::alloc::Global;
+use std::collections::VecDeque;
 use std::marker::Brand;
 use std::rt::Clock;
 use std::sync::Wait;
@@ -38,6 +39,13 @@ pub(crate) struct Plan {
     pub(crate) sending: Sending,
     // Whether one hint follows all messages, in place of one after each.
     pub(crate) is_hinted_once: bool,
+    // Whether all messages are posted in one hold, in place of one in each.
+    pub(crate) is_one_hold: bool,
+    // How many turns the thread that posts serves itself after such a hold, at most. If it serves any, it gives no hint
+    // but those that its help gives.
+    pub(crate) most_helped: usize,
+    // Whether each message has sixteen calls, in place of one.
+    pub(crate) is_long: bool,
     // How many milliseconds go by before each message.
     pub(crate) pause: u64,
     // Whether a message to a dialogue that doesn't exist comes after all the others.
@@ -65,7 +73,19 @@ impl Plan {
 
     /// How many parcels are sent.
     fn parcel_count(&self) -> u32 {
-        self.count.saturating_add(u32::from(self.has_stranger))
+        let calls = if self.is_long { CALLS_COUNT } else { 1 };
+        self.count
+            .saturating_mul(calls as u32)
+            .saturating_add(u32::from(self.has_stranger))
+    }
+
+    /// The frame of a message. `None`: out of memory.
+    fn frame(&self, alloc: Global, number: u32) -> Option<Frame> {
+        if self.is_long {
+            calls(alloc)
+        } else {
+            begin(alloc, self.identifier(number))
+        }
     }
 }
 
@@ -200,18 +220,63 @@ fn post<R: Wait, A: Ledger, B: Ledger, C: Ledger>(
     Some(hub.post(rt, load.alloc, seat, came))
 }
 
-/// Posts the messages of a plan, and hints. `false`: one didn't open the dialogue that it should, or a hint failed, or
-/// the stranger wasn't refused.
-fn post_all<R: Wait + Clock, A: Ledger, B: Ledger, C: Ledger>(
+/// Posts the messages of a plan, at most 64, in one hold, and hints once, or helps to serve them. `false`: one wasn't
+/// posted, or the hint failed.
+fn post_in_one_hold<R: Wait, G: Gate, A: Ledger, B: Ledger, C: Ledger>(
     rt: &R,
     hub: &Hub<A, B, C>,
     seat: &mut Seat<A, B, C>,
+    gate: &G,
+    load: Load<'_>,
+) -> bool {
+    let Load {
+        alloc,
+        table,
+        plan,
+        ..
+    } = load;
+    let mut came = VecDeque::new(alloc);
+    for number in 0..plan.count {
+        let (Some(frame), Some(moment)) = (
+            plan.frame(alloc, number),
+            Moment::new(1_714_996_800_000),
+        ) else {
+            return false;
+        };
+        let prepared = Prepared::read(alloc, table, &[], frame, moment);
+        if came.push_back(prepared).is_err() {
+            return false;
+        }
+    }
+    let is_aborted = hub.post_front(rt, alloc, seat, &mut came);
+    if plan.most_helped == 0 {
+        return !is_aborted && came.is_empty() && hub.hint(rt);
+    }
+    let mut work = VecDeque::new(alloc);
+    if help(rt, alloc, hub, gate, seat, &mut work, plan.most_helped) {
+        hub.tell_sender();
+    }
+    let is_empty = work.is_empty();
+    abandon_all(work);
+    !is_aborted && came.is_empty() && is_empty
+}
+
+/// Posts the messages of a plan, and hints. `false`: one didn't open the dialogue that it should, or a hint failed, or
+/// the stranger wasn't refused.
+fn post_all<R: Wait + Clock, G: Gate, A: Ledger, B: Ledger, C: Ledger>(
+    rt: &R,
+    hub: &Hub<A, B, C>,
+    seat: &mut Seat<A, B, C>,
+    gate: &G,
     load: Load<'_>,
 ) -> bool {
     let plan = load.plan;
+    if plan.is_one_hold {
+        return post_in_one_hold(rt, hub, seat, gate, load);
+    }
     for number in 0..plan.count {
         thread::sleep(rt, Duration::from_millis(plan.pause));
-        let frame = begin(load.alloc, plan.identifier(number));
+        let frame = plan.frame(load.alloc, number);
         let posted = post(rt, hub, seat, load, frame);
         if posted != Some(Posted::Opened(plan.local(number))) {
             return false;
@@ -240,14 +305,15 @@ fn await_sent<R: Clock>(rt: &R, marks: &Marks, count: u32) {
 
 /// Posts the messages of a plan, waits until all were answered, and takes the link down. Gives whether all was posted
 /// as it should be, and the seat.
-fn post_until_sent<R: Wait + Clock, A: Ledger, B: Ledger, C: Ledger>(
+fn post_until_sent<R: Wait + Clock, G: Gate, A: Ledger, B: Ledger, C: Ledger>(
     rt: &R,
     hub: &Hub<A, B, C>,
     seat: Seat<A, B, C>,
+    gate: &G,
     load: Load<'_>,
 ) -> (bool, Seat<A, B, C>) {
     let mut seat = seat;
-    let are_opened = post_all(rt, hub, &mut seat, load);
+    let are_opened = post_all(rt, hub, &mut seat, gate, load);
     await_sent(rt, load.marks, load.plan.parcel_count());
     hub.down(rt);
     (are_opened, seat)
@@ -257,10 +323,17 @@ fn post_until_sent<R: Wait + Clock, A: Ledger, B: Ledger, C: Ledger>(
 fn post_and_send<
     'x,
     R: Threads + Wait + Clock + Sync,
+    G: Gate + Sync,
     A: Ledger + Send + Sync,
     B: Ledger + Send + Sync,
     C: Ledger + Send + Sync,
->(rt: &'x R, hub: &'x Hub<A, B, C>, seat: Seat<A, B, C>, load: Load<'x>) -> (bool, Sent<A, B, C>)
+>(
+    rt: &'x R,
+    hub: &'x Hub<A, B, C>,
+    seat: Seat<A, B, C>,
+    gate: &'x G,
+    load: Load<'x>,
+) -> (bool, Sent<A, B, C>)
     requires whole { Whole A.parts B.parts C.parts }
 {
     let Load {
@@ -280,7 +353,7 @@ fn post_and_send<
             Sending::Picks => send_picked(rt, alloc, hub, own, marks, plan.parcel_count()),
             Sending::Awaits => send_awaited(rt, alloc, hub, own, marks),
         },
-        move || post_until_sent(rt, hub, seat, load),
+        move || post_until_sent(rt, hub, seat, gate, load),
     );
     sent.seat.join(rest);
     (are_opened, sent)
@@ -320,7 +393,7 @@ fn run_roles<
                     let _ = handles.push(handle);
                 }
             }
-            let (are_opened, mut sent) = post_and_send(rt, hub, seat, load);
+            let (are_opened, mut sent) = post_and_send(rt, hub, seat, gate, load);
             hub.close(rt);
             let is_closed = !hub.hint(rt);
             for handle in handles {
@@ -356,7 +429,7 @@ fn run_link<
     if plan.link >= 8 {
         return None;
     }
-    let (hub, seat) = Hub::<A, B, C>::new(alloc, plan.link, plan.looks, blanks).ok()?;
+    let (hub, seat) = Hub::<A, B, C>::with_looks(alloc, plan.link, plan.looks, blanks).ok()?;
     let (are_opened, sent) = run_roles(rt, &hub, seat, gate, load);
     let Sent { seat, answers } = sent;
     Some(Relayed {

@@ -203,7 +203,7 @@ impl<R: Wait + Clock, A: Ledger, B: Ledger, C: Ledger> Caller<'_, R, A, B, C> {
     }
 
     /// Picks what is sent next.
-    fn pick(&mut self) -> Result<Parcel, &'static str> {
+    pub(super) fn pick(&mut self) -> Result<Parcel, &'static str> {
         match self.hub.pick(self.rt) {
             Picked::Parcel(parcel) => Ok(parcel),
             Picked::Busy => Err("busy"),
@@ -212,7 +212,7 @@ impl<R: Wait + Clock, A: Ledger, B: Ledger, C: Ledger> Caller<'_, R, A, B, C> {
     }
 
     /// Reports a parcel sent.
-    fn report_sent(&mut self, parcel: Parcel) -> &'static str {
+    pub(super) fn report_sent(&mut self, parcel: Parcel) -> &'static str {
         match self.hub.sent(self.rt, &mut self.seat, parcel) {
             Ok(()) => "sent",
             Err(foreign) => {
@@ -355,8 +355,14 @@ pub(crate) fn make_walk<
             caller.make_calls(&mut words);
             caller.rest_often(16, &mut words);
         }
-        Walk::AllPlaces => caller.fill_places(&mut words),
+        Walk::AllPlaces => caller.fill_places(false, &mut words),
+        Walk::AllPlacesInShares => caller.fill_places(true, &mut words),
         Walk::Hints => caller.hint_workers(&mut words),
+        Walk::Several => caller.make_several(&mut words),
+        Walk::Helps => caller.help_with_some(&mut words),
+        Walk::Closes => caller = caller.serve_and_close(&mut words),
+        Walk::SendsAbort => caller = caller.wake_sender(true, &mut words),
+        Walk::SendsAnswer => caller = caller.wake_sender(false, &mut words),
         Walk::Holds => caller.hold_back(&mut words),
         Walk::Wakes => caller = caller.wake(&mut words),
         Walk::Downs(sleep) => caller = caller.go_down(sleep, &mut words),

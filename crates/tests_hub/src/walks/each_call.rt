@@ -6,6 +6,7 @@ use fp_book::Outbox;
 use std::rt::Clock;
 use std::sync::Wait;
 use std::sync::ledger::Ledger;
+use std::thread::Threads;
 
 /// How many lines of the log wake the thread that rests.
 const WAKING: usize = 512;
@@ -22,7 +23,13 @@ const FILLING: usize = Outbox::MOST_FRAMES / CALLS_COUNT + 1;
 /// More milliseconds than a test has.
 const LONG: u64 = 100_000;
 
-impl<R: Wait + Clock, A: Ledger, B: Ledger, C: Ledger> Caller<'_, R, A, B, C> {
+impl<
+    'a,
+    R: Threads + Wait + Clock + Sync,
+    A: Ledger + Send + Sync,
+    B: Ledger + Send + Sync,
+    C: Ledger + Send + Sync,
+> Caller<'a, R, A, B, C> {
     /// Makes each call of a hub, of which 16 lines of the log come; the last parcel can't be sent, which takes the link
     /// down.
     pub(super) fn make_calls(&mut self, words: &mut Words) {
@@ -79,8 +86,8 @@ impl<R: Wait + Clock, A: Ledger, B: Ledger, C: Ledger> Caller<'_, R, A, B, C> {
     }
 
     /// Fills all places for frames after a parcel was sent. Two workers listen, and one of them is hinted when the next
-    /// parcel is awaited.
-    pub(super) fn fill_places(&mut self, words: &mut Words) {
+    /// parcel is awaited; or, if turns are taken in shares, as soon as it is asked for.
+    pub(super) fn fill_places(&mut self, in_shares: bool, words: &mut Words) {
         let (Ok(hints), Ok(others)) = (self.hub.hints(), self.hub.hints()) else {
             return;
         };
@@ -92,12 +99,26 @@ impl<R: Wait + Clock, A: Ledger, B: Ledger, C: Ledger> Caller<'_, R, A, B, C> {
                 words.say("else");
             }
         }
-        words.say(self.serve_all());
-        words.say(self.await_and_send());
+        words.say(self.serve_ready(in_shares));
+        if in_shares {
+            words.say(self.send(true));
+            self.hub.hint_after_no_room(self.rt);
+        } else {
+            words.say(self.await_and_send());
+        }
         self.hub.close(self.rt);
         words.say(self.await_hint(&hints));
         words.say(self.await_hint(&others));
-        words.say(self.serve_all());
+        words.say(self.serve_ready(in_shares));
+    }
+
+    /// Takes and serves turns until none is handed out, one by one or in shares.
+    fn serve_ready(&mut self, in_shares: bool) -> &'static str {
+        if in_shares {
+            self.serve_all_of_several()
+        } else {
+            self.serve_all()
+        }
     }
 
     /// Gives five hints to three workers, and one more after the hub was closed; then one of the workers takes those

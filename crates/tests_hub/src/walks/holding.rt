@@ -34,22 +34,43 @@ const END_OF_SECOND: &str = "64064904000000020000";
 /// The same to the third dialogue.
 const END_OF_THIRD: &str = "64064904000000030000";
 
+/// The same to the fourth dialogue.
+const END_OF_FOURTH: &str = "64064904000000040000";
+
+/// The same to the fifth dialogue.
+const END_OF_FIFTH: &str = "64064904000000050000";
+
 /// What a thread does while another one sleeps.
 #[derive(Clone, Copy)]
 enum Act {
-    /// Takes the turn at position 17 and puts it back, which makes no room; and gives it more than a second later.
+    /// Takes the turn at position 49 and puts it back, which makes no room; and gives it more than a second later.
     GivesLate,
     /// Takes, serves and gives the turn at position 1.
     Gives,
+    /// Takes, serves and gives the next turn, in holds that may take and give several.
+    GivesSeveral,
+    /// The same after it posted messages that are discarded, in one hold.
+    PostsAndGives,
     /// Takes the turn of the second dialogue, closes the dialogue, and serves and gives the turn, whose request is
     /// dropped.
     GivesDropped,
     /// Takes the turn of the third dialogue, closes the dialogue, and puts the turn back.
     PutsBack,
+    /// Takes the turn of the fourth dialogue, closes the dialogue, and puts the turn back, in holds that may take and
+    /// give several.
+    PutsBackSeveral,
+    /// Takes the turn of the fifth dialogue, closes the dialogue, and serves and gives the turn, whose request is
+    /// dropped, in such holds.
+    GivesDroppedSeveral,
     /// Serves all turns.
     Serves,
     /// Picks a parcel, and reports it sent after a pause, in which the other thread may look.
     Sends,
+    /// Picks a parcel, and reports it sent in the hold that picks the next one.
+    SendsSeveral,
+    /// Picks a parcel, and posts a message that gets an Abort of the provider; after a while reports the parcel sent in
+    /// the hold that picks the next one, which it reports sent more than a second later.
+    SendsTwo,
     /// Picks a parcel, and reports it sent more than a second later.
     SendsLate,
     /// Awaits a parcel, and reports it sent more than a second later.
@@ -58,6 +79,12 @@ enum Act {
     Unsends,
     /// Takes the link down.
     GoesDown,
+    /// Posts messages in one hold, one of which gets an Abort of the provider, and tells the sending thread; more than
+    /// a second later takes the link down.
+    PostsAborted,
+    /// Takes, serves and gives the next turn, whose request is queued, in holds that may take and give several; tells
+    /// the sending thread; and more than a second later takes the link down.
+    GivesAndTells,
 }
 
 /// What a thread sleeps for.
@@ -65,8 +92,12 @@ enum Act {
 pub(super) enum Sleep {
     /// Until a message of this text isn't held back.
     ForRoom(&'static str),
+    /// The same, after a while.
+    ForRoomLater(&'static str),
     /// Until the link is quiet.
     ForQuiet,
+    /// Until there is something to be sent, which can't be sent then: so it takes the link down.
+    ForParcel,
 }
 
 /// Sleeps until a message of this text isn't held back.
@@ -91,13 +122,23 @@ fn sleep_for<R: Wait + Clock, A: Ledger, B: Ledger, C: Ledger>(
     table: &Table,
     sleep: Sleep,
 ) -> &'static str {
+    if let Sleep::ForRoomLater(_) = sleep {
+        thread::sleep(rt, Duration::from_millis(2 * PAUSE));
+    }
     let Ok(start) = Instant::now(rt) else {
         return "no clock";
     };
     match sleep {
-        Sleep::ForRoom(text) => await_room(rt, alloc, hub, table, text),
+        Sleep::ForRoom(text) | Sleep::ForRoomLater(text) => await_room(rt, alloc, hub, table, text),
         Sleep::ForQuiet => {
             let _is_quiet = hub.await_quiet(rt, Duration::from_millis(LATE));
+        }
+        Sleep::ForParcel => {
+            if let Some(parcel) = hub.await_parcel(rt)
+                && let Err(foreign) = hub.unsent(rt, parcel)
+            {
+                foreign.abandon();
+            }
         }
     }
     match start.elapsed(rt) {
@@ -108,7 +149,7 @@ fn sleep_for<R: Wait + Clock, A: Ledger, B: Ledger, C: Ledger>(
 }
 
 /// Sleeps so many milliseconds at most until the link is quiet: whether it is.
-fn await_quiet<R: Wait + Clock, A: Ledger, B: Ledger, C: Ledger>(
+pub(super) fn await_quiet<R: Wait + Clock, A: Ledger, B: Ledger, C: Ledger>(
     rt: &R,
     hub: &Hub<A, B, C>,
     milliseconds: u64,
@@ -179,7 +220,7 @@ impl<
     }
 
     /// Sends so many parcels.
-    fn send_all(&mut self, count: usize) -> &'static str {
+    pub(super) fn send_all(&mut self, count: usize) -> &'static str {
         for _ in 0..count {
             if self.send(true) != "sent" {
                 return "else";
@@ -196,7 +237,7 @@ impl<
     }
 
     /// Opens the first dialogue of the link, and gives it 64 entries that wait.
-    fn open_full_dialogue(&mut self, words: &mut Words) {
+    pub(super) fn open_full_dialogue(&mut self, words: &mut Words) {
         words.say(self.offer_text(EMPTY_BEGIN));
         words.say(self.turn(0, true));
         self.fill_dialogue(words);
@@ -251,23 +292,45 @@ impl<
     fn make_act(&mut self, act: Act) -> &'static str {
         match act {
             Act::GivesLate => {
-                self.turn(17, false);
+                self.turn(49, false);
                 thread::sleep(self.rt, Duration::from_millis(LATE));
-                self.turn(17, true)
+                self.turn(49, true)
             }
             Act::Gives => self.turn(1, true),
+            Act::GivesSeveral => self.give_one_of_several(),
+            Act::PostsAndGives => {
+                self.post_list(&[UNIDIRECTIONAL, UNIDIRECTIONAL]);
+                self.give_one_of_several()
+            }
             Act::GivesDropped => self.turn_of_closed(END_OF_SECOND, true),
             Act::PutsBack => self.turn_of_closed(END_OF_THIRD, false),
+            Act::PutsBackSeveral => self.turn_of_several(END_OF_FOURTH, false),
+            Act::GivesDroppedSeveral => self.turn_of_several(END_OF_FIFTH, true),
             Act::Serves => self.serve_all(),
             Act::Sends => self.send_late(PAUSE, true),
+            Act::SendsSeveral => self.send_one_of_several(),
+            Act::SendsTwo => self.send_two_of_several(4 * PAUSE, LATE),
             Act::SendsLate => self.send_late(LATE, true),
             Act::AwaitsAndSendsLate => self.await_and_send_late(LATE),
             Act::Unsends => self.send_late(PAUSE, false),
-            Act::GoesDown => {
-                self.hub.down(self.rt);
-                "down"
+            Act::GoesDown => self.go_down_late(0),
+            Act::PostsAborted => {
+                self.post_list(&[UNIDIRECTIONAL, STRANGE, UNIDIRECTIONAL]);
+                self.go_down_late(LATE)
+            }
+            Act::GivesAndTells => {
+                self.give_one_of_several();
+                self.hub.tell_sender();
+                self.go_down_late(LATE)
             }
         }
+    }
+
+    /// Takes the link down this number of milliseconds later.
+    fn go_down_late(&mut self, milliseconds: u64) -> &'static str {
+        thread::sleep(self.rt, Duration::from_millis(milliseconds));
+        self.hub.down(self.rt);
+        "down"
     }
 
     /// After a while, makes the calls of an act, and keeps the word of the last one.
@@ -305,17 +368,18 @@ impl<
         caller.open_full_dialogue(words);
         let mut caller = caller.act_while(Sleep::ForRoom(REJECT), Act::Gives, words);
         words.say(caller.offer(rejects(alloc)));
+        let mut caller = caller.act_while(Sleep::ForRoom(REJECT), Act::GivesSeveral, words);
+        words.say(caller.offer(rejects(alloc)));
+        let mut caller = caller.act_while(Sleep::ForRoom(REJECT), Act::PostsAndGives, words);
+        words.say(caller.offer(rejects(alloc)));
         let mut caller = caller.act_while(Sleep::ForRoom(REJECT), Act::GivesLate, words);
         words.say(caller.offer_text(REJECT));
         words.say(caller.serve_all());
         words.say(caller.strangers());
         let mut caller = caller.act_while(Sleep::ForRoom(STRANGE), Act::SendsLate, words);
         words.say(caller.offer_text(STRANGE));
-        let mut caller = caller.act_while(Sleep::ForRoom(STRANGE), Act::AwaitsAndSendsLate, words);
-        words.say(await_quiet(caller.rt, caller.hub, 20));
-        words.say(caller.send_all(Outbox::MOST_ABORTS - 2));
-        let caller = caller.act_while(Sleep::ForQuiet, Act::Sends, words);
-        let mut caller = caller.wake_by_turns(words);
+        let caller = caller.act_while(Sleep::ForRoom(STRANGE), Act::AwaitsAndSendsLate, words);
+        let mut caller = caller.wake_by_parcels(words);
         caller.fill_dialogue(words);
         words.say(caller.offer_text(STRANGE));
         let mut caller = caller.act_while(Sleep::ForRoom(REJECT), Act::Unsends, words);
@@ -324,17 +388,53 @@ impl<
         caller
     }
 
-    /// Lets another thread sleep until the link is quiet, by a turn that is given, one whose request is dropped, and
-    /// one that is put back, in this order.
+    /// Lets another thread sleep while Aborts wait, 63 at first: until one more may wait, which the parcel makes room for
+    /// that is picked after one was sent; and until the link is quiet, when the last one was sent, alone or in the hold
+    /// that looks for the next one. Then by turns.
+    fn wake_by_parcels(self, words: &mut Words) -> Self {
+        let mut caller = self;
+        words.say(await_quiet(caller.rt, caller.hub, 20));
+        words.say(caller.offer_text(STRANGE));
+        let mut caller = caller.act_while(Sleep::ForRoomLater(STRANGE), Act::SendsTwo, words);
+        words.say(caller.send_all(Outbox::MOST_ABORTS - 2));
+        let mut caller = caller.act_while(Sleep::ForQuiet, Act::Sends, words);
+        words.say(caller.offer_text(STRANGE));
+        let caller = caller.act_while(Sleep::ForQuiet, Act::SendsSeveral, words);
+        caller.wake_by_turns(words)
+    }
+
+    /// Lets another thread sleep until the link is quiet, by a turn that is given, alone and among several, one whose
+    /// request is dropped, and one that is put back, in this order; and then by one that is put back and one whose
+    /// request is dropped among several.
     fn wake_by_turns(self, words: &mut Words) -> Self {
         let mut caller = self;
         let alloc = caller.alloc;
         words.say(caller.offer_text(REJECT));
         let mut caller = caller.act_while(Sleep::ForQuiet, Act::Serves, words);
+        words.say(caller.offer_text(REJECT));
+        let mut caller = caller.act_while(Sleep::ForQuiet, Act::GivesSeveral, words);
         words.say(caller.offer(begin(alloc, 0x2A)));
         let mut caller = caller.act_while(Sleep::ForQuiet, Act::GivesDropped, words);
         words.say(caller.offer(begin(alloc, 0x2B)));
-        caller.act_while(Sleep::ForQuiet, Act::PutsBack, words)
+        let mut caller = caller.act_while(Sleep::ForQuiet, Act::PutsBack, words);
+        words.say(caller.offer(begin(alloc, 0x2C)));
+        let mut caller = caller.act_while(Sleep::ForQuiet, Act::PutsBackSeveral, words);
+        words.say(caller.offer(begin(alloc, 0x2D)));
+        caller.act_while(Sleep::ForQuiet, Act::GivesDroppedSeveral, words)
+    }
+
+    /// Lets another thread sleep until there is something to be sent: an Abort of the provider that answers one of
+    /// several messages, or the answer to a call.
+    pub(super) fn wake_sender(self, is_abort: bool, words: &mut Words) -> Self {
+        let alloc = self.alloc;
+        let mut caller = self;
+        words.say(caller.offer(begin(alloc, 0x2A)));
+        let act = if is_abort {
+            Act::PostsAborted
+        } else {
+            Act::GivesAndTells
+        };
+        caller.act_while(Sleep::ForParcel, act, words)
     }
 
     /// Lets another thread sleep, for room or until the link is quiet, when the link goes down.

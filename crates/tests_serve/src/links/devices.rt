@@ -107,9 +107,12 @@ const ROWS: [Row; 2] = [
     },
 ];
 
-/// How many frames of 500 octets, which nobody can read, have more lines than there is room for: 8,191 in the book, and
-/// 6 MiB of text, about 6,000.
-const MANY_FRAMES: usize = 16_000;
+/// How many frames of 500 octets, which nobody can read, have more lines than there is room for: 8,191 in the book,
+/// 4 MiB of messages that wait, about 8,600, as many whose text is being made, and 6 MiB of text, about 6,200.
+const MANY_FRAMES: usize = 33_000;
+
+/// How many of them are written at once.
+const FRAMES_AT_ONCE: usize = 100;
 
 /// Makes a call on each of two links, fills the places for lines of the first one, makes another call on each, mends
 /// the device, and makes a third one once the log is written again. `None`: one wasn't answered, or the log wasn't
@@ -129,8 +132,12 @@ fn fill_and_mend<R: Net<Stream = TcpStream> + Wait + Clock>(
     let mut frame = Vec::new(alloc);
     frame.extend_from_slice(&[0, 0, 1, 244]).ok()?;
     frame.resize(504, 0).ok()?;
-    for _ in 0..MANY_FRAMES {
-        first.write(frame.as_slice())?;
+    let mut frames = Vec::new(alloc);
+    for _ in 0..FRAMES_AT_ONCE {
+        frames.extend_from_slice(frame.as_slice()).ok()?;
+    }
+    for _ in 0..MANY_FRAMES / FRAMES_AT_ONCE {
+        first.write(frames.as_slice())?;
     }
     // Its answer shows that all of them came; its lines find no place.
     make_calls(alloc, &mut first, 1, 1)?;

@@ -36,6 +36,8 @@ enum Cause {
 struct Row {
     /// How many calls its client makes first.
     calls: u32,
+    /// How many turns its receiving thread serves at once at most.
+    most_helped: usize,
     /// What its log has in it before the cause comes.
     log: &'static str,
     cause: Cause,
@@ -53,10 +55,15 @@ struct Row {
 /// 10,000 calls some are held back then: 4,096 dialogues wait for their answers to be sent.
 const SERVED_7000: &str = "\n0 T 00001B58 0 2\n";
 
+/// The line of the log that says that the last of 4,000 calls is served. The answers of some more block the receiving
+/// thread, if it serves and sends.
+const SERVED_4000: &str = "\n0 T 00000FA0 0 2\n";
+
 /// The ways in which link 0 ends.
-const ROWS: [Row; 5] = [
+const ROWS: [Row; 7] = [
     Row {
         calls: 500,
+        most_helped: Settings::MOST_HELPED,
         log: "",
         cause: Cause::EndOfInput,
         least_seconds: 0,
@@ -67,6 +74,7 @@ const ROWS: [Row; 5] = [
     },
     Row {
         calls: 6_500,
+        most_helped: 0,
         log: "",
         cause: Cause::UnreadAnswers,
         least_seconds: 2,
@@ -77,6 +85,7 @@ const ROWS: [Row; 5] = [
     },
     Row {
         calls: 10_000,
+        most_helped: 0,
         log: SERVED_7000,
         cause: Cause::ClientGone,
         least_seconds: 0,
@@ -87,6 +96,7 @@ const ROWS: [Row; 5] = [
     },
     Row {
         calls: 10_000,
+        most_helped: 0,
         log: SERVED_7000,
         cause: Cause::LogFault,
         least_seconds: 0,
@@ -96,7 +106,30 @@ const ROWS: [Row; 5] = [
         fault: Some(ServeFault::UnwrittenLog),
     },
     Row {
+        calls: 10_000,
+        most_helped: Settings::MOST_HELPED,
+        log: SERVED_4000,
+        cause: Cause::ClientGone,
+        least_seconds: 0,
+        event: " link 0 down write fault\n",
+        other_event: " link 0 down read fault\n",
+        told: "link 0 accepted ",
+        fault: None,
+    },
+    Row {
+        calls: 10_000,
+        most_helped: Settings::MOST_HELPED,
+        log: SERVED_4000,
+        cause: Cause::LogFault,
+        least_seconds: 0,
+        event: " link 0 down log fault\n",
+        other_event: " link 0 down log fault\n",
+        told: "link 0 accepted ",
+        fault: Some(ServeFault::UnwrittenLog),
+    },
+    Row {
         calls: 0,
+        most_helped: Settings::MOST_HELPED,
         log: "",
         cause: Cause::Entries,
         least_seconds: 0,
@@ -171,7 +204,9 @@ where
     R: Threads + Wait + Clock + Net<Listener = TcpListener, Stream = TcpStream>,
     R: Copy + Send + Sync + 'static,
 {
-    let settings = Settings::new(2, 2).ok_or("settings")?;
+    let settings = Settings::new(2, 2)
+        .ok_or("settings")?
+        .with_most_helped(row.most_helped);
     let settings = if row.cause == Cause::Entries {
         settings.with_most_entries(1_000)
     } else {

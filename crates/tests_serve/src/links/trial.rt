@@ -24,15 +24,22 @@ const MOST_LOOKS: u32 = 3_000;
 /// A text that one thread writes and others read.
 pub(crate) type Text = Arc<Mutex<Vec<u8>>>;
 
+/// Whether octets have this in them, after this number of them.
+fn has_text(octets: &[u8], seen: usize, wanted: &str) -> bool {
+    str::from_utf8(octets.get(seen..).unwrap_or(&[])).is_ok_and(|text| text.contains(wanted))
+}
+
 /// Waits until a text has this in it. `None`: it hadn't in time.
 pub(crate) fn await_text<R: Wait + Clock>(rt: &R, text: &Text, wanted: &str) -> Option<()> {
+    // What was looked at, except what may be the beginning.
+    let mut seen: usize = 0;
     for _ in 0..MOST_LOOKS {
-        if str::from_utf8(text.lock(rt).as_slice())
-            .ok()?
-            .contains(wanted)
-        {
+        let octets = text.lock(rt);
+        if has_text(octets.as_slice(), seen, wanted) {
             return Some(());
         }
+        seen = octets.len().saturating_sub(wanted.len());
+        drop(octets);
         thread::sleep(rt, Duration::from_millis(20));
     }
     None
