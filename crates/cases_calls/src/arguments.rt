@@ -8,6 +8,7 @@
 //! | `release CAUSE` | those of ReleaseCall with this cause, as `user-busy` |
 //! | `request-report` | those of RequestReportBCSMEvent |
 //! | `continue IDENTIFIER` | the octets of the Invoke of Continue |
+//! | `activity-test IDENTIFIER` | the octets of the Invoke of ActivityTest |
 //! | `operation CODE` | the operation of this code, with its code and class; or `-` |
 //! | `event CODE` | the event of this code, and the code that it has |
 //! | `error NAME` | the code of this error, as `missingParameter` |
@@ -21,7 +22,8 @@ use crate::texts::{push_digits, push_name, push_value};
 use fp_digits::{Cause, Number};
 use fp_inap::{
     Event, EventReport, InitialDp, Leg, Operation, OperationError, read_event_report,
-    read_initial_dp, write_connect, write_continue, write_release, write_request_report,
+    read_initial_dp, write_activity_test, write_connect, write_continue, write_release,
+    write_request_report,
 };
 use std::alloc::Global;
 use std::fmt::Write;
@@ -133,6 +135,14 @@ fn continuing(alloc: Global, text: &str, out: &mut String) -> anyhow::Result<()>
     push_written(out, invoke)
 }
 
+/// The octets of the Invoke of ActivityTest.
+fn activity_test(alloc: Global, text: &str, out: &mut String) -> anyhow::Result<()> {
+    let identifier: i8 = text.parse()?;
+    let mut invoke = new_writer(alloc)?;
+    write_activity_test(identifier, &mut invoke)?;
+    push_written(out, invoke)
+}
+
 /// The operation of a code, with its code and its class.
 fn operation(text: &str, out: &mut String) -> anyhow::Result<()> {
     let Some(operation) = Operation::from_code(text.parse()?) else {
@@ -180,6 +190,7 @@ pub(crate) fn answer(
         "release" => release(alloc, rest, out),
         "request-report" => request_report(alloc, out),
         "continue" => continuing(alloc, rest, out),
+        "activity-test" => activity_test(alloc, rest, out),
         "operation" => operation(rest, out),
         "event" => event(rest, out),
         "error" => error(rest, out),

@@ -11,6 +11,9 @@
 //! | `ism error ID` | what a ReturnError means |
 //! | `ism reject ID` | what a Reject means |
 //! | `ism due MOMENT` | how many are due at this moment, and end |
+//! | `ism class ID` | the class of the active invocation with this identifier, or `-` |
+//! | `ism testing` | whether a test of the dialogue is active |
+//! | `ism test-due MOMENT` | whether one is due at this moment |
 //! | `ism fail COUNT CLASS MOMENT` | so many start, and each gets its ReturnError before the next one: their identifiers |
 //! | `ism keep` | the list as it is, of which a copy is kept |
 //! | `ism kept` | the copy |
@@ -89,6 +92,9 @@ fn change(list: &mut Invocations, text: &str, out: &mut String) -> anyhow::Resul
         "error" => error(list, text, out),
         "reject" => reject(list, text, out),
         "due" => due(list, text, out),
+        "class" => class(list, text, out),
+        "testing" => push_answer(list.testing(), out),
+        "test-due" => test_due(list, text, out),
         "fail" => fail(list, text, out),
         _ => bail!("no such case"),
     }
@@ -139,6 +145,26 @@ fn push_outcome(outcome: Outcome, out: &mut String) -> anyhow::Result<()> {
 fn due(list: &mut Invocations, moment: &str, out: &mut String) -> anyhow::Result<()> {
     let count = list.due(moment_of(moment)?);
     write!(out, "{count}")?;
+    Ok(())
+}
+
+/// Writes the class of the active invocation with an identifier, or `-`.
+fn class(list: &Invocations, identifier: &str, out: &mut String) -> anyhow::Result<()> {
+    match list.class_of(identifier.parse()?) {
+        Some(class) => write!(out, "{class:?}")?,
+        None => out.push_str("-")?,
+    }
+    Ok(())
+}
+
+/// Writes whether a test is due.
+fn test_due(list: &Invocations, moment: &str, out: &mut String) -> anyhow::Result<()> {
+    push_answer(list.is_test_due(moment_of(moment)?), out)
+}
+
+/// Writes `yes` or `no`.
+fn push_answer(is: bool, out: &mut String) -> anyhow::Result<()> {
+    out.push_str(if is { "yes" } else { "no" })?;
     Ok(())
 }
 

@@ -1,4 +1,4 @@
--- An argument says one thing, so what is read of it is what it says.
+-- An argument has one meaning, so the value that is read is that meaning.
 use Rattle.std.proofs.Common.{◌≡◌, ℕ, Bool, true, false, List, [], ◌∷◌, Option, Some, None, Result, Ok, Err, IfOk, IfErr, refl, sym, ◌∙◌, ap, subst}
 use Rattle.std.specs.Prelude.{option_map, pos}
 use Rattle.fp_ber.specs.Tree.{Tree, Trees}
@@ -15,7 +15,7 @@ use Rattle.fp_inap.specs.InitialDp.{IsInitialDp, IsKey, number_in}
 use Rattle.fp_inap.specs.Members.{IsSequence, HoldsOctets, HoldsMembers, IsOctet}
 use Rattle.fp_inap.proofs.Sequences.{sequence_same, octets_same, members_same, octet_same}
 
--- octets hold one service key
+-- octets hold at most one service key
 key_same : (octets : Option (List ℕ)) (a b : Option ℕ) → IsKey octets a → IsKey octets b → a ≡ b
 key_same None None None g h = refl
 key_same None None (Some b) g h = absurd h
@@ -24,7 +24,7 @@ key_same (Some octets) None b g h = absurd g
 key_same (Some octets) (Some a) None g h = absurd h
 key_same (Some octets) (Some a) (Some b) g h = let same : Some (pos a) ≡ Some (pos b) = sym g ∙ h in cc
 
--- where all parts are the same, so is the whole
+-- equal parts make equal values
 same_fields : (a a' : Option ℕ) (b b' c c' : Option Number) (d d' : Option ℕ) (e e' : Option Event) → a ≡ a' → b ≡ b' → c ≡ c' → d ≡ d' → e ≡ e'
     → ◌≡◌ {A = InitialDp}
     (record { key = a; called = b; calling = c; category = d; event = e })
@@ -50,20 +50,20 @@ initial_dp_same t x y g h =
     (octet_same h.category x.category y.category (subst (λ o. IsOctet o x.category) category g.is_category) h.is_category)
     (g.is_event ∙ (ap (option_map event_of) octet ∙ sym h.is_event))
 
--- what is read, where nothing but what the argument says is, and no refusal is wrong
+-- a reader that returns only the argument's meaning, and refuses only what has none, returns it
 pub initial_dp_read : (t : Tree) (r : Result InitialDp Mistyped) → IfOk r (IsInitialDp t) → IfErr r (λ m. (dp : InitialDp) → IsInitialDp t dp → ⊥)
     → (dp : InitialDp) → IsInitialDp t dp → r ≡ Ok dp
 initial_dp_read t (Ok x) ok err dp is = ap Ok (initial_dp_same t x dp ok is)
 initial_dp_read t (Err m) ok err dp is = absurd (err dp is)
 
--- members are one leg
+-- members hold at most one leg
 leg_members_same : (a b : Leg) → leg_members a ≡ leg_members b → a ≡ b
 leg_members_same (Sending a) (Sending b) is = cc
 leg_members_same (Sending a) (Receiving b) is = cc
 leg_members_same (Receiving a) (Sending b) is = cc
 leg_members_same (Receiving a) (Receiving b) is = cc
 
--- so are members that needn't be there
+-- also members that may be absent
 leg_same : (members : Option Trees) (a b : Option Leg) → IsLeg members a → IsLeg members b → a ≡ b
 leg_same None None None g h = refl
 leg_same None None (Some b) g h = absurd h
@@ -72,7 +72,7 @@ leg_same (Some members) None b g h = absurd g
 leg_same (Some members) (Some a) None g h = absurd h
 leg_same (Some members) (Some a) (Some b) g h = ap Some (leg_members_same a b (sym g ∙ h))
 
--- octets are one messageType
+-- octets hold at most one messageType
 message_type_same : (octets : Option (List ℕ)) (a b : Bool) → IsMessageType octets a → IsMessageType octets b → a ≡ b
 message_type_same None a b g h = g ∙ sym h
 message_type_same (Some octets) false false g h = refl
@@ -80,14 +80,14 @@ message_type_same (Some octets) false true g h = cc
 message_type_same (Some octets) true false g h = cc
 message_type_same (Some octets) true true g h = refl
 
--- members are one miscCallInfo
+-- members hold at most one miscCallInfo
 call_info_same : (members : Option Trees) (a b : Bool) → IsCallInfo members a → IsCallInfo members b → a ≡ b
 call_info_same None a b g h = g ∙ sym h
 call_info_same (Some members) a b g h =
     let octets = octets_same members 0 g.1.0 h.1.0 g.1.1 h.1.1 in
     message_type_same h.1.0 a b (subst (λ o. IsMessageType o a) octets g.1.2) h.1.2
 
--- where all parts are the same, so is the whole
+-- equal parts make equal values
 same_report : (a a' : Event) (b b' : Option Leg) (c c' : Bool) → a ≡ a' → b ≡ b' → c ≡ c'
     → ◌≡◌ {A = EventReport} (record { event = a; leg = b; notification = c }) (record { event = a'; leg = b'; notification = c' })
 same_report a a' b b' c c' event leg notification = cc
@@ -105,7 +105,7 @@ event_report_same t x y g h =
     (leg_same h.leg x.leg y.leg (subst (λ o. IsLeg o x.leg) leg g.is_leg) h.is_leg)
     (call_info_same h.call_info x.notification y.notification (subst (λ o. IsCallInfo o x.notification) info g.is_notification) h.is_notification)
 
--- what is read, where nothing but what the argument says is, and no refusal is wrong
+-- a reader that returns only the argument's meaning, and refuses only what has none, returns it
 pub event_report_read : (t : Tree) (r : Result EventReport Mistyped) → IfOk r (IsEventReport t) → IfErr r (λ m. (report : EventReport) → IsEventReport t report → ⊥)
     → (report : EventReport) → IsEventReport t report → r ≡ Ok report
 event_report_read t (Ok x) ok err report is = ap Ok (event_report_same t x report ok is)

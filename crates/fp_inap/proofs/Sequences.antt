@@ -1,4 +1,4 @@
--- The members of a sequence: what the one that has a number is, and that a sequence says one thing.
+-- The members of a sequence: the one that has a number, and that a sequence has one meaning.
 use Rattle.std.proofs.Common.{◌≡◌, ℕ, ◌+◌, ◌<◌, ◌==◌, List, ◌∷◌, length, get_or, drop, Bool, true, false, if◌then◌else◌, Option, Some, None, refl, sym, ◌∙◌, arith, rules}
 use Rattle.fp_ber.specs.declared.element.Class.TheVariants.{Context}
 use Rattle.std.proofs.lemmas.List.{drop_more}
@@ -8,17 +8,17 @@ use Rattle.fp_ber.specs.Tree.{Tree, Trees, none, more}
 use Rattle.fp_ber.specs.View.{tree_of, forest_of}
 use Rattle.fp_inap.specs.Members.{AllContext, IsSequence, HoldsOctets, HoldsMembers, IsOctet, class_of, number_of, with_number}
 
--- the class of what an element stands for
+-- the class of an element's tree
 class_of-tree : (e : Element) → class_of (tree_of e) ≡ e.class
 class_of-tree e = search (rules, the_lemmas)
 
--- all members have context tags where the first one has and the others have
+-- all members have context tags if the first one and the others have
 pub context_step : (es : List Element) (i : ℕ) (e : Element) → i < length es → e ≡ get_or es i e → e.class ≡ Context
     → AllContext (forest_of (drop (i + 1) es)) → AllContext (forest_of (drop i es))
 context_step es i e h is class rest =
     rw (drop_more es i e h, ← is) (class_of-tree e ∙ class, rest)
 
--- where all members have context tags, so has the one at a place, and so have those behind it
+-- if all members have context tags, so does the one at an index, and so do those after it
 pub context_at : (es : List Element) (i : ℕ) (e : Element) → i < length es → e ≡ get_or es i e → AllContext (forest_of (drop i es))
     → (e.class ≡ Context) × AllContext (forest_of (drop (i + 1) es))
 context_at es i e h is all =

@@ -24,6 +24,6 @@ code_of ODisconnect = 9
 code_of OAbandon = 10
 code_of (Other code) = code
 
--- an event that has a name is told by it: `Other` is an event whose code has none
+-- an event that has a name has its name here: `Other` is an event whose code has none
 abbrev pub IsByName : Event → Type 0
 IsByName event = event_of (code_of event) ≡ event

@@ -1,6 +1,5 @@
--- The argument of EventReportBCSM, after ITU-T Q.1218: a sequence with eventTypeBCSM, tag 80, A2, which is passed
--- over, legID, A3, and miscCallInfo, A4, each at most once, in any order. Members with other context tags are passed
--- over.
+-- The argument of EventReportBCSM, after ITU-T Q.1218: a sequence with eventTypeBCSM, tag 80, A2, which is skipped,
+-- legID, A3, and miscCallInfo, A4, each at most once, in any order. Members with other context tags are skipped.
 use Rattle.std.specs.Prelude.{◌≡◌, ℕ, Bool, true, false, List, [], ◌∷◌, Option, Some, None, ⊤}
 use Rattle.fp_ber.specs.declared.element.Class.TheVariants.{Context}
 use Rattle.fp_ber.specs.Tree.{Tree, Trees, primitive, none, more}
@@ -34,7 +33,7 @@ IsCallInfo None notification = notification ≡ false
 IsCallInfo (Some members) notification =
     AllContext members × ((octets : Option (List ℕ)) × HoldsOctets members 0 octets × IsMessageType octets notification)
 
--- the element is the argument of EventReportBCSM that says this
+-- the element is the argument of EventReportBCSM with these contents
 pub record IsEventReport (t : Tree) (report : EventReport) : Type 0 where
   pub members : Trees
   pub event : ℕ

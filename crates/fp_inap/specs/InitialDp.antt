@@ -1,6 +1,6 @@
 -- The argument of InitialDP, after ITU-T Q.1218: a sequence with serviceKey, tag 80, calledPartyNumber, 82,
 -- callingPartyNumber, 83, callingPartysCategory, 85, and eventTypeBCSM, 9C, each at most once, in any order. Members
--- with other context tags are passed over.
+-- with other context tags are skipped.
 use Rattle.std.specs.Prelude.{◌≡◌, ℕ, pos, List, Option, Some, None, option_map, ⊤}
 use Rattle.fp_ber.specs.Integer.{integer}
 use Rattle.fp_ber.specs.Tree.{Tree, Trees}
@@ -22,7 +22,7 @@ abbrev pub number_in : Option (List ℕ) → Option Number
 number_in None = None
 number_in (Some octets) = numbers.number_of octets
 
--- the element is the argument of InitialDP that says this; a number whose octets hold none is absent
+-- the element is the argument of InitialDP with these contents; a number whose octets hold none is absent
 pub record IsInitialDp (t : Tree) (dp : InitialDp) : Type 0 where
   pub members : Trees
   pub key : Option (List ℕ)

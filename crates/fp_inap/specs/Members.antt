@@ -1,5 +1,5 @@
--- A sequence whose members have tags of the context class, in any order: which members have a number, and what the
--- one that has it holds.
+-- A sequence whose members have tags of the context class, in any order: the members that have a number, and the
+-- contents of the one that has it.
 use Rattle.std.specs.Prelude.{◌≡◌, ℕ, ◌==◌, List, [], ◌∷◌, Option, Some, None, ⊤, if◌then◌else◌}
 use Rattle.fp_ber.specs.declared.element.Class.{Class}
 use Rattle.fp_ber.specs.declared.element.Class.TheVariants.{Universal, Context}
@@ -29,12 +29,12 @@ abbrev pub with_number : ℕ → Trees → List Tree
 with_number number none = []
 with_number number (more t ts) = if number_of t == number then t ∷ with_number number ts else with_number number ts
 
--- no member has the number; or just one has it, a primitive one with these octets
+-- no member has the number; or exactly one has it, a primitive one with these octets
 abbrev pub HoldsOctets : Trees → ℕ → Option (List ℕ) → Type 0
 HoldsOctets members number None = with_number number members ≡ []
 HoldsOctets members number (Some octets) = with_number number members ≡ primitive Context number octets ∷ []
 
--- no member has the number; or just one has it, a constructed one with these elements
+-- no member has the number; or exactly one has it, a constructed one with these elements
 abbrev pub HoldsMembers : Trees → ℕ → Option Trees → Type 0
 HoldsMembers members number None = with_number number members ≡ []
 HoldsMembers members number (Some children) = with_number number members ≡ constructed Context number children ∷ []

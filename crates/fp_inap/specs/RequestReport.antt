@@ -1,5 +1,5 @@
--- The argument of RequestReportBCSMEvent, after ITU-T Q.1218, as an element: a sequence that holds bcsmEvents, A0, and
--- these one sequence for each event.
+-- The argument of RequestReportBCSMEvent, after ITU-T Q.1218, as an element: a sequence that holds bcsmEvents, A0, with
+-- one sequence for each event.
 use Rattle.std.specs.Prelude.{ℕ, List, [], ◌∷◌}
 use Rattle.fp_ber.specs.declared.element.Class.TheVariants.{Universal, Context}
 use Rattle.fp_ber.specs.Tree.{Tree, Trees, primitive, constructed, none, more}
@@ -8,7 +8,7 @@ use Rattle.fp_inap.specs.declared.event.Event.TheVariants.{RouteSelectFailure, O
 use Rattle.fp_inap.specs.Event.{code_of}
 
 -- what a switch does at an event, monitorMode: it reports the event as a request and waits, or as a notification and
--- goes on. That it reports nothing, transparent, is never asked for.
+-- continues. The mode transparent, in which it reports nothing, is never requested.
 pub data MonitorMode : Type 0 where
   interrupted : MonitorMode
   notify_and_continue : MonitorMode
@@ -37,7 +37,7 @@ abbrev pub bcsm_events : List BcsmEvent → Trees
 bcsm_events [] = none
 bcsm_events (event ∷ events) = more (bcsm_event event) (bcsm_events events)
 
--- the ends of an attempt that failed on leg 2, the answer on leg 2, and the caller's abandoning on leg 1
+-- the three failures of an attempt on leg 2, the answer on leg 2, and the caller's abandoning on leg 1
 abbrev pub call_events : List BcsmEvent
 call_events =
     (record { event = RouteSelectFailure; mode = interrupted; leg = 2 })

@@ -18,7 +18,7 @@ use std::alloc::AllocError;
 const DESTINATION_ROUTING_ADDRESS: u16 = 0;
 
 /// Puts the argument of Connect (after ITU-T Q.1218) for a destination of these digits, 1 to 15 of them, each 0 to 9,
-/// before the octets that are there.
+/// before the octets written so far.
 ///
 /// The argument is a sequence of destinationRoutingAddress alone, tag 0, and that of one called party number, as
 /// [`write_called`] spells it. If memory runs out, nothing is promised of the octets.

@@ -12,7 +12,8 @@ use fp_ber::Writer;
 use fp_q773::{Code, write_invoke};
 use std::alloc::AllocError;
 
-/// Writes the Invoke of Continue (after ITU-T Q.1218), which has no argument.
+/// Writes the Invoke of Continue (after ITU-T Q.1218), which has no argument. If memory runs out, nothing is promised of
+/// the octets.
 pub fn write_continue(identifier: i8, out: &mut Writer) -> Result<(), AllocError>
     ensures exact { OnOk result (out.new
         ≡ canon (component_tree (value.invoke identifier None (value.local (code_of operations.Continue)) None)) ++ out.old) }

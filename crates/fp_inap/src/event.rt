@@ -18,13 +18,13 @@ pub enum Event {
     ODisconnect,
     /// 10, oAbandon: the caller left before an answer.
     OAbandon,
-    /// An event of another code, which it has. It can be written with the code of an event that has a name, but
-    /// [`Event::from_code`] never gives such a one, and nor does what is read.
+    /// An event with another code. [`Event::from_code`] and the readers never return this with the code of an event that
+    /// has a name.
     Other(u8),
 }
 
 impl Event {
-    /// The event with this code, by its name where it has one.
+    /// The event with this code, by its name if it has one.
     pub fn from_code(code: u8) -> Event
         ensures value { result ≡ event_of code }
         ensures code { code_of result ≡ code }

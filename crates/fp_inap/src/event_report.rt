@@ -34,24 +34,24 @@ const RECEIVING_SIDE: u16 = 1;
 /// The number of the context tag of messageType.
 const MESSAGE_TYPE: u16 = 0;
 
-/// What the argument of EventReportBCSM says (after ITU-T Q.1218).
+/// The contents of the argument of EventReportBCSM (after ITU-T Q.1218).
 #[derive(Clone, Copy, Debug, PartialEq, Eq)]
 pub struct EventReport {
-    /// The event that the switch met, eventTypeBCSM.
+    /// The event, eventTypeBCSM.
     pub event: Event,
-    /// The leg of the call at which it did, legID, if that is told.
+    /// The leg of the call at which it occurred, legID, if the report has one.
     pub leg: Option<Leg>,
-    /// Whether the switch goes on without waiting: messageType says notification, and not request.
+    /// Whether the switch continues without waiting: messageType is notification, and not request.
     pub notification: bool,
 }
 
-/// What the argument of EventReportBCSM says (after ITU-T Q.1218). Takes no memory.
+/// Reads the argument of EventReportBCSM (after ITU-T Q.1218). Takes no memory.
 ///
-/// The argument is a sequence of members with context tags, in any order, among them at most once each:
-/// eventTypeBCSM, tag 80, one octet, which must be there; A2, which is passed over; legID, A3, that holds
-/// just one 80 or 81 with one octet; miscCallInfo, A4, of members with context tags, among them at most one
-/// messageType, 80, with 0 (request) or 1 (notification). Where there is none, it is a request. Members with
-/// other context tags are passed over. Any other element is [`Mistyped`]. An event that has a name is told by it.
+/// The argument is a sequence of members with context tags, in any order. Each of these is there at most once:
+/// eventTypeBCSM, tag 80, one octet, which must be there; A2, which is skipped; legID, A3, that holds just one 80 or 81
+/// with one octet; miscCallInfo, A4, of members with context tags, among them at most one messageType, 80, with 0
+/// (request) or 1 (notification). Without messageType it is a request. Members with other context tags are skipped. Any
+/// other element is [`Mistyped`]. An event that has a name is returned by its name.
 pub fn read_event_report(argument: &Element) -> Result<EventReport, Mistyped>
     ensures ok { IfOk result (IsEventReport (tree_of argument.now)) }
     ensures only { (report : EventReport) → IsEventReport (tree_of argument.now) report → result ≡ Ok report }
@@ -60,7 +60,7 @@ pub fn read_event_report(argument: &Element) -> Result<EventReport, Mistyped>
     event_report_of(argument)
 }
 
-/// What the argument of EventReportBCSM says, as [`read_event_report`] says.
+/// Reads the argument of EventReportBCSM, as [`read_event_report`] does.
 fn event_report_of(argument: &Element) -> Result<EventReport, Mistyped>
     ensures ok { IfOk result (IsEventReport (tree_of argument.now)) }
     ensures err { IfErr result (λ _. (report : EventReport) → IsEventReport (tree_of argument.now) report → ⊥) }
@@ -80,7 +80,7 @@ fn event_report_of(argument: &Element) -> Result<EventReport, Mistyped>
     })
 }
 
-/// The leg that these members are, if they are there.
+/// The leg in these members, if they are there.
 fn leg_in(members: Option<&[Element]>) -> Result<Option<Leg>, Mistyped>
     ensures ok { IfOk result (IsLeg (forest_in members.entry)) }
     ensures err { IfErr result (λ _. (leg : Option Leg) → IsLeg (forest_in members.entry) leg → ⊥) }
@@ -97,7 +97,7 @@ fn leg_in(members: Option<&[Element]>) -> Result<Option<Leg>, Mistyped>
     Ok(Some(leg_of(side)?))
 }
 
-/// The leg that a member is.
+/// The leg in a member.
 fn leg_of(side: &Element) -> Result<Leg, Mistyped>
     ensures ok { IfOk result (λ leg. tree.more (tree_of side.now) tree.none ≡ leg_members leg) }
     ensures err { IfErr result (λ _. (leg : Leg) → tree.more (tree_of side.now) tree.none ≡ leg_members leg → ⊥) }
@@ -117,7 +117,7 @@ fn leg_of(side: &Element) -> Result<Leg, Mistyped>
     Ok(Leg::Receiving(*octet))
 }
 
-/// Whether the messageType in these members, if they are there, says notification.
+/// Whether the messageType in these members, if they are there, is notification.
 fn is_notification(members: Option<&[Element]>) -> Result<bool, Mistyped>
     ensures ok { IfOk result (IsCallInfo (forest_in members.entry)) }
     ensures err { IfErr result (λ _. (notification : Bool) → IsCallInfo (forest_in members.entry) notification → ⊥) }

@@ -25,10 +25,10 @@ const CALLING_PARTYS_CATEGORY: u16 = 5;
 
 const EVENT_TYPE_BCSM: u16 = 28;
 
-/// What the argument of InitialDP says (after ITU-T Q.1218). A part that is `None` is absent.
+/// The contents of the argument of InitialDP (after ITU-T Q.1218). A part that is `None` is absent.
 #[derive(Clone, Copy, Debug, PartialEq, Eq)]
 pub struct InitialDp {
-    /// The service key: the service that is asked for, 0 to 2,147,483,647.
+    /// The service key: the requested service, 0 to 2,147,483,647.
     pub key: Option<u32>,
     /// The called party number (Q.763, 3.9).
     pub called: Option<Number>,
@@ -36,17 +36,17 @@ pub struct InitialDp {
     pub calling: Option<Number>,
     /// The calling party's category (Q.763, 3.11).
     pub category: Option<u8>,
-    /// The detection point at which the call stands, eventTypeBCSM.
+    /// The detection point of the call, eventTypeBCSM.
     pub event: Option<Event>,
 }
 
-/// What the argument of InitialDP says (after ITU-T Q.1218). Takes no memory.
+/// Reads the argument of InitialDP (after ITU-T Q.1218). Takes no memory.
 ///
-/// The argument is a sequence of members with context tags, in any order, among them at most once each, and
+/// The argument is a sequence of members with context tags, in any order. Each of these is there at most once, and
 /// primitive: serviceKey, tag 0, an integer of one to four octets, not negative; calledPartyNumber, tag 2;
-/// callingPartyNumber, tag 3; callingPartysCategory, tag 5, one octet; eventTypeBCSM, tag 28, one octet.
-/// Members with other context tags are passed over. Any other element is [`Mistyped`]. A number whose octets
-/// hold none, as [`read_called`] says, is no error: it is absent. An event that has a name is told by it.
+/// callingPartyNumber, tag 3; callingPartysCategory, tag 5, one octet; eventTypeBCSM, tag 28, one octet. Members with
+/// other context tags are skipped. Any other element is [`Mistyped`]. A number whose octets hold none (see
+/// [`read_called`]) is no error: it is absent. An event that has a name is returned by its name.
 pub fn read_initial_dp(argument: &Element) -> Result<InitialDp, Mistyped>
     ensures ok { IfOk result (IsInitialDp (tree_of argument.now)) }
     ensures only { (dp : InitialDp) → IsInitialDp (tree_of argument.now) dp → result ≡ Ok dp }
@@ -55,7 +55,7 @@ pub fn read_initial_dp(argument: &Element) -> Result<InitialDp, Mistyped>
     initial_dp_of(argument)
 }
 
-/// What the argument of InitialDP says, as [`read_initial_dp`] says.
+/// Reads the argument of InitialDP, as [`read_initial_dp`] does.
 fn initial_dp_of(argument: &Element) -> Result<InitialDp, Mistyped>
     ensures ok { IfOk result (IsInitialDp (tree_of argument.now)) }
     ensures err { IfErr result (λ _. (dp : InitialDp) → IsInitialDp (tree_of argument.now) dp → ⊥) }
@@ -76,7 +76,7 @@ fn initial_dp_of(argument: &Element) -> Result<InitialDp, Mistyped>
     })
 }
 
-/// The integer that these octets hold, where it is not negative, if anything is there.
+/// The integer in these octets, if they are there. A negative one is a fault.
 fn key_in(octets: Option<&[u8]>) -> Result<Option<u32>, Mistyped>
     ensures ok { IfOk result (IsKey (octets_in octets.entry)) }
     ensures err { IfErr result (λ _. (key : Option ℕ) → IsKey (octets_in octets.entry) key → ⊥) }

@@ -1,26 +1,27 @@
 //! Operations of INAP and their arguments, written after INAP CS-1 of ITU-T Q.1218.
 //!
-//! The layer is handed the operation codes and the arguments that the components of a dialogue carry, and
-//! gives operations and values; or is handed values and puts arguments into a [`Writer`](fp_ber::Writer). An argument
-//! that is read is an [`Element`](fp_ber::Element): this layer never sees octets of a message that came. It asks the
-//! system for nothing but the memory of what it writes; reading takes none.
+//! The layer takes the operation codes and the arguments in the components of a dialogue and returns operations and
+//! values; or it takes values and puts arguments into a [`Writer`](fp_ber::Writer). It reads an argument from an
+//! [`Element`](fp_ber::Element) and never sees the octets of a received message. It asks the system for nothing but the
+//! memory of what it writes; reading takes none.
 //!
-//! * [`Operation`] and [`OperationError`] name the operations and their errors, and are the one place of
-//!   their codes and classes; [`Event`] and [`Leg`] name what the arguments speak of.
-//! * [`InitialDp`] and [`EventReport`] are what the arguments of InitialDP and EventReportBCSM say;
+//! * [`Operation`] and [`OperationError`] name the operations and their errors, and are the one place of their codes and
+//!   classes; [`Event`] and [`Leg`] name the events and legs in the arguments.
+//! * [`InitialDp`] and [`EventReport`] are the contents of the arguments of InitialDP and EventReportBCSM;
 //!   [`read_initial_dp`] and [`read_event_report`] read them.
-//! * [`write_connect`], [`write_release`] and [`write_request_report`] put arguments, and
-//!   [`write_continue`] gives the whole Invoke of Continue, which has none.
+//! * [`write_connect`], [`write_release`] and [`write_request_report`] put arguments; [`write_continue`] and
+//!   [`write_activity_test`] put the whole Invoke of Continue and of ActivityTest, which have none.
 //!
-//! The names are the Recommendation's. The codes, classes, tags, orders and layouts are this project's
-//! profile, and no claim about Q.1218 is made of them.
+//! The names are the Recommendation's. The codes, classes, tags, orders and layouts are this project's profile and no
+//! claim about Q.1218.
 //!
-//! The layer above may rely on this: an argument is read exactly where `IsInitialDp` of
-//! `specs/InitialDp.antt` or `IsEventReport` of `specs/EventReport.antt` holds, as the value that it says,
-//! and [`Mistyped`] is answered exactly where it says none; what is put is the canonical spelling of the
-//! element of `specs/` for what was handed in, which is in range to be spelled, in few octets.
+//! The layer above may rely on this: an argument is read exactly if `IsInitialDp` of `specs/InitialDp.antt` or
+//! `IsEventReport` of `specs/EventReport.antt` holds for some value, and the result is that value; otherwise it is
+//! [`Mistyped`]. What is put is the canonical spelling of the element of `specs/` for the values passed in, which is in
+//! range to be spelled, in few octets.
 #![tactic(auto)]
 
+mod activity_test;
 mod connect;
 mod continuing;
 mod event;
@@ -35,6 +36,7 @@ mod operation_error;
 mod release_call;
 mod request_report;
 
+pub use activity_test::write_activity_test;
 pub use connect::write_connect;
 pub use continuing::write_continue;
 pub use event::Event;

@@ -17,7 +17,7 @@ pub(crate) struct Members<'a> {
 }
 
 impl<'a> Members<'a> {
-    /// The members, if each of the elements has a tag of the context class.
+    /// The members, if every element has a tag of the context class.
     pub(crate) fn new(elements: &'a [Element]) -> Result<Members<'a>, Mistyped>
         ensures ok { IfOk result (λ members. (members.elements.now ≡ elements.now) × AllContext (forest_of elements.now)) }
         ensures err { IfErr result (λ _. AllContext (forest_of elements.now) → ⊥) }
@@ -40,7 +40,7 @@ impl<'a> Members<'a> {
         Members::new(elements)
     }
 
-    /// The one member with this number, if one has it. Two with it are a fault.
+    /// The one member with this number, if there is one. Two are a fault.
     fn only(&self, number: u16) -> Result<Option<&'a Element>, Mistyped>
         ensures ok { IfOk result (λ found. with_number number (forest_of self.now.elements.now) ≡ found_in found) }
         ensures err { IfErr result (λ _. 2 ≤ length (with_number number (forest_of self.now.elements.now))) }
@@ -57,8 +57,7 @@ impl<'a> Members<'a> {
         Ok(found)
     }
 
-    /// The octets of the one member with this number, if one has it. Two with it are a fault, and so is a
-    /// constructed one.
+    /// The octets of the one member with this number, if there is one. Two are a fault, and so is a constructed one.
     pub(crate) fn octets(&self, number: u16) -> Result<Option<&'a [u8]>, Mistyped>
         requires { AllContext (forest_of self.now.elements.now) }
         ensures ok { IfOk result (λ octets. HoldsOctets (forest_of self.now.elements.now) number (octets_in octets)) }
@@ -74,8 +73,7 @@ impl<'a> Members<'a> {
         Ok(Some(octets))
     }
 
-    /// The elements in the one member with this number, if one has it. Two with it are a fault, and so is a
-    /// primitive one.
+    /// The elements in the one member with this number, if there is one. Two are a fault, and so is a primitive one.
     pub(crate) fn members(&self, number: u16) -> Result<Option<&'a [Element]>, Mistyped>
         requires { AllContext (forest_of self.now.elements.now) }
         ensures ok { IfOk result (λ members. HoldsMembers (forest_of self.now.elements.now) number (forest_in members)) }
@@ -92,7 +90,7 @@ impl<'a> Members<'a> {
     }
 }
 
-/// Whether each of the elements has a tag of the context class.
+/// Whether every element has a tag of the context class.
 fn are_context(elements: &[Element]) -> bool
     ensures yes { IsTrue result → AllContext (forest_of elements.now) }
     ensures no { AllContext (forest_of elements.now) → IsTrue result }
@@ -105,7 +103,7 @@ fn are_context(elements: &[Element]) -> bool
     true
 }
 
-/// The one octet that there is, if anything is there.
+/// The octet of a member that has just one, if the member is there. Any other number of octets is a fault.
 pub(crate) fn octet_in(octets: Option<&[u8]>) -> Result<Option<u8>, Mistyped>
     ensures ok { IfOk result (λ octet. IsOctet (octets_in octets.entry) octet) }
     ensures err { IfErr result (λ _. (octet : Option ℕ) → IsOctet (octets_in octets.entry) octet → ⊥) }

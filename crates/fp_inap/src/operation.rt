@@ -21,6 +21,8 @@ pub enum Operation {
     EventReportBcsm = 24,
     /// continue: the switch goes on with the call.
     Continue = 31,
+    /// activityTest: the switch confirms that the dialogue still exists.
+    ActivityTest = 55,
 }
 
 impl Operation {
@@ -31,7 +33,7 @@ impl Operation {
         self as i32
     }
 
-    /// The operation with this code, and `None` where no operation has it.
+    /// The operation with this code, and `None` if no operation has it.
     pub fn from_code(code: i32) -> Option<Operation>
         ensures some { IfSome result (λ operation. code_of operation ≡ code) }
         ensures only { (operation : Operation) → code_of operation ≡ code → result ≡ Some operation }
@@ -43,11 +45,12 @@ impl Operation {
             23 => Some(Operation::RequestReportBcsmEvent),
             24 => Some(Operation::EventReportBcsm),
             31 => Some(Operation::Continue),
+            55 => Some(Operation::ActivityTest),
             _ => None,
         }
     }
 
-    /// The class of the operation (Q.771, 3.1.2.2): what its performer reports.
+    /// The class of the operation (Q.771, 3.1.2.2): which outcomes its performer reports.
     pub fn class(self) -> OperationClass
         ensures { result ≡ class_of self }
     {
@@ -55,6 +58,7 @@ impl Operation {
             Operation::InitialDp | Operation::Connect | Operation::RequestReportBcsmEvent => {
                 OperationClass::Class2
             }
+            Operation::ActivityTest => OperationClass::Class3,
             Operation::ReleaseCall | Operation::EventReportBcsm | Operation::Continue => {
                 OperationClass::Class4
             }

@@ -7,13 +7,13 @@ ghost use Rattle.fp_inap.specs.OperationError.{code_of};
 /// parameter.
 #[derive(Clone, Copy, Debug, PartialEq, Eq)]
 pub enum OperationError {
-    /// missingCustomerRecord: there is no record of the number.
+    /// missingCustomerRecord: the number has no record.
     MissingCustomerRecord = 6,
     /// missingParameter: the argument lacks what the operation needs.
     MissingParameter = 7,
-    /// unexpectedComponentSequence: the operation isn't one for now.
+    /// unexpectedComponentSequence: the operation isn't allowed in this state.
     UnexpectedComponentSequence = 14,
-    /// unexpectedDataValue: a value in the argument is none that is known.
+    /// unexpectedDataValue: a value in the argument is unknown.
     UnexpectedDataValue = 15,
 }
 

@@ -10,7 +10,7 @@ use fp_ber::{Class, Writer};
 use fp_digits::{Cause, cause};
 use std::alloc::AllocError;
 
-/// Puts the argument of ReleaseCall (after ITU-T Q.1218) with this cause before the octets that are there: an octet
+/// Puts the argument of ReleaseCall (after ITU-T Q.1218) with this cause before the octets written so far: an octet
 /// string with the octets of Q.763, 3.12. If memory runs out, nothing is promised of the octets.
 pub fn write_release(value: Cause, out: &mut Writer) -> Result<(), AllocError>
     ensures ok { OnOk result (out.new ≡ canon (release_call value) ++ out.old) }

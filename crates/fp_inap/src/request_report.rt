@@ -8,7 +8,7 @@ ghost use Rattle.fp_inap.specs.RequestReport.{request_report};
 use fp_ber::Writer;
 use std::alloc::AllocError;
 
-/// The argument of RequestReportBCSMEvent by which a call is followed, which is always the same. Each event is a
+/// The argument of RequestReportBCSMEvent that follows a call, which is always the same. Each event is a
 /// sequence of eventTypeBCSM, tag 80, monitorMode, 81, and legID, A2, of the sending side, 80.
 const REQUEST_REPORT: [u8; 69] = [
     // A sequence, and in it bcsmEvents.
@@ -25,9 +25,9 @@ const REQUEST_REPORT: [u8; 69] = [
     0x30, 11, 0x80, 1, 10, 0x81, 1, 1, 0xA2, 3, 0x80, 1, 1,
 ];
 
-/// Puts the argument of RequestReportBCSMEvent (after ITU-T Q.1218) by which a call is followed before the octets that
-/// are there: events 4, 5 and 6 interrupt it at leg 2, and 7 at leg 2 and 10 at leg 1 are notified. After want of
-/// memory nothing is promised of the octets.
+/// Puts the argument of RequestReportBCSMEvent (after ITU-T Q.1218) that follows a call before the octets written so
+/// far: events 4, 5 and 6 interrupt the call at leg 2; 7 at leg 2 and 10 at leg 1 are notified. If memory runs out,
+/// nothing is promised of the octets.
 pub fn write_request_report(out: &mut Writer) -> Result<(), AllocError>
     ensures ok { OnOk result (out.new ≡ canon request_report ++ out.old) }
 

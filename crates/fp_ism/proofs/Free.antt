@@ -1,4 +1,4 @@
--- The identifier that comes next: the first free one is found, and with at most eight active there always is one.
+-- The next identifier: the first free one is found, and with at most eight active there always is one.
 use Rattle.std.proofs.Common.{◌≡◌, ℕ, suc, zero, ◌+◌, ◌-◌, ◌%◌, ◌<◌, ◌≤◌, List, [], ◌∷◌, length, map, refl, ap, sym, ◌∙◌, arith, get_or, Bool, true, false, not, ℤ, pos, subst}
 use Rattle.std.specs.Prelude.{Some, find}
 use Rattle.std.specs.List.{range_with_len, Contains, IsDistinct}
@@ -61,7 +61,7 @@ distinct n =
     let steps : 1 + i ≡ 1 + j = (cc) in
     omega arith)
 
--- as many identifiers as are active from 1 on, so many invocations there are at least
+-- if the identifiers 1 to n are active, there are at least n invocations
 all_active : (n : ℕ) (active : List Invocation) → ((k : ℕ) → k < n → is_active (pos (1 + k)) active ≡ true) → n ≤ length active
 all_active n active each =
     let fits : length (map pos (range_with_len 1 n)) ≤ length (map (λ (invocation : Invocation). invocation.identifier) active) =
@@ -74,7 +74,7 @@ all_active n active each =
     is_member-is_active q active ∙ subst (λ z. is_active z active ≡ true) is (each place.0 below)) in
     omega (arith, fits, length-map-range_with_len pos 1 n, length-map active (λ invocation. invocation.identifier))
 
--- with at most eight active the 127 steps don't all meet an active one
+-- with at most eight active the 127 steps can't all find an active one
 pub none_free : (last : ℕ) (active : List Invocation) → last ≤ 127 → length active ≤ 8 → ((k : ℕ) → k < 127 → is_active (pos (identifier_after last k)) active ≡ true) → ⊥
 none_free last active low few each =
     let many : 127 ≤ length active =

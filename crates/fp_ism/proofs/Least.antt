@@ -1,19 +1,14 @@
 -- The least of a list of numbers.
 use Rattle.std.proofs.Common.{◌≡◌, ℕ, zero, suc, ◌≤◌, List, [], ◌∷◌, length, refl, ap, sym, subst, arith, inl, inr}
-use Rattle.std.specs.Prelude.{None, Some, MatchOption, min}
+use Rattle.std.specs.Prelude.{None, Some, MatchOption}
 use Rattle.std.specs.declared.option.Option.{Option}
 use Rattle.std.specs.List.{All, Contains}
-use Rattle.std.specs.Option.{option_map_or}
 use Rattle.std.proofs.lemmas.Bool.{cases_lt}
 use Rattle.std.proofs.lemmas.List.Elements.{All-contains}
 use Rattle.std.proofs.Math.Nat.{min-eq_left, min-eq_right, min-le_left, min-le_right}
-use Rattle.fp_ism.specs.Due.{least_of}
+use Rattle.fp_ism.specs.Due.{least, least_of}
 
--- the least of a list that begins with this number
-abbrev least : ℕ → List ℕ → ℕ
-least first numbers = option_map_or (min first) (least_of numbers) first
-
--- it is one of them
+-- the least of a list is one of its numbers
 least-among : (first : ℕ) (numbers : List ℕ) → Contains (first ∷ numbers) (least first numbers)
 least-among first [] = (0, omega arith, refl)
 least-among first (second ∷ numbers) =
@@ -24,14 +19,14 @@ least-among first (second ∷ numbers) =
     ]
 
 -- and at most each of them
-least-below : (first : ℕ) (numbers : List ℕ) → All (λ other. least first numbers ≤ other) (first ∷ numbers)
+pub least-below : (first : ℕ) (numbers : List ℕ) → All (λ other. least first numbers ≤ other) (first ∷ numbers)
 least-below first [] zero d within = omega arith
 least-below first [] (suc k) d within = absurd (omega arith)
 least-below first (second ∷ numbers) zero d within = min-le_left first (least second numbers)
 least-below first (second ∷ numbers) (suc k) d within =
     omega (arith, min-le_right first (least second numbers), least-below second numbers k d (omega arith))
 
--- the number that is one of the list and at most each of it is its least, and an empty list has none
+-- a number of the list that is at most each of its numbers is its least, and an empty list has none
 pub least_of-is : (P : Type 0) (numbers : List ℕ) (found : Option ℕ) → (P → length numbers ≡ 0) → MatchOption found P (λ n. Contains numbers n × All (λ other. n ≤ other) numbers) → found ≡ least_of numbers
 least_of-is P [] None none is = refl
 least_of-is P [] (Some n) none is = absurd (omega (arith, is.0.1))

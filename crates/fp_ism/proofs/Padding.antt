@@ -1,10 +1,10 @@
--- What a push at the end of the list does to an array with fillers behind the list.
+-- An array with fillers after its list, when one element is added to the list.
 use Rattle.std.proofs.Common.{◌≡◌, ℕ, ◌+◌, ◌-◌, ◌<◌, List, drop, set, sym, ◌∙◌, ap, arith}
 use Rattle.std.specs.Prelude.{replicate}
 use Rattle.std.proofs.lemmas.List.{drop-drop, drop-replicate, drop-set-lt, length-set}
 use Rattle.fp_ism.specs.Padded.{IsPadded}
 
--- the fillers behind the first place
+-- the fillers after the first place
 fillers_behind : {A : Type 0} (size : ℕ) (filler : A) (used : ℕ) (array : List A) → drop used array ≡ replicate (size - used) filler → drop (used + 1) array ≡ replicate (size - (used + 1)) filler
 fillers_behind size filler used array fillers =
     sym (drop-drop 1 used array) ∙ (ap (drop 1) fillers ∙ (drop-replicate 1 (size - used) filler ∙ ap (λ n. replicate n filler) (omega arith)))

@@ -1,4 +1,4 @@
--- What is true of invocations, and stays so where some end.
+-- The invariant of invocations holds after some end.
 use Rattle.std.proofs.Common.{◌≡◌, ℕ, ◌+◌, ◌≤◌, List, length, take, Bool, true, not, refl, subst, arith, ℤ}
 use Rattle.std.specs.Prelude.{◌≢◌, All, Any, filter}
 use Rattle.std.proofs.lemmas.Bool.Decides.{Decides-int_eq}
@@ -13,15 +13,15 @@ use Rattle.fp_ism.specs.Identifier.{IsIdentifier}
 use Rattle.fp_ism.specs.Invocation.{has_identifier, is_active}
 use Rattle.fp_ism.specs.Invocations.{AreInvocations}
 
--- a filter leaves no more than there were
+-- a filter leaves at most what there was
 pub length-filter_le : {X : Type 0} (p : X → Bool) (xs : List X) → length (filter p xs) ≤ length xs
 length-filter_le p xs = omega (arith, length-filter_both p (λ x. not (p x)) (λ x. refl) xs)
 
--- of the first ones, fewer than all
+-- and of the first elements at most their number
 pub length-filter-take : {X : Type 0} (p : X → Bool) (xs : List X) (index : ℕ) → index ≤ length xs → length (filter p (take index xs)) ≤ index
 length-filter-take p xs index within = omega (arith, length-filter_le p (take index xs), length-take-le index xs within)
 
--- what is due and what is left are all
+-- those that are due and the others are all
 pub length-those_due : (moment : ℕ) (active : List Invocation) → length (those_due moment active) + length (those_left moment active) ≡ length active
 length-those_due moment active =
     length-filter_both (is_due moment) (λ invocation. not (is_due moment invocation)) (λ invocation. refl) active

@@ -1,5 +1,5 @@
--- Invoke identifiers (own rule where ITU-T Q.774, 3.2, leaves it): they run 1, 2, .. 127 and then 1 again, and an
--- active one is passed over.
+-- Invoke identifiers (own rule, which ITU-T Q.774, 3.2, leaves open): they run 1, 2, .. 127 and then 1 again, and an
+-- active one is skipped.
 use Rattle.std.specs.Prelude.{ℕ, ◌+◌, ◌%◌, ℤ, pos, ◌≤ℤ◌, Bool, not, List, map, find}
 use Rattle.std.specs.List.{range_with_len}
 use Rattle.std.specs.Option.{unwrap_or}
@@ -11,11 +11,11 @@ pub record IsIdentifier (identifier : ℤ) : Type 0 where
   pub least : pos 1 ≤ℤ identifier
   pub most : identifier ≤ℤ pos 127
 
--- so many steps behind the successor of this one, 127 being followed by 1
+-- this number of steps after the successor of this one, 127 being followed by 1
 abbrev pub identifier_after : ℕ → ℕ → ℕ
 identifier_after last step = (last + step) % 127 + 1
 
--- all 127, from the successor of this one on; 0 stands before the first
+-- all 127, from the successor of this one on; 0 comes before the first
 abbrev pub identifiers_after : ℕ → List ℕ
 identifiers_after last = map (identifier_after last) (range_with_len 0 127)
 

@@ -16,10 +16,10 @@ has_identifier identifier invocation = int_eq invocation.identifier identifier
 abbrev pub is_active : ℤ → List Invocation → Bool
 is_active identifier active = list_any (has_identifier identifier) active
 
--- the class of the active invocation with this identifier, if there is one
+-- the class of the active invocation with this identifier, if any
 abbrev pub class_of : ℤ → List Invocation → Option OperationClass
 class_of identifier active = option_map (λ invocation. invocation.class) (find (has_identifier identifier) active)
 
--- the invocations but those with this identifier
+-- the invocations except those with this identifier
 abbrev pub without : ℤ → List Invocation → List Invocation
 without identifier active = filter (λ invocation. not (has_identifier identifier invocation)) active

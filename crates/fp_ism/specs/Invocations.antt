@@ -1,4 +1,4 @@
--- The invocations of a dialogue as contracts see them, and what each step makes of them.
+-- The invocations of a dialogue as contracts see them, and the invocations after each step.
 use Rattle.std.specs.Prelude.{◌≢◌, ℕ, ℤ, pos, ◌+◌, ◌≤◌, List, ◌∷◌, [], ◌++◌, length, All, AllPairs}
 use Rattle.fp_q773.specs.declared.operation_class.OperationClass.{OperationClass}
 use Rattle.fp_ism.specs.declared.invocation.Invocation.{Invocation}
@@ -14,7 +14,7 @@ pub record InvocationsValue : Type 0 where
   pub last_started : ℕ
   pub active : List Invocation
 
--- at most eight are active, each has another identifier, of 1 to 127, and so has the last one
+-- at most eight are active, their identifiers are distinct and 1 to 127, and the last one started is at most 127
 pub record AreInvocations (invocations : InvocationsValue) : Type 0 where
   pub last : invocations.last_started ≤ 127
   pub most : length invocations.active ≤ 8
@@ -30,11 +30,11 @@ started class moment invocations =
       active = invocations.active ++ record { identifier = pos identifier; class = class; due = moment + time_limit class } ∷ [];
     }
 
--- the invocation with this identifier, if there is one, is no longer active
+-- the invocation with this identifier, if any, is no longer active
 abbrev pub ended : ℤ → InvocationsValue → InvocationsValue
 ended identifier invocations = record invocations { active = without identifier invocations.active }
 
--- an invocation for which a component had this outcome is no longer active, unless it stays; nothing else changes
+-- after this outcome of a component its invocation is no longer active, unless it stays; nothing else changes
 abbrev pub after_outcome : Outcome → ℤ → InvocationsValue → InvocationsValue
 after_outcome Stays identifier invocations = invocations
 after_outcome Success identifier invocations = ended identifier invocations
@@ -42,6 +42,6 @@ after_outcome Failure identifier invocations = ended identifier invocations
 after_outcome Ignored identifier invocations = ended identifier invocations
 after_outcome (Problem p) identifier invocations = ended identifier invocations
 
--- what is due by this moment is no longer active
+-- the invocations that are due at this moment are no longer active
 abbrev pub after_moment : ℕ → InvocationsValue → InvocationsValue
 after_moment moment invocations = record invocations { active = those_left moment invocations.active }

@@ -2,7 +2,9 @@ pub mod Due
 pub mod Identifier
 pub mod Invocation
 pub mod Invocations
+pub mod Laws
 pub mod Outcome
 pub mod Padded
 pub mod Same
+pub mod Testing
 pub mod Vacant

@@ -1,5 +1,5 @@
--- What a component means to the invocation that it names, by the class of its operation (ITU-T Q.774, 3.2); `None`
--- where no invocation has its invoke identifier. The columns of the table are the five cases of each function.
+-- The outcome of a component for the invocation that it names, by the class of the operation (ITU-T Q.774, 3.2); `None`
+-- if no invocation has its invoke identifier. The columns of the table are the five cases of each function.
 use Rattle.std.specs.Prelude.{Bool, true, false, None, Some}
 use Rattle.std.specs.declared.option.Option.{Option}
 use Rattle.fp_q773.specs.declared.operation_class.OperationClass.{OperationClass}

@@ -1,9 +1,8 @@
--- A list kept at the front of an array, with the same element in every place behind it, so that the array
--- has nothing to tell but the list.
+-- A list at the front of an array, with the same element in every place after it, so that equal lists have equal arrays.
 use Rattle.std.specs.Prelude.{◌≡◌, ℕ, ◌-◌, ◌≤◌, List, ◌++◌, length, take, drop, replicate}
 use Rattle.std.proofs.Common.{arith, take-append-drop, length-take-le}
 
--- the array is full, and behind its first `used` elements each is the filler
+-- the array is full, and each element after its first `used` ones is the filler
 pub record IsPadded {A : Type 0} (size : ℕ) (filler : A) (array : List A) (used : ℕ) : Type 0 where
   pub full : length array ≡ size
   pub fits : used ≤ size

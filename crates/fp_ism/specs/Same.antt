@@ -1,4 +1,4 @@
--- That `==` tells exactly where two values are the same.
+-- That `==` is true exactly if two values are the same.
 use Rattle.std.specs.Prelude.{List, Bool, ◌&&◌, nat_eq, refl}
 use Rattle.std.specs.Cmp.{IsEquivalence, IsPartialEquivalence, decided, partial_equiv_from_equiv}
 use Rattle.std.specs.Cmp.Lexicographic.{pointwise}

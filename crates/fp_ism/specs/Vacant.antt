@@ -1,4 +1,4 @@
--- What stands in a place where no invocation is.
+-- The filler of a place without an invocation.
 use Rattle.std.specs.Prelude.{pos}
 use Rattle.fp_q773.specs.declared.operation_class.OperationClass.TheVariants.{Class1}
 use Rattle.fp_ism.specs.declared.invocation.Invocation.{Invocation}

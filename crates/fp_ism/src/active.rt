@@ -3,6 +3,7 @@
 ghost use Rattle.std.specs.Prelude.{◌≡◌, ℕ, ◌+◌, ◌<◌, ◌≤◌, List, [], ◌∷◌, ◌++◌, length, All, Contains, MatchOption};
 ghost use Rattle.fp_ism.specs.Due.{dues, those_left};
 ghost use Rattle.fp_ism.specs.Invocation.{class_of, is_active, without};
+ghost use Rattle.fp_ism.specs.Testing.{is_test_due, is_testing};
 
 use crate::invocation::Invocation;
 use fp_digits::Moment;
@@ -36,7 +37,7 @@ impl Model for ActiveInvocations {
     } };
 }
 
-/// Two are equal exactly where they hold the same invocations.
+/// Two are equal exactly if they hold the same invocations.
 impl PartialEq for ActiveInvocations {
     ghost use Rattle.fp_ism.specs.Same.{same_list, same_list_per};
 
@@ -55,7 +56,7 @@ impl Eq for ActiveInvocations {
     ghost laws = { same_list_equiv };
 }
 
-/// What a place holds that has no invocation.
+/// The filler of a place without an invocation.
 const VACANT: Invocation = Invocation {
     identifier: 0,
     class: OperationClass::Class1,
@@ -63,10 +64,10 @@ const VACANT: Invocation = Invocation {
 };
 
 impl ActiveInvocations {
-    /// How many there may be.
+    /// The largest number of active invocations.
     pub(crate) const MOST: usize = 8;
 
-    /// None.
+    /// No invocation.
     pub(crate) fn new() -> ActiveInvocations
         ensures { result ≡ [] }
     {
@@ -76,7 +77,7 @@ impl ActiveInvocations {
         }
     }
 
-    /// How many there are.
+    /// The number of invocations.
     pub(crate) fn len(&self) -> usize
         ensures value { result ≡ length self.now }
         ensures most { result ≤ Self.MOST }
@@ -84,7 +85,7 @@ impl ActiveInvocations {
         self.used
     }
 
-    /// Those, in the order of their start.
+    /// The invocations, in the order of their start.
     pub(crate) fn as_slice(&self) -> &[Invocation]
         ensures value { result.now ≡ self.now }
         ensures most { length self.now ≤ Self.MOST }
@@ -92,7 +93,7 @@ impl ActiveInvocations {
         &self.places[..self.used]
     }
 
-    /// Puts one after the others. There is room for it.
+    /// Adds one after the others. There must be room for it.
     pub(crate) fn push(&mut self, invocation: Invocation)
         requires { length self.old < Self.MOST }
         ensures { self.new ≡ self.old ++ invocation ∷ [] }
@@ -108,6 +109,25 @@ impl ActiveInvocations {
         self.as_slice()
             .iter()
             .any(|invocation| invocation.identifier == identifier)
+    }
+
+    /// Whether a test is active.
+    pub(crate) fn is_testing(&self) -> bool
+        ensures { result ≡ is_testing self.now }
+    {
+        self.as_slice()
+            .iter()
+            .any(|invocation| invocation.is_test())
+    }
+
+    /// Whether a test is due at this moment or before.
+    pub(crate) fn is_test_due(&self, moment: Moment) -> bool
+        ensures { result ≡ is_test_due moment self.now }
+    {
+        let now = moment.milliseconds();
+        self.as_slice()
+            .iter()
+            .any(|invocation| invocation.is_test() && invocation.due <= now)
     }
 
     /// The class of the one with this identifier.

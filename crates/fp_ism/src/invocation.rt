@@ -3,6 +3,7 @@
 ghost use Rattle.std.specs.Prelude.{◌≡◌, ◌<◌, ◌≤◌, pos};
 ghost use Rattle.fp_ism.specs.Due.{time_limit};
 ghost use Rattle.fp_ism.specs.Identifier.{identifier_after};
+ghost use Rattle.fp_ism.specs.Testing.{is_test};
 
 use fp_q773::OperationClass;
 
@@ -17,10 +18,22 @@ pub(crate) struct Invocation {
     pub(crate) due: u64,
 }
 
-/// How many identifiers there are: 1 to this.
+impl Invocation {
+    /// Whether it tests the dialogue: its operation is of class 3, as ActivityTest is.
+    pub(crate) fn is_test(&self) -> bool
+        ensures { result ≡ is_test self.now }
+    {
+        match self.class {
+            OperationClass::Class3 => true,
+            OperationClass::Class1 | OperationClass::Class2 | OperationClass::Class4 => false,
+        }
+    }
+}
+
+/// The number of identifiers, which are 1 to this.
 pub(crate) const IDENTIFIERS: u8 = 127;
 
-/// How long, in milliseconds, an invocation of an operation of this class stays active.
+/// The time limit, in milliseconds, of an invocation of an operation of this class.
 pub(crate) fn time_limit_of(class: OperationClass) -> u64
     ensures value { result ≡ time_limit class }
     ensures range { result ≤ 10000 }

@@ -5,6 +5,7 @@ ghost use Rattle.fp_ism.specs.Due.{dues, least_of, those_due};
 ghost use Rattle.fp_ism.specs.Identifier.{IsIdentifier, next_identifier};
 ghost use Rattle.fp_ism.specs.Invocation.{class_of, is_active};
 ghost use Rattle.fp_ism.specs.Outcome.{outcome_of_result, outcome_of_error, outcome_of_reject};
+ghost use Rattle.fp_ism.specs.Testing.{is_test_due, is_testing};
 
 use crate::Outcome;
 use crate::active::ActiveInvocations;
@@ -35,7 +36,7 @@ impl Model for Invocations {
     ghost inverse = { λ value. record { last_started = value.last_started; active = value.active } };
 }
 
-/// Two are equal exactly where the same invocations are active and the same identifier was started last
+/// Two are equal exactly if the same invocations are active and the same identifier was started last
 /// (`exact_invocations` of `specs/Same.antt`).
 impl PartialEq for Invocations {
     ghost use Rattle.fp_ism.specs.Same.{same_invocations, same_invocations_per};
@@ -55,7 +56,7 @@ impl Eq for Invocations {
     ghost laws = { same_invocations_equiv };
 }
 
-/// Eight invocations are active, and no more may be.
+/// Eight invocations are active, which is the most.
 #[derive(Clone, Copy, Debug, PartialEq, Eq, Error)]
 #[error("eight invocations are active")]
 pub struct Full;
@@ -63,10 +64,10 @@ pub struct Full;
 impl Invocations {
     ghost use Rattle.fp_ism.specs.Invocations.{AreInvocations, started, after_outcome, after_moment};
 
-    /// How many may be active.
+    /// The largest number of active invocations.
     pub const MOST: usize = ActiveInvocations::MOST;
 
-    /// No invocation, and none started yet.
+    /// No invocation is active, and none was started yet.
     pub fn new() -> Invocations
         ensures { result ≡ record { last_started = 0; active = [] } }
     {
@@ -76,11 +77,10 @@ impl Invocations {
         }
     }
 
-    /// Starts an invocation of an operation of this class at this moment, and gives its identifier, that of
+    /// Starts an invocation of an operation of this class at this moment, and returns its identifier, that of
     /// [`Invocations::next`].
     ///
-    /// It is due 10,000 ms later, or 5,000 where the class is 4. The error is [`Full`], with eight active, and then
-    /// nothing changes.
+    /// It is due 10,000 ms later, or 5,000 ms in class 4. With eight active the error is [`Full`], and nothing changes.
     pub fn start(&mut self, class: OperationClass, moment: Moment) -> Result<i8, Full>
         ensures room { IsOk result ↔ (length self.old.active < Self.MOST) }
         ensures identifier { IfOk result
@@ -102,8 +102,8 @@ impl Invocations {
         Ok(identifier)
     }
 
-    /// What a ReturnResult with this identifier means, which is the last one or not. The invocation ends unless the
-    /// outcome is [`Outcome::Stays`].
+    /// The outcome of a ReturnResult with this identifier, the last one or not. The invocation ends unless the outcome is
+    /// [`Outcome::Stays`].
     pub fn result(&mut self, identifier: i8, last: bool) -> Outcome
         ensures outcome { result ≡ outcome_of_result last (class_of identifier self.old.active) }
         ensures left { self.new ≡ after_outcome result identifier self.old }
@@ -115,7 +115,7 @@ impl Invocations {
         outcome
     }
 
-    /// What a ReturnError with this identifier means. The invocation ends.
+    /// The outcome of a ReturnError with this identifier. The invocation ends.
     pub fn error(&mut self, identifier: i8) -> Outcome
         ensures outcome { result ≡ outcome_of_error (class_of identifier self.old.active) }
         ensures left { self.new ≡ after_outcome result identifier self.old }
@@ -125,7 +125,7 @@ impl Invocations {
         outcome
     }
 
-    /// What a Reject with this identifier means. The invocation ends.
+    /// The outcome of a Reject with this identifier. The invocation ends.
     pub fn reject(&mut self, identifier: i8) -> Outcome
         ensures outcome { result ≡ outcome_of_reject (class_of identifier self.old.active) }
         ensures left { self.new ≡ after_outcome result identifier self.old }
@@ -135,7 +135,7 @@ impl Invocations {
         outcome
     }
 
-    /// Whether an invocation with this identifier is active; never so for one that isn't 1 to 127.
+    /// Whether an invocation with this identifier is active; none is with one that isn't 1 to 127.
     pub fn active(&self, identifier: i8) -> bool
         ensures value { result ≡ is_active identifier self.now.active }
         ensures range { IsTrue result → IsIdentifier identifier }
@@ -143,8 +143,29 @@ impl Invocations {
         self.active.contains(identifier)
     }
 
-    /// The identifier of the next invocation, also with eight active: after the one that was started last the first
-    /// that isn't active, of 1 to 127 and then 1 again.
+    /// The class of the active invocation with this identifier, if any.
+    pub fn class_of(&self, identifier: i8) -> Option<OperationClass>
+        ensures { result ≡ class_of identifier self.now.active }
+    {
+        self.active.class_of(identifier)
+    }
+
+    /// Whether a test of the dialogue is active: an invocation of an operation of class 3, as ActivityTest is.
+    pub fn testing(&self) -> bool
+        ensures { result ≡ is_testing self.now.active }
+    {
+        self.active.is_testing()
+    }
+
+    /// Whether a test of the dialogue is due at this moment or before, and so was not answered in time.
+    pub fn is_test_due(&self, moment: Moment) -> bool
+        ensures { result ≡ is_test_due moment self.now.active }
+    {
+        self.active.is_test_due(moment)
+    }
+
+    /// The identifier of the next invocation, also with eight active: the first one after the last one started that
+    /// isn't active, 127 being followed by 1.
     pub fn next(&self) -> i8
         ensures value { result ≡ pos (next_identifier self.now.last_started self.now.active) }
         ensures range { IsIdentifier result }
@@ -160,7 +181,7 @@ impl Invocations {
         unreachable!()
     }
 
-    /// Ends the invocations that are due at this moment or before, and gives how many.
+    /// Ends the invocations that are due at this moment or before, and returns their number.
     pub fn due(&mut self, moment: Moment) -> usize
         ensures count { result ≡ length (those_due moment self.old.active) }
         ensures left { self.new ≡ after_moment moment self.old }
@@ -170,7 +191,7 @@ impl Invocations {
         before - self.active.len()
     }
 
-    /// The earliest moment at which one is due, in milliseconds since 1970-01-01T00:00:00Z; `None` with none active.
+    /// The earliest moment at which one is due, in milliseconds since 1970-01-01T00:00:00Z; `None` if none is active.
     pub fn next_due(&self) -> Option<u64>
         ensures value { result ≡ least_of (dues self.now.active) }
         ensures none { IsNone result ↔ (self.now.active ≡ []) }

@@ -1,18 +1,18 @@
-//! What a component means to the invocation that it names.
+//! The outcome of a component for the invocation that it names.
 
 ghost use Rattle.std.specs.Prelude.{◌≡◌};
 ghost use Rattle.fp_ism.specs.Outcome.{outcome_of_result, outcome_of_error, outcome_of_reject};
 
 use fp_q773::{OperationClass, Problem, ReturnErrorProblem, ReturnResultProblem};
 
-/// What a component means to the invocation that it names (ITU-T Q.774, 3.2).
+/// The outcome of a component for the invocation that it names (ITU-T Q.774, 3.2).
 #[derive(Clone, Copy, Debug, PartialEq, Eq)]
 pub enum Outcome {
     /// The operation succeeded.
     Success,
     /// The operation failed.
     Failure,
-    /// More results are to come, and the invocation stays active.
+    /// More results follow, and the invocation stays active.
     Stays,
     /// Nothing follows.
     Ignored,

@@ -9,12 +9,12 @@ use Rattle.fp_q773.specs.Grammar.{IsMessage}
 use Rattle.fp_q773.specs.Value.{MessageValue}
 use Rattle.fp_reply.specs.Reply.{IsFrameOf}
 
--- one of two lists is as long as both are at least
+-- either of two lists that aren't empty
 if_some : (b : Bool) (x y : List ℕ) → 1 ≤ length x → 1 ≤ length y → 1 ≤ length (if b then x else y)
 if_some true x y h k = h
 if_some false x y h k = k
 
--- a tag takes an octet at least
+-- a tag takes at least an octet
 tag_some : (class : Class) (form : Bool) (number : ℕ) → 1 ≤ length (tag_octets class form number)
 tag_some class form number =
     if_some (nat_lt number 31) _ _ (omega arith) (if_some (nat_lt number 128) _ _ (omega arith) (omega arith))
@@ -24,7 +24,7 @@ header_some class form number contents =
     let both = length-append (tag_octets class form number) (length_octets (length contents) ++ contents) in
     let tag = tag_some class form number in omega arith
 
--- a spelling takes an octet at least
+-- a spelling takes at least an octet
 pub canon_some : (t : Tree) → 1 ≤ length (canon t)
 canon_some (primitive class number octets) = header_some class false number octets
 canon_some (constructed class number children) = header_some class true number (canon_of_all children)

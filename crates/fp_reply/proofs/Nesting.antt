@@ -1,4 +1,4 @@
--- How many elements of what is sent lie inside each other.
+-- The nesting of the elements of a message that is sent.
 use Rattle.std.proofs.Common.{ℕ, ◌≤◌, List, [], ◌∷◌, map, Option, Some, None, arith}
 use Rattle.std.proofs.Math.Nat.{max-le}
 use Rattle.std.specs.Prelude.{⊤}
@@ -23,6 +23,7 @@ nested_component (Invoke identifier (instructions.Connect destination)) = omega 
 nested_component (Invoke identifier (instructions.ReleaseCall cause)) = omega arith
 nested_component (Invoke identifier instructions.RequestReportBcsmEvent) = omega arith
 nested_component (Invoke identifier instructions.Continue) = omega arith
+nested_component (Invoke identifier instructions.ActivityTest) = omega arith
 nested_component (ReturnError identifier error) = omega arith
 nested_component (Reject None problem) = let inside = nested_problem (problem_of problem) in omega (arith, inside)
 nested_component (Reject (Some identifier) problem) = let inside = nested_problem (problem_of problem) in omega (arith, inside)
@@ -61,7 +62,7 @@ nested (requests.Abort Abrt) local peer = omega arith
 nested (requests.Abort (NoName name)) local peer = omega arith
 nested (requests.Abort (NoVersion name)) local peer = omega arith
 
--- so it is in range, if its tags are those that elements may have
+-- so it is in range, if its tags are in range
 pub reply_in_range : (request : Request) (local : ℕ) (peer : List ℕ) → HasTags (written (reply request local peer)) → InRange (written (reply request local peer))
 reply_in_range request local peer tags = record {
   nested = nested request local peer;

@@ -1,4 +1,4 @@
--- What can be sent, of parts that can.
+-- A message can be sent if its parts can.
 use Rattle.std.proofs.Common.{◌≡◌, ℕ, ℤ, ◌*◌, ◌≤◌, List, [], ◌∷◌, ◌++◌, length, Option, Some, None, option_map, All, append-nil, ◌∙◌, arith}
 use Rattle.std.proofs.lemmas.List.Elements.{All-cons, All-nil}
 use Rattle.fp_ber.specs.Canon.{canon_of_all}
@@ -79,7 +79,7 @@ abort_sent destination (Some t) portion found =
     let size = portion.size in
     record { is = found; writable = portion.writable; tags = portion.tags; size = omega (arith, size) }
 
--- what can be sent can be spelled, and read again where no more than sixteen elements lie inside each other
+-- a message that can be sent can be spelled, and read again if at most sixteen elements lie inside each other
 pub sent_spelled : WrittenHasTags → WrittenHasRoom → WrittenHasLengths → (message : MessageValue) → CanBeSent message
     → (HasTags (written message) → InRange (written message)) → IsSpelled (written message)
 sent_spelled tags room lengths message sent in_range =

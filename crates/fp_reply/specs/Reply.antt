@@ -1,5 +1,4 @@
--- What is sent for a request of the service logic: a message (Q.773, 4.2) in its canonical spelling (X.690, 10.1), and
--- before it the head of a frame.
+-- The frame of a request of the service logic: its head, and a message (Q.773, 4.2) in canonical spelling (X.690, 10.1).
 use Rattle.std.specs.Prelude.{◌≡◌, ℕ, List, length, map, Option, Some, None, option_map}
 use Rattle.fp_ber.specs.Tree.{InRange, Tree}
 use Rattle.fp_ber.specs.Canon.{canon}
@@ -30,12 +29,13 @@ use Rattle.fp_service.specs.declared.request.Request.{Request}
 use Rattle.fp_service.specs.declared.request.Request.TheVariants as requests
 use Rattle.fp_service.specs.Answer.{operation_of}
 
--- the argument of the operation that an instruction names
+-- the argument of the operation of an instruction, if it has one
 abbrev pub argument_of : Instruction → Option Tree
 argument_of (instructions.Connect destination) = Some (connect destination)
 argument_of (instructions.ReleaseCall cause) = Some (release_call cause)
 argument_of instructions.RequestReportBcsmEvent = Some request_report
 argument_of instructions.Continue = None
+argument_of instructions.ActivityTest = None
 
 -- a component: no Invoke has a linked identifier, and no ReturnError a parameter
 abbrev pub component_value : Component → ComponentValue
@@ -55,19 +55,19 @@ abort_portion Abrt = Some (dialogue_portion abrt)
 abort_portion (NoName name) = Some (dialogue_portion (aare name verdicts.NoName))
 abort_portion (NoVersion name) = Some (dialogue_portion (aare name verdicts.NoVersion))
 
--- The message, in a dialogue that has a local identifier here and another one, of these octets, at the peer: only a
--- Continue has the local one.
+-- the message, in a dialogue with this local identifier and with an identifier of these octets at the peer; only a
+-- Continue has the local one
 abbrev pub reply : Request → ℕ → List ℕ → MessageValue
 reply (requests.Continue acceptance components) local peer =
     value.continuing (octets_of_number local) peer (acceptance_portion acceptance) (map component_value components)
 reply (requests.End acceptance components) local peer = value.end peer (acceptance_portion acceptance) (map component_value components)
 reply (requests.Abort portion) local peer = value.abort peer (option_map value.user (abort_portion portion))
 
--- the frame of what is sent
+-- the frame of a request
 unfoldable pub frame_of : Request → ℕ → List ℕ → List ℕ
 frame_of request local peer = framed (canon (written (reply request local peer)))
 
--- a frame whose message says this to whoever reads it: an element in range is spelled, and the element is the message
+-- a frame whose message is read as this value: an element in range is spelled, and the element is the message
 pub record IsFrameOf (frame : List ℕ) (value : MessageValue) : Type 0 where
   pub message : List ℕ
   pub element : Tree

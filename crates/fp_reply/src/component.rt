@@ -14,7 +14,7 @@ use fp_q773::{Code, Reject, write_component_portion, write_invoke, write_return_
 use fp_service::{Component, Instruction};
 use std::alloc::AllocError;
 
-/// Puts the argument of the operation that an instruction names; Continue has none.
+/// Puts the argument of the operation of an instruction; Continue and ActivityTest have none.
 fn write_argument(instruction: &Instruction, out: &mut Writer) -> Result<(), AllocError>
     ensures exact { OnOk result (out.new ≡ canon_of_all (only (argument_of instruction.now)) ++ out.old) }
     ensures argument { OnOk result (IsArgument (argument_of instruction.now)) }
@@ -23,11 +23,11 @@ fn write_argument(instruction: &Instruction, out: &mut Writer) -> Result<(), All
         Instruction::Connect(destination) => write_connect(destination.as_slice(), out),
         Instruction::ReleaseCall(cause) => write_release(*cause, out),
         Instruction::RequestReportBcsmEvent => write_request_report(out),
-        Instruction::Continue => Ok(()),
+        Instruction::Continue | Instruction::ActivityTest => Ok(()),
     }
 }
 
-/// Puts the Invoke of the operation that an instruction names.
+/// Puts the Invoke of the operation of an instruction.
 fn write_instruction(
     identifier: i8,
     instruction: &Instruction,

@@ -13,7 +13,7 @@ use fp_ber::Writer;
 use fp_service::AbortPortion;
 use std::alloc::AllocError;
 
-/// Puts the AARE of this verdict on an application context name.
+/// Puts the AARE with this verdict on an application context name.
 fn write_answer(name: Name, verdict: Verdict, out: &mut Writer) -> Result<(), AllocError>
     ensures exact { OnOk result (out.new ≡ canon_of_all (only (Some (portion.dialogue_portion (aare name verdict)))) ++ out.old) }
     ensures portion { OnOk result (IsDialoguePortion (Some (portion.dialogue_portion (aare name verdict)))) }
@@ -21,7 +21,7 @@ fn write_answer(name: Name, verdict: Verdict, out: &mut Writer) -> Result<(), Al
     write_aare(&name, verdict, out)
 }
 
-/// Puts the AARE that accepts a dialogue of this application context name, if there is one to be accepted.
+/// Puts the AARE that accepts a dialogue of this application context name, if any.
 pub(crate) fn write_acceptance(name: Option<Name>, out: &mut Writer) -> Result<(), AllocError>
     ensures exact { OnOk result (out.new ≡ canon_of_all (only (acceptance_portion name)) ++ out.old) }
     ensures portion { OnOk result (IsDialoguePortion (acceptance_portion name)) }

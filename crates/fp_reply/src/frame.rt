@@ -11,15 +11,15 @@ use fp_q773::Tid;
 use fp_service::Request;
 use std::alloc::{AllocError, Global};
 
-/// How many octets the head of a frame has.
+/// The number of octets of the head of a frame.
 pub(crate) const HEAD: usize = 4;
 
-/// How many octets a frame takes at most, the head included: a bound, with six octets counted for each tag and length,
-/// the longest name and two of the longest arguments. Frames are shorter.
+/// The most octets of a frame, the head included: a bound, with six octets counted for each tag and length, the longest
+/// name and two of the longest arguments. Frames are shorter.
 pub const MOST_OCTETS: usize = 335;
 
-/// The octets that are sent for a request of the service logic (Q.773, 4.2): its message in canonical spelling, and
-/// before it the head of a frame.
+/// The octets that are sent for a request of the service logic (Q.773, 4.2): the head of a frame, and after it the
+/// message in canonical spelling.
 ///
 /// `local` is this end's transaction identifier of the dialogue and `peer` the other end's. A Continue has both, the
 /// local one in four octets; an End and an Abort have the peer's alone. It is written as it came.

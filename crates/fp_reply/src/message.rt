@@ -21,7 +21,7 @@ use fp_q773::{
 use fp_service::{AbortPortion, Components, Request};
 use std::alloc::{AllocError, Global};
 
-/// Puts the portions of a Continue or an End: the components, and before them the AARE that accepts the dialogue.
+/// Puts the portions of a Continue or an End: the components, and before them the AARE that accepts the dialogue, if any.
 fn write_portions(
     acceptance: Option<Name>,
     components: &Components,

@@ -11,8 +11,11 @@ use Rattle.fp_entry.specs.declared.found.Found.TheVariants.{Missing, WrongKey, N
 use Rattle.fp_entry.specs.Entries.{is_clock}
 use Rattle.fp_inap.specs.declared.event.Event as events
 use Rattle.fp_inap.specs.declared.event.Event.TheVariants.{RouteSelectFailure, OCalledPartyBusy, ONoAnswer, OAnswer, ODisconnect, OAbandon, Other}
+use Rattle.fp_ism.specs.Invocations.{after_moment}
+use Rattle.fp_ism.specs.Testing.{is_test_due, is_testing}
 use Rattle.fp_ism.specs.declared.outcome.Outcome.{Outcome}
 use Rattle.fp_ism.specs.declared.outcome.Outcome.TheVariants.{Success, Failure, Stays, Ignored, Problem}
+use Rattle.fp_q773.specs.declared.operation_class.OperationClass.{OperationClass}
 use Rattle.fp_records.specs.Action.{rest_of}
 use Rattle.fp_records.specs.declared.action.Action.{Action}
 use Rattle.fp_records.specs.declared.action.Action.TheVariants.{Route, Refuse, Pass}
@@ -20,20 +23,22 @@ use Rattle.fp_records.specs.declared.action.Destinations.{Destinations}
 use Rattle.fp_records.specs.declared.rule.Rule.{Rule}
 use Rattle.fp_service.specs.declared.dialogue.Core.{Core}
 use Rattle.fp_service.specs.declared.instruction.Instruction.{Instruction}
+use Rattle.fp_service.specs.declared.instruction.Instruction.TheVariants.{ActivityTest}
 use Rattle.fp_service.specs.declared.request.Request.{Request}
 use Rattle.fp_service.specs.declared.state.Stage.{Stage}
 use Rattle.fp_service.specs.declared.state.Stage.TheVariants.{Fresh, Waiting}
 use Rattle.fp_service.specs.declared.state.State.{State}
 use Rattle.fp_service.specs.declared.state.State.TheVariants.{Live, Over}
-use Rattle.fp_service.specs.Answer.{continue_with, end_with, abort_with, user_abort, reject, instruct, conclude}
+use Rattle.fp_service.specs.Answer.{no_request, continue_with, end_with, abort_with, user_abort, reject, instruct, conclude}
 use Rattle.fp_service.specs.Attempt.{try_next, on_failure}
-use Rattle.fp_service.specs.Dialogue.{touched}
+use Rattle.fp_service.specs.Clock.{on_clock, on_silence}
+use Rattle.fp_service.specs.Dialogue.{quiet_until, tested_at, touched}
 use Rattle.fp_service.specs.Event.{on_event, on_report, goes_on}
 use Rattle.fp_service.specs.Fold.{core_after}
 use Rattle.fp_service.specs.InitialDp.{by_action, by_destinations, by_rule, on_call, on_initial_dp}
 use Rattle.fp_service.specs.Laws.{BirthsStay}
-use Rattle.fp_service.specs.Outcome.{by_outcome, on_outcome}
-use Rattle.fp_service.specs.Serve.{by_opening, in_state, next, on_clock, on_kind, on_opening, reject_linked, serve}
+use Rattle.fp_service.specs.Outcome.{by_outcome, is_of_test, on_outcome, on_reject}
+use Rattle.fp_service.specs.Serve.{by_opening, in_state, next, on_kind, on_opening, reject_linked, serve}
 
 -- the core after a step has this birth
 abbrev Bears : ℕ → Core × Option Request → Type 0
@@ -80,6 +85,11 @@ by_outcome-birth stage core moment identifier Ignored = refl
 on_outcome-birth : (stage : Stage) (core : Core) (moment : ℕ) (identifier : ℤ) (outcome : Outcome) → Bears core.birth (on_outcome stage core moment identifier outcome)
 unfolding on_outcome
 on_outcome-birth stage core moment identifier outcome = by_outcome-birth stage _ moment identifier outcome
+
+on_reject-birth : (stage : Stage) (core : Core) (moment : ℕ) (identifier : ℤ) (class : Option OperationClass) → Bears core.birth (on_reject stage core moment identifier class)
+unfolding on_reject
+on_reject-birth stage core moment identifier class =
+    bears_either (is_of_test class) core.birth _ _ refl (on_outcome-birth stage core moment identifier _)
 
 -- the events
 
@@ -150,9 +160,20 @@ reject_linked-birth : (core : Core) (identifier linked : ℤ) → Bears core.bir
 unfolding reject_linked reject continue_with
 reject_linked-birth core identifier linked = refl
 
-on_clock-birth : (core : Core) (moment : ℕ) → Bears core.birth (on_clock core moment)
+on_silence-birth : (stage : Stage) (core : Core) (moment : ℕ) → Bears core.birth (on_silence stage core moment)
+unfolding on_silence
+on_silence-birth Fresh core moment = refl
+on_silence-birth (Waiting left) core moment =
+    bears_either (is_testing core.invocations.active) core.birth (no_request core) _ refl
+    (bears_either (nat_le (tested_at core) moment) core.birth _ (no_request core) (instruct-birth core moment (ActivityTest ∷ [])) refl)
+
+on_clock-birth : (stage : Stage) (core : Core) (moment : ℕ) → Bears core.birth (on_clock stage core moment)
 unfolding on_clock
-on_clock-birth core moment = bears_either _ core.birth _ _ (user_abort-birth _) refl
+on_clock-birth stage core moment =
+    let left : Core = record core { invocations = after_moment moment core.invocations } in
+    bears_either (is_test_due moment core.invocations.active) core.birth (user_abort left) _ (user_abort-birth left)
+    (bears_either (nat_le (quiet_until core) moment) core.birth (user_abort left) (on_silence stage left moment)
+    (user_abort-birth left) (on_silence-birth stage left moment))
 
 on_kind-birth : (stage : Stage) (core : Core) (moment : ℕ) (kind : EntryKind) → Bears core.birth (on_kind stage core moment kind)
 unfolding on_kind reject continue_with
@@ -167,10 +188,10 @@ on_kind-birth stage core moment (Faulty identifier fault) = refl
 on_kind-birth stage core moment (Result identifier last) = on_outcome-birth stage core moment identifier _
 on_kind-birth stage core moment (Error identifier) = on_outcome-birth stage core moment identifier _
 on_kind-birth stage core moment (Reject None) = refl
-on_kind-birth stage core moment (Reject (Some identifier)) = on_outcome-birth stage core moment identifier _
+on_kind-birth stage core moment (Reject (Some identifier)) = on_reject-birth stage core moment identifier _
 on_kind-birth stage core moment (InitialDp identifier None calling found) = on_initial_dp-birth stage core moment identifier _ found
 on_kind-birth stage core moment (Event identifier None reports notification) = on_event-birth stage core moment reports notification
-on_kind-birth stage core moment Clock = on_clock-birth core moment
+on_kind-birth stage core moment Clock = on_clock-birth stage core moment
 
 in_state-birth : (state : State) (core : Core) (entry : Entry) → Bears core.birth (in_state state core entry)
 in_state-birth Over core entry = refl

@@ -38,7 +38,7 @@ pub next-over : (core : Core) (entry : Entry) → is_over core ≡ true → is_o
 next-over core entry over =
     ap (λ (served : Core × Option Request). is_over served.0) (serve-over core entry over) ∙ is_over-touched core entry ∙ over
 
--- and asks for nothing
+-- and requests nothing
 pub request_of-over : (core : Core) (entry : Entry) → is_over core ≡ true → request_of core entry ≡ None
 request_of-over core entry over = ap (λ (served : Core × Option Request). served.1) (serve-over core entry over)
 
@@ -138,7 +138,7 @@ pub cut-closed : (core : Core) (xs ys : List Entry) → is_over (core_after core
 cut-closed core xs ys over =
     cut-append core xs ys ∙ ap (λ r. cut core xs ++ r) (cut-over (core_after core xs) ys over) ∙ append-nil (cut core xs)
 
--- one entry more, where the core isn't over
+-- one entry more, if the core isn't over
 pub cut-more : (core : Core) (xs : List Entry) (x : Entry) → is_over (core_after core xs) ≡ false → cut core (xs ++ x ∷ []) ≡ xs ++ x ∷ []
 cut-more core xs x going =
     cut-append core xs (x ∷ [])
@@ -168,7 +168,7 @@ cut-cut core (x ∷ xs) =
           ∙ sym (cut-going core x xs going)
     ]
 
--- what is cut off changes nothing
+-- the entries that are cut off change nothing
 
 pub is_over-cut : (core : Core) (xs : List Entry) → is_over (core_after core (cut core xs)) ≡ is_over (core_after core xs)
 is_over-cut core [] = refl
@@ -189,7 +189,7 @@ requests-cut core (x ∷ xs) =
           ∙ ap (λ r. option_to_list (request_of core x) ++ r) (requests-cut (next core x) xs)
     ]
 
--- an entry asks for one message at most
+-- an entry requests at most one message
 
 length-option_to_list : {A : Type 0} (o : Option A) → length (option_to_list o) ≤ 1
 length-option_to_list None = omega arith

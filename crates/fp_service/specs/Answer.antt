@@ -1,6 +1,6 @@
--- What the service logic asks for: a message, and what the core is then. A request ends the dialogue where it is an
--- End or an Abort. The first Continue or End of a dialogue whose application context is accepted carries the AARE that
--- accepts it (ITU-T Q.774, 3.2).
+-- Requests, each a message, and the core after them. A request ends the dialogue if it is an End or an Abort. The first
+-- Continue or End of a dialogue whose application context is accepted carries the AARE that accepts it (ITU-T Q.774,
+-- 3.2).
 use Rattle.std.specs.Prelude.{ℕ, ℤ, pos, ◌+◌, List, [], ◌∷◌, ◌||◌, Option, Some, None, is_some, length, nat_le, if◌then◌else◌}
 use Rattle.fp_apdu.specs.declared.opening.Opening.{Opening}
 use Rattle.fp_apdu.specs.declared.opening.Opening.TheVariants as openings
@@ -21,7 +21,7 @@ use Rattle.fp_service.specs.declared.request.Request.{Request}
 use Rattle.fp_service.specs.declared.request.Request.TheVariants as request
 use Rattle.fp_service.specs.Dialogue.{ended}
 
--- the name of the application context that the dialogue is of
+-- the name of the dialogue's application context, if it has one that is accepted
 abbrev pub context_of : Opening → Option (List ℕ)
 context_of openings.None = None
 context_of (openings.Known name) = Some name
@@ -32,11 +32,11 @@ context_of (openings.BadVersion name) = None
 abbrev pub acceptance : Core → Option (List ℕ)
 acceptance core = if core.accepted then None else context_of core.opening
 
--- after a Continue or End, which has carried the AARE of a dialogue with a context
+-- after a Continue or End: the AARE of a dialogue with a context was sent
 abbrev pub answered : Core → Core
 answered core = record core { accepted = core.accepted || is_some (context_of core.opening) }
 
--- nothing is asked for
+-- nothing is requested
 abbrev pub no_request : Core → Core × Option Request
 no_request core = (core, None)
 
@@ -52,7 +52,7 @@ end_with core components = (ended (answered core), Some (request.End (acceptance
 unfoldable pub abort_with : Core → AbortPortion → Core × Option Request
 abort_with core portion = (ended core, Some (request.Abort portion))
 
--- the dialogue portion of an Abort of the user's own accord: an ABRT in a dialogue with an application context
+-- the dialogue portion of a user Abort: an ABRT in a dialogue with an application context
 abbrev pub abort_portion : Opening → AbortPortion
 abort_portion openings.None = portion.Absent
 abort_portion (openings.Known name) = portion.Abrt
@@ -73,8 +73,9 @@ operation_of (instruction.Connect destination) = operation.Connect
 operation_of (instruction.ReleaseCall cause) = operation.ReleaseCall
 operation_of instruction.RequestReportBcsmEvent = operation.RequestReportBcsmEvent
 operation_of instruction.Continue = operation.Continue
+operation_of instruction.ActivityTest = operation.ActivityTest
 
--- the Invoke of an instruction, with the identifier that comes next
+-- the Invoke of an instruction, with the next identifier
 abbrev pub invoke : InvocationsValue → Instruction → Component
 invoke invocations instruction = component.Invoke (pos (next_identifier invocations.last_started invocations.active)) instruction
 
@@ -93,13 +94,13 @@ all_invokes moment invocations [] = []
 all_invokes moment invocations (instruction ∷ rest) =
     invoke invocations instruction ∷ all_invokes moment (with_invocation moment invocations instruction) rest
 
--- a Continue message that invokes these operations, in order; a user Abort where they don't all find a place, of eight
+-- a Continue message that invokes these operations, in order; a user Abort if they don't all find a place, of eight
 unfoldable pub instruct : Core → ℕ → List Instruction → Core × Option Request
 instruct core moment instructions =
     if nat_le (length core.invocations.active + length instructions) 8
     then continue_with (record core { invocations = all_started moment core.invocations instructions }) (all_invokes moment core.invocations instructions)
     else user_abort core
 
--- an End that invokes this operation, which isn't kept
+-- an End that invokes this operation, without an invocation
 unfoldable pub conclude : Core → Instruction → Core × Option Request
 conclude core instruction = end_with core (invoke core.invocations instruction ∷ [])

@@ -12,14 +12,14 @@ use Rattle.fp_service.specs.declared.state.Stage.TheVariants.{Fresh, Waiting}
 use Rattle.fp_service.specs.declared.state.State.TheVariants.{Live}
 use Rattle.fp_service.specs.Answer.{no_request, instruct, conclude}
 
--- the next of the destinations that are left is tried, and the switch reports how that goes; the call is released for
--- this cause where none is left
+-- the next of the destinations that are left is tried, and the switch reports the result; if none is left, the call is
+-- released for this cause
 unfoldable pub try_next : Core → ℕ → Option Destinations → Cause → Core × Option Request
 try_next core moment None cause = conclude core (ReleaseCall cause)
 try_next core moment (Some left) cause =
     instruct (record core { state = Live (Waiting (rest_of left)) }) moment (RequestReportBcsmEvent ∷ Connect (first_of left) ∷ [])
 
--- an operation that was invoked failed, and so did the destination that is tried
+-- an operation failed, and so did the destination that is tried
 unfoldable pub on_failure : Stage → Core → ℕ → Core × Option Request
 on_failure Fresh core moment = no_request core
 on_failure (Waiting left) core moment = try_next core moment left NoRouteToDestination

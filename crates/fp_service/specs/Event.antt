@@ -1,4 +1,4 @@
--- What an EventReportBCSM gets.
+-- The request for an EventReportBCSM.
 use Rattle.std.specs.Prelude.{ℕ, [], ◌∷◌, Bool, true, false, Option}
 use Rattle.fp_digits.specs.declared.cause_value.Cause.TheVariants.{NoRouteToDestination, UserBusy, NoAnswerFromUser}
 use Rattle.fp_inap.specs.declared.event.Event.{Event}
@@ -12,7 +12,7 @@ use Rattle.fp_service.specs.declared.state.Stage.TheVariants.{Fresh, Waiting}
 use Rattle.fp_service.specs.Answer.{no_request, end_with, instruct}
 use Rattle.fp_service.specs.Attempt.{try_next}
 
--- a switch that waits at an event that says nothing of the destination is told to go on
+-- an event that says nothing about the destination: a switch that waits gets Continue
 abbrev pub goes_on : Core → ℕ → Bool → Core × Option Request
 goes_on core moment true = no_request core
 goes_on core moment false = instruct core moment (Continue ∷ [])
@@ -27,7 +27,7 @@ on_report core moment left OAbandon notification = end_with core []
 on_report core moment left ODisconnect notification = goes_on core moment notification
 on_report core moment left (Other code) notification = goes_on core moment notification
 
--- an event is looked at only while a call waits
+-- an event matters only while a call waits
 unfoldable pub on_event : Stage → Core → ℕ → Event → Bool → Core × Option Request
 on_event Fresh core moment reports notification = no_request core
 on_event (Waiting left) core moment reports notification = on_report core moment left reports notification

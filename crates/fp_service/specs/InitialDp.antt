@@ -1,4 +1,4 @@
--- What an InitialDP gets: the rule of the number that was called decides.
+-- The request for an InitialDP: the rule of the called number decides.
 use Rattle.std.specs.Prelude.{ℕ, ℤ, List, [], ◌∷◌, Option, Some, None}
 use Rattle.fp_digits.specs.declared.cause_value.Cause.TheVariants.{NoRouteToDestination, CallRejected}
 use Rattle.fp_digits.specs.declared.number.Number.{Number}
@@ -20,7 +20,7 @@ use Rattle.fp_service.specs.declared.state.Stage.TheVariants.{Fresh, Waiting}
 use Rattle.fp_service.specs.Answer.{continue_with, end_with, conclude}
 use Rattle.fp_service.specs.Attempt.{try_next}
 
--- the digits of the calling number, none where it isn't told
+-- the digits of the calling number, none if it is absent
 abbrev pub calling_digits : Option Number → List ℕ
 calling_digits None = []
 calling_digits (Some number) = number.digits
@@ -48,7 +48,7 @@ on_call core moment identifier calling WrongKey = end_with core (ReturnError ide
 on_call core moment identifier calling NoRecord = end_with core (ReturnError identifier MissingCustomerRecord ∷ [])
 on_call core moment identifier calling (Record rules) = by_rule core moment (choice rules calling moment core.birth)
 
--- an InitialDP begins the call, and has no place in a call that waits
+-- an InitialDP begins the call, and is an error in a call that waits
 unfoldable pub on_initial_dp : Stage → Core → ℕ → ℤ → List ℕ → Found → Core × Option Request
 on_initial_dp Fresh core moment identifier calling found = on_call core moment identifier calling found
 on_initial_dp (Waiting left) core moment identifier calling found =

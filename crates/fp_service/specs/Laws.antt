@@ -1,4 +1,4 @@
--- What holds of the service step along all lists of entries.
+-- Laws of the service step along all lists of entries.
 use Rattle.std.specs.Prelude.{◌≡◌, ◌≤◌, true, false, List, [], ◌∷◌, ◌++◌, None, length, option_to_list, ◌⊎◌}
 use Rattle.fp_entry.specs.declared.entry.Entry.{Entry}
 use Rattle.fp_entry.specs.declared.entry.EntryKind.{EntryKind}
@@ -8,7 +8,7 @@ use Rattle.fp_service.specs.Dialogue.{is_over}
 use Rattle.fp_service.specs.Fold.{core_after, requests, cut}
 use Rattle.fp_service.specs.Serve.{next, request_of}
 
--- along a list that has grown at its end the folds are those along the list before, and then those from there
+-- along a list followed by another the folds are those along the first, and then those along the second from there
 pub record FoldsGrow : Type 0 where
   pub core_after_both : (core : Core) (entries more : List Entry) → core_after core (entries ++ more) ≡ core_after (core_after core entries) more
   pub requests_of_both : (core : Core) (entries more : List Entry) → requests core (entries ++ more) ≡ requests core entries ++ requests (core_after core entries) more
@@ -20,7 +20,7 @@ pub record FoldsGrowByOne : Type 0 where
   pub requests_of_one : (core : Core) (entries : List Entry) (entry : Entry) → requests core (entries ++ entry ∷ []) ≡ requests core entries ++ option_to_list (request_of (core_after core entries) entry)
   pub cut_of_one : (core : Core) (entries : List Entry) (entry : Entry) → is_over (core_after core entries) ≡ false → cut core (entries ++ entry ∷ []) ≡ entries ++ entry ∷ []
 
--- a dialogue that is over stays so, whatever comes, and nothing is asked for
+-- a dialogue that is over stays over, whatever comes, and nothing is requested
 pub record StaysOver : Type 0 where
   pub next_is_over : (core : Core) (entry : Entry) → is_over core ≡ true → is_over (next core entry) ≡ true
   pub no_request : (core : Core) (entry : Entry) → is_over core ≡ true → request_of core entry ≡ None
@@ -31,13 +31,12 @@ pub record StaysOver : Type 0 where
 abbrev pub IsPeersOwn : EntryKind → Type 0
 IsPeersOwn kind = (kind ≡ PeerEnd) ⊎ (kind ≡ PeerAbort)
 
--- after it the dialogue is over, and nothing is asked for
+-- after it the dialogue is over, and nothing is requested
 pub record PeerEndsDialogue : Type 0 where
   pub next_is_over : (core : Core) (entry : Entry) → IsPeersOwn entry.kind → is_over (next core entry) ≡ true
   pub no_request : (core : Core) (entry : Entry) → IsPeersOwn entry.kind → request_of core entry ≡ None
 
--- what is cut off is the end of a list: the entries behind the first after which the core is over, which ask for
--- nothing
+-- the cut removes the end of a list: the entries after the first one at which the core is over, which request nothing
 pub record CutIsFront : Type 0 where
   pub front : (core : Core) (entries : List Entry) → (rest : List Entry) × (cut core entries ++ rest ≡ entries)
   pub whole : (core : Core) (entries : List Entry) → is_over (core_after core entries) ≡ false → cut core entries ≡ entries
@@ -46,7 +45,7 @@ pub record CutIsFront : Type 0 where
   pub same_end : (core : Core) (entries : List Entry) → is_over (core_after core (cut core entries)) ≡ is_over (core_after core entries)
   pub same_requests : (core : Core) (entries : List Entry) → requests core (cut core entries) ≡ requests core entries
 
--- an entry asks for one message at most
+-- an entry requests at most one message
 abbrev pub AsksOnceAtMost : Type 0
 AsksOnceAtMost = (core : Core) (entries : List Entry) → length (requests core entries) ≤ length entries
 

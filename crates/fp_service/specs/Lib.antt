@@ -1,5 +1,6 @@
 pub mod Answer
 pub mod Attempt
+pub mod Clock
 pub mod Components
 pub mod Dialogue
 pub mod Event

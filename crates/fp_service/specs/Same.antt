@@ -1,4 +1,4 @@
--- That `==` tells exactly where two cores are the same.
+-- That `==` is true exactly if two cores are the same.
 use Rattle.std.specs.Prelude.{Bool, refl}
 use Rattle.fp_digits.specs.Exact.{IsExact, of_bool, of_both, of_enum, of_last, of_natural, of_none, of_option, of_struct}
 use Rattle.fp_entry.specs.Same.{exact_opening}

@@ -1,4 +1,4 @@
-//! What the service logic asks for, and what the core is then.
+//! Requests, and the core after them.
 
 ghost use Rattle.std.specs.Prelude.{◌≡◌, ◌∷◌, [], Some};
 ghost use Rattle.fp_service.specs.Answer.{abort_portion, abort_with, acceptance, answered, conclude, continue_with, end_with, invoke, reject, user_abort};
@@ -21,7 +21,7 @@ impl Core {
         }
     }
 
-    /// A Continue or End is asked for.
+    /// Notes that a Continue or End is requested: it carries the AARE of a dialogue with an application context.
     fn answer(&mut self)
         ensures { self.new ≡ answered self.old }
     {

@@ -23,7 +23,7 @@ pub enum Component {
     },
     /// A Reject of a component of the switch.
     Reject {
-        /// The invoke identifier of that component, if it could be told.
+        /// The invoke identifier of that component, if it was readable.
         identifier: Option<i8>,
         /// What is wrong with it.
         problem: Problem,

@@ -30,7 +30,7 @@ impl Model for Components {
 }
 
 impl Components {
-    /// How many there may be.
+    /// The largest number of components.
     pub const MOST: usize = 2;
 
     /// No component.

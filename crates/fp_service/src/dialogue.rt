@@ -1,19 +1,19 @@
 //! What the service logic knows of a dialogue.
 
-ghost use Rattle.std.specs.Prelude.{◌≡◌, ◌≤◌, ◌↔◌, ◌∷◌, IsTrue, All};
-ghost use Rattle.fp_ism.specs.Due.{dues};
+ghost use Rattle.std.specs.Option.{option_map_or};
+ghost use Rattle.std.specs.Prelude.{◌≡◌, ◌≤◌, ◌↔◌, ◌∷◌, ◌++◌, IsTrue, All, min};
+ghost use Rattle.fp_ism.specs.Due.{dues, least_of};
 ghost use Rattle.fp_service.specs.declared.state.State.TheVariants.{Over};
-ghost use Rattle.fp_service.specs.Dialogue.{ended, fresh, is_over, next_due, quiet_until, touched};
+ghost use Rattle.fp_service.specs.Dialogue.{ended, fresh, is_over, is_testable, next_due, quiet_until, tested_at, tests_of, touched};
 
 use crate::{Stage, State};
 use fp_apdu::Opening;
 use fp_digits::Moment;
 use fp_entry::Entry;
-use fp_ism::Invocations;
+use fp_ism::{Invocations, least_is_at_most_each};
 
 /// What the service logic knows of a dialogue between two entries. It has a fixed size and may be copied. Two are equal
-/// exactly where they are the same in all that they know
-/// ([`equal_cores_are_the_same`](crate::equal_cores_are_the_same)).
+/// exactly if all their parts are ([`equal_cores_are_the_same`](crate::equal_cores_are_the_same)).
 #[derive(Clone, Copy, Debug, PartialEq, Eq)]
 pub struct Core {
     pub(crate) state: State,
@@ -26,11 +26,24 @@ pub struct Core {
     pub(crate) last: Moment,
 }
 
-/// After how many milliseconds without an entry of the peer the dialogue is aborted.
-const QUIET: u64 = 300_000;
+/// The time, in milliseconds without an entry of the peer, after which a dialogue is aborted.
+const QUIET_LIMIT: u64 = 300_000;
+
+/// The time, counted alike, after which a call that waits is tested.
+const TEST_LIMIT: u64 = 120_000;
+
+/// The earlier of a moment and another one, if there is another.
+fn earlier(moment: u64, other: Option<u64>) -> u64
+    ensures { result ≡ option_map_or (min moment) other moment }
+{
+    match other {
+        Some(other) => moment.min(other),
+        None => moment,
+    }
+}
 
 impl Core {
-    /// The core of a dialogue that is the `birth`-th of its link, and whose Begin came at this moment.
+    /// The core of a dialogue that is the `birth`-th of its link and whose Begin came at this moment.
     pub fn new(birth: u64, moment: Moment) -> Core
         ensures { result ≡ fresh birth moment }
     {
@@ -44,7 +57,7 @@ impl Core {
         }
     }
 
-    /// How far the dialogue has come.
+    /// The state of the dialogue.
     pub fn state(&self) -> State
         ensures { result ≡ self.now.state }
     {
@@ -65,7 +78,7 @@ impl Core {
         self.invocations
     }
 
-    /// Whether the dialogue is over: nothing is asked for any more.
+    /// Whether the dialogue is over: nothing is requested any more.
     pub fn is_over(&self) -> bool
         ensures value { result ≡ is_over self.now }
         ensures over { IsTrue result ↔ (self.now.state ≡ Over) }
@@ -74,19 +87,37 @@ impl Core {
     }
 
     /// The earliest moment at which a Clock does something, in milliseconds since 1970-01-01T00:00:00Z: an invocation
-    /// is due, or 300,000 ms have passed since the last entry that wasn't a Clock.
+    /// is due; 300,000 ms have passed since the last entry that wasn't a Clock; or, if the dialogue waits and no test is
+    /// active, 120,000 ms have.
     pub fn next_due(&self) -> u64
         ensures value { result ≡ next_due self.now }
-        ensures least { All (λ due. result ≤ due) (quiet_until self.now ∷ dues self.now.invocations.active) }
+        ensures least { All (λ due. result ≤ due)
+            (quiet_until self.now ∷ tests_of self.now ++ dues self.now.invocations.active) }
     {
-        let quiet = self.quiet_until();
-        match self.invocations.next_due() {
-            Some(due) => quiet.min(due),
-            None => quiet,
+        least_is_at_most_each();
+        earlier(self.quiet_until(), self.next_before_quiet())
+    }
+
+    /// The earliest moment at which an invocation is due or the call is tested.
+    fn next_before_quiet(&self) -> Option<u64>
+        ensures { result ≡ least_of (tests_of self.now ++ dues self.now.invocations.active) }
+    {
+        let due = self.invocations.next_due();
+        if self.is_testable() {
+            Some(earlier(self.tested_at(), due))
+        } else {
+            due
         }
     }
 
-    /// An entry comes.
+    /// Whether a Clock may test the dialogue: its call waits, and no test is active.
+    fn is_testable(&self) -> bool
+        ensures { result ≡ is_testable self.now }
+    {
+        self.state.is_waiting() && !self.invocations.testing()
+    }
+
+    /// Sets the moment of the last entry, unless this one is a Clock.
     pub(crate) fn touch(&mut self, entry: &Entry)
         ensures { self.new ≡ touched self.old entry.now }
     {
@@ -95,7 +126,7 @@ impl Core {
         }
     }
 
-    /// The dialogue is over.
+    /// Ends the dialogue.
     pub(crate) fn end(&mut self)
         ensures { self.new ≡ ended self.old }
     {
@@ -106,6 +137,14 @@ impl Core {
     pub(crate) fn quiet_until(&self) -> u64
         ensures { result ≡ quiet_until self.now }
     {
-        self.last.milliseconds() + QUIET
+        self.last.milliseconds() + QUIET_LIMIT
+    }
+
+    /// The moment, in milliseconds since 1970-01-01T00:00:00Z, at which the peer has been quiet for long enough to be
+    /// tested.
+    pub(crate) fn tested_at(&self) -> u64
+        ensures { result ≡ tested_at self.now }
+    {
+        self.last.milliseconds() + TEST_LIMIT
     }
 }

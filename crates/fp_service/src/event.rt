@@ -46,7 +46,7 @@ impl Core {
         }
     }
 
-    /// The switch goes on with the call, and is told so where it waits.
+    /// The call goes on. A switch that waits gets Continue.
     fn goes_on(&mut self, moment: Moment, notification: bool) -> Option<Request>
         ensures { (self.new, result) ≡ goes_on self.old moment notification }
     {

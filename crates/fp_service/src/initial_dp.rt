@@ -14,7 +14,7 @@ use fp_inap::OperationError;
 use fp_records::{Action, Destinations, Record};
 
 impl Core {
-    /// An InitialDP of this calling number, for which the table has what was found.
+    /// An InitialDP with this calling number, and what the table has for its called number.
     #[tactic(auto, unfolding(crate::specs::InitialDp::on_initial_dp))]
     pub(crate) fn on_initial_dp(
         &mut self,
@@ -65,7 +65,7 @@ impl Core {
         self.end_with(Components::one(error))
     }
 
-    /// The rule of a record is chosen, and acts.
+    /// The action of the rule that is chosen of a record.
     #[tactic(auto, unfolding(crate::specs::InitialDp::by_rule))]
     fn by_record(
         &mut self,
@@ -81,7 +81,7 @@ impl Core {
         self.by_action(moment, rule.action)
     }
 
-    /// What a rule does.
+    /// The action of a rule.
     #[tactic(auto, unfolding(crate::specs::InitialDp::by_action))]
     fn by_action(&mut self, moment: Moment, action: Action) -> Option<Request>
         ensures { (self.new, result) ≡ by_action self.old moment action }

@@ -1,4 +1,4 @@
-//! What a switch is told to do.
+//! Instructions for a switch.
 
 ghost use Rattle.std.specs.Prelude.{◌≡◌};
 ghost use Rattle.fp_service.specs.Answer.{operation_of};
@@ -7,7 +7,7 @@ use fp_digits::Cause;
 use fp_inap::Operation;
 use fp_records::Destination;
 
-/// An operation that a switch is told to perform, with what its argument says.
+/// An operation that a switch is asked to perform, with the contents of its argument.
 #[derive(Clone, Copy, Debug)]
 pub enum Instruction {
     /// Connect: the switch routes the call to this destination.
@@ -18,6 +18,8 @@ pub enum Instruction {
     RequestReportBcsmEvent,
     /// Continue: the switch goes on with the call as it is.
     Continue,
+    /// ActivityTest: the switch confirms that the dialogue still exists.
+    ActivityTest,
 }
 
 impl Instruction {
@@ -30,6 +32,7 @@ impl Instruction {
             Instruction::ReleaseCall(_) => Operation::ReleaseCall,
             Instruction::RequestReportBcsmEvent => Operation::RequestReportBcsmEvent,
             Instruction::Continue => Operation::Continue,
+            Instruction::ActivityTest => Operation::ActivityTest,
         }
     }
 }

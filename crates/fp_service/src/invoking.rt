@@ -7,7 +7,7 @@ use crate::{Component, Components, Core, Instruction, Request};
 use fp_digits::Moment;
 use fp_ism::{Full, Invocations};
 
-/// Starts an invocation of an instruction at this moment, and gives its Invoke.
+/// Starts an invocation of an instruction at this moment, and returns its Invoke.
 fn start(
     invocations: &mut Invocations,
     instruction: Instruction,
@@ -26,7 +26,7 @@ fn start(
 }
 
 impl Core {
-    /// A Continue message that invokes an operation; a user Abort where it finds no place.
+    /// A Continue message that invokes an operation; a user Abort if it finds no place.
     #[tactic(auto, unfolding(crate::specs::Answer::instruct))]
     pub(crate) fn instruct(&mut self, moment: Moment, instruction: Instruction) -> Option<Request>
         ensures { (self.new, result) ≡ instruct self.old moment (instruction ∷ []) }
@@ -39,7 +39,7 @@ impl Core {
         self.continue_with(Components::one(invoke))
     }
 
-    /// A Continue message that invokes two operations; a user Abort where they don't both find a place.
+    /// A Continue message that invokes two operations; a user Abort if they don't both find a place.
     #[tactic(auto, unfolding(crate::specs::Answer::instruct))]
     pub(crate) fn instruct_both(
         &mut self,
@@ -58,7 +58,7 @@ impl Core {
                 self.invocations = invocations;
                 self.continue_with(Components::two(first, second))
             }
-            // The first one isn't kept either.
+            // The first one isn't started either.
             Err(Full) => self.user_abort(),
         }
     }

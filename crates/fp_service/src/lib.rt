@@ -1,18 +1,17 @@
-//! The service logic of a freephone dialogue: what a call gets, one step for each entry.
+//! The service logic of a freephone dialogue: one step for each entry.
 //!
-//! The layer is handed entries, what the messages of a dialogue and the clock bring, and gives requests, what is to be
+//! The layer takes entries, which the messages of a dialogue and the clock bring, and returns requests: messages to be
 //! sent to the switch. It never asks the system for anything: moments and records come with the entries, and its values
 //! have a fixed size.
 //!
-//! * [`Core`] is what the logic knows of a dialogue between two entries, in a value of fixed size that may be copied.
-//!   Its [`State`] tells whether the dialogue is over, and if it isn't, the [`Stage`] of the call.
-//! * [`step`] makes the core after an [`Entry`](fp_entry::Entry), and the [`Request`] if something is asked for: a
-//!   message of the dialogue (ITU-T Q.774, 3.2) with [`Components`], whose Invokes carry an [`Instruction`] for the
-//!   switch (after Q.1218).
+//! * [`Core`] is what the logic knows of a dialogue between two entries, a value of fixed size that may be copied. Its
+//!   [`State`] is that the dialogue is over, or the [`Stage`] of its call.
+//! * [`step`] returns the core after an [`Entry`](fp_entry::Entry) and the [`Request`], if any: a message of the dialogue
+//!   (ITU-T Q.774, 3.2) with [`Components`], whose Invokes carry an [`Instruction`] for the switch (after Q.1218).
 //!
-//! The step is this table, and the first line that fits decides. The lines and their order are those of the code
-//! (`step`, and the methods that begin with `on_`) and of `specs/Serve.antt`. Each entry but Clock sets the moment of
-//! the last entry, in any state. Fresh and Waiting are the stages of a dialogue that isn't over.
+//! The step is this table; the first matching row applies. The rows and their order are those of the code (`step`, and
+//! the methods that begin with `on_`) and of `specs/Serve.antt`. Each entry except Clock sets the moment of the last
+//! entry, in any state. Fresh and Waiting are the stages of a dialogue that isn't over.
 //!
 //! | State | Entry | Request |
 //! |---|---|---|
@@ -21,9 +20,10 @@
 //! | Fresh | Opened: None, Known | none |
 //! | Fresh | Opened: Unknown, BadVersion | Abort with the AARE NoName, NoVersion |
 //! | Waiting | Opened | none |
-//! | any | InitialDp, Event or UnknownInvoke with a linked identifier | Reject: UnrecognizedLinkedIdentifier, or LinkedResponseUnexpected where an invocation has that identifier |
+//! | any | InitialDp, Event or UnknownInvoke with a linked identifier | Reject: UnrecognizedLinkedIdentifier, or LinkedResponseUnexpected if an invocation has that identifier |
 //! | any | UnknownInvoke, Faulty | Reject with its problem |
 //! | any | Result, Error or Reject whose outcome is a problem | Reject with the problem |
+//! | Waiting | Reject of a test, an invocation of class 3 | none |
 //! | Waiting | Error or Reject whose outcome is failure | next destination, NoRouteToDestination |
 //! | any | Result, Error or Reject of another outcome; Reject without identifier | none |
 //! | Fresh | InitialDp: Missing, WrongKey, NoRecord | End with ReturnError MissingParameter, UnexpectedDataValue, MissingCustomerRecord |
@@ -37,30 +37,37 @@
 //! | Waiting | Event: OAnswer, OAbandon | End without components |
 //! | Waiting | another Event, as a request | Continue message with Continue |
 //! | Waiting | another Event, as a notification | none |
-//! | any | Clock | due invocations end; a user Abort where 300,000 ms have passed since the last entry, else none |
+//! | any | Clock, and a test is due | user Abort |
+//! | any | Clock, 300,000 ms or more after the last entry | user Abort |
+//! | Waiting | Clock, no test is active, 120,000 ms or more after the last entry | Continue message with ActivityTest |
+//! | any | any other Clock | none |
 //!
-//! * Next destination, with a cause: where one is left, a Continue message with RequestReportBCSMEvent and with Connect
-//!   to the first, which is taken out, and the state is Waiting; else an End with ReleaseCall of that cause.
+//! * Next destination, with a cause: if one is left, a Continue message with RequestReportBCSMEvent and with Connect to
+//!   the first, which is taken out, and the state is Waiting; else an End with ReleaseCall of that cause.
 //! * A Reject goes in a Continue message.
 //! * The rule is chosen by the calling number and the moment of the entry, and by the birth of the dialogue.
 //! * An End and an Abort end the dialogue: the state is Over.
-//! * Invokes in a Continue message are started as invocations, in order. Where they don't all find a place, of eight,
-//!   none is started and the request is a user Abort. Invokes in an End take the identifiers that come next and aren't
-//!   kept.
+//! * Invokes in a Continue message are started as invocations, in order. There are eight places. If the Invokes don't all
+//!   find one, none is started and the request is a user Abort. Invokes in an End take the next identifiers and start no
+//!   invocation.
+//! * A Clock first ends the invocations that are due.
+//! * A test is ended by its ReturnResultLast, ReturnError or Reject alone. Any other entry of the peer sets the moment of
+//!   the last entry and leaves the test active, and so does a ReturnResultNotLast.
 //! * In a dialogue whose opening is Known the first Continue or End carries the AARE that accepts it, and a user Abort
 //!   carries an ABRT.
 //!
 //! The layer above may rely on this: a step is `serve` of `specs/Serve.antt`, and `next` and `request_of` are its two
-//! parts. `serve` and the definitions below it stay folded unless a proof asks; no layer above should unfold them.
-//! Along the entries of a dialogue the core, the requests and the entries up to its end are the folds of
-//! `specs/Fold.antt`, whose laws ([`folds_along_a_grown_list`], [`over_stays_over`], [`peer_ends_dialogue`],
-//! [`cut_is_a_front`], [`entries_ask_once_at_most`], [`births_stay`]) are all that is to be known of them. Two
-//! cores are equal by `==` exactly where they are the same ([`equal_cores_are_the_same`]). [`Core::next_due`] is the
-//! earliest moment at which a Clock does something.
+//! parts. `serve` and the definitions below it stay folded unless a proof asks; no layer above should unfold them. Along
+//! the entries of a dialogue the core, the requests and the entries up to its end are the folds of `specs/Fold.antt`,
+//! whose laws ([`folds_along_a_grown_list`], [`over_stays_over`], [`peer_ends_dialogue`], [`cut_is_a_front`],
+//! [`entries_ask_once_at_most`], [`births_stay`]) are all that the layers above use. Two cores are equal by `==` exactly
+//! if they are the same ([`equal_cores_are_the_same`]). [`Core::next_due`] is the earliest moment at which a Clock does
+//! something.
 #![tactic(auto)]
 
 mod answer;
 mod attempt;
+mod clock;
 mod component;
 mod components;
 mod dialogue;

@@ -2,15 +2,28 @@
 
 ghost use Rattle.std.specs.Prelude.{◌≡◌};
 ghost use Rattle.fp_ism.specs.Invocation.{class_of};
-ghost use Rattle.fp_ism.specs.Outcome.{outcome_of_error, outcome_of_reject, outcome_of_result};
-ghost use Rattle.fp_service.specs.Outcome.{by_outcome, on_outcome};
+ghost use Rattle.fp_ism.specs.Outcome.{outcome_of_error, outcome_of_result};
+ghost use Rattle.fp_service.specs.Outcome.{by_outcome, is_of_test, on_outcome, on_reject};
 
 use crate::{Core, Request, Stage};
 use fp_digits::Moment;
 use fp_ism::Outcome;
+use fp_q773::OperationClass;
+
+/// Whether an invocation of this class tests its dialogue.
+fn is_of_test(class: Option<OperationClass>) -> bool
+    ensures { result ≡ is_of_test class }
+{
+    match class {
+        Some(OperationClass::Class3) => true,
+        Some(OperationClass::Class1 | OperationClass::Class2 | OperationClass::Class4) | None => {
+            false
+        }
+    }
+}
 
 impl Core {
-    /// A ReturnResult, which is the last or not.
+    /// A ReturnResult, the last or not.
     #[tactic(auto, unfolding(crate::specs::Outcome::on_outcome))]
     pub(crate) fn on_result(
         &mut self,
@@ -41,22 +54,26 @@ impl Core {
         self.by_outcome(stage, moment, identifier, outcome)
     }
 
-    /// A Reject.
-    #[tactic(auto, unfolding(crate::specs::Outcome::on_outcome))]
+    /// A Reject. One of a test has no effect beyond ending the test.
+    #[tactic(auto, unfolding(crate::specs::Outcome::on_reject, crate::specs::Outcome::on_outcome))]
     pub(crate) fn on_reject(
         &mut self,
         stage: Stage,
         moment: Moment,
         identifier: i8,
     ) -> Option<Request>
-        ensures { (self.new, result) ≡ on_outcome stage self.old moment identifier
-            (outcome_of_reject (class_of identifier self.old.invocations.active)) }
+        ensures { (self.new, result) ≡ on_reject stage self.old moment identifier
+            (class_of identifier self.old.invocations.active) }
     {
+        let class = self.invocations.class_of(identifier);
         let outcome = self.invocations.reject(identifier);
+        if is_of_test(class) {
+            return None;
+        }
         self.by_outcome(stage, moment, identifier, outcome)
     }
 
-    /// What follows from an outcome.
+    /// The request that follows from an outcome.
     fn by_outcome(
         &mut self,
         stage: Stage,

@@ -1,9 +1,9 @@
-//! What the service logic asks to be sent.
+//! The messages that the service logic requests.
 
 use crate::Components;
 use fp_apdu::Name;
 
-/// A message that the service logic asks to be sent to the peer of a dialogue (Q.774).
+/// A message that the service logic requests to be sent to the peer of a dialogue (Q.774).
 #[derive(Debug, Drop)]
 pub enum Request {
     /// A Continue.

@@ -1,7 +1,7 @@
 //! The step of the service logic.
 
 ghost use Rattle.std.specs.Prelude.{◌≡◌, IfOk, IsOk};
-ghost use Rattle.fp_service.specs.Serve.{by_opening, on_clock, on_kind, on_opening, reject_linked, serve};
+ghost use Rattle.fp_service.specs.Serve.{by_opening, on_kind, on_opening, reject_linked, serve};
 
 use crate::{AbortPortion, Core, Request, Stage, State};
 use fp_apdu::Opening;
@@ -10,10 +10,10 @@ use fp_entry::{Entry, EntryKind};
 use fp_q773::{InvokeProblem, Problem};
 use std::alloc::{AllocError, Global};
 
-/// The step of the service logic: the core after an entry, and what is asked for. It is the table at the crate's root,
-/// and `serve` of `specs/Serve.antt`.
+/// The step of the service logic: the core after an entry, and the request. It is the table at the crate's root, and
+/// `serve` of `specs/Serve.antt`.
 ///
-/// Takes no memory, so the error never comes.
+/// Takes no memory, so it never returns the error.
 pub fn step(
     alloc: Global,
     core: &Core,
@@ -29,8 +29,8 @@ pub fn step(
 }
 
 impl Core {
-    /// The step of the service logic in place: the core becomes that after an entry. Returns what is asked for, as
-    /// [`step`]. Takes no memory.
+    /// The step of the service logic in place: the core becomes that after an entry. Returns the request, as [`step`]
+    /// does. Takes no memory.
     #[tactic(auto, unfolding(crate::specs::Serve::serve))]
     pub fn step(&mut self, entry: &Entry) -> Option<Request>
         ensures { (self.new, result) ≡ serve self.old entry.now }
@@ -43,7 +43,7 @@ impl Core {
         }
     }
 
-    /// What comes to a dialogue that isn't over.
+    /// An entry of a dialogue that isn't over.
     #[tactic(auto, unfolding(crate::specs::Serve::on_kind))]
     fn on_kind(&mut self, stage: Stage, moment: Moment, kind: &EntryKind) -> Option<Request>
         ensures { (self.new, result) ≡ on_kind stage self.old moment kind.now }
@@ -98,7 +98,7 @@ impl Core {
                 notification,
                 ..
             } => self.on_event(stage, moment, *event, *notification),
-            EntryKind::Clock => self.on_clock(moment),
+            EntryKind::Clock => self.on_clock(stage, moment),
         }
     }
 
@@ -116,7 +116,7 @@ impl Core {
         }
     }
 
-    /// The dialogue is refused where it isn't accepted.
+    /// The dialogue is accepted, or refused by an Abort.
     fn by_opening(&mut self, opening: &Opening) -> Option<Request>
         ensures { (self.new, result) ≡ by_opening self.old opening.now }
     {
@@ -138,18 +138,5 @@ impl Core {
             InvokeProblem::UnrecognizedLinkedIdentifier
         };
         self.reject(Some(identifier), Problem::Invoke(problem))
-    }
-
-    /// A Clock.
-    #[tactic(auto, unfolding(crate::specs::Serve::on_clock))]
-    fn on_clock(&mut self, moment: Moment) -> Option<Request>
-        ensures { (self.new, result) ≡ on_clock self.old moment }
-    {
-        let _ = self.invocations.due(moment);
-        if moment.milliseconds() >= self.quiet_until() {
-            self.user_abort()
-        } else {
-            None
-        }
     }
 }

@@ -1,28 +1,28 @@
-//! How far a dialogue has come.
+//! The state of a dialogue.
 
 ghost use Rattle.std.specs.Prelude.{◌≡◌, ◌↔◌, IsTrue};
 ghost use Rattle.fp_service.specs.declared.state.State.TheVariants.{Over};
-ghost use Rattle.fp_service.specs.Dialogue.{has_ended};
+ghost use Rattle.fp_service.specs.Dialogue.{has_ended, is_waiting};
 
 use fp_records::Destinations;
 
-/// How far a dialogue has come.
+/// The state of a dialogue.
 #[derive(Clone, Copy, Debug, PartialEq, Eq)]
 pub enum State {
-    /// The dialogue goes on, and its call is at this stage.
+    /// The dialogue isn't over, and its call is at this stage.
     Live(Stage),
     /// The dialogue is over.
     Over,
 }
 
-/// How far the call of a dialogue has come that goes on.
+/// The stage of the call of a dialogue that isn't over.
 #[derive(Clone, Copy, Debug, PartialEq, Eq)]
 pub enum Stage {
     /// The dialogue has begun, and no destination was tried yet.
     Fresh,
     /// A destination was tried, and the switch reports how that goes.
     Waiting {
-        /// The destinations that weren't tried yet, in the order in which they are tried; `None` where none is left.
+        /// The destinations that weren't tried yet, in the order in which they are tried; `None` if none is left.
         left: Option<Destinations>,
     },
 }
@@ -36,6 +36,16 @@ impl State {
         match self {
             State::Live(_) => false,
             State::Over => true,
+        }
+    }
+
+    /// Whether the dialogue has a call whose destinations are tried.
+    pub(crate) fn is_waiting(&self) -> bool
+        ensures { result ≡ is_waiting self.now }
+    {
+        match self {
+            State::Live(Stage::Waiting { .. }) => true,
+            State::Live(Stage::Fresh) | State::Over => false,
         }
     }
 }

@@ -12,7 +12,7 @@
 //!
 //! | Component | What it is |
 //! |---|---|
-//! | `invoke ID Connect DIGITS`, `invoke ID ReleaseCall CAUSE`, `invoke ID RequestReportBCSMEvent`, `invoke ID Continue` | an Invoke |
+//! | `invoke ID Connect DIGITS`, `invoke ID ReleaseCall CAUSE`, `invoke ID RequestReportBCSMEvent`, `invoke ID Continue`, `invoke ID ActivityTest` | an Invoke |
 //! | `error ID ERROR` | a ReturnError |
 //! | `reject ID PROBLEM`, `reject ? PROBLEM` | a Reject |
 
@@ -177,6 +177,7 @@ fn instruction_of(alloc: Global, text: &str) -> anyhow::Result<Instruction> {
         "ReleaseCall" => release_of(rest),
         "RequestReportBCSMEvent" => Ok(Instruction::RequestReportBcsmEvent),
         "Continue" => Ok(Instruction::Continue),
+        "ActivityTest" => Ok(Instruction::ActivityTest),
         _ => bail!("no instruction"),
     }
 }

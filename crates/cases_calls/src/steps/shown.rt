@@ -16,7 +16,7 @@
 //!
 //! | Component | What it is |
 //! |---|---|
-//! | `invoke ID Connect DIGITS`, `invoke ID ReleaseCall CAUSE`, `invoke ID RequestReportBCSMEvent`, `invoke ID Continue` | an Invoke |
+//! | `invoke ID Connect DIGITS`, `invoke ID ReleaseCall CAUSE`, `invoke ID RequestReportBCSMEvent`, `invoke ID Continue`, `invoke ID ActivityTest` | an Invoke |
 //! | `error ID ERROR` | a ReturnError |
 //! | `reject ID PROBLEM`, `reject ? PROBLEM` | a Reject |
 
@@ -158,6 +158,7 @@ fn push_invoke(identifier: i8, instruction: &Instruction, out: &mut String) -> a
         Instruction::ReleaseCall(cause) => push_release(*cause, out),
         Instruction::RequestReportBcsmEvent => push_text("RequestReportBCSMEvent", out),
         Instruction::Continue => push_text("Continue", out),
+        Instruction::ActivityTest => push_text("ActivityTest", out),
     }
 }
 

@@ -1,6 +1,9 @@
 use Rattle.fp_book.proofs.Names.{arith, ◌≤◌}
-use Rattle.fp_book.proofs.Ticks.{due_most, few_added, fewer, none_found, one_more}
+use Rattle.fp_book.proofs.Ticks.{begins, due_most, few_added, fewer, none_found, one_more}
 use Rattle.fp_book.proofs.ticking.clock_all.Goals as goal
+
+pub loop-added-init : goal.loop-added-init
+loop-added-init c = begins c.args.moment c.args.rows.now c.args.deadlines.now c.args.ready.now c.requires
 
 -- at most 4,096
 pub overflow_add-added : goal.overflow_add-added

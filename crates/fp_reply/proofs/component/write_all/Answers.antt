@@ -1,4 +1,4 @@
--- The component at a place, and those behind it.
+-- The component at an index, and those after it.
 use Rattle.std.proofs.Common.{◌≡◌, map, drop, refl, arith}
 use Rattle.std.proofs.Math.Seq.{drop-length}
 use Rattle.fp_ber.specs.Putting.{before_others, drop_before}

@@ -1,4 +1,4 @@
--- The components from a place on are put, and each can be sent.
+-- The components from an index on are put, and each can be sent.
 use Rattle.std.proofs.Common.{◌≡◌, ◌++◌, map, drop}
 use Rattle.fp_ber.specs.Canon.{canon_of_all}
 use Rattle.fp_q773.specs.Written.{component_trees}

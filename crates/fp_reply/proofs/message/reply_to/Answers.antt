@@ -1,4 +1,4 @@
--- What is put can be spelled.
+-- The message can be spelled.
 use Rattle.fp_q773.specs.Tid.{octets_of}
 use Rattle.fp_reply.specs.Reply.{reply}
 use Rattle.fp_reply.proofs.Nesting.{reply_in_range}

@@ -1,4 +1,4 @@
--- A Continue before what it holds.
+-- A Continue around its portions.
 use Rattle.std.proofs.Common.{◌≤◌, length, map, sym, arith}
 use Rattle.std.proofs.lemmas.List.{length-map}
 use Rattle.std.proofs.lemmas.Result.{on_ok_weaker}

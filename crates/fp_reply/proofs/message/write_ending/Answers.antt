@@ -1,4 +1,4 @@
--- An End before what it holds.
+-- An End around its portions.
 use Rattle.std.proofs.Common.{◌≤◌, length, map, arith}
 use Rattle.std.proofs.lemmas.List.{length-map}
 use Rattle.std.proofs.lemmas.Result.{on_ok_weaker}

@@ -1,4 +1,4 @@
--- The folds along a list that has grown.
+-- The folds along a list followed by another.
 use Rattle.fp_service.proofs.Folding.{folds_grow, folds_grow_by_one}
 use Rattle.fp_service.proofs.laws.folds_along_a_grown_list.Goals as goal
 

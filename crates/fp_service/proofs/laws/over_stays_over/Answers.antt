@@ -1,4 +1,4 @@
--- A dialogue that is over stays so.
+-- A dialogue that is over stays over.
 use Rattle.fp_service.proofs.Folding.{stays_over}
 use Rattle.fp_service.proofs.laws.over_stays_over.Goals as goal
 
