@@ -4,7 +4,6 @@ use fp_book::{Line, LoggedStep};
 use fp_hub::Hub;
 use fp_replay::write_line;
 use std::alloc::{AllocError, Global};
-use std::collections::VecDeque;
 use std::mem;
 use std::sync::ledger::Ledger;
 use std::sync::{Mutex, Wait};
@@ -106,7 +105,7 @@ fn message_len(line: &Line) -> usize {
 struct Waiting {
     // What is moved at once.
     moved: Vec<Line>,
-    lines: VecDeque<Line>,
+    lines: Vec<Line>,
     // How many octets their messages have, which take most of the memory.
     octets: usize,
 }
@@ -116,7 +115,7 @@ impl Waiting {
     fn new(alloc: Global) -> Result<Waiting, AllocError> {
         Ok(Waiting {
             moved: Vec::with_capacity(alloc, LINES_AT_ONCE)?,
-            lines: VecDeque::with_capacity(alloc, MOST_LINES)?,
+            lines: Vec::with_capacity(alloc, MOST_LINES)?,
             octets: 0,
         })
     }
@@ -139,10 +138,10 @@ impl Waiting {
             }
             hub.drain(rt, &mut self.moved);
             let leaves_none = self.moved.len() < LINES_AT_ONCE;
-            for line in self.moved.drain(..) {
-                self.octets = self.octets.saturating_add(message_len(&line));
-                self.lines.push_back(line)?;
+            for line in self.moved.iter() {
+                self.octets = self.octets.saturating_add(message_len(line));
             }
+            self.lines.append(&mut self.moved)?;
             if leaves_none {
                 break;
             }
@@ -154,7 +153,10 @@ impl Waiting {
 /// Lines whose text is being made, and the text.
 #[derive(Drop)]
 struct Making {
-    lines: VecDeque<Line>,
+    // A list from whose front nothing is taken, so that few lines take little of its room.
+    lines: Vec<Line>,
+    // How many of them have their text.
+    made: usize,
     text: LogText,
 }
 
@@ -162,22 +164,23 @@ impl Making {
     /// No line, in room for as many as may wait.
     fn new(alloc: Global) -> Result<Making, AllocError> {
         Ok(Making {
-            lines: VecDeque::with_capacity(alloc, MOST_LINES)?,
+            lines: Vec::with_capacity(alloc, MOST_LINES)?,
+            made: 0,
             text: LogText::new(alloc)?,
         })
     }
 
-    /// Makes the text of lines, while it has fewer than `most` octets. Drops each that has its text.
+    /// Makes the text of lines, while it has fewer than `most` octets. Drops the lines once all have their text.
     fn add_text(&mut self, most: usize) -> Result<(), AllocError> {
-        for _ in 0..self.lines.len() {
+        for line in self.lines.iter().skip(self.made) {
             if self.text.octets.len() >= most {
-                break;
+                return Ok(());
             }
-            let Some(line) = self.lines.pop_front() else {
-                break;
-            };
-            self.text.add(&line)?;
+            self.text.add(line)?;
+            self.made = self.made.saturating_add(1);
         }
+        self.lines.clear();
+        self.made = 0;
         Ok(())
     }
 }
@@ -210,7 +213,7 @@ impl LinkLog {
         &self,
         rt: &R,
         hub: &Hub<A, B, C>,
-        lines: &mut VecDeque<Line>,
+        lines: &mut Vec<Line>,
     ) -> Result<(), AllocError> {
         let mut waiting = self.waiting.lock(rt);
         waiting.move_lines(rt, hub, MOST_MOVES)?;
