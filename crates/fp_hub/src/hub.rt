@@ -1,15 +1,17 @@
 //! The hub of a link.
 
-ghost use Rattle.std.specs.Prelude.{◌≡◌, ◌<◌, ◌≤◌, IfErr, IfOk, vec_capacity};
-ghost use Rattle.fp_hub.specs.Holds.{CountsPosts, CountsWork};
+ghost use Rattle.std.specs.Prelude.{◌≡◌, ◌<◌, IfErr, IfOk, vec_capacity};
 ghost use Rattle.fp_hub.specs.Lines.{KeepsFront};
 ghost use Rattle.fp_hub.specs.Shares.{AreBlanks, after_give, after_post, after_sent, blank};
+
+mod awaiting;
+mod several;
 
 use crate::hints::HintChannel;
 use crate::hold::Hold;
 use crate::resting::Resting;
-use crate::waiting::{Looking, Patience, pause};
-use crate::{Hints, Kept, Looks, Next, Seat, SentAndNext, Stopped, Work, Worked};
+use crate::waiting::Looking;
+use crate::{Hints, Kept, Looks, Seat};
 use crossbeam_utils::CachePadded;
 use fp_book::{Given, Line, Parcel, Picked, Posted, Taken, Ticked};
 use fp_digits::Moment;
@@ -17,15 +19,10 @@ use fp_entry::Prepared;
 use fp_row::{Done, Turn};
 use fp_tids::LocalIds;
 use std::alloc::{AllocError, Global};
-use std::collections::VecDeque;
-use std::rt::Clock;
 use std::sync::atomic::{AtomicBool, Ordering};
 use std::sync::ledger::{Blank, Ledger};
 use std::sync::{Condvar, Mutex, Wait};
 use std::time::Duration;
-
-/// How many seconds a thread that awaits room sleeps at most before it looks again.
-const SECONDS_FOR_ROOM: u64 = 1;
 
 /// The book of a link under its lock, which all threads of the link share.
 ///
@@ -172,21 +169,6 @@ impl<A: Ledger, B: Ledger, C: Ledger> Hub<A, B, C> {
         posted
     }
 
-    /// Posts messages from the front of a list in their order, as [`Kept::post_front`]: 64 at most, and none from the
-    /// first on that is held back. The others stay in the list. `true`: an Abort of the provider answers one of them,
-    /// of which the sending thread doesn't know: [`Hub::tell_sender`] wakes it.
-    pub fn post_front<R: Wait>(
-        &self,
-        rt: &R,
-        alloc: Global,
-        seat: &mut Seat<A, B, C>,
-        came: &mut VecDeque<Prepared>,
-    ) -> bool
-        ensures grows { CountsPosts came.old.items came.new.items seat.old seat.new }
-    {
-        self.hold(rt).kept.post_front(alloc, seat, came)
-    }
-
     /// Time goes by, as for [`Kept::tick`].
     pub fn tick<R: Wait>(&self, rt: &R, moment: Moment) -> Ticked {
         self.hold(rt).kept.tick(moment)
@@ -216,37 +198,6 @@ impl<A: Ledger, B: Ledger, C: Ledger> Hub<A, B, C> {
             self.notify();
         }
         given
-    }
-
-    /// Takes back the turns of a list, 32 at most, and then hands out others, which are put at its end, as
-    /// [`Kept::give_and_take`]: the share of one of this number of workers, `most` turns at most. The sending thread
-    /// isn't woken for frames that were queued: [`Hub::tell_sender`] does that. After a take that finds no place for a
-    /// frame a worker is hinted when a parcel is awaited next.
-    pub fn give_and_take<R: Wait>(
-        &self,
-        rt: &R,
-        seat: &mut Seat<A, B, C>,
-        work: &mut VecDeque<Work>,
-        workers: usize,
-        most: usize,
-    ) -> Worked
-        ensures works { CountsWork work.old.items work.new.items most seat.old seat.new }
-        ensures same { seat.new ≡ record seat.old { served = seat.new.served } }
-        ensures grows { seat.old.served ≤ seat.new.served }
-    {
-        let brings_room = !work.is_empty();
-        let mut hold = self.hold(rt);
-        let worked = hold.kept.give_and_take(seat, work, workers, most);
-        if worked.stopped == Stopped::NoRoom {
-            self.lacks_room.store(true, Ordering::SeqCst);
-        }
-        self.release(hold, brings_room);
-        worked
-    }
-
-    /// Wakes the sending thread: there may be a parcel to pick.
-    pub fn tell_sender(&self) {
-        self.notify();
     }
 
     /// Takes back a turn that wasn't served, as [`Kept::put_back`]. A stale or foreign turn comes back, and nothing
@@ -292,24 +243,6 @@ impl<A: Ledger, B: Ledger, C: Ledger> Hub<A, B, C> {
         sent
     }
 
-    /// Takes back the parcel that was sent, and then hands out what is sent next, as [`Kept::sent_and_next`]: the seat
-    /// grows as by [`Hub::sent`]. A stale or foreign parcel comes back; the caller has to spend it, as by
-    /// [`Parcel::abandon`]. Takes no memory.
-    pub fn sent_and_next<R: Wait>(
-        &self,
-        rt: &R,
-        seat: &mut Seat<A, B, C>,
-        parcel: Parcel,
-    ) -> SentAndNext
-        ensures same { IfErr result.sent (λ back. back ≡ parcel) }
-        ensures grows { seat.new ≡ after_sent seat.old parcel result.sent }
-    {
-        let mut hold = self.hold(rt);
-        let answer = hold.kept.sent_and_next(seat, parcel);
-        self.release_and_wake(hold);
-        answer
-    }
-
     /// Takes back the parcel that couldn't be sent, as [`Kept::unsent`]: the link goes down. A stale or foreign parcel
     /// comes back, and nothing changes; the caller has to spend it, as by [`Parcel::abandon`]. Takes no memory.
     pub fn unsent<R: Wait>(&self, rt: &R, parcel: Parcel) -> Result<(), Parcel>
@@ -348,40 +281,6 @@ impl<A: Ledger, B: Ledger, C: Ledger> Hub<A, B, C> {
     /// How many entries the dialogues that are held keep, as [`Kept::entry_count`]. Goes through all of them.
     pub fn entry_count<R: Wait>(&self, rt: &R) -> u64 {
         self.hold(rt).kept.entry_count()
-    }
-
-    /// Waits until this message isn't held back any more, or the link is down. It looks under the lock before each
-    /// sleep, and again each second. Each call that gives or puts back a turn, hands out or reports a parcel, or takes
-    /// the link down wakes it, so it misses none of them. A post, which may also make room, doesn't: only the thread
-    /// that posts awaits room. A caller that held a turn or a parcel meanwhile might wait for itself.
-    pub fn await_room<R: Wait + Clock>(&self, rt: &R, came: &Prepared) {
-        let most = Duration::from_secs(SECONDS_FOR_ROOM);
-        let mut hold = self.hold(rt);
-        for _ in rt.forever() {
-            if !hold.kept.holds_back(came) {
-                break;
-            }
-            self.awaits_room.store(true, Ordering::SeqCst);
-            hold = hold.wait_timeout(rt, &*self.room_came, most);
-        }
-    }
-
-    /// Waits until the book is quiet or the link is down, and says so; at most for this time. It is woken as
-    /// [`Hub::await_room`] is.
-    pub fn await_quiet<R: Wait + Clock>(&self, rt: &R, most: Duration) -> bool {
-        let patience = Patience::new(rt, most);
-        let mut hold = self.hold(rt);
-        for _ in rt.forever() {
-            if hold.kept.is_quiet() || hold.kept.is_down() {
-                return true;
-            }
-            let Some(left) = patience.left(rt) else {
-                return false;
-            };
-            self.awaits_room.store(true, Ordering::SeqCst);
-            hold = hold.wait_timeout(rt, &*self.room_came, left);
-        }
-        unreachable!()
     }
 
     /// Rests for this time, or until [`LINES_OF_A_REST`](crate::LINES_OF_A_REST) lines of the log wait, or the link
@@ -440,46 +339,6 @@ impl<A: Ledger, B: Ledger, C: Ledger> Hub<A, B, C> {
         if take_mark(&self.lacks_room) {
             self.hint(rt);
         }
-    }
-
-    /// Waits until there is something to be sent, and hands it out. `None`: the link is down. Before that it hints as
-    /// [`Hub::hint_after_no_room`].
-    pub fn await_parcel<R: Wait>(&self, rt: &R) -> Option<Parcel> {
-        self.hint_after_no_room(rt);
-        for _ in 0..self.looking.count() {
-            if take_mark(&self.is_moved) {
-                let mut hold = self.hold(rt);
-                match hold.kept.next() {
-                    Next::Parcel(parcel) => {
-                        self.release_and_wake(hold);
-                        self.looking.found();
-                        return Some(parcel);
-                    }
-                    Next::Down => return None,
-                    Next::Nothing => {}
-                }
-            }
-            pause();
-        }
-        self.looking.found_nothing();
-        self.sleep_for_parcel(rt)
-    }
-
-    /// Sleeps until there is something to be sent, and hands it out. `None`: the link is down.
-    fn sleep_for_parcel<R: Wait>(&self, rt: &R) -> Option<Parcel> {
-        let mut hold = self.hold(rt);
-        for _ in rt.forever() {
-            match hold.kept.next() {
-                Next::Parcel(parcel) => {
-                    self.release_and_wake(hold);
-                    return Some(parcel);
-                }
-                Next::Down => return None,
-                Next::Nothing => {}
-            }
-            hold = hold.wait(rt, &*self.moved);
-        }
-        unreachable!()
     }
 
     /// What the lock kept, once no thread shares the hub any more.

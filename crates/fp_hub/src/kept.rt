@@ -1,56 +1,28 @@
 //! What the lock of a link keeps.
 
-ghost use Rattle.std.specs.Prelude.{◌≡◌, ◌↔◌, ◌<◌, ◌-◌, ◌||◌, false, Some, IfErr, IfOk, IsOk, IsTrue, OnOk, length, vec_capacity, vec_len};
+ghost use Rattle.std.specs.Prelude.{◌≡◌, ◌↔◌, ◌<◌, ◌-◌, false, Some, IfErr, IfOk, IsOk, IsTrue, OnOk, length, vec_capacity, vec_len};
 ghost use Rattle.std.specs.FinMap.{get};
-ghost use Rattle.std.specs.VecDeque.{deque_capacity};
 ghost use Rattle.fp_book.specs.declared.line.LoggedStep.TheVariants as line;
 ghost use Rattle.fp_book.specs.Calls.{DrainsBook, GivesDone, GoesDown, Hands, IsOut, NoneReady, Posts, PutsTurnBack, Sends, Takes, Ticks, Unsends, posted_totals, turn_of};
 ghost use Rattle.fp_book.specs.Holding.{IsQuiet, entries_kept, holds_back};
 ghost use Rattle.fp_book.specs.Shelf.{Sound, empty_shelf};
-ghost use Rattle.fp_hub.specs.Holds.{GivesAndTakes, PostsFront, ReturnsFront, ReturnsIn, SendsAndFinds, TakesTurns, gave, is_aborted, is_queued, share};
 ghost use Rattle.fp_hub.specs.Next.{Finds};
 ghost use Rattle.fp_hub.specs.Shares.{AreBlanks, Whole, Within, after_give, after_post, after_sent, amounts, blank};
 
-use crate::next::{Next, SentAndNext};
-use crate::work::{Stopped, Work, Worked};
+mod several;
+
+use crate::next::Next;
 use crate::{PARTS, Seat};
 use fp_book::{Book, Given, Line, Parcel, Picked, Posted, Taken, Ticked, Totals};
 use fp_digits::Moment;
 use fp_entry::Prepared;
 use fp_row::{Done, Turn};
 use fp_tids::LocalIds;
+pub(crate) use several::MOST_TURNS;
 use std::alloc::{AllocError, Global};
-use std::collections::VecDeque;
 use std::marker::Model;
 use std::sync::ledger;
 use std::sync::ledger::{Blank, Ledger};
-
-/// How many messages are posted in one hold at most.
-const MOST_POSTS: usize = 64;
-
-/// How many turns come back in one hold at most.
-pub(crate) const MOST_TURNS: usize = 32;
-
-/// Whether an Abort of the provider answers a message.
-fn is_aborted(answer: Posted) -> bool
-    ensures { result ≡ is_aborted answer }
-{
-    matches!(answer, Posted::Aborted(_))
-}
-
-/// Whether the frame of the request of a turn that was given waits to be sent.
-fn is_queued(given: Given) -> bool
-    ensures { result ≡ is_queued (gave given) }
-{
-    matches!(given, Given::Queued(_))
-}
-
-/// Whether one of the two holds.
-fn either(one: bool, other: bool) -> bool
-    ensures { result ≡ (one || other) }
-{
-    one || other
-}
 
 /// What the lock of a link keeps: its book, and the books of three ledgers, of the components that it accepted, the
 /// entries that it served and the frames that it sent. Its type keeps that the totals of these three are those of the
@@ -177,37 +149,6 @@ impl<A: Ledger, B: Ledger, C: Ledger> Kept<A, B, C> {
         Ok(self.post(alloc, seat, came))
     }
 
-    /// Posts messages from the front of a list in their order, each as [`Kept::post_unless_held_back`]: 64 at most, and
-    /// none from the first on that is held back. The others stay in the list. Returns whether an Abort of the provider
-    /// answers one of them.
-    pub fn post_front(
-        &mut self,
-        alloc: Global,
-        seat: &mut Seat<A, B, C>,
-        came: &mut VecDeque<Prepared>,
-    ) -> bool
-        ensures posts { PostsFront self.old self.new came.old.items came.new.items seat.old seat.new result }
-        ensures sound { Sound self.new }
-        ensures within { Within seat.old self.old.totals }
-    {
-        self.compare(seat);
-        let mut has_aborted = false;
-        for _count in 0..MOST_POSTS {
-            let Some(next) = came.front() else {
-                return has_aborted;
-            };
-            if self.holds_back(next) {
-                return has_aborted;
-            }
-            let Some(next) = came.pop_front() else {
-                return has_aborted;
-            };
-            let answer = self.post(alloc, seat, next);
-            has_aborted = either(has_aborted, is_aborted(answer));
-        }
-        has_aborted
-    }
-
     /// Whether a message is held back, as [`Book::holds_back`].
     pub fn holds_back(&self, came: &Prepared) -> bool
         ensures value { result ≡ holds_back self.now came.now }
@@ -279,50 +220,6 @@ impl<A: Ledger, B: Ledger, C: Ledger> Kept<A, B, C> {
         self.book.put_back(turn)
     }
 
-    /// Takes back a turn, as [`Kept::give`] if it was served and else as [`Kept::put_back`]. A stale or foreign one is
-    /// abandoned. Returns whether the frame of its request was queued.
-    fn return_one(&mut self, seat: &mut Seat<A, B, C>, work: Work) -> bool
-        ensures returns { ReturnsIn self.old self.new work seat.old seat.new result }
-        ensures sound { Sound self.new }
-    {
-        match work {
-            Work::Served(done) => match self.give(seat, done) {
-                Ok(given) => is_queued(given),
-                Err(foreign) => {
-                    foreign.abandon();
-                    false
-                }
-            },
-            Work::Unserved(turn) => {
-                if let Err(foreign) = self.put_back(turn) {
-                    foreign.abandon();
-                }
-                false
-            }
-        }
-    }
-
-    /// Takes back turns from the front of a list in their order, 32 at most: those that were served as [`Kept::give`],
-    /// the others as [`Kept::put_back`]. Stale or foreign ones are abandoned. Returns whether the frame of a request
-    /// was queued.
-    pub fn return_front(&mut self, seat: &mut Seat<A, B, C>, work: &mut VecDeque<Work>) -> bool
-        ensures returns { ReturnsFront self.old self.new work.old.items work.new.items seat.old seat.new result }
-        ensures capacity { deque_capacity work.new ≡ deque_capacity work.old }
-        ensures sound { Sound self.new }
-        ensures within { Within seat.old self.old.totals }
-    {
-        self.compare(seat);
-        let mut has_queued = false;
-        for _count in 0..MOST_TURNS {
-            let Some(first) = work.pop_front() else {
-                return has_queued;
-            };
-            let queues = self.return_one(seat, first);
-            has_queued = either(has_queued, queues);
-        }
-        has_queued
-    }
-
     /// How many dialogues are ready, as [`Book::ready_count`].
     pub fn ready_count(&self) -> usize
         ensures value { result ≡ length self.now.ready }
@@ -330,53 +227,6 @@ impl<A: Ledger, B: Ledger, C: Ledger> Kept<A, B, C> {
     {
         self.say_sound();
         self.book.ready_count()
-    }
-
-    /// Takes turns as [`Kept::take`], and puts them at the end of a list, as far as that has room: the share that one
-    /// of this number of workers has of the dialogues that are ready, at least one turn, and at most `most`, nor more
-    /// than 32.
-    pub fn take_share(&mut self, workers: usize, most: usize, work: &mut VecDeque<Work>) -> Stopped
-        ensures takes { TakesTurns self.old self.new work.old.items work.new.items
-            (share (length self.old.ready) workers most) (deque_capacity work.old) result }
-        ensures sound { Sound self.new }
-    {
-        let most = (self.ready_count() / workers.max(1))
-            .max(1)
-            .min(most.min(MOST_TURNS));
-        for _count in 0..most {
-            if work.len() >= work.capacity() {
-                return Stopped::Enough;
-            }
-            match self.take() {
-                Taken::Turn(turn) => work.push_back_reserved(Work::Unserved(turn)),
-                Taken::Nothing => return Stopped::Nothing,
-                Taken::NoRoom => return Stopped::NoRoom,
-                Taken::Memory => return Stopped::Memory,
-            }
-        }
-        Stopped::Enough
-    }
-
-    /// Takes back the turns of a list, as [`Kept::return_front`], and then takes others, as [`Kept::take_share`].
-    pub fn give_and_take(
-        &mut self,
-        seat: &mut Seat<A, B, C>,
-        work: &mut VecDeque<Work>,
-        workers: usize,
-        most: usize,
-    ) -> Worked
-        ensures works { GivesAndTakes self.old self.new work.old.items work.new.items seat.old seat.new
-            workers most (deque_capacity work.old) result }
-        ensures sound { Sound self.new }
-        ensures within { Within seat.old self.old.totals }
-    {
-        let is_queued = self.return_front(seat, work);
-        let stopped = self.take_share(workers, most, work);
-        Worked {
-            is_queued,
-            stopped,
-            ready_count: self.ready_count(),
-        }
     }
 
     /// Hands out what is sent next, as [`Book::pick`].
@@ -461,20 +311,6 @@ impl<A: Ledger, B: Ledger, C: Ledger> Kept<A, B, C> {
             Picked::Parcel(parcel) => Next::Parcel(parcel),
             Picked::Busy | Picked::Nothing => Next::Nothing,
         }
-    }
-
-    /// Takes back the parcel that was sent, as [`Kept::sent`], and then hands out what is sent next, unless the link is
-    /// down.
-    pub fn sent_and_next(&mut self, seat: &mut Seat<A, B, C>, parcel: Parcel) -> SentAndNext
-        ensures sends { SendsAndFinds self.old parcel result.sent result.next self.new }
-        ensures known { IsOk result.sent ↔ IsOut self.old parcel }
-        ensures sound { Sound self.new }
-        ensures grows { seat.new ≡ after_sent seat.old parcel result.sent }
-        ensures within { Within seat.old self.old.totals }
-    {
-        let sent = self.sent(seat, parcel);
-        let next = self.next();
-        SentAndNext { sent, next }
     }
 
     /// What was counted, once the seat has all parts: the totals are its amounts. Changes neither.
