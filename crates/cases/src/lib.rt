@@ -5,9 +5,9 @@
 //! must come out, worked out by hand or taken from a standard. The program prints each case whose answer is another
 //! one, and at the end the number of cases and of those.
 //!
-//! A case may have several lines, and octets may have names (`scripts`). A program has a type that is `Answers`: it writes
-//! what a case gives. `run` does the rest. `first_word` takes an input apart; `octets_of` and `push_octets` have octets as
-//! hexadecimal text.
+//! A case may have several lines, and octets may have names (`scripts`). A program has a type that is `Answers`: it
+//! writes what a case gives. `run` does the rest. `first_word` takes an input apart; `octets_of` and `push_octets` have
+//! octets as hexadecimal text.
 #![tactic(auto)]
 
 mod octets;

@@ -1,11 +1,12 @@
 //! Cases of many steps, and names for octets.
 //!
-//! A case may go on in the lines after its first one, which begin with a blank. A line `STEPS => ANSWERS` has more steps
-//! and what they must answer: they follow those before them, with `; ` between. A line without ` => ` has more of the
-//! last answer.
+//! A case may go on in the lines after its first one, which begin with a blank. A line `STEPS => ANSWERS` has more
+//! steps and what they must answer: they follow those before them, with `; ` between. A line without ` => ` has more of
+//! the last answer.
 //!
 //! A line `message NAME = WORD ..` gives octets a name. Its words are octets in hexadecimal and names that were given
-//! before it. In the cases after it, and in what is wanted of them, the name as a word of its own stands for the octets.
+//! before it. In the cases after it, and in what is wanted of them, the name as a word of its own stands for the
+//! octets.
 
 use crate::{Answers, fault_of, is_comment};
 use std::alloc::{AllocError, Global};

@@ -1,6 +1,6 @@
 //! Worked cases from octets to the service logic, one a line: `INPUT => WANTED`. The library `cases` says how they are
-//! written and compared. The first word of a case names the reader, the writer or the call that it is about; each module
-//! has a table of its own. Some cases go on from the one before: what they need is in a scene.
+//! written and compared. The first word of a case names the reader, the writer or the call that it is about; each
+//! module has a table of its own. Some cases go on from the one before: what they need is in a scene.
 //!
 //! | Module | What it is about |
 //! |---|---|

@@ -1,5 +1,5 @@
-//! Messages and components of TCAP (Q.773): how they are read, what `ids_of` finds in octets that need not be a message,
-//! and how they are written.
+//! Messages and components of TCAP (Q.773): how they are read, what `ids_of` finds in octets that need not be a
+//! message, and how they are written.
 //!
 //! | Case | What it gives |
 //! |---|---|

@@ -6,8 +6,8 @@
 //!
 //! What is answered is written as a log writes it. `O` and the local identifier: a dialogue was opened. `A` and a
 //! number: this number of entries was accepted. `X` and a cause: an Abort of the provider waits to be sent. `E`: a
-//! dialogue was ended, and nothing is sent. `D`: discarded. Of the requests of a turn: `Q` and a number if the frames of
-//! this number wait to be sent, `S` if there is none, and `D` and a number if they aren't accepted.
+//! dialogue was ended, and nothing is sent. `D`: discarded. Of the requests of a turn: `Q` and a number if the frames
+//! of this number wait to be sent, `S` if there is none, and `D` and a number if they aren't accepted.
 //!
 //! | Step | What it answers |
 //! |---|---|

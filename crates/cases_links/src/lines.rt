@@ -6,8 +6,8 @@
 //! | `octets HEX` | the same of octets, to which no line feed is added |
 //! | `message COUNT` | whether the line of a message of so many octets is read |
 //!
-//! A line that is read is written again; if that isn't what was read, what was written is given. `said` says in words what
-//! lines say.
+//! A line that is read is written again; if that isn't what was read, what was written is given. `said` says in words
+//! what lines say.
 
 mod said;
 

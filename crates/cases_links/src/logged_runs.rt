@@ -6,8 +6,8 @@
 //! | `long-run COUNT LINK: STEP; STEP; ..` | how many lines the log has, the last COUNT of them, and the report |
 //!
 //! After the report come the answers of those steps that a log has no line for: `nothing`, `busy`, `no room`, and
-//! `tick`, where no dialogue was due. The steps are those of `runs`. That the report has the totals of the run is tested,
-//! too.
+//! `tick`, where no dialogue was due. The steps are those of `runs`. That the report has the totals of the run is
+//! tested, too.
 
 use crate::replays::{SOUND, push_replay};
 use crate::runs::{LINKS, outputs_of, steps_of};

@@ -18,8 +18,8 @@
 //! | `logged-run`, `long-run` | `logged_runs` | the logs of whole runs, and their replay |
 //!
 //! Standard input has one case or more to each comment. A case about dialogues is what is done, step by step, and after
-//! ` => ` what each step must answer. Between steps, as between answers, is `; `. Each case begins without a dialogue, at
-//! noon, 2024-05-06T12:00:00Z. In a log and in a report `|` stands for a line feed.
+//! ` => ` what each step must answer. Between steps, as between answers, is `; `. Each case begins without a dialogue,
+//! at noon, 2024-05-06T12:00:00Z. In a log and in a report `|` stands for a line feed.
 //!
 //! `devices` has readers and writers that do what a case says, `memory` an inbox and an outlet that keep what goes
 //! through them, and `texts` words of steps and of answers.

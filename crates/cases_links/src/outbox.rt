@@ -1,9 +1,9 @@
 //! What waits to be sent on a link, and what is being sent.
 //!
 //! A case has two outboxes, begins at the first one, and picks parcels of the link 0 until it says another link. The
-//! parcels that it picks have names of one letter, whichever outbox and link they are of. The frame of a dialogue is the
-//! Abort of the user that ends it after it accepted no message for 300,000 ms: it has the identifier of the peer, and
-//! not the local one.
+//! parcels that it picks have names of one letter, whichever outbox and link they are of. The frame of a dialogue is
+//! the Abort of the user that ends it after it accepted no message for 300,000 ms: it has the identifier of the peer,
+//! and not the local one.
 //!
 //! | Step | What it answers |
 //! |---|---|

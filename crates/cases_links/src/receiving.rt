@@ -166,7 +166,8 @@ fn begin_with(all: &[Frame], front: &[Frame]) -> bool {
             .all(|(one, other)| one.octets() == other.octets())
 }
 
-/// Writes how many messages were handed on by the loop that ended so, if this read fails. They must be the first of all.
+/// Writes how many messages were handed on by the loop that ended so, if this read fails. They must be the first of
+/// all.
 fn push_front(
     all: &[Frame],
     front: &[Frame],

@@ -4,10 +4,11 @@
 //! turn names its dialogue, by the local identifier in eight hexadecimal digits; one about a parcel is about the one
 //! that is out. A step that is impossible answers `nothing`.
 //!
-//! What became of a message is a letter, and how many components were accepted. `O` and the local identifier: a dialogue
-//! was opened. `A` and a number: this number of entries was accepted. `X` and a cause: an Abort of the provider waits to
-//! be sent. `E`: a dialogue was ended, and nothing is sent. `D`: discarded. Of the requests of a turn: `Q` and a number if
-//! the frames of this number wait to be sent, `S` if there is none, and `D` and a number if they aren't accepted.
+//! What became of a message is a letter, and how many components were accepted. `O` and the local identifier: a
+//! dialogue was opened. `A` and a number: this number of entries was accepted. `X` and a cause: an Abort of the
+//! provider waits to be sent. `E`: a dialogue was ended, and nothing is sent. `D`: discarded. Of the requests of a
+//! turn: `Q` and a number if the frames of this number wait to be sent, `S` if there is none, and `D` and a number if
+//! they aren't accepted.
 //!
 //! | Step | What it answers |
 //! |---|---|
@@ -39,9 +40,9 @@
 //! | | identifier and each with the next one: what the steps of the last one answer, with `, ` between them |
 //!
 //! A case `random SEED RUNS STEPS` makes RUNS runs of STEPS steps each, or a few more, drawn from this seed, and checks
-//! what each output must be after those before it. It answers how many runs there were, how many steps of each kind, how
-//! many outputs of each kind, and how many Rejects were compared with an earlier one of their dialogue; or what is wrong
-//! with the first run that is wrong. Its steps are those of `drawn.rt`, and its checks those of `watch.rt`.
+//! what each output must be after those before it. It answers how many runs there were, how many steps of each kind,
+//! how many outputs of each kind, and how many Rejects were compared with an earlier one of their dialogue; or what is
+//! wrong with the first run that is wrong. Its steps are those of `drawn.rt`, and its checks those of `watch.rt`.
 
 mod drawn;
 mod draws;

@@ -14,8 +14,8 @@
 //! | `failing writes scp ..` | the same with the writes of an octet each |
 //! | `fronts FIRST LAST scp ..` | runs with the first FIRST, .., LAST octets of the message: how many come to the same as the first of them, before one that doesn't, and what |
 //!
-//! A run of `failing` ends early if its status is 1, what it wrote is a front of what a whole run writes, and its line on
-//! standard error names the device that failed.
+//! A run of `failing` ends early if its status is 1, what it wrote is a front of what a whole run writes, and its line
+//! on standard error names the device that failed.
 //!
 //! | Module | What it has |
 //! |---|---|

@@ -32,8 +32,8 @@ Taken contents contexts state line (Some frames) new = Answers contents contexts
 abbrev pub Taking : Contents → List (List ℕ) → List ℕ → Answerer → Option (List (List ℕ)) → Answerer → Type 0
 Taking contents contexts line old frames new = (state : State) → IsAt state old → Taken contents contexts state line frames new
 
--- what takes lines: what they are answered from, the link with its moment, and the writer: the name by which it is lent,
--- what it holds, and how often it failed
+-- what takes lines: what they are answered from, the link with its moment, and the writer: the name by which it is
+-- lent, what it holds, and how often it failed
 pub record Taker : Type 0 where
   pub contents : Contents
   pub contexts : List (List ℕ)

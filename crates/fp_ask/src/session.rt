@@ -78,8 +78,8 @@ impl Session {
         })
     }
 
-    /// Takes a message, and returns the frames that are sent for it. If memory runs out, or ran out when the message was
-    /// read, no clause speaks of the session after that.
+    /// Takes a message, and returns the frames that are sent for it. If memory runs out, or ran out when the message
+    /// was read, no clause speaks of the session after that.
     pub fn post(&mut self, alloc: Global, came: Prepared) -> Result<Vec<SentFrame>, AllocError>
         requires rest { Rest self.old }
         ensures rest { OnOk result (Rest self.new) }
@@ -98,8 +98,8 @@ impl Session {
         self.serve_and_send(alloc)
     }
 
-    /// Moves the clock to this moment, and returns the frames that are sent then. If memory runs out, no clause speaks of
-    /// the session after that.
+    /// Moves the clock to this moment, and returns the frames that are sent then. If memory runs out, no clause speaks
+    /// of the session after that.
     pub fn tick(&mut self, alloc: Global, moment: Moment) -> Result<Vec<SentFrame>, AllocError>
         requires rest { Rest self.old }
         ensures rest { OnOk result (Rest self.new) }

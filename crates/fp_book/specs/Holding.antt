@@ -50,8 +50,8 @@ abbrev pub lacks_only_room : Shelf → Prepared → Bool
 lacks_only_room s (Message arrival incoming) = not (too_many incoming) && not (is_full s)
 lacks_only_room s came = false
 
--- there will be room for it: among the 64 entries of its dialogue once some of these are served; among the 4,096 dialogues
--- if one of them is busy, since it may go then, and a serial is left
+-- there will be room for it: among the 64 entries of its dialogue once some of these are served; among the 4,096
+-- dialogues if one of them is busy, since it may go then, and a serial is left
 abbrev pub gets_room : Shelf → Prepared → Bool
 gets_room s came =
     not (is_begin (arrival_of came).ids.kind)

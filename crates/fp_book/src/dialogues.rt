@@ -81,8 +81,8 @@ fn keep(rows: &mut Rows, local: u32, is_held: bool)
     }
 }
 
-/// Hands out the turn of a dialogue that is ready, where this many places are free. If memory runs out for a copy of the
-/// entries and of the core, nothing changes.
+/// Hands out the turn of a dialogue that is ready, where this many places are free. If memory runs out for a copy of
+/// the entries and of the core, nothing changes.
 pub(crate) fn take(rows: &mut Rows, local: u32, free: usize) -> Result<Turn, AllocError>
     requires ready { ready_count (get rows.old local) ≡ 1 }
     requires room { 0 < free }

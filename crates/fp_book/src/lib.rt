@@ -33,13 +33,13 @@
 //! stale or foreign one comes back and changes nothing. A dialogue whose turn or parcel was abandoned stays held.
 //!
 //! What a call costs, by the number of dialogues that are held: `post`, `take`, `give`, `put_back` and `sent` look one
-//! of them up by halves, and mostly its deadline. If a dialogue or a deadline comes, goes or changes, 16 octets move for
-//! each one between its place and the nearer end of a list: next to none for the oldest and the newest dialogue, and up
-//! to half of them for a deadline before those of others. A Begin for which the rows have to grow moves all of them.
-//! `tick` does so for each dialogue that is due, and looks at one deadline if none is. `entry_count`, `down`, `unsent`,
-//! and a tick for which memory ran out, go through all dialogues. A message that is refused or ends its dialogue goes
-//! through the frames that wait only if one of them is that dialogue's, and through the order of service only if that
-//! dialogue is in it. Nothing else grows with what other dialogues have.
+//! of them up by halves, and mostly its deadline. If a dialogue or a deadline comes, goes or changes, 16 octets move
+//! for each one between its place and the nearer end of a list: next to none for the oldest and the newest dialogue,
+//! and up to half of them for a deadline before those of others. A Begin for which the rows have to grow moves all of
+//! them. `tick` does so for each dialogue that is due, and looks at one deadline if none is. `entry_count`, `down`,
+//! `unsent`, and a tick for which memory ran out, go through all dialogues. A message that is refused or ends its
+//! dialogue goes through the frames that wait only if one of them is that dialogue's, and through the order of service
+//! only if that dialogue is in it. Nothing else grows with what other dialogues have.
 //!
 //! [`Log`], [`Outbox`] and [`ReadyQueue`] are parts of a book, public so that worked cases can try each alone; the
 //! layers above use [`Log::MOST`] alone.

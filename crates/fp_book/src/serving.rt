@@ -72,9 +72,9 @@ fn queue(outbox: &mut Outbox, local: u32, requested: Requested) -> Given
 
 impl Book {
     /// Hands out the turn of the dialogue that has been ready longest. `Nothing`: no dialogue is ready. `NoRoom`: all
-    /// 8,192 places for frames are held, by frames that wait, by the one that is being sent, and by entries that are out.
-    /// `Memory`: memory ran out for a copy of the entries and of the core. In these cases nothing changes. A turn has as
-    /// many entries as wait and find a free place each, at most [`Turn::MOST_ENTRIES`].
+    /// 8,192 places for frames are held, by frames that wait, by the one that is being sent, and by entries that are
+    /// out. `Memory`: memory ran out for a copy of the entries and of the core. In these cases nothing changes. A turn
+    /// has as many entries as wait and find a free place each, at most [`Turn::MOST_ENTRIES`].
     pub fn take(&mut self) -> Taken
         ensures takes { Takes self.old result self.new }
         ensures none { NoneReady result self.old }
@@ -104,9 +104,9 @@ impl Book {
     }
 
     /// Takes a turn back that was served: the entries that were served count as such. `Queued`: the frames of their
-    /// requests wait after the others. `Silent`: they request nothing. `Dropped`: the dialogue was ended from outside, so
-    /// their requests aren't accepted. A stale or foreign turn, one whose identifiers, position, entries or core before
-    /// aren't those of a turn that is out, comes back, and nothing changes. Takes no memory.
+    /// requests wait after the others. `Silent`: they request nothing. `Dropped`: the dialogue was ended from outside,
+    /// so their requests aren't accepted. A stale or foreign turn, one whose identifiers, position, entries or core
+    /// before aren't those of a turn that is out, comes back, and nothing changes. Takes no memory.
     pub fn give(&mut self, done: Done) -> Result<Given, Done>
         ensures ok { IfOk result (λ given. GivesDone self.old done given self.new) }
         ensures err { IfErr result (λ back. (back ≡ done) × (self.new ≡ self.old)) }
@@ -137,9 +137,9 @@ impl Book {
         Ok(given)
     }
 
-    /// Takes a turn back that wasn't served: its entries are the next ones of its dialogue again, which joins those that
-    /// are ready after the others; or they are dropped, if the dialogue was closed meanwhile. A stale or foreign turn
-    /// comes back, and nothing changes. Takes no memory.
+    /// Takes a turn back that wasn't served: its entries are the next ones of its dialogue again, which joins those
+    /// that are ready after the others; or they are dropped, if the dialogue was closed meanwhile. A stale or foreign
+    /// turn comes back, and nothing changes. Takes no memory.
     pub fn put_back(&mut self, turn: Turn) -> Result<(), Turn>
         ensures ok { OnOk result (PutsTurnBack self.old turn self.new) }
         ensures err { IfErr result (λ back. (back ≡ turn) × (self.new ≡ self.old)) }

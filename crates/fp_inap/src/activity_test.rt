@@ -21,7 +21,7 @@ pub fn write_activity_test(identifier: i8, out: &mut Writer) -> Result<(), Alloc
     // It is read as that Invoke.
     ensures found { OnOk result (IsReadBack (value.invoke identifier None (value.local (code_of operations.ActivityTest)) None)) }
 {
-    let behind = out.len();
+    let start = out.len();
     let code = Code::Local(Operation::ActivityTest.code());
-    write_invoke(identifier, None, code, behind, out)
+    write_invoke(identifier, None, code, start, out)
 }

@@ -38,8 +38,8 @@ pub fn write_connect(destination: &[u8], out: &mut Writer) -> Result<(), AllocEr
         ≡ Some (record { nature = national; digits = destination.now }) }
 {
     let number = write_called(destination);
-    let behind = out.len();
+    let start = out.len();
     out.put_primitive(Class::Universal, OCTET_STRING, number.as_slice())?;
-    out.put_constructed(Class::Context, DESTINATION_ROUTING_ADDRESS, behind)?;
-    out.put_constructed(Class::Universal, SEQUENCE, behind)
+    out.put_constructed(Class::Context, DESTINATION_ROUTING_ADDRESS, start)?;
+    out.put_constructed(Class::Universal, SEQUENCE, start)
 }

@@ -12,8 +12,8 @@ use fp_ber::Writer;
 use fp_q773::{Code, write_invoke};
 use std::alloc::AllocError;
 
-/// Writes the Invoke of Continue (after ITU-T Q.1218), which has no argument. If memory runs out, nothing is promised of
-/// the octets.
+/// Writes the Invoke of Continue (after ITU-T Q.1218), which has no argument. If memory runs out, nothing is promised
+/// of the octets.
 pub fn write_continue(identifier: i8, out: &mut Writer) -> Result<(), AllocError>
     ensures exact { OnOk result (out.new
         ≡ canon (component_tree (value.invoke identifier None (value.local (code_of operations.Continue)) None)) ++ out.old) }
@@ -21,7 +21,7 @@ pub fn write_continue(identifier: i8, out: &mut Writer) -> Result<(), AllocError
     // It is read as that Invoke.
     ensures found { OnOk result (IsReadBack (value.invoke identifier None (value.local (code_of operations.Continue)) None)) }
 {
-    let behind = out.len();
+    let start = out.len();
     let code = Code::Local(Operation::Continue.code());
-    write_invoke(identifier, None, code, behind, out)
+    write_invoke(identifier, None, code, start, out)
 }

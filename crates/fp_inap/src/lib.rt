@@ -5,8 +5,8 @@
 //! [`Element`](fp_ber::Element) and never sees the octets of a received message. It asks the system for nothing but the
 //! memory of what it writes; reading takes none.
 //!
-//! * [`Operation`] and [`OperationError`] name the operations and their errors, and are the one place of their codes and
-//!   classes; [`Event`] and [`Leg`] name the events and legs in the arguments.
+//! * [`Operation`] and [`OperationError`] name the operations and their errors, and are the one place of their codes
+//!   and classes; [`Event`] and [`Leg`] name the events and legs in the arguments.
 //! * [`InitialDp`] and [`EventReport`] are the contents of the arguments of InitialDP and EventReportBCSM;
 //!   [`read_initial_dp`] and [`read_event_report`] read them.
 //! * [`write_connect`], [`write_release`] and [`write_request_report`] put arguments; [`write_continue`] and

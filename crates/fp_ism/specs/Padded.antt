@@ -1,4 +1,5 @@
--- A list at the front of an array, with the same element in every place after it, so that equal lists have equal arrays.
+-- A list at the front of an array, with the same element in every place after it, so that equal lists have equal
+-- arrays.
 use Rattle.std.specs.Prelude.{◌≡◌, ℕ, ◌-◌, ◌≤◌, List, ◌++◌, length, take, drop, replicate}
 use Rattle.std.proofs.Common.{arith, take-append-drop, length-take-le}
 

@@ -1,5 +1,5 @@
--- Tests of a dialogue (own): the invocations of class 3 (ITU-T Q.771, 3.1.2.2: success alone is reported). ActivityTest is
--- the only operation of that class that is invoked.
+-- Tests of a dialogue (own): the invocations of class 3 (ITU-T Q.771, 3.1.2.2: success alone is reported). ActivityTest
+-- is the only operation of that class that is invoked.
 use Rattle.std.specs.Prelude.{ℕ, Bool, true, false, ◌&&◌, List}
 use Rattle.std.specs.List.{list_any}
 use Rattle.fp_q773.specs.declared.operation_class.OperationClass.{OperationClass}

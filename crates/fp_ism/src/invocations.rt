@@ -102,8 +102,8 @@ impl Invocations {
         Ok(identifier)
     }
 
-    /// The outcome of a ReturnResult with this identifier, the last one or not. The invocation ends unless the outcome is
-    /// [`Outcome::Stays`].
+    /// The outcome of a ReturnResult with this identifier, the last one or not. The invocation ends unless the outcome
+    /// is [`Outcome::Stays`].
     pub fn result(&mut self, identifier: i8, last: bool) -> Outcome
         ensures outcome { result ≡ outcome_of_result last (class_of identifier self.old.active) }
         ensures left { self.new ≡ after_outcome result identifier self.old }

@@ -1,8 +1,8 @@
 //! The invocations of a dialogue: the invocation state machines of ITU-T Q.774, 3.2, for operations of the four
 //! classes of Q.771.
 //!
-//! The layer takes classes, identifiers and moments and returns identifiers and outcomes. It asks the system for nothing:
-//! no memory, no clock, no input. Its values have a fixed size and may be copied.
+//! The layer takes classes, identifiers and moments and returns identifiers and outcomes. It asks the system for
+//! nothing: no memory, no clock, no input. Its values have a fixed size and may be copied.
 //!
 //! * [`Invocations`] holds at most eight active invocations, each with its identifier, its class and the moment at
 //!   which it is due.
@@ -22,10 +22,10 @@
 //! active, and whether one is due, has its own definition (`specs/Testing.antt`).
 //!
 //! The layer above may rely on this: contracts see [`Invocations`] as the identifier started last and the list of the
-//! active invocations (`specs/Invocations.antt`). Each outcome is the table's (`specs/Outcome.antt`), each identifier the
-//! first that isn't active after the one started last (`specs/Identifier.antt`), and each time limit that of its class
-//! (`specs/Due.antt`). The least deadline is at most each of them ([`least_is_at_most_each`]). [`Full`] is returned
-//! exactly if eight are active.
+//! active invocations (`specs/Invocations.antt`). Each outcome is the table's (`specs/Outcome.antt`), each identifier
+//! the first that isn't active after the one started last (`specs/Identifier.antt`), and each time limit that of its
+//! class (`specs/Due.antt`). The least deadline is at most each of them ([`least_is_at_most_each`]). [`Full`] is
+//! returned exactly if eight are active.
 #![tactic(auto)]
 
 mod active;

@@ -30,8 +30,8 @@ pub record Reaches (contents : Contents) (contexts : List (List ℕ)) (number : 
   pub text : input ≡ log_text before ++ rest
   pub number_is : number ≡ length before + 1
 
--- what follows these lines doesn't begin with a line of the format, in its place and ended by a line feed; and something
--- does follow, or these are none, and the head is missing
+-- what follows these lines doesn't begin with a line of the format, in its place and ended by a line feed; and
+-- something does follow, or these are none, and the head is missing
 pub record IsBad (before : List Line) (rest : List ℕ) : Type 0 where
   pub is : 0 < length before → 0 < length rest
   pub none : (line : Line) (behind : List ℕ) → Fits before line → rest ≡ text_of line ++ 10 ∷ behind → ⊥
@@ -78,8 +78,8 @@ DisagreesAt contents contexts number input =
     (at : StepAt contents contexts number input) × (is_gap at.step ≡ false)
     × Differs contents contexts at.link (at.reaches.good.history at.link) at.step
 
--- this much of the input was read, and each line of it that a line feed ended is good; the line that was begun after them
--- is at most as long as a line may be
+-- this much of the input was read, and each line of it that a line feed ended is good; the line that was begun after
+-- them is at most as long as a line may be
 pub record ReachesEnd (contents : Contents) (contexts : List (List ℕ)) (left : Option (List ℕ)) (input : List ℕ) : Type 0 where
   pub read : List ℕ
   pub consumed : Consumes (Some input) left read

@@ -1,14 +1,14 @@
 //! The log as text: its lines are written, and read again; and its replay.
 //!
 //! A log begins with a head, `fplog 2 LINKS`. Each other line is a step of a link: the link, a letter and its fields,
-//! with single blanks between them. The layer is handed lines as `fp_book` has them and returns their text, or is handed
-//! the text of a line and returns the line. For a replay it is handed the records, the names of application contexts, a
-//! reader and a writer. It knows no file, and asks the system for nothing but memory.
+//! with single blanks between them. The layer is handed lines as `fp_book` has them and returns their text, or is
+//! handed the text of a line and returns the line. For a replay it is handed the records, the names of application
+//! contexts, a reader and a writer. It knows no file, and asks the system for nothing but memory.
 //!
 //! * [`write_line`] appends a line and a line feed to a text.
 //! * [`read_line`] returns the line that was written so.
-//! * [`replay`] replays the steps of a log, link by link, compares each line with the one that a log has of its step, and
-//!   writes the totals of each link.
+//! * [`replay`] replays the steps of a log, link by link, compares each line with the one that a log has of its step,
+//!   and writes the totals of each link.
 //! * [`report_line`] returns the line of a link in that report.
 //!
 //! | File | What it writes and reads |

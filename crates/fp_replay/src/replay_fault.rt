@@ -12,8 +12,8 @@ use thiserror::Error;
 /// Why a log isn't replayed. Lines are counted from 1, the head too.
 #[derive(Clone, Copy, Debug, PartialEq, Eq, Error)]
 pub enum ReplayFault {
-    /// There is no line of this number, though a log has a head, or it isn't a line of the format in its place, ended by
-    /// a line feed.
+    /// There is no line of this number, though a log has a head, or it isn't a line of the format in its place, ended
+    /// by a line feed.
     #[error("line {0}: bad line")]
     BadLine(u128),
     /// The line of this number says that lines were lost, or that memory ran out for a Clock.

@@ -21,8 +21,9 @@ pub fn logs_have_one_report()
     retold_lines_are_counted();
 }
 
-/// The log of a run, as [`lines_of`](fp_steps::lines_of) returns it, its lines written one after another, is replayed by
-/// the records and names of the run: the report has the run's totals on its link, and nothing on the links before it.
+/// The log of a run, as [`lines_of`](fp_steps::lines_of) returns it, its lines written one after another, is replayed
+/// by the records and names of the run: the report has the run's totals on its link, and nothing on the links before
+/// it.
 pub fn logs_of_runs_are_replayed()
     ensures { LogsOfRunsAreReplayed }
 {}

@@ -22,10 +22,10 @@ const MOST_OCTETS: usize = 8300;
 /// served and how many frames of dialogues it sent, a line a link.
 ///
 /// The first line is the head, and each other one a step of a link that the head has, with its answer, as
-/// [`write_line`](crate::write_line) writes them: at most 8,300 octets and a line feed. A step is replayed on the run of
-/// its link, and the line that a log has of it then is compared with this one. The records and the names are those by
-/// which the log was written. At most `most_reads` reads are made, of up to 4,096 octets each, and (no
-/// clause says so) one line is held at a time.
+/// [`write_line`](crate::write_line) writes them: at most 8,300 octets and a line feed. A step is replayed on the run
+/// of its link, and the line that a log has of it then is compared with this one. The records and the names are those
+/// by which the log was written. At most `most_reads` reads are made, of up to 4,096 octets each, and (no clause says
+/// so) one line is held at a time.
 ///
 /// Each line is tried for a bad one, then for a gap, then for one that disagrees, and the first fault ends the replay.
 /// The report is written after the last line: after [`ReplayFault::WriteFault`] a prefix of it was written, after any

@@ -1,4 +1,5 @@
--- The frame of a request of the service logic: its head, and a message (Q.773, 4.2) in canonical spelling (X.690, 10.1).
+-- The frame of a request of the service logic: its head, and a message (Q.773, 4.2) in canonical spelling (X.690,
+-- 10.1).
 use Rattle.std.specs.Prelude.{◌≡◌, ℕ, List, length, map, Option, Some, None, option_map}
 use Rattle.fp_ber.specs.Tree.{InRange, Tree}
 use Rattle.fp_ber.specs.Canon.{canon}

@@ -36,10 +36,10 @@ fn write_instruction(
     ensures exact { OnOk result (out.new ≡ canon (component_tree (component_value (Component.Invoke identifier instruction.now))) ++ out.old) }
     ensures component { OnOk result (IsComponent (component_value (Component.Invoke identifier instruction.now))) }
 {
-    let behind = out.len();
+    let start = out.len();
     write_argument(instruction, out)?;
     let code = Code::Local(instruction.operation().code());
-    write_invoke(identifier, None, code, behind, out)
+    write_invoke(identifier, None, code, start, out)
 }
 
 /// Puts the ReturnError of the error with this code, which has no parameter.
@@ -47,8 +47,8 @@ fn write_error(identifier: i8, code: i32, out: &mut Writer) -> Result<(), AllocE
     ensures exact { OnOk result (out.new ≡ canon (component_tree (value.return_error identifier (value.local code) None)) ++ out.old) }
     ensures component { OnOk result (IsComponent (value.return_error identifier (value.local code) None)) }
 {
-    let behind = out.len();
-    write_return_error(identifier, Code::Local(code), behind, out)
+    let start = out.len();
+    write_return_error(identifier, Code::Local(code), start, out)
 }
 
 /// Puts a component.
@@ -94,7 +94,7 @@ pub(crate) fn write_components(components: &[Component], out: &mut Writer) -> Re
     if components.is_empty() {
         return Ok(());
     }
-    let behind = out.len();
+    let start = out.len();
     write_all(components, out)?;
-    write_component_portion(behind, out)
+    write_component_portion(start, out)
 }

@@ -7,12 +7,12 @@
 //! * [`bytes_of`] returns the frame of a request, of at most [`MOST_OCTETS`] octets.
 //! * [`abort_frame`] returns the frame of an Abort of the provider, and takes no memory.
 //!
-//! A Continue has the local identifier in four octets and the peer's as it came, an End and an Abort the peer's alone. The
-//! dialogue portion is an AARE if the dialogue is accepted or rejected, and an ABRT if it is aborted; without an
+//! A Continue has the local identifier in four octets and the peer's as it came, an End and an Abort the peer's alone.
+//! The dialogue portion is an AARE if the dialogue is accepted or rejected, and an ABRT if it is aborted; without an
 //! application context there is none. Then come the components, if any.
 //!
-//! The layer above may rely on this: the frame is `frame_of` of `specs/Reply.antt`, which depends on the request and the
-//! identifiers alone, and it is read as the message `reply` of the same file.
+//! The layer above may rely on this: the frame is `frame_of` of `specs/Reply.antt`, which depends on the request and
+//! the identifiers alone, and it is read as the message `reply` of the same file.
 #![tactic(auto)]
 
 mod component;

@@ -21,7 +21,8 @@ use fp_q773::{
 use fp_service::{AbortPortion, Components, Request};
 use std::alloc::{AllocError, Global};
 
-/// Puts the portions of a Continue or an End: the components, and before them the AARE that accepts the dialogue, if any.
+/// Puts the portions of a Continue or an End: the components, and before them the AARE that accepts the dialogue, if
+/// any.
 fn write_portions(
     acceptance: Option<Name>,
     components: &Components,
@@ -50,9 +51,9 @@ fn write_continuing(
     ensures message { OnOk result (CanBeSent (value.continuing (octets_of_number local) (octets_of peer)
         (acceptance_portion acceptance) (map component_value components.now))) }
 {
-    let behind = out.len();
+    let start = out.len();
     write_portions(acceptance, components, out)?;
-    write_continue_message(Tid::of_number(local), peer, behind, out)
+    write_continue_message(Tid::of_number(local), peer, start, out)
 }
 
 /// Puts an End.
@@ -67,9 +68,9 @@ fn write_ending(
     ensures message { OnOk result (CanBeSent (value.end (octets_of peer) (acceptance_portion acceptance)
         (map component_value components.now))) }
 {
-    let behind = out.len();
+    let start = out.len();
     write_portions(acceptance, components, out)?;
-    write_end_message(peer, behind, out)
+    write_end_message(peer, start, out)
 }
 
 /// Puts an Abort of the user.
@@ -78,9 +79,9 @@ fn write_aborting(portion: &AbortPortion, peer: Tid, out: &mut Writer) -> Result
         ≡ canon (written (value.abort (octets_of peer) (option_map value.user (abort_portion portion.now)))) ++ out.old) }
     ensures message { OnOk result (CanBeSent (value.abort (octets_of peer) (option_map value.user (abort_portion portion.now)))) }
 {
-    let behind = out.len();
+    let start = out.len();
     write_abort_portion(portion, out)?;
-    write_abort_message(peer, behind, out)
+    write_abort_message(peer, start, out)
 }
 
 /// Puts the message of a request.

@@ -8,10 +8,10 @@
 //! * [`Row`] is one dialogue: all entries that it accepted, in order, how many of them were served, and how many are
 //!   out as a turn; its core after those that were served; how many of its requests were accepted for
 //!   sending, how many of these are kept, and how many were sent.
-//! * [`Turn`] has the next entries of a dialogue, at most sixteen, one turn at a time, and [`Done`] what came of it: how
-//!   many of them were served, up to the first after which the dialogue is over, the core after those, and the frames
-//!   that they request. Both must be spent: neither may be dropped, so that no entry gets lost unseen. They are small:
-//!   their cores are in places of their own.
+//! * [`Turn`] has the next entries of a dialogue, at most sixteen, one turn at a time, and [`Done`] what came of it:
+//!   how many of them were served, up to the first after which the dialogue is over, the core after those, and the
+//!   frames that they request. Both must be spent: neither may be dropped, so that no entry gets lost unseen. They are
+//!   small: their cores are in places of their own.
 //! * [`Rows`] is a finite map from local transaction identifier to row. [`after_is_one`] and
 //!   [`putting_back_changes_nothing`] hold of each such map.
 //!

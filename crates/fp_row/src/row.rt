@@ -73,8 +73,8 @@ pub struct Row {
     pub ghost out_is_live: { (nat_lt 0 out && is_over core) ≡ false },
 }
 
-/// Puts entries after those that a dialogue accepted. The first ones stay in the list in which they came, which takes no
-/// memory. If memory runs out, nothing changes.
+/// Puts entries after those that a dialogue accepted. The first ones stay in the list in which they came, which takes
+/// no memory. If memory runs out, nothing changes.
 fn append(accepted: &mut Entries, entries: Entries) -> Result<(), AllocError>
     ensures ok { OnOk result (accepted.new ≡ accepted.old ++ entries) }
     ensures first { accepted.old ≡ [] → IsOk result }
@@ -264,8 +264,8 @@ impl Row {
     }
 
     /// Hands out the turn of the next entries, as many as wait and have a place of those that are `free`, at most
-    /// [`Turn::MOST_ENTRIES`]: `None` exactly if the dialogue isn't ready. Then, and if memory runs out for a copy of the
-    /// entries and of the core, nothing changes. A row hands out one turn at a time.
+    /// [`Turn::MOST_ENTRIES`]: `None` exactly if the dialogue isn't ready. Then, and if memory runs out for a copy of
+    /// the entries and of the core, nothing changes. A row hands out one turn at a time.
     pub fn take(&mut self, alloc: Global, free: usize) -> Result<Option<Turn>, AllocError>
         requires { 0 < free }
         ensures ok { IfOk result (λ taken. Takes free self.old taken self.new) }
@@ -407,8 +407,8 @@ impl Row {
         }
     }
 
-    /// Ends the dialogue from outside. Requests that wait to be sent are dropped; if `is_sending`, except the one that is
-    /// being sent now. By [`Ending::Closed`] the entries that wait are dropped too. A dialogue that was closed stays
+    /// Ends the dialogue from outside. Requests that wait to be sent are dropped; if `is_sending`, except the one that
+    /// is being sent now. By [`Ending::Closed`] the entries that wait are dropped too. A dialogue that was closed stays
     /// closed. Says whether a request was dropped. Takes no memory.
     pub fn end(&mut self, ending: Ending, is_sending: bool) -> bool
         ensures ends { Ends ending is_sending self.old self.new }

@@ -23,8 +23,8 @@ pub(crate) struct Steps {
     pub(crate) frames: RequestFrames,
 }
 
-/// Puts the frame of a request, under these identifiers, after the others, if there is one. If memory runs out, they are
-/// unchanged.
+/// Puts the frame of a request, under these identifiers, after the others, if there is one. If memory runs out, they
+/// are unchanged.
 fn add_frame(
     alloc: Global,
     frames: &mut RequestFrames,

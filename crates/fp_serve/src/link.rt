@@ -107,9 +107,9 @@ impl<'x, R: Wait + Clock, A: Ledger, B: Ledger, C: Ledger> Link<'x, R, A, B, C> 
         }
     }
 
-    /// Does so, and waits while the log of its book is nearly full and text is being made, a tenth of a second at most: a
-    /// client that sends faster than lines get their text is read no faster. While the device of the log takes nothing
-    /// it doesn't wait, and lines may be lost in a gap.
+    /// Does so, and waits while the log of its book is nearly full and text is being made, a tenth of a second at most:
+    /// a client that sends faster than lines get their text is read no faster. While the device of the log takes
+    /// nothing it doesn't wait, and lines may be lost in a gap.
     pub(crate) fn await_log(&self) {
         for _ in 0..LOOKS_AT_THE_LOG {
             self.move_lines_if_many();

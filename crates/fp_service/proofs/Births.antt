@@ -32,7 +32,7 @@ use Rattle.fp_service.specs.declared.state.State.TheVariants.{Live, Over}
 use Rattle.fp_service.specs.Answer.{no_request, continue_with, end_with, abort_with, user_abort, reject, instruct, conclude}
 use Rattle.fp_service.specs.Attempt.{try_next, on_failure}
 use Rattle.fp_service.specs.Clock.{on_clock, on_silence}
-use Rattle.fp_service.specs.Dialogue.{quiet_until, tested_at, touched}
+use Rattle.fp_service.specs.Dialogue.{quiet_until, test_moment, touched}
 use Rattle.fp_service.specs.Event.{on_event, on_report, goes_on}
 use Rattle.fp_service.specs.Fold.{core_after}
 use Rattle.fp_service.specs.InitialDp.{by_action, by_destinations, by_rule, on_call, on_initial_dp}
@@ -165,7 +165,7 @@ unfolding on_silence
 on_silence-birth Fresh core moment = refl
 on_silence-birth (Waiting left) core moment =
     bears_either (is_testing core.invocations.active) core.birth (no_request core) _ refl
-    (bears_either (nat_le (tested_at core) moment) core.birth _ (no_request core) (instruct-birth core moment (ActivityTest ∷ [])) refl)
+    (bears_either (nat_le (test_moment core) moment) core.birth _ (no_request core) (instruct-birth core moment (ActivityTest ∷ [])) refl)
 
 on_clock-birth : (stage : Stage) (core : Core) (moment : ℕ) → Bears core.birth (on_clock stage core moment)
 unfolding on_clock

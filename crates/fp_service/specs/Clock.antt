@@ -8,14 +8,14 @@ use Rattle.fp_service.specs.declared.request.Request.{Request}
 use Rattle.fp_service.specs.declared.state.Stage.{Stage}
 use Rattle.fp_service.specs.declared.state.Stage.TheVariants.{Fresh, Waiting}
 use Rattle.fp_service.specs.Answer.{instruct, no_request, user_abort}
-use Rattle.fp_service.specs.Dialogue.{quiet_until, tested_at}
+use Rattle.fp_service.specs.Dialogue.{quiet_until, test_moment}
 
 -- a call that waits is tested if no test is active and its peer has been quiet for long enough
 unfoldable pub on_silence : Stage → Core → ℕ → Core × Option Request
 on_silence Fresh core moment = no_request core
 on_silence (Waiting left) core moment =
     if is_testing core.invocations.active then no_request core
-    else if nat_le (tested_at core) moment then instruct core moment (ActivityTest ∷ [])
+    else if nat_le (test_moment core) moment then instruct core moment (ActivityTest ∷ [])
     else no_request core
 
 -- The invocations that are due end. Then the first matching line applies: a test was not answered in time, the peer has

@@ -56,18 +56,18 @@ abbrev pub quiet_until : Core → ℕ
 quiet_until core = core.last + quiet_limit
 
 -- the moment at which it has been quiet for long enough to be tested
-abbrev pub tested_at : Core → ℕ
-tested_at core = core.last + test_limit
+abbrev pub test_moment : Core → ℕ
+test_moment core = core.last + test_limit
 
 -- whether a Clock may test the dialogue: its call waits, and no test is active
 abbrev pub is_testable : Core → Bool
 is_testable core = is_waiting core.state && not (is_testing core.invocations.active)
 
 -- the moment at which one tests it, if it may
-abbrev pub tests_of : Core → List ℕ
-tests_of core = if is_testable core then (tested_at core ∷ []) else []
+abbrev pub test_moments : Core → List ℕ
+test_moments core = if is_testable core then (test_moment core ∷ []) else []
 
 -- the earliest moment at which a Clock does something: the peer has been quiet for too long, the call is tested, or an
 -- invocation is due
 abbrev pub next_due : Core → ℕ
-next_due core = least (quiet_until core) (tests_of core ++ dues core.invocations.active)
+next_due core = least (quiet_until core) (test_moments core ++ dues core.invocations.active)

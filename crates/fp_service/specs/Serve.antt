@@ -1,5 +1,5 @@
--- The service step: the core of a dialogue after an entry, and the request. The lines have the order of the table, and the
--- first matching one applies.
+-- The service step: the core of a dialogue after an entry, and the request. The lines have the order of the table, and
+-- the first matching one applies.
 use Rattle.std.specs.Prelude.{ℕ, ℤ, Option, Some, None, if◌then◌else◌}
 use Rattle.fp_apdu.specs.declared.opening.Opening.{Opening}
 use Rattle.fp_apdu.specs.declared.opening.Opening.TheVariants as openings

@@ -35,7 +35,7 @@ impl Core {
                 if self.invocations.testing() {
                     return None;
                 }
-                if moment.milliseconds() >= self.tested_at() {
+                if moment.milliseconds() >= self.test_moment() {
                     return self.instruct(moment, Instruction::ActivityTest);
                 }
                 None

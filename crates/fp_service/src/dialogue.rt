@@ -4,7 +4,7 @@ ghost use Rattle.std.specs.Option.{option_map_or};
 ghost use Rattle.std.specs.Prelude.{◌≡◌, ◌≤◌, ◌↔◌, ◌∷◌, ◌++◌, IsTrue, All, min};
 ghost use Rattle.fp_ism.specs.Due.{dues, least_of};
 ghost use Rattle.fp_service.specs.declared.state.State.TheVariants.{Over};
-ghost use Rattle.fp_service.specs.Dialogue.{ended, fresh, is_over, is_testable, next_due, quiet_until, tested_at, tests_of, touched};
+ghost use Rattle.fp_service.specs.Dialogue.{ended, fresh, is_over, is_testable, next_due, quiet_until, test_moment, test_moments, touched};
 
 use crate::{Stage, State};
 use fp_apdu::Opening;
@@ -87,12 +87,12 @@ impl Core {
     }
 
     /// The earliest moment at which a Clock does something, in milliseconds since 1970-01-01T00:00:00Z: an invocation
-    /// is due; 300,000 ms have passed since the last entry that wasn't a Clock; or, if the dialogue waits and no test is
-    /// active, 120,000 ms have.
+    /// is due; 300,000 ms have passed since the last entry that wasn't a Clock; or, if the dialogue waits and no test
+    /// is active, 120,000 ms have.
     pub fn next_due(&self) -> u64
         ensures value { result ≡ next_due self.now }
         ensures least { All (λ due. result ≤ due)
-            (quiet_until self.now ∷ tests_of self.now ++ dues self.now.invocations.active) }
+            (quiet_until self.now ∷ test_moments self.now ++ dues self.now.invocations.active) }
     {
         least_is_at_most_each();
         earlier(self.quiet_until(), self.next_before_quiet())
@@ -100,11 +100,11 @@ impl Core {
 
     /// The earliest moment at which an invocation is due or the call is tested.
     fn next_before_quiet(&self) -> Option<u64>
-        ensures { result ≡ least_of (tests_of self.now ++ dues self.now.invocations.active) }
+        ensures { result ≡ least_of (test_moments self.now ++ dues self.now.invocations.active) }
     {
         let due = self.invocations.next_due();
         if self.is_testable() {
-            Some(earlier(self.tested_at(), due))
+            Some(earlier(self.test_moment(), due))
         } else {
             due
         }
@@ -142,8 +142,8 @@ impl Core {
 
     /// The moment, in milliseconds since 1970-01-01T00:00:00Z, at which the peer has been quiet for long enough to be
     /// tested.
-    pub(crate) fn tested_at(&self) -> u64
-        ensures { result ≡ tested_at self.now }
+    pub(crate) fn test_moment(&self) -> u64
+        ensures { result ≡ test_moment self.now }
     {
         self.last.milliseconds() + TEST_LIMIT
     }

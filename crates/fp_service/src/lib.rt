@@ -6,8 +6,9 @@
 //!
 //! * [`Core`] is what the logic knows of a dialogue between two entries, a value of fixed size that may be copied. Its
 //!   [`State`] is that the dialogue is over, or the [`Stage`] of its call.
-//! * [`step`] returns the core after an [`Entry`](fp_entry::Entry) and the [`Request`], if any: a message of the dialogue
-//!   (ITU-T Q.774, 3.2) with [`Components`], whose Invokes carry an [`Instruction`] for the switch (after Q.1218).
+//! * [`step`] returns the core after an [`Entry`](fp_entry::Entry) and the [`Request`], if any: a message of the
+//!   dialogue (ITU-T Q.774, 3.2) with [`Components`], whose Invokes carry an [`Instruction`] for the switch (after
+//!   Q.1218).
 //!
 //! The step is this table; the first matching row applies. The rows and their order are those of the code (`step`, and
 //! the methods that begin with `on_`) and of `specs/Serve.antt`. Each entry except Clock sets the moment of the last
@@ -37,32 +38,32 @@
 //! | Waiting | Event: OAnswer, OAbandon | End without components |
 //! | Waiting | another Event, as a request | Continue message with Continue |
 //! | Waiting | another Event, as a notification | none |
-//! | any | Clock, and a test is due | user Abort |
+//! | any | Clock that ends a test | user Abort |
 //! | any | Clock, 300,000 ms or more after the last entry | user Abort |
 //! | Waiting | Clock, no test is active, 120,000 ms or more after the last entry | Continue message with ActivityTest |
-//! | any | any other Clock | none |
+//! | any | Clock otherwise | none |
 //!
 //! * Next destination, with a cause: if one is left, a Continue message with RequestReportBCSMEvent and with Connect to
 //!   the first, which is taken out, and the state is Waiting; else an End with ReleaseCall of that cause.
 //! * A Reject goes in a Continue message.
 //! * The rule is chosen by the calling number and the moment of the entry, and by the birth of the dialogue.
 //! * An End and an Abort end the dialogue: the state is Over.
-//! * Invokes in a Continue message are started as invocations, in order. There are eight places. If the Invokes don't all
-//!   find one, none is started and the request is a user Abort. Invokes in an End take the next identifiers and start no
-//!   invocation.
+//! * Invokes in a Continue message are started as invocations, in order. There are eight places. If the Invokes don't
+//!   all find one, none is started and the request is a user Abort. Invokes in an End take the next identifiers and
+//!   start no invocation.
 //! * A Clock first ends the invocations that are due.
-//! * A test is ended by its ReturnResultLast, ReturnError or Reject alone. Any other entry of the peer sets the moment of
-//!   the last entry and leaves the test active, and so does a ReturnResultNotLast.
+//! * A test is ended by its ReturnResultLast, ReturnError or Reject alone. Any other entry of the peer sets the moment
+//!   of the last entry and leaves the test active, and so does a ReturnResultNotLast.
 //! * In a dialogue whose opening is Known the first Continue or End carries the AARE that accepts it, and a user Abort
 //!   carries an ABRT.
 //!
 //! The layer above may rely on this: a step is `serve` of `specs/Serve.antt`, and `next` and `request_of` are its two
-//! parts. `serve` and the definitions below it stay folded unless a proof asks; no layer above should unfold them. Along
-//! the entries of a dialogue the core, the requests and the entries up to its end are the folds of `specs/Fold.antt`,
-//! whose laws ([`folds_along_a_grown_list`], [`over_stays_over`], [`peer_ends_dialogue`], [`cut_is_a_front`],
-//! [`entries_ask_once_at_most`], [`births_stay`]) are all that the layers above use. Two cores are equal by `==` exactly
-//! if they are the same ([`equal_cores_are_the_same`]). [`Core::next_due`] is the earliest moment at which a Clock does
-//! something.
+//! parts. `serve` and the definitions below it stay folded unless a proof asks; no layer above should unfold them.
+//! Along the entries of a dialogue the core, the requests and the entries up to its end are the folds of
+//! `specs/Fold.antt`, whose laws ([`folds_along_a_grown_list`], [`over_stays_over`], [`peer_ends_dialogue`],
+//! [`cut_is_a_front`], [`entries_ask_once_at_most`], [`births_stay`]) are all that the layers above use. Two cores are
+//! equal by `==` exactly if they are the same ([`equal_cores_are_the_same`]). [`Core::next_due`] is the earliest moment
+//! at which a Clock does something.
 #![tactic(auto)]
 
 mod answer;

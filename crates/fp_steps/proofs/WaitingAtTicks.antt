@@ -1,4 +1,5 @@
--- A tick keeps what waits in a book as its history tells: those that become ready stand in the order of their deadlines.
+-- A tick keeps what waits in a book as its history tells: those that become ready stand in the order of their
+-- deadlines.
 use Rattle.fp_steps.proofs.Names.{All, All-map, AllPairs, Bool, ByAge, ClocksAt, ComesFirst, Core, Due, Event, IsDue, IsReadyBefore, Lined, List, None, Option, Output, Prepared, Row, Shelf, Some, Sorted, Sound, Step, Ticks, Tied, [], ap, arith, cond, cond_some, count, count-append, due_of, false, filter, get, has_clock, inr, is_admitted, is_idle, local_of, map_list, named, nat_lt, next_due, not, ready_for, recursion_from_All, refl, same_Some, subst, suc, sym, true, ℕ, ◌&&◌, ◌++◌, ◌<◌, ◌∙◌, ◌∷◌, ◌≡◌}
 use Rattle.fp_steps.proofs.HeldDialogues.{Held, core_tied, event, held_of}
 use Rattle.fp_steps.proofs.QueueInOrder.{InQueue, Joins, Same, aged, anew_by, cores_ticked, due_by, newly, queued_at, same_dialogue, sorted_filter, sorted_same}

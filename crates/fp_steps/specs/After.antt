@@ -17,8 +17,8 @@ use Rattle.fp_steps.specs.Told.{lines_told, told}
 use Rattle.fp_steps.specs.Totals.{AddUp, totals_of}
 
 -- This history leads to this book, by these records and names: its messages are what their octets are prepared to, each
--- output is the answer at its moment, the headline holds at each, nothing is left to do at those at which the link is idle,
--- and the book has what the history tells.
+-- output is the answer at its moment, the headline holds at each, nothing is left to do at those at which the link is
+-- idle, and the book has what the history tells.
 pub record LeadsTo (contents : Contents) (contexts : List (List ℕ)) (h : List Event) (book : Shelf) : Type 0 where
   pub messages : AllByRecursion (λ (e : Event). IsCame contents contexts e.step e.came) h
   pub answers : AllAnswered book.link h
@@ -37,8 +37,8 @@ pub record IsAfter (contents : Contents) (contexts : List (List ℕ)) (h : List 
   pub retold_leads : LeadsTo contents contexts retold book
   pub retells : Retells contents contexts book.link (lines_told h) retold
 
--- A step is made behind this history: it is answered and told as that tells, and the longer history leads to what the book
--- is then.
+-- A step is made behind this history: it is answered and told as that tells, and the longer history leads to what the
+-- book is then.
 pub record Follows (contents : Contents) (contexts : List (List ℕ)) (h : List Event) (step : Step) (made : Stepped) (book : Shelf) : Type 0 where
   pub came : Option Prepared
   pub is_came : IsCame contents contexts step came

@@ -26,7 +26,8 @@ pub mod Laws
 pub mod Tokens
 pub mod Makes
 pub mod Log
--- WHAT `LinkRun` HANDS ON FROM STEP TO STEP, and that law supposes: how a book stands to its history, and that it does so
+-- WHAT `LinkRun` HANDS ON FROM STEP TO STEP, and that law supposes: how a book stands to its history, and that it
+-- does so
 pub mod Tied
 pub mod Lined
 pub mod After

@@ -57,17 +57,17 @@ answers_by down waiting names_none begins_anew unserved entries held opened begu
     -- An End or an Abort: no cause, and the dialogue that it names is closed.
     ∷ (is_lost came && (is_end kind || is_abort kind), refused waiting came None names_none)
     -- An unknown tag: as in line 4.
-    -- 4. The octets are no message that is taken: cause 0 for an unknown tag, else cause 2; the dialogue that is named is
-    -- closed.
+    -- 4. The octets are no message that is taken: cause 0 for an unknown tag, else cause 2; the dialogue that is named
+    -- is closed.
     ∷ ((is_lost came || is_refused came) && is_unknown kind, refused waiting came (Some cause.UnrecognizedMessageType) names_none)
     ∷ (is_refused came, refused waiting came (Some cause.BadlyFormattedTransactionPortion) names_none)
     -- 5. A Continue, an End or an Abort that names no dialogue: cause 1 for a Continue, nothing for the others.
     ∷ (is_continue kind && names_none, refused waiting came (Some cause.UnrecognizedTransactionIdentifier) true)
     ∷ ((is_end kind || is_abort kind) && names_none, answers.Discarded)
     -- 6. A Begin, a Continue or an End with more than 16 elements in its component portion; or with which more than 64
-    -- entries of the dialogue would be accepted and not yet served, the peer's end, its abort and the clock not counted;
-    -- or on a link that has accepted 2^63 entries; or a Begin while 4,096 dialogues are held or no serial is left: cause
-    -- 4, and the dialogue of a Continue or an End is closed.
+    -- entries of the dialogue would be accepted and not yet served, the peer's end, its abort and the clock not
+    -- counted; or on a link that has accepted 2^63 entries; or a Begin while 4,096 dialogues are held or no serial is
+    -- left: cause 4, and the dialogue of a Continue or an End is closed.
     ∷ (
       grows_a_dialogue kind
           && (nat_lt 16 (elements_in came)

@@ -61,8 +61,8 @@ back_of turns _ = None
 abbrev pub sending_of : Option Parcel → Option ℕ
 sending_of parcel = option_map (λ (parcel : Parcel). local_of parcel.content) parcel
 
--- what is told of a step by its answer, by what is told of a turn that goes back, and the identifier of what is out to be
--- sent
+-- what is told of a step by its answer, by what is told of a turn that goes back, and the identifier of what is out to
+-- be sent
 abbrev pub told_by : Option LoggedStep → Option ℕ → Step → Output → Option LoggedStep
 told_by back sending step (outputs.Posted answer components) = told_message step answer
 told_by back sending step (outputs.Ticked added wanting) = told_tick step added wanting

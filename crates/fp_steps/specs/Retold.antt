@@ -24,8 +24,8 @@ step_of (line.Unsent local) = Some steps.Unsent
 step_of line.Down = Some steps.Down
 step_of (line.Gap lost) = None
 
--- an event retells a line behind this history: its step is the line's, by these records and names its message is what that
--- brings, its output is the answer there, and what a log tells of it is that line
+-- an event retells a line behind this history: its step is the line's, by these records and names its message is what
+-- that brings, its output is the answer there, and what a log tells of it is that line
 pub record RetellsOne (contents : Contents) (contexts : List (List ℕ)) (link : ℕ) (line : LoggedStep) (h : List Event) (e : Event) : Type 0 where
   pub step : step_of line ≡ Some e.step
   pub came : IsCame contents contexts e.step e.came

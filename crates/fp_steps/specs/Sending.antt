@@ -45,8 +45,8 @@ abbrev pub queued : List Event → ℕ → List (List ℕ)
 queued [] d = []
 queued (e ∷ h) d = queued h d ++ queued_in e.output h d
 
--- what was handed out to be sent: its identifier, 0 for an Abort of the provider, the dialogue that this named then, and
--- its octets
+-- what was handed out to be sent: its identifier, 0 for an Abort of the provider, the dialogue that this named then,
+-- and its octets
 pub record Handed : Type 0 where
   pub local : ℕ
   pub dialogue : Option ℕ

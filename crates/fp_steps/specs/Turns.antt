@@ -25,8 +25,8 @@ count_after (outputs.Gave local position served given) step h d before = if is_o
 count_after outputs.WentBack step h d before = put_back_after step h d before
 count_after _ step h d before = before
 
--- how many entries of a dialogue are out as a turn: those of the one that was taken, and since then neither given nor put
--- back
+-- how many entries of a dialogue are out as a turn: those of the one that was taken, and since then neither given nor
+-- put back
 abbrev pub count_out : List Event → ℕ → ℕ
 count_out [] d = 0
 count_out (e ∷ h) d = count_after e.output e.step h d (count_out h d)
@@ -64,8 +64,8 @@ ready_for (e ∷ h) d = if is_ready (e ∷ h) d then suc (ready_for h d) else 0
 abbrev pub due_of : List Event → ℕ → ℕ × ℕ
 due_of h d = (next_due (core_of h d), local_of h d)
 
--- One dialogue has been ready longer than another; or both since the same event, which is a tick, and this one's deadline
--- was the earlier, or of equal ones its identifier the smaller. What is due next of a dialogue doesn't change while it is
--- ready.
+-- One dialogue has been ready longer than another; or both since the same event, which is a tick, and this one's
+-- deadline was the earlier, or of equal ones its identifier the smaller. What is due next of a dialogue doesn't change
+-- while it is ready.
 abbrev pub IsReadyBefore : List Event → ℕ → ℕ → Type 0
 IsReadyBefore h c d = (ready_for h d < ready_for h c) ⊎ ((ready_for h c ≡ ready_for h d) × ComesFirst (due_of h c) (due_of h d))

@@ -69,8 +69,8 @@ is_waiting h a = is_sending h a.dialogue && nat_le (picked h a.dialogue) a.place
 abbrev pub waiting : List Event → List QueuedFrame
 waiting h = filter (is_waiting h) (frames h)
 
--- the Aborts of the provider that wait, the oldest first: those that weren't sent and aren't out to be sent, and none where
--- the link is down
+-- the Aborts of the provider that wait, the oldest first: those that weren't sent and aren't out to be sent, and none
+-- where the link is down
 abbrev pub aborts_waiting : List Event → List (List ℕ)
 aborts_waiting h = if is_down h then [] else drop (length (aborts_sent h ++ abort_out (out h))) (aborts h)
 

@@ -16,8 +16,9 @@ use std::marker::Model;
 /// Contracts see them as a finite map.
 #[derive(Debug, Drop)]
 pub(crate) struct ByDeadline {
-    // A deadline is a fixed time after a message, and there are few such times. Those of one kind come in order, so
-    // each kind finds a lane where it comes last. What finds none, as after a clock was set back, goes into the fourth.
+    // A deadline is a fixed time after a message, and there are few such times. Those of one kind come in order, so up
+    // to four kinds find a lane each where they come last. What finds none, as with a fifth kind or after a clock was
+    // set back, goes into the fourth.
     first: Lane,
     second: Lane,
     third: Lane,

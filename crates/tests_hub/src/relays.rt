@@ -69,11 +69,11 @@ fn assert_answered<R: Abort>(
     Ok(())
 }
 
-/// One worker waits between taking the turn of the first dialogue and serving it, with no lock held: the other one serves
-/// the second dialogue meanwhile, whose answer is sent. Each turn passes the gate once. If there is only one hint for
-/// both messages, the workers hint to each other; also if both messages were posted in one hold, so that the first
-/// worker finds both dialogues ready. And if the thread that posts serves one turn itself, it hints before it waits
-/// there.
+/// One worker waits between taking the turn of the first dialogue and serving it, with no lock held: the other one
+/// serves the second dialogue meanwhile, whose answer is sent. Each turn passes the gate once. If there is only one
+/// hint for both messages, the workers hint to each other; also if both messages were posted in one hold, so that the
+/// first worker finds both dialogues ready. And if the thread that posts serves one turn itself, it hints before it
+/// waits there.
 #[test]
 fn one_waits_and_the_other_serves(rt: HostRuntime) -> Result<(), Fail> {
     let alloc = rt.alloc();
@@ -101,8 +101,8 @@ fn one_waits_and_the_other_serves(rt: HostRuntime) -> Result<(), Fail> {
     Ok(())
 }
 
-/// A gate that counts the turns that pass it, and adds up the numbers of their dialogues, by the position of their first
-/// entry.
+/// A gate that counts the turns that pass it, and adds up the numbers of their dialogues, by the position of their
+/// first entry.
 #[derive(Drop)]
 struct Passes {
     // Those at position 0, 16, and any other one: the sum of the numbers, and above 32 bits how many.
@@ -140,7 +140,8 @@ impl Gate for Passes {
 }
 
 /// Each of 40 dialogues has an entry for its Begin and 16 for calls, so two turns: each of them passes the gate once,
-/// with the position of its first entry, whether two workers serve them, the thread that posts, or this one and a worker.
+/// with the position of its first entry, whether two workers serve them, the thread that posts, or this one and a
+/// worker.
 #[test]
 fn each_turn_passes_the_gate_once(rt: HostRuntime) -> Result<(), Fail> {
     let alloc = rt.alloc();

@@ -232,11 +232,11 @@ fn messages_are_held_back(rt: HostRuntime) -> Result<(), Fail> {
     assert_walk(&rt, rt.alloc(), Looks::FEW, Walk::Holds, words, totals)
 }
 
-/// A thread that sleeps until there is room is woken by a turn that is given, alone or with others, also if messages were
-/// posted in one hold before; by a parcel that is handed out, whether it was picked, awaited or found after one was sent;
-/// and by one that couldn't be sent, which ends the link; without them it sleeps on, also after a second. One that
-/// sleeps until the link is quiet is woken when the last parcel was sent, alone or in the hold that picks the next one,
-/// and by the last turn: one that is given, also if its request is dropped, or one that is put back, alone or with
+/// A thread that sleeps until there is room is woken by a turn that is given, alone or with others, also if messages
+/// were posted in one hold before; by a parcel that is handed out, whether it was picked, awaited or found after one
+/// was sent; and by one that couldn't be sent, which ends the link; without them it sleeps on, also after a second. One
+/// that sleeps until the link is quiet is woken when the last parcel was sent, alone or in the hold that picks the next
+/// one, and by the last turn: one that is given, also if its request is dropped, or one that is put back, alone or with
 /// others.
 #[test]
 fn waiting_threads_are_woken(rt: HostRuntime) -> Result<(), Fail> {

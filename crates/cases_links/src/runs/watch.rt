@@ -2,8 +2,9 @@
 //!
 //! * Each Begin that is accepted gets the next local identifier of the link. A message is accepted, or ends a dialogue,
 //!   only if it is aimed at one that was opened. As many components are accepted as it has.
-//! * The turns of a dialogue are given one after the other: each begins where what the ones before it served ends. It has
-//!   one turn out at a time, of 1 to 16 entries, of which at least one is served, and no more are served than it has.
+//! * The turns of a dialogue are given one after the other: each begins where what the ones before it served ends. It
+//!   has one turn out at a time, of 1 to 16 entries, of which at least one is served, and no more are served than it
+//!   has.
 //! * A turn queues or drops at most as many requests as it served entries. After requests that were dropped none of its
 //!   dialogue is queued.
 //! * A frame carries the identifiers of its dialogue; a dialogue has never more frames picked than queued; and the

@@ -388,9 +388,9 @@ impl<
         caller
     }
 
-    /// Lets another thread sleep while Aborts wait, 63 at first: until one more may wait, which the parcel makes room for
-    /// that is picked after one was sent; and until the link is quiet, when the last one was sent, alone or in the hold
-    /// that looks for the next one. Then by turns.
+    /// Lets another thread sleep while Aborts wait, 63 at first: until one more may wait, which the parcel makes room
+    /// for that is picked after one was sent; and until the link is quiet, when the last one was sent, alone or in the
+    /// hold that looks for the next one. Then by turns.
     fn wake_by_parcels(self, words: &mut Words) -> Self {
         let mut caller = self;
         words.say(await_quiet(caller.rt, caller.hub, 20));

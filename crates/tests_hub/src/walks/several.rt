@@ -180,8 +180,8 @@ impl<
         "given"
     }
 
-    /// Takes one turn, closes its dialogue by a malformed End, and gives the turn, served, or puts it back, in holds that
-    /// may take and give several.
+    /// Takes one turn, closes its dialogue by a malformed End, and gives the turn, served, or puts it back, in holds
+    /// that may take and give several.
     pub(super) fn turn_of_several(&mut self, end: &str, is_served: bool) -> &'static str {
         let Ok(mut work) = VecDeque::with_capacity(self.alloc, MOST_TURNS) else {
             return "no memory";
@@ -279,8 +279,8 @@ impl<
         }
     }
 
-    /// Sends the parcels that wait, each in the hold that picks the next one; or takes the link down before the first one
-    /// is reported.
+    /// Sends the parcels that wait, each in the hold that picks the next one; or takes the link down before the first
+    /// one is reported.
     fn send_each(&mut self, goes_down: bool, words: &mut Words) {
         let mut parcel = match self.hub.pick(self.rt) {
             Picked::Parcel(parcel) => parcel,

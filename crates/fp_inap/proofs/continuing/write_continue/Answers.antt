@@ -6,4 +6,4 @@ use Rattle.fp_inap.proofs.continuing.write_continue.Goals as goal
 pub returns-clause-exact : goal.returns-clause-exact
 returns-clause-exact c =
     let put = rw (to_z-of_z w8 c.args.identifier c.ranges.identifier, c.code.ensures) at c.write_invoke.ensures.exact in
-    put None c.args.out.now refl (sym c.len-behind.ensures.value)
+    put None c.args.out.now refl (sym c.len-start.ensures.value)

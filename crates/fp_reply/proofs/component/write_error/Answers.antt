@@ -8,7 +8,7 @@ use Rattle.fp_reply.proofs.component.write_error.Goals as goal
 pub returns-clause-exact : goal.returns-clause-exact
 returns-clause-exact c =
     let put = rw (to_z-of_z w8 c.args.identifier c.ranges.identifier, to_z-of_z w32 c.args.code c.ranges.code) at c.write_return_error.ensures.exact in
-    put None c.args.out.now refl (sym c.len-behind.ensures.value)
+    put None c.args.out.now refl (sym c.len-start.ensures.value)
 
 pub returns-clause-component : goal.returns-clause-component
 returns-clause-component c =

@@ -9,7 +9,7 @@ use Rattle.fp_reply.proofs.message.write_continuing.Goals as goal
 pub returns-clause-exact : goal.returns-clause-exact
 returns-clause-exact c =
     rw c.of_number.ensures at (c.write_continue_message.ensures.exact (acceptance_portion c.args.acceptance) (map component_value c.args.components.now) c.args.out.now
-    c.in_ok-write_portions.ensures.exact (sym c.len-behind.ensures.value))
+    c.in_ok-write_portions.ensures.exact (sym c.len-start.ensures.value))
 
 pub returns-clause-message : goal.returns-clause-message
 returns-clause-message c =
