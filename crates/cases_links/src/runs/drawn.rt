@@ -56,12 +56,17 @@ fn aim_of(draw: u32, local: u32) -> u32 {
     }
 }
 
-/// How many milliseconds go by before a tick.
+/// How many milliseconds go by before a tick: up to a limit of time, to just before it, or beyond. Each step takes one
+/// more, so that a dialogue may be silent for just the time after which it is tested, for less or for more.
 fn pause_of(draw: u32) -> u32 {
     match draw {
         0 => 300_000,
-        1..=6 => 10_000,
-        7..=14 => 4_000,
+        1..=3 => 180_000,
+        4..=6 => 120_000,
+        7 | 8 => 119_999,
+        9 | 10 => 60_000,
+        11..=15 => 10_000,
+        16..=22 => 4_000,
         _ => 1,
     }
 }

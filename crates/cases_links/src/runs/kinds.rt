@@ -1,5 +1,6 @@
 //! How many steps and outputs of each kind there were.
 
+use super::octets::is_test;
 use fp_book::{Given, Posted};
 use fp_steps::{Output, Step};
 use std::fmt::Write;
@@ -9,14 +10,14 @@ const STEPS: &str = "post, lost, tick, take, give, put-back, pick, sent, unsent,
 
 /// The kinds of outputs, by their numbers from 0.
 const OUTPUTS: &str = "opened, accepted, aborted, ended, discarded, silent, queued, dropped, \
-    ticked none, ticked some, took, no room, back, picked an Abort, picked a frame, busy, sent, \
-    unsent, down, nothing";
+    ticked none, ticked some, took, no room, back, picked an Abort, picked a test, picked a frame, \
+    busy, sent, unsent, down, nothing";
 
 /// How many of each kind there were.
 #[derive(Clone, Copy)]
 pub(super) struct Tally {
     steps: [u32; 10],
-    outputs: [u32; 20],
+    outputs: [u32; 21],
     compared: u32,
 }
 
@@ -56,6 +57,11 @@ fn given_kind(given: Given) -> usize {
     }
 }
 
+/// The kind of a frame of a dialogue that was picked: whether it is an ActivityTest.
+fn frame_kind(frame: &[u8]) -> usize {
+    if is_test(frame) { 14 } else { 15 }
+}
+
 /// The kind of an output.
 fn output_kind(output: &Output) -> usize {
     match output {
@@ -67,12 +73,12 @@ fn output_kind(output: &Output) -> usize {
         Output::NoRoom => 11,
         Output::WentBack => 12,
         Output::Picked { local: 0, .. } => 13,
-        Output::Picked { .. } => 14,
-        Output::Busy => 15,
-        Output::Sent => 16,
-        Output::Unsent => 17,
-        Output::Down => 18,
-        Output::Nothing => 19,
+        Output::Picked { frame, .. } => frame_kind(frame.as_slice()),
+        Output::Busy => 16,
+        Output::Sent => 17,
+        Output::Unsent => 18,
+        Output::Down => 19,
+        Output::Nothing => 20,
     }
 }
 
@@ -101,7 +107,7 @@ impl Tally {
     pub(super) fn new() -> Tally {
         Tally {
             steps: [0; 10],
-            outputs: [0; 20],
+            outputs: [0; 21],
             compared: 0,
         }
     }

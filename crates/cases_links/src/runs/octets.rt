@@ -14,6 +14,11 @@ const DESTINATION: u8 = 0x49;
 
 const CAUSE: u8 = 0x4A;
 
+/// The tag of an Invoke, and the code of ActivityTest.
+const INVOKE: u8 = 0xA1;
+
+const ACTIVITY_TEST: u8 = 0x37;
+
 /// The tags of a Reject and, in it, of the invoke identifier and of a problem of an Invoke or of a result.
 const REJECT: u8 = 0xA4;
 
@@ -71,6 +76,14 @@ pub(super) fn carries(frame: &[u8], local: u32, peer: u32) -> bool {
                 && has_identifier(frame, SECOND, DESTINATION, peer)
         }
         Some(END | ABORT) => has_identifier(frame, FIRST, DESTINATION, peer),
+        _ => false,
+    }
+}
+
+/// Whether a frame ends with an Invoke of ActivityTest, which has no argument.
+pub(super) fn is_test(frame: &[u8]) -> bool {
+    match frame {
+        [.., INVOKE, 6, INTEGER, 1, _, INTEGER, 1, code] => *code == ACTIVITY_TEST,
         _ => false,
     }
 }

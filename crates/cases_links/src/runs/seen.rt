@@ -1,6 +1,6 @@
 //! What was seen of a dialogue: its turns, its requests and its frames.
 
-use super::octets::{carries, rejected_by};
+use super::octets::{carries, is_test, rejected_by};
 use fp_book::Given;
 
 /// What was seen of a dialogue.
@@ -20,11 +20,19 @@ pub(super) struct Seen {
     was_dropped: bool,
     // The invoke identifier that its last Reject is about, 0 before the first one.
     rejected: u8,
+    // The moment at which a message last brought it an entry, in milliseconds.
+    last: u64,
+    // How many ticks found it silent for so long that it may be tested, and how many tests of it were picked.
+    silent_ticks: u32,
+    tests: u32,
 }
 
+/// For how many milliseconds nothing came to a dialogue that is tested.
+const SILENCE: u64 = 120_000;
+
 impl Seen {
-    /// A dialogue that was opened.
-    pub(super) fn opened(local: u32, peer: u32) -> Seen {
+    /// A dialogue that was opened at this moment.
+    pub(super) fn opened(local: u32, peer: u32, moment: u64) -> Seen {
         Seen {
             local,
             is_out: false,
@@ -36,7 +44,30 @@ impl Seen {
             picked: 0,
             was_dropped: false,
             rejected: 0,
+            last: moment,
+            silent_ticks: 0,
+            tests: 0,
         }
+    }
+
+    /// A message brought it this number of entries.
+    pub(super) fn accept(&mut self, entries: u32, moment: u64) {
+        if entries > 0 {
+            self.last = moment;
+        }
+    }
+
+    /// A tick came.
+    pub(super) fn tick(&mut self, moment: u64) {
+        if moment.saturating_sub(self.last) >= SILENCE {
+            self.silent_ticks = self.silent_ticks.saturating_add(1);
+        }
+    }
+
+    /// A test of it is picked: there was a tick for each.
+    fn test(&mut self) -> bool {
+        self.tests = self.tests.saturating_add(1);
+        self.tests <= self.silent_ticks
     }
 
     /// Its turn is taken.
@@ -94,6 +125,7 @@ impl Seen {
     pub(super) fn pick(&mut self, frame: &[u8]) -> bool {
         self.picked = self.picked.saturating_add(1);
         let is_right = self.picked <= self.queued && carries(frame, self.local, self.peer);
-        self.reject(rejected_by(frame)) && is_right
+        let may_be = !is_test(frame) || self.test();
+        self.reject(rejected_by(frame)) && is_right && may_be
     }
 }

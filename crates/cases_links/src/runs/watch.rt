@@ -9,6 +9,7 @@
 //!   dialogue is queued.
 //! * A frame carries the identifiers of its dialogue; a dialogue has never more frames picked than queued; and the
 //!   Rejects of its components go out in the order in which these came.
+//! * A dialogue gets at most one ActivityTest for each tick at which no entry had come to it for 120,000 milliseconds.
 //! * Aborts of the provider are picked in the order in which they were answered, each to the sender of its message.
 //! * One parcel is out at a time, and it alone is sent.
 //! * After the end of the link nothing is accepted, taken, queued and picked.
@@ -41,6 +42,8 @@ pub(super) struct Watch {
     parcel: Option<u32>,
     is_down: bool,
     totals: Totals,
+    // The moment of the last step that has one, in milliseconds.
+    moment: u64,
 }
 
 impl Watch {
@@ -58,6 +61,7 @@ impl Watch {
                 served: 0,
                 sent: 0,
             },
+            moment: 0,
         }
     }
 
@@ -103,7 +107,8 @@ impl Watch {
     fn open(&mut self, known: Known, local: u32, components: u32) -> anyhow::Result<bool> {
         let count = u32::try_from(self.dialogues.len())?;
         let next = self.first.saturating_add(count).saturating_add(1);
-        self.dialogues.push(Seen::opened(local, known.peer))?;
+        self.dialogues
+            .push(Seen::opened(local, known.peer, self.moment))?;
         Ok(known.is_begin && local == next && self.accept(known, components))
     }
 
@@ -118,13 +123,20 @@ impl Watch {
         !known.is_begin && self.dialogues.iter().any(|seen| seen.local == known.aim)
     }
 
+    /// Entries were accepted.
+    fn extend(&mut self, known: Known, entries: u32, components: u32) -> bool {
+        let moment = self.moment;
+        if let Some(seen) = self.seen(known.aim) {
+            seen.accept(entries, moment);
+        }
+        self.is_aimed(known) && entries == known.entries && self.accept(known, components)
+    }
+
     /// What became of a message.
     fn post(&mut self, known: Known, answer: Posted, components: u32) -> anyhow::Result<bool> {
         match answer {
             Posted::Opened(local) => self.open(known, local, components),
-            Posted::Accepted(entries) => Ok(
-                self.is_aimed(known) && entries == known.entries && self.accept(known, components),
-            ),
+            Posted::Accepted(entries) => Ok(self.extend(known, entries, components)),
             Posted::Aborted(cause) => {
                 Ok(self.refuse(known.peer, cause.code())? && components == 0)
             }
@@ -145,10 +157,14 @@ impl Watch {
     }
 
     /// Time went by.
-    fn tick(&self, output: &Output) -> bool {
+    fn tick(&mut self, output: &Output) -> bool {
         let Output::Ticked { added, wanting } = output else {
             return false;
         };
+        let moment = self.moment;
+        for seen in self.dialogues.as_mut_slice() {
+            seen.tick(moment);
+        }
         let most = if self.is_down {
             0
         } else {
@@ -289,6 +305,9 @@ impl Watch {
         known: Known,
         output: &Output,
     ) -> anyhow::Result<bool> {
+        if let Step::Post(_, moment) | Step::Lost(_, moment) | Step::Tick(moment) = step {
+            self.moment = moment.milliseconds();
+        }
         match step {
             Step::Post(..) => self.read(known, output, false),
             Step::Lost(..) => self.read(known, output, true),
