@@ -17,8 +17,8 @@
 //!
 //! | Done to identifiers | What it gives |
 //! |---|---|
-//! | `give` | the next identifier |
-//! | `end ID` | nothing: the dialogue of this identifier is held no longer |
+//! | `give` | the next identifier, or `none` |
+//! | `pass COUNT` | nothing: this number of identifiers is given |
 //! | `link ID` | the link of an identifier |
 
 use crate::values::local_of;
@@ -41,7 +41,7 @@ pub(crate) fn answer(
 ) -> anyhow::Result<bool> {
     let written = match kind {
         "deadlines" => of_deadlines(alloc, rest, out),
-        "local-ids" => of_local_ids(rest, out),
+        "local-ids" => of_local_ids(alloc, rest, out),
         _ => return Ok(false),
     };
     written?;
@@ -210,13 +210,13 @@ fn order_text(rises: bool, falls: bool) -> &'static str {
 }
 
 /// Does to the identifiers of a link what a text says. None of them was given yet.
-fn of_local_ids(text: &str, out: &mut String) -> anyhow::Result<()> {
+fn of_local_ids(alloc: Global, text: &str, out: &mut String) -> anyhow::Result<()> {
     let (link, rest) = first_word(text);
     let link: u8 = link.parse()?;
     if link >= LocalIds::LINKS {
         bail!("no link");
     }
-    use_all(&mut LocalIds::new(link), rest, out)
+    use_all(&mut LocalIds::new(alloc, link)?, rest, out)
 }
 
 /// Does to identifiers one thing after the other.
@@ -229,18 +229,21 @@ fn use_all(ids: &mut LocalIds, text: &str, out: &mut String) -> anyhow::Result<(
 
 /// Does something to identifiers, and writes what that gives.
 fn use_ids(ids: &mut LocalIds, text: &str, out: &mut String) -> anyhow::Result<()> {
-    let (word, local) = first_word(text);
+    let (word, rest) = first_word(text);
     match word {
         "give" => push_local(ids.give(), out),
-        "end" => end(ids, local),
-        "link" => push_link(local, out),
+        "pass" => pass(ids, rest),
+        "link" => push_link(rest, out),
         _ => bail!("no such case"),
     }
 }
 
-/// The dialogue of an identifier is held no longer.
-fn end(ids: &mut LocalIds, local: &str) -> anyhow::Result<()> {
-    ids.end(local_of(local)?);
+/// This number of identifiers is given.
+fn pass(ids: &mut LocalIds, count: &str) -> anyhow::Result<()> {
+    let count: u32 = count.parse()?;
+    for _ in 0..count {
+        ids.give();
+    }
     Ok(())
 }
 

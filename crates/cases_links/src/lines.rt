@@ -52,7 +52,7 @@ fn octets(alloc: Global, text: &str, out: &mut String) -> anyhow::Result<()> {
 /// Whether the line of a message of so many octets is read.
 fn message(alloc: Global, count: &str, out: &mut String) -> anyhow::Result<()> {
     let count: usize = count.parse()?;
-    let mut text = Vec::from_slice(alloc, b"0 P 0 ")?;
+    let mut text = Vec::from_slice(alloc, b"0 P 0 0 ")?;
     for _ in 0..count {
         text.extend_from_slice(b"0A")?;
     }

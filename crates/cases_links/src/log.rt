@@ -99,7 +99,7 @@ impl Turns {
         let count: u16 = count.parse()?;
         for _ in 0..count {
             self.log.add(LoggedStep::Take {
-                local: 1,
+                birth: 1,
                 position: u64::from(self.added),
                 count: 1,
             });

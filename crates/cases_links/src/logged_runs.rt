@@ -56,7 +56,7 @@ fn push_unlogged(outputs: &[Output], out: &mut String) -> anyhow::Result<()> {
 }
 
 /// The text of lines.
-fn text_of(alloc: Global, lines: &[Line]) -> anyhow::Result<Vec<u8>> {
+pub(crate) fn text_of(alloc: Global, lines: &[Line]) -> anyhow::Result<Vec<u8>> {
     let mut text = Vec::new(alloc);
     for line in lines {
         write_line(line, &mut text)?;
@@ -90,16 +90,16 @@ fn compare(alloc: Global, link: u8, totals: Totals, report: &str) -> anyhow::Res
 }
 
 /// Writes the report of the replay of a log, which has to have the totals of the run on this link.
-fn push_report(
+pub(crate) fn push_report(
     alloc: Global,
-    table: &Table,
+    tables: &[Table],
     link: u8,
     totals: Totals,
     log: &[u8],
     out: &mut String,
 ) -> anyhow::Result<()> {
     let mut report = String::new(alloc);
-    push_replay(alloc, table, &SOUND, log, &mut report)?;
+    push_replay(alloc, tables, &SOUND, log, &mut report)?;
     compare(alloc, link, totals, report.as_str())?;
     Ok(out.push_str(report.as_str())?)
 }
@@ -129,7 +129,7 @@ fn push_lines(
 /// Writes the log of these lines, and the report of its replay.
 fn push_log(
     alloc: Global,
-    table: &Table,
+    tables: &[Table],
     link: u8,
     totals: Totals,
     lines: &[Line],
@@ -138,11 +138,11 @@ fn push_log(
 ) -> anyhow::Result<()> {
     push_lines(alloc, lines, last, out)?;
     let log = text_of(alloc, lines)?;
-    push_report(alloc, table, link, totals, log.as_slice(), out)
+    push_report(alloc, tables, link, totals, log.as_slice(), out)
 }
 
 /// The log of a run on a link.
-fn log_of(
+pub(crate) fn log_of(
     alloc: Global,
     link: u8,
     steps: &[Step],
@@ -157,7 +157,7 @@ fn log_of(
 /// Writes what a run gives that answered so, with so many of the last lines of its log, or all.
 fn push_outputs(
     alloc: Global,
-    table: &Table,
+    tables: &[Table],
     link: u8,
     steps: &[Step],
     outputs: &[Output],
@@ -166,27 +166,27 @@ fn push_outputs(
 ) -> anyhow::Result<()> {
     let lines = log_of(alloc, link, steps, outputs)?;
     let totals = totals(outputs);
-    push_log(alloc, table, link, totals, lines.as_slice(), last, out)?;
+    push_log(alloc, tables, link, totals, lines.as_slice(), last, out)?;
     push_unlogged(outputs, out)
 }
 
 /// Writes what a run gives, with so many of the last lines of its log, or all.
 fn push_run(
     alloc: Global,
-    table: &Table,
+    tables: &[Table],
     link: u8,
     steps: &[Step],
     last: Option<usize>,
     out: &mut String,
 ) -> anyhow::Result<()> {
-    let outputs = outputs_of(alloc, table, link, steps)?;
-    push_outputs(alloc, table, link, steps, outputs.as_slice(), last, out)
+    let outputs = outputs_of(alloc, tables, link, steps)?;
+    push_outputs(alloc, tables, link, steps, outputs.as_slice(), last, out)
 }
 
 /// Writes what the run of a text gives, with so many of the last lines of its log, or all.
 fn push_case(
     alloc: Global,
-    table: &Table,
+    tables: &[Table],
     text: &str,
     last: Option<usize>,
     out: &mut String,
@@ -196,26 +196,26 @@ fn push_case(
     };
     let link: u8 = link.parse()?;
     let steps = steps_of(alloc, link, script)?;
-    push_run(alloc, table, link, steps.as_slice(), last, out)
+    push_run(alloc, tables, link, steps.as_slice(), last, out)
 }
 
 /// What a run of many steps gives.
-fn long(alloc: Global, table: &Table, rest: &str, out: &mut String) -> anyhow::Result<()> {
+fn long(alloc: Global, tables: &[Table], rest: &str, out: &mut String) -> anyhow::Result<()> {
     let (count, text) = first_word(rest);
-    push_case(alloc, table, text, Some(count.parse()?), out)
+    push_case(alloc, tables, text, Some(count.parse()?), out)
 }
 
 /// Writes what a case of this module gives, and says whether it has one of this kind.
 pub(crate) fn answer(
     alloc: Global,
-    table: &Table,
+    tables: &[Table],
     kind: &str,
     rest: &str,
     out: &mut String,
 ) -> anyhow::Result<bool> {
     let written = match kind {
-        "logged-run" => push_case(alloc, table, rest, None, out),
-        "long-run" => long(alloc, table, rest, out),
+        "logged-run" => push_case(alloc, tables, rest, None, out),
+        "long-run" => long(alloc, tables, rest, out),
         _ => return Ok(false),
     };
     written?;

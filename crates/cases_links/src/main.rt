@@ -12,7 +12,7 @@
 //! | `ready` | `ready` | the order in which dialogues are served |
 //! | `outbox` | `outbox` | what waits to be sent |
 //! | `book` | `book` | all dialogues of a link |
-//! | `run`, `random` | `runs` | whole runs of a link |
+//! | `run`, `random`, .. | `runs` | whole runs of a link |
 //! | `text`, .. | `lines` | the text of a log line, read and written again |
 //! | `replay`, .. | `replays` | logs, replayed |
 //! | `logged-run`, `long-run` | `logged_runs` | the logs of whole runs, and their replay |
@@ -57,11 +57,16 @@ const RECORDS: &str = "key,100,60
 800123459,,1234567,00:00,24:00,1,pass
 ";
 
-/// The cases, which share their records.
+/// The first of these numbers, with another destination.
+const OTHER_RECORDS: &str = "key,100,60
+800123456,,1234567,00:00,24:00,1,route,302223399
+";
+
+/// The cases, which share their records: a run has both tables, all else the first.
 #[derive(Drop)]
 struct Links {
     alloc: Global,
-    table: Table,
+    tables: Vec<Table>,
 }
 
 /// Writes what a case of the link or of a line of its log gives, and says whether there is one of this kind.
@@ -89,8 +94,24 @@ fn of_dialogues(
         "ready" => ready::answer(alloc, steps, out),
         "outbox" => outbox::answer(alloc, steps, out),
         "book" => book::answer(alloc, table, steps, out),
-        "run" => runs::answer(alloc, table, steps, out),
-        "random" => runs::answer_random(alloc, table, steps, out),
+        _ => return Ok(false),
+    };
+    written?;
+    Ok(true)
+}
+
+/// Writes what a case of a whole run gives, and says whether there is one of this kind.
+fn of_run(
+    alloc: Global,
+    tables: &[Table],
+    kind: &str,
+    rest: &str,
+    out: &mut String,
+) -> anyhow::Result<bool> {
+    let written = match kind {
+        "run" => runs::answer(alloc, tables, rest, out),
+        "random" => runs::answer_random(alloc, tables, rest, out),
+        "random-after" => runs::answer_random_after(alloc, tables, rest, out),
         _ => return Ok(false),
     };
     written?;
@@ -100,14 +121,14 @@ fn of_dialogues(
 /// Writes what a case of a log gives, and says whether there is one of this kind.
 fn of_log(
     alloc: Global,
-    table: &Table,
+    tables: &[Table],
     kind: &str,
     rest: &str,
     out: &mut String,
 ) -> anyhow::Result<bool> {
     Ok(
-        replays::answer(alloc, table, kind, rest, out)?
-            || logged_runs::answer(alloc, table, kind, rest, out)?,
+        replays::answer(alloc, tables, kind, rest, out)?
+            || logged_runs::answer(alloc, tables, kind, rest, out)?,
     )
 }
 
@@ -115,9 +136,14 @@ impl Answers for Links {
     fn answer(&mut self, input: &str, out: &mut String) -> anyhow::Result<()> {
         let alloc = self.alloc;
         let (kind, rest) = first_word(input);
+        let tables = self.tables.as_slice();
+        let Some(first) = tables.first() else {
+            anyhow::bail!("no records");
+        };
         if !of_link(alloc, kind, rest, out)?
-            && !of_dialogues(alloc, &self.table, input, out)?
-            && !of_log(alloc, &self.table, kind, rest, out)?
+            && !of_dialogues(alloc, first, input, out)?
+            && !of_run(alloc, tables, kind, rest, out)?
+            && !of_log(alloc, tables, kind, rest, out)?
         {
             anyhow::bail!("no such case");
         }
@@ -127,6 +153,8 @@ impl Answers for Links {
 
 fn main(rt: HostRuntime) -> anyhow::Result<()> {
     let alloc = rt.alloc();
-    let table = Table::read(alloc, RECORDS.as_bytes())?;
-    cases::run(&rt, &mut Links { alloc, table })
+    let mut tables = Vec::with_capacity(alloc, 2)?;
+    tables.push(Table::read(alloc, RECORDS.as_bytes())?)?;
+    tables.push(Table::read(alloc, OTHER_RECORDS.as_bytes())?.numbered(1))?;
+    cases::run(&rt, &mut Links { alloc, tables })
 }

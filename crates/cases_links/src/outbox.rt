@@ -76,14 +76,15 @@ fn frames_of_row(alloc: Global, row: &mut Row) -> anyhow::Result<RequestFrames> 
     }
 }
 
-/// Adds the frame of a dialogue of these identifiers that accepted no message, and says whether there was a place.
+/// Adds the frame of a dialogue of these identifiers that accepted no message, and says whether there was a place. The
+/// birth of the dialogue is its local identifier.
 fn add_frame(alloc: Global, outbox: &mut Outbox, local: u32, peer: Tid) -> anyhow::Result<bool> {
-    let mut row = Row::open(alloc, local, peer, 1, moment_after(0)?);
+    let mut row = Row::open(alloc, local, peer, u64::from(local), moment_after(0)?);
     let frames = frames_of_row(alloc, &mut row)?;
     if outbox.frames_held().saturating_add(frames.len()) > Outbox::MOST_FRAMES {
         return Ok(false);
     }
-    outbox.add_frames(local, frames);
+    outbox.add_frames(local, u64::from(local), frames);
     Ok(true)
 }
 

@@ -97,7 +97,7 @@ fn push_answer(
 /// Writes what replaying a log gives, and returns how many reads were made of it.
 pub(crate) fn push_replay(
     alloc: Global,
-    table: &Table,
+    tables: &[Table],
     devices: &Devices,
     log: &[u8],
     out: &mut String,
@@ -118,7 +118,7 @@ pub(crate) fn push_replay(
         flushes: devices.flushes,
         made: 0,
     });
-    let answer = replay(alloc, table, &[], devices.turns, &mut reader, &mut writer);
+    let answer = replay(alloc, tables, &[], devices.turns, &mut reader, &mut writer);
     push_answer(answer, writer.device.octets.as_slice(), out)?;
     Ok(reader.device.made)
 }
@@ -126,37 +126,37 @@ pub(crate) fn push_replay(
 /// Writes what replaying the log of a text gives, and returns how many reads were made of it.
 fn replayed(
     alloc: Global,
-    table: &Table,
+    tables: &[Table],
     devices: &Devices,
     text: &str,
     out: &mut String,
 ) -> anyhow::Result<u32> {
     let mut log = Vec::new(alloc);
     push_log(&mut log, text)?;
-    push_replay(alloc, table, devices, log.as_slice(), out)
+    push_replay(alloc, tables, devices, log.as_slice(), out)
 }
 
 /// What replaying the log of a text gives.
 fn report(
     alloc: Global,
-    table: &Table,
+    tables: &[Table],
     devices: &Devices,
     text: &str,
     out: &mut String,
 ) -> anyhow::Result<()> {
-    replayed(alloc, table, devices, text, out)?;
+    replayed(alloc, tables, devices, text, out)?;
     Ok(())
 }
 
 /// How many reads are made of a log, and what that gives.
-fn reads(alloc: Global, table: &Table, rest: &str, out: &mut String) -> anyhow::Result<()> {
+fn reads(alloc: Global, tables: &[Table], rest: &str, out: &mut String) -> anyhow::Result<()> {
     let (turns, rest) = first_word(rest);
     let (piece, text) = first_word(rest);
     let mut devices = SOUND;
     devices.turns = turns.parse()?;
     devices.read = piece.parse()?;
     let mut report = String::new(alloc);
-    let count = replayed(alloc, table, &devices, text, &mut report)?;
+    let count = replayed(alloc, tables, &devices, text, &mut report)?;
     Ok(write!(out, "reads {count}, {report}")?)
 }
 
@@ -196,30 +196,30 @@ fn devices_of(kind: &str, count: &str) -> anyhow::Result<Devices> {
 /// What replaying a log gives with devices that have a count.
 fn counted(
     alloc: Global,
-    table: &Table,
+    tables: &[Table],
     kind: &str,
     rest: &str,
     out: &mut String,
 ) -> anyhow::Result<()> {
     let (count, text) = first_word(rest);
     let devices = devices_of(kind, count)?;
-    report(alloc, table, &devices, text, out)
+    report(alloc, tables, &devices, text, out)
 }
 
 /// Writes what a case of this module gives, and says whether it has one of this kind.
 pub(crate) fn answer(
     alloc: Global,
-    table: &Table,
+    tables: &[Table],
     kind: &str,
     rest: &str,
     out: &mut String,
 ) -> anyhow::Result<bool> {
     let written = match kind {
-        "replay" => report(alloc, table, &SOUND, rest, out),
-        "reads" => reads(alloc, table, rest, out),
-        "failing-flush" => report(alloc, table, &unflushed(), rest, out),
+        "replay" => report(alloc, tables, &SOUND, rest, out),
+        "reads" => reads(alloc, tables, rest, out),
+        "failing-flush" => report(alloc, tables, &unflushed(), rest, out),
         "pieces" | "turns" | "failing-read" | "failing-write" => {
-            counted(alloc, table, kind, rest, out)
+            counted(alloc, tables, kind, rest, out)
         }
         _ => return Ok(false),
     };

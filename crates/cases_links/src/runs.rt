@@ -13,6 +13,7 @@
 //! | Step | What it answers |
 //! |---|---|
 //! | `post HEX` | a message came: `O`, `A`, `X`, `E` or `D`, and how many components were accepted |
+//! | `post-by TABLE HEX` | the same, and it is read by the records of this place: 0 for the first, 1 for the second |
 //! | `lost HEX` | a message came, and memory ran out when it was read: the same |
 //! | `tick` | `ticked`, how many dialogues were given a Clock, and how many were left since memory ran out |
 //! | `take` | `took`, the dialogue, the place of the first entry and how many there are, or `nothing`, or `no room` |
@@ -37,16 +38,22 @@
 //! | `posts COUNT HEX` | COUNT times `post`: the number, the first answer and the last; all have the same letter |
 //! | `rounds COUNT TURNS LOCAL HEX` | COUNT times `post`, and after each TURNS times `take` and `give`: the last answer |
 //! | `calls COUNT SERIAL HEX` | COUNT times a Begin, its turn and its frame, the first with this serial of a local |
-//! | | identifier and each with the next one: what the steps of the last one answer, with `, ` between them |
+//! | | identifier and each with the next one, 1 after 131,072: what the steps of the last one answer, with `, ` between |
+//! | | them |
 //!
 //! A case `random SEED RUNS STEPS` makes RUNS runs of STEPS steps each, or a few more, drawn from this seed, and checks
-//! what each output must be after those before it. It answers how many runs there were, how many steps of each kind,
-//! how many outputs of each kind, and how many Rejects were compared with an earlier one of their dialogue; or what is
-//! wrong with the first run that is wrong. Its steps are those of `drawn.rt`, and its checks those of `watch.rt`.
+//! what each output must be after those before it, which births the log of each run has, and that the log replays to
+//! the totals of the run. It answers how many runs there were, how many steps of each kind, how many outputs of each
+//! kind, and how many Rejects were compared with an earlier one of their dialogue; or what is wrong with the first run
+//! that is wrong. Its steps are those of `drawn.rt`, and its checks those of `watch.rt` and `log.rt`.
+//!
+//! A case `random-after CALLS SEED RUNS STEPS` does so after CALLS calls in each run, none of which is open any more: of
+//! these steps it answers nothing, and no log is replayed. So local identifiers come again.
 
 mod drawn;
 mod draws;
 mod kinds;
+mod log;
 mod making;
 mod octets;
 mod random;
@@ -59,7 +66,7 @@ use anyhow::bail;
 use fp_records::Table;
 use fp_steps::{Output, Step};
 use making::Making;
-pub(crate) use random::answer as answer_random;
+pub(crate) use random::{answer as answer_random, answer_after as answer_random_after};
 use std::alloc::Global;
 
 /// The number of links.
@@ -68,14 +75,14 @@ pub(crate) const LINKS: u8 = 8;
 /// The outputs of these steps on a link.
 pub(crate) fn outputs_of(
     alloc: Global,
-    table: &Table,
+    tables: &[Table],
     link: u8,
     steps: &[Step],
 ) -> anyhow::Result<Vec<Output>> {
     if link >= LINKS {
         bail!("no link");
     }
-    Ok(fp_steps::run(alloc, table, &[], link, steps)?)
+    Ok(fp_steps::run(alloc, tables, &[], link, steps)?)
 }
 
 /// The steps of a script.
@@ -88,7 +95,7 @@ pub(crate) fn steps_of(alloc: Global, link: u8, script: &str) -> anyhow::Result<
 /// Writes what the steps of a case answer.
 pub(crate) fn answer(
     alloc: Global,
-    table: &Table,
+    tables: &[Table],
     case: &str,
     out: &mut String,
 ) -> anyhow::Result<()> {
@@ -98,6 +105,6 @@ pub(crate) fn answer(
     let link: u8 = link.parse()?;
     let mut making = Making::new(alloc, link);
     making.add_script(script)?;
-    let outputs = outputs_of(alloc, table, link, making.steps.as_slice())?;
+    let outputs = outputs_of(alloc, tables, link, making.steps.as_slice())?;
     texts::push_answers(out, making.parts.as_slice(), outputs.as_slice())
 }

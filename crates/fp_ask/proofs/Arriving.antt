@@ -1,15 +1,16 @@
 -- A message or a moment comes to a book in which nothing waits.
-use Rattle.std.proofs.Common.{◌≡◌, ℕ, ◌≤◌, ◌+◌, true, false, cond, eqb, not, ◌&&◌, ◌||◌, nat_lt, Option, Some, None, is_some, List, [], ◌∷◌, ◌++◌, length, drop, map, refl, sym, ◌∙◌, ap, subst, arith, rules, append-nil, inl}
+use Rattle.std.proofs.Common.{◌≡◌, ℕ, ◌≤◌, ◌+◌, Bool, true, false, cond, eqb, not, ◌&&◌, ◌||◌, nat_lt, Option, Some, None, is_some, List, [], ◌∷◌, ◌++◌, length, drop, map, refl, sym, ◌∙◌, ap, subst, arith, rules, append-nil, inl}
 use Rattle.std.specs.FinMap as fin
+use Rattle.std.specs.List.{filter}
 use Rattle.std.proofs.lemmas.Bool.{eq-eqb}
 use Rattle.std.proofs.lemmas.List.{length-map}
 use Rattle.fp_book.specs.declared.answers.Posted.{Posted}
-use Rattle.fp_book.specs.Calls.{Answers, ClosesOne, Discards, EndsDialogue, ExtendsDialogue, Follows, OpensDialogue, Queues, Refuses, abort_for, entries_in}
+use Rattle.fp_book.specs.Calls.{Answers, ClosesOne, Discards, EndsDialogue, ExtendsDialogue, Follows, OpensDialogue, Queues, Refuses, abort_for, entries_in, joins, without as without_ready}
 use Rattle.fp_book.specs.declared.line.LoggedStep.{LoggedStep}
 use Rattle.fp_book.specs.declared.verdict.Verdict.{Verdict}
 use Rattle.fp_book.specs.declared.verdict.Verdict.TheVariants.{Discard, Refuse, Open, Extend}
 use Rattle.fp_book.specs.Outbox.{Outbox, without_frames_of}
-use Rattle.fp_book.specs.Shelf.{Shelf, Sound}
+use Rattle.fp_book.specs.Shelf.{Shelf, Sound, free_with}
 use Rattle.fp_book.proofs.Fits.{Allowed, CanEnd, CanOpen}
 use Rattle.fp_book.proofs.Sums.{OneChanges, inserted, kept, left_of}
 use Rattle.fp_entry.specs.declared.entry.Entry.{Entry}
@@ -21,15 +22,16 @@ use Rattle.fp_reply.specs.ProviderAbort.{AbortFrame, frame_octets}
 use Rattle.fp_row.specs.declared.ending.Ending.{Ending}
 use Rattle.fp_row.specs.declared.row.Row.{Row}
 use Rattle.fp_row.specs.Calls.{ended_by}
-use Rattle.fp_row.specs.Row.{is_closed, is_ready, waiting_of, has_turn_out}
+use Rattle.fp_row.specs.Row.{has_turn_out, is_admitted, is_closed, is_ready, waiting_of}
 use Rattle.fp_service.specs.Dialogue.{fresh, is_over}
-use Rattle.fp_tids.specs.Identifiers.{identifier}
-use Rattle.fp_ask.specs.Solo.{Outcome, Dialogue, LinkState, aborts, continued, discarded, ended, found, Job, jobs_for, left_by, newborn, next_local, opened, refused, serve_all, without}
-use Rattle.fp_ask.specs.Tied.{Came, Fit, GoesOn, IsServed, KeepsEnd, KeepsDialogues, Matches, Midway, Rest, Same, SameCounts, dialogue_of, frames_in, is_out, jobs_of, live, times, waiting_at}
+use Rattle.fp_tids.specs.Identifiers.{first_of, identifier, serial_of}
+use Rattle.fp_ask.specs.Solo.{Outcome, Dialogue, LinkState, Served, aborts, continued, discarded, ended, found, Job, jobs_for, left_by, newborn, opened, refused, serve_all, without}
+use Rattle.fp_ask.specs.Tied.{Came, Concerned, Concerns, Fit, GoesOn, IsServed, KeepsEnd, KeepsDialogues, Matches, Midway, Rest, Rows, Same, SameCounts, all_free, dialogue_of, frames_in, is_leaving, is_out, jobs_of, leaving, live, senders, times, waiting_at}
 use Rattle.fp_ask.proofs.OneSent.{no_jobs}
-use Rattle.fp_ask.proofs.Resting.{next_is_free, quiet, stands_nowhere}
+use Rattle.fp_ask.proofs.Resting.{is_fresh, not_leaving, quiet, stands_nowhere}
 use Rattle.fp_ask.proofs.Rows.{cut, ended_gone, joined, live_is, live_left, live_stays, none_waits, out_left, outs_then, same_then, waiting_left}
-use Rattle.fp_ask.proofs.Dialogues.{by_number, found_others, found_without, once_served, serve_none, swapped, times-cons, times_fewer, unit, unit_most}
+use Rattle.fp_ask.proofs.Dialogues.{by_number, count, found_others, found_without, once_served, serve_none, swapped, times-cons, times_fewer, unit, unit_most}
+use Rattle.fp_ask.proofs.Serials.{count_joins, free_left, own_serial}
 
 -- THE BOOK AFTER IT, READY TO BE SERVED
 
@@ -41,6 +43,7 @@ pub record Arrives (s new : Shelf) (d : ℕ) (waiting : List Entry) (aborts : Li
   pub outbox : new.outbox ≡ record { aborts = aborts; frames = []; out = None }
   pub link : new.link ≡ s.link
   pub up : new.is_down ≡ s.is_down
+  pub alone : Concerns (Concerned.one d) new
 
 -- so it is ready to be served
 pub arrived_fit : {s new : Shelf} {d : ℕ} {waiting : List Entry} {aborts : List AbortFrame} → Rest s → Sound new → Arrives s new d waiting aborts → Fit new
@@ -54,17 +57,32 @@ arrived_fit {d = d} {waiting} r sound a = record {
   room = omega (arith, ap length a.ready.0, length-map {B = Job} waiting (λ entry. record { local = d; entry = entry }), a.few, ap (λ (o : Outbox). length o.frames) a.outbox);
 }
 
+-- no other dialogue is ready then, or has left the list
+stands_alone : {s : Shelf} {rows : Rows} {ready : List ℕ} {d : ℕ} {before left : Option Row} (joining : Bool) → Rest s → OneChanges s.rows rows d before left → ready ≡ s.ready ++ joins d joining
+    → (other : ℕ) → eqb other d ≡ false → (count other ready ≡ 0) × (is_leaving (fin.get rows other) ≡ false)
+stands_alone {s} {d = d} joining r one queue other ne = (
+  ap (count other) (queue ∙ ap (λ q. q ++ joins d joining) r.served.ready) ∙ count_joins d other joining (swapped other d ne),
+  ap is_leaving (one.others other ne) ∙ not_leaving s r other,
+)
+
+-- what comes of a message for which these are served, after these Aborts
+abbrev pub outcome : ℕ → ℕ → List ℕ → List AbortFrame → Served → Outcome
+outcome births entries free aborts served = record {
+  link = record { births = births; entries = entries; free = free ++ served.returned; dialogues = served.dialogues };
+  frames = frames_in (record { aborts = aborts; frames = []; out = None }) ++ served.frames;
+}
+
 -- what is served then is served in the list
-midway_of : {s new : Shelf} {d : ℕ} {waiting : List Entry} {aborts : List AbortFrame} (dialogues : List Dialogue) → Arrives s new d waiting aborts → Same dialogues new.rows
-    → Midway new (record {
-      dialogues = (serve_all (jobs_for d waiting) dialogues).dialogues;
-      frames = frames_in (record { aborts = aborts; frames = []; out = None }) ++ (serve_all (jobs_for d waiting) dialogues).frames;
-    })
-midway_of dialogues a same = record {
+midway_of : {s new : Shelf} {d : ℕ} {waiting : List Entry} {aborts : List AbortFrame} (births entries : ℕ) (free : List ℕ) (dialogues : List Dialogue) → Arrives s new d waiting aborts
+    → Same dialogues new.rows → all_free (Concerned.one d) new ≡ free → Midway new (outcome births entries free aborts (serve_all (jobs_for d waiting) dialogues))
+midway_of {d = d} births entries free dialogues a same is = record {
   dialogues = dialogues;
   same = same;
   dialogues_end = ap (λ j. (serve_all j dialogues).dialogues) a.ready.0;
   frames_end = λ i. frames_in (a.outbox i) ++ (serve_all (a.ready.0 i) dialogues).frames;
+  who = Concerned.one d;
+  concerns = a.alone;
+  free_end = λ i. is i ++ (serve_all (a.ready.0 i) dialogues).returned;
 }
 
 -- a dialogue that wasn't ready and isn't has nothing that waits
@@ -73,9 +91,13 @@ none_joined before after unready out h = none_waits after out (sym (ap (λ b. no
 
 -- A DIALOGUE IS OPENED
 
+-- a new dialogue takes messages
+fresh_goes : (row : Row) (birth moment : ℕ) → row.ended ≡ None → row.core ≡ fresh birth moment → is_admitted row ≡ true
+fresh_goes row birth moment ended core = λ i. not (is_some (ended i)) && not (is_over (core i))
+
 module _ {s new : Shelf} {peer : Tid} {came : Prepared} {answer : Posted} (r : Rest s) (can : CanOpen s came) (o : OpensDialogue s peer came answer new) where
   abbrev d : ℕ
-  d = identifier s.link (s.given + 1)
+  d = identifier s.link o.serial
 
   there : OneChanges s.rows (fin.insert s.rows d o.after) d (fin.get s.rows d) (Some o.after)
   there = inserted s.rows d (fin.get s.rows d) o.after refl
@@ -95,15 +117,20 @@ module _ {s new : Shelf} {peer : Tid} {came : Prepared} {answer : Posted} (r : R
         outbox = r.outbox;
         link = refl;
         up = refl;
+        alone = stands_alone (is_ready o.after) r there refl;
       })
 
-  -- it is in the list before the others
-  opens_came : (w : LinkState) → Matches w s → Came (opened w peer (arrival_of came).moment (entries_in came)) new
-  opens_came w m =
-      let one = newborn w peer (arrival_of came).moment in
+  -- it hasn't left the list
+  opens_free : all_free (Concerned.one d) new ≡ o.rest
+  opens_free =
+      let goes = fresh_goes o.after (s.births + 1) (arrival_of came).moment (o.extends.ended ∙ o.opens.ended) (o.extends.stay.core ∙ o.opens.core) in
+      ap (all_free (Concerned.one d)) o.new_is ∙ ap (λ r. o.rest ++ own_serial d r) there.there ∙ ap (λ b. o.rest ++ map serial_of (cond (not b) (d ∷ []) [])) goes ∙ append-nil o.rest
+
+  -- it is in the list before the others,
+  opens_local : (w : LinkState) (n : ℕ) → Matches w s → d ≡ n → Came (opened w (Some n) peer (arrival_of came).moment (entries_in came)) new
+  opens_local w n m local =
+      let one = newborn w n peer (arrival_of came).moment in
       let born : s.births + 1 ≡ w.births + 1 = ap (λ n. n + 1) (sym m.births) in
-      let given : s.given ≡ w.births = sym r.served.fit.sound.births ∙ sym m.births in
-      let local : d ≡ next_local w = λ i. identifier (r.served.fit.link i) (given i + 1) in
       let core : o.after.core ≡ one.core = o.extends.stay.core ∙ o.opens.core ∙ ap (λ n. fresh n (arrival_of came).moment) born in
       let one_is : dialogue_of o.after ≡ one = λ i. record {
         birth = (o.extends.same.birth ∙ o.opens.birth_is ∙ born) i;
@@ -112,19 +139,26 @@ module _ {s new : Shelf} {peer : Tid} {came : Prepared} {answer : Posted} (r : R
         core = core i;
       } in
       let same = same_then w.dialogues (one ∷ w.dialogues) there m.same
-      (ap (λ b. cond b (Some one) (found d w.dialogues)) (eq-eqb (next_local w) d (sym local)) ∙ sym (live_is o.after None one (o.extends.ended ∙ o.opens.ended) one_is))
+      (ap (λ b. cond b (Some one) (found d w.dialogues)) (eq-eqb n d (sym local)) ∙ sym (live_is o.after None one (o.extends.ended ∙ o.opens.ended) one_is))
       (λ k ne. ap (λ b. cond b (Some one) (found k w.dialogues)) (ap (λ n. eqb n k) (sym local) ∙ swapped k d ne)) in
       let free : times one.local w.dialogues ≡ 0 =
-      stands_nowhere one.local w.dialogues (m.same one.local ∙ ap live (ap (fin.get s.rows) (sym local) ∙ next_is_free s r.served.fit.sound)) in
+      stands_nowhere one.local w.dialogues (m.same one.local ∙ ap live (ap (fin.get s.rows) (sym local) ∙ is_fresh s o.serial o.rest r.served.fit.sound o.first)) in
       record {
-        midway = subst (λ n. Midway new (serve_all (jobs_for n (entries_in came)) (one ∷ w.dialogues))) local
-            (midway_of (one ∷ w.dialogues) opens_arrives (subst (λ (n : Shelf). Same (one ∷ w.dialogues) n.rows) (sym o.new_is) same));
+        midway = subst (λ n. Midway new (outcome (w.births + 1) (w.entries + length (entries_in came)) (drop 1 w.free) [] (serve_all (jobs_for n (entries_in came)) (one ∷ w.dialogues)))) local
+            (midway_of (w.births + 1) (w.entries + length (entries_in came)) (drop 1 w.free) (one ∷ w.dialogues) opens_arrives (subst (λ (n : Shelf). Same (one ∷ w.dialogues) n.rows) (sym o.new_is) same)
+            (opens_free ∙ sym (ap (drop 1) (m.free ∙ o.first))));
         births = ap (λ n. n + 1) m.births ∙ sym (ap (λ (x : Shelf). x.births) o.new_is);
         entries = ap (λ n. n + length (entries_in came)) m.entries ∙ sym (ap (λ (x : Shelf). x.entries) o.new_is);
         once = once_served (jobs_for one.local (entries_in came)) (one ∷ w.dialogues) (λ k. by_number k one.local (λ k. times k (one ∷ w.dialogues) ≤ 1)
             (omega (arith, times-cons one.local one w.dialogues, unit_most (eqb one.local one.local), free))
             (λ ne. omega (arith, times-cons k one w.dialogues, ap unit (swapped k one.local ne), m.once k)));
       }
+
+  -- with the identifier of the next serial
+  opens_came : (w : LinkState) → Matches w s → Came (opened w (first_of 0 w.free) peer (arrival_of came).moment (entries_in came)) new
+  opens_came w m =
+      subst (λ n. Came (opened w n peer (arrival_of came).moment (entries_in came)) new) (sym (ap (first_of 0) (m.free ∙ o.first)))
+      (opens_local w (identifier 0 o.serial) m (ap (λ l. identifier l o.serial) r.served.fit.link))
 
 -- A DIALOGUE GOES ON
 
@@ -144,7 +178,15 @@ module _ {s new : Shelf} {d : ℕ} {came : Prepared} {answer : Posted} (r : Rest
         outbox = r.outbox;
         link = refl;
         up = refl;
+        alone = stands_alone (not (is_ready x.before) && is_ready x.after) r there refl;
       })
+
+  -- it hasn't left the list
+  extends_free : all_free (Concerned.one d) new ≡ s.free
+  extends_free =
+      let there = inserted s.rows d (Some x.before) x.after x.was in
+      let goes : is_admitted x.after ≡ true = (λ i. not (is_some (x.extends.ended i)) && not (is_over (x.extends.stay.core i))) ∙ (quiet s r d x.before x.was).admitted in
+      ap (all_free (Concerned.one d)) x.new_is ∙ ap (λ r. s.free ++ own_serial d r) there.there ∙ ap (λ b. s.free ++ map serial_of (cond (not b) (d ∷ []) [])) goes ∙ append-nil s.free
 
   -- and the list, which has the dialogue as before
   extends_came : (w : LinkState) → Matches w s → Came (continued w d (entries_in came)) new
@@ -153,7 +195,7 @@ module _ {s new : Shelf} {d : ℕ} {came : Prepared} {answer : Posted} (r : Rest
       let same = same_then w.dialogues w.dialogues there m.same
       (m.same d ∙ ap live x.was ∙ sym (live_stays x.before x.after x.extends.same x.extends.ended x.extends.stay.core)) (λ k ne. refl) in
       record {
-        midway = midway_of w.dialogues extends_arrives (subst (λ (n : Shelf). Same w.dialogues n.rows) (sym x.new_is) same);
+        midway = midway_of w.births (w.entries + length (entries_in came)) w.free w.dialogues extends_arrives (subst (λ (n : Shelf). Same w.dialogues n.rows) (sym x.new_is) same) (extends_free ∙ sym m.free);
         births = m.births ∙ sym (ap (λ (x : Shelf). x.births) x.new_is);
         entries = ap (λ n. n + length (entries_in came)) m.entries ∙ sym (ap (λ (x : Shelf). x.entries) x.new_is);
         once = once_served (jobs_for d (entries_in came)) w.dialogues m.once;
@@ -166,6 +208,23 @@ ends_gone : (ending : Ending) (ended : Option Ending) (after : Row) → after.en
 ends_gone ending None after e = live_left after ∙ ended_gone after ending e
 ends_gone ending (Some Ending.ByPeer) after e = live_left after ∙ ended_gone after ending e
 ends_gone ending (Some Ending.Closed) after e = live_left after ∙ ended_gone after Ending.Closed e
+
+-- its serial comes back
+ends_out : (ending : Ending) (ended : Option Ending) (after : Row) → after.ended ≡ ended_by ending ended → is_admitted after ≡ false
+ends_out ending None after e = ap (λ o. not (is_some o) && not (is_over after.core)) e
+ends_out ending (Some Ending.ByPeer) after e = ap (λ o. not (is_some o) && not (is_over after.core)) e
+ends_out ending (Some Ending.Closed) after e = ap (λ o. not (is_some o) && not (is_over after.core)) e
+
+ends_free : (free : List ℕ) (d : ℕ) (ending : Ending) (ended : Option Ending) (after : Row) → after.ended ≡ ended_by ending ended → free_with free d after ++ own_serial d (left_of after) ≡ free ++ serial_of d ∷ []
+ends_free free d ending ended after e = free_left free d after ∙ ap (λ b. free ++ map serial_of (cond (not b) (d ∷ []) [])) (ends_out ending ended after e)
+
+-- what comes of a message for which nothing is served
+nothing_served : {new : Shelf} (births entries : ℕ) (free : List ℕ) (aborts : List AbortFrame) (dialogues : List Dialogue) (frames : List (List ℕ)) → map frame_octets aborts ≡ frames
+    → Midway new (outcome births entries free aborts (record { dialogues = dialogues; returned = []; frames = [] }))
+    → Midway new (record { link = record { births = births; entries = entries; free = free; dialogues = dialogues }; frames = frames })
+nothing_served {new} births entries free aborts dialogues frames is m =
+    subst (λ f. Midway new (record { link = record { births = births; entries = entries; free = free; dialogues = dialogues }; frames = f })) (append-nil _ ∙ append-nil _ ∙ is)
+    (subst (λ f. Midway new (record { link = record { births = births; entries = entries; free = f; dialogues = dialogues }; frames = (map frame_octets aborts ++ []) ++ [] })) (append-nil free) m)
 
 module _ {s new : Shelf} {d : ℕ} {came : Prepared} {answer : Posted} (r : Rest s) (can : CanEnd s d came) (x : EndsDialogue s d came answer new) where
   -- the book after it,
@@ -184,6 +243,7 @@ module _ {s new : Shelf} {d : ℕ} {came : Prepared} {answer : Posted} (r : Rest
         outbox = ap (without_frames_of d) r.outbox;
         link = refl;
         up = refl;
+        alone = stands_alone (not (is_ready x.before) && is_ready x.after) r there refl;
       })
 
   -- and the list, which the dialogue has left
@@ -194,8 +254,11 @@ module _ {s new : Shelf} {d : ℕ} {came : Prepared} {answer : Posted} (r : Rest
       let same = same_then w.dialogues then there m.same
       (found_without d w.dialogues ∙ sym (ends_gone Ending.ByPeer x.extended.ended x.after x.ends.ended)) (λ k ne. found_others d k w.dialogues ne) in
       record {
-        midway = subst (Midway new) (serve_none d (waiting_of x.after) then (found_without d w.dialogues))
-            (midway_of then ends_arrives (subst (λ (n : Shelf). Same then n.rows) (sym x.new_is) same));
+        midway = nothing_served w.births (w.entries + length (entries_in came)) (w.free ++ serial_of d ∷ []) [] then [] refl
+            (subst (λ v. Midway new (outcome w.births (w.entries + length (entries_in came)) (w.free ++ serial_of d ∷ []) [] v)) (serve_none d (waiting_of x.after) then (found_without d w.dialogues))
+            (midway_of w.births (w.entries + length (entries_in came)) (w.free ++ serial_of d ∷ []) then ends_arrives (subst (λ (n : Shelf). Same then n.rows) (sym x.new_is) same)
+            (ap (all_free (Concerned.one d)) x.new_is ∙ ap (λ r. free_with s.free d x.after ++ own_serial d r) there.there
+            ∙ ends_free s.free d Ending.ByPeer x.extended.ended x.after x.ends.ended ∙ ap (λ f. f ++ serial_of d ∷ []) (sym m.free))));
         births = m.births ∙ sym (ap (λ (x : Shelf). x.births) x.new_is);
         entries = ap (λ n. n + length (entries_in came)) m.entries ∙ sym (ap (λ (x : Shelf). x.entries) x.new_is);
         once = λ k. omega (arith, times_fewer d k w.dialogues, m.once k);
@@ -203,24 +266,40 @@ module _ {s new : Shelf} {d : ℕ} {came : Prepared} {answer : Posted} (r : Rest
 
 -- A MESSAGE IS REFUSED OR DISCARDED
 
+-- whom it concerns: the dialogue that is closed, if one is
+abbrev closed_local : Option ℕ → ℕ
+closed_local None = 0
+closed_local (Some d) = d
+
 -- the dialogue that is closed leaves the list, and nothing is to be served
 record Leaves (s new : Shelf) (closes : Option ℕ) (aborts : List AbortFrame) : Type 0 where
-  pub arrives : Arrives s new 0 [] aborts
-  pub same : (dialogues : List Dialogue) → Same dialogues s.rows → Same (left_by closes dialogues) new.rows
+  pub arrives : Arrives s new (closed_local closes) [] aborts
+  pub same : (w : LinkState) → Same w.dialogues s.rows → Same (left_by closes w).dialogues new.rows
+  pub free : (w : LinkState) → w.free ≡ s.free → all_free (Concerned.one (closed_local closes)) new ≡ (left_by closes w).free
   pub births : new.births ≡ s.births
   pub entries : new.entries ≡ s.entries
 
 -- the dialogue is closed, if one is
 closed_as : (s closed : Shelf) (closes : Option ℕ) → Rest s → ClosesOne s closes closed → Leaves s closed closes []
 closed_as s closed None r e = subst (λ c. Leaves s c None []) (sym e) (record {
-  arrives = record { idle = r.served.fit.idle; ready = rw r.served.ready (refl, omega arith); few = omega arith; outbox = r.outbox; link = refl; up = refl };
-  same = λ dialogues same. same;
+  arrives = record {
+    idle = r.served.fit.idle;
+    ready = rw r.served.ready (refl, omega arith);
+    few = omega arith;
+    outbox = r.outbox;
+    link = refl;
+    up = refl;
+    alone = λ other ne. (ap (count other) r.served.ready, not_leaving s r other);
+  };
+  same = λ w same. same;
+  free = λ w is. ap (λ b. s.free ++ map serial_of (cond b (0 ∷ []) [])) (not_leaving s r 0) ∙ append-nil s.free ∙ sym is;
   births = refl;
   entries = refl;
 })
 closed_as s closed (Some d) r x =
     let there = kept s.rows d (Some x.before) x.after x.was in
     let out = out_left x.after (ap (nat_lt 0) x.ends.out ∙ (quiet s r d x.before x.was).is_out) in
+    let queue : without_ready d s.ready ≡ s.ready ++ joins d false = ap (without_ready d) r.served.ready ∙ sym (ap (λ q. q ++ []) r.served.ready) in
     subst (λ c. Leaves s c (Some d) []) (sym x.new_is) (record {
       arrives = record {
         idle = outs_then there r.served.fit.idle out;
@@ -229,9 +308,11 @@ closed_as s closed (Some d) r x =
         outbox = ap (without_frames_of d) r.outbox;
         link = refl;
         up = refl;
+        alone = stands_alone false r there queue;
       };
-      same = λ dialogues same. same_then dialogues (without d dialogues) there same
-          (found_without d dialogues ∙ sym (ends_gone Ending.Closed x.before.ended x.after x.ends.ended)) (λ k ne. found_others d k dialogues ne);
+      same = λ w same. same_then w.dialogues (without d w.dialogues) there same
+          (found_without d w.dialogues ∙ sym (ends_gone Ending.Closed x.before.ended x.after x.ends.ended)) (λ k ne. found_others d k w.dialogues ne);
+      free = λ w is. ap (λ r. free_with s.free d x.after ++ own_serial d r) there.there ∙ ends_free s.free d Ending.Closed x.before.ended x.after x.ends.ended ∙ ap (λ f. f ++ serial_of d ∷ []) (sym is);
       births = refl;
       entries = refl;
     })
@@ -253,8 +334,10 @@ answered_as s closed answered closes (Some cause) (Some sender) answer l e =
           outbox = ap (λ (o : Outbox). record { aborts = o.aborts ++ q.frame ∷ []; frames = o.frames; out = o.out }) a.outbox;
           link = a.link;
           up = a.up;
+          alone = a.alone;
         };
         same = l.same;
+        free = l.free;
         births = l.births;
         entries = l.entries;
       }),
@@ -262,9 +345,14 @@ answered_as s closed answered closes (Some cause) (Some sender) answer l e =
     )
 
 -- no dialogue is twice in what is left of the list
-left_once : (closes : Option ℕ) (dialogues : List Dialogue) → ((k : ℕ) → times k dialogues ≤ 1) → (k : ℕ) → times k (left_by closes dialogues) ≤ 1
-left_once None dialogues once k = once k
-left_once (Some d) dialogues once k = omega (arith, times_fewer d k dialogues, once k)
+left_once : (closes : Option ℕ) (w : LinkState) → ((k : ℕ) → times k w.dialogues ≤ 1) → (k : ℕ) → times k (left_by closes w).dialogues ≤ 1
+left_once None w once k = once k
+left_once (Some d) w once k = omega (arith, times_fewer d k w.dialogues, once k)
+
+-- as many dialogues were opened, and entries accepted
+left_counts : (closes : Option ℕ) (w : LinkState) → ((left_by closes w).births ≡ w.births) × ((left_by closes w).entries ≡ w.entries)
+left_counts None w = (refl, refl)
+left_counts (Some d) w = (refl, refl)
 
 -- only the log has changed since
 logged : (s answered new : Shelf) (closes : Option ℕ) (aborts : List AbortFrame) (log : List LoggedStep) → new ≡ record answered { log = log } → Leaves s answered closes aborts → Leaves s new closes aborts
@@ -272,14 +360,16 @@ logged s answered new closes aborts log e l = subst (λ n. Leaves s n closes abo
 
 -- the list goes on so, after the frames of these Aborts
 leaves_came : (s new : Shelf) (closes : Option ℕ) (waiting : List AbortFrame) (w : LinkState) (frames : List (List ℕ)) → Leaves s new closes waiting → map frame_octets waiting ≡ frames → Matches w s
-    → Came (record { link = record w { dialogues = left_by closes w.dialogues }; frames = frames }) new
-leaves_came s new closes waiting w frames l e m = record {
-  midway = subst (λ f. Midway new (record { dialogues = left_by closes w.dialogues; frames = f })) (append-nil _ ∙ append-nil _ ∙ e)
-      (midway_of (left_by closes w.dialogues) l.arrives (l.same w.dialogues m.same));
-  births = m.births ∙ sym l.births;
-  entries = m.entries ∙ sym l.entries;
-  once = left_once closes w.dialogues m.once;
-}
+    → Came (record { link = left_by closes w; frames = frames }) new
+leaves_came s new closes waiting w frames l e m =
+    let then = left_by closes w in
+    record {
+      midway = nothing_served then.births then.entries then.free waiting then.dialogues frames e
+          (midway_of then.births then.entries then.free then.dialogues l.arrives (l.same w m.same) (l.free w m.free));
+      births = (left_counts closes w).0 ∙ m.births ∙ sym l.births;
+      entries = (left_counts closes w).1 ∙ m.entries ∙ sym l.entries;
+      once = left_once closes w m.once;
+    }
 
 -- a refused message,
 refuses_leaves : (s new : Shelf) (cause : Option AbortCause) (closes : Option ℕ) (came : Prepared) (answer : Posted) → Rest s → (x : Refuses s cause closes came answer new)
@@ -299,7 +389,7 @@ discards_leaves s new came answer r x = logged s s new None [] _ x.new_is (close
 abbrev pub done : Verdict → LinkState → Prepared → Outcome
 done Discard w came = discarded w
 done (Refuse cause closes) w came = refused w cause closes (arrival_of came).ids.orig
-done (Open peer) w came = opened w peer (arrival_of came).moment (entries_in came)
+done (Open peer) w came = opened w (first_of 0 w.free) peer (arrival_of came).moment (entries_in came)
 done (Extend local false) w came = continued w local (entries_in came)
 done (Extend local true) w came = ended w local (entries_in came)
 
@@ -320,21 +410,30 @@ follows_came (Open peer) s new w came answer r m can x = opens_came r can x w m
 follows_came (Extend local false) s new w came answer r m can x = extends_came r can.few x w m
 follows_came (Extend local true) s new w came answer r m can x = ends_came r can x w m
 
--- all was served, and then all was sent
-pub finished : (came served new : Shelf) (p : Outcome) (frames : List (List ℕ)) → Came p came → KeepsEnd came served → SameCounts came served → IsServed served → KeepsDialogues served new
-    → frames ≡ frames_in served.outbox → GoesOn p new frames
-finished came served new p frames c ends counts is keeps sent =
-    let m = ends (record { dialogues = p.link.dialogues; frames = p.frames }) c.midway in
+-- nothing is left of those that left the list
+none_leaving : (who : Concerned) (s : Shelf) → Rest s → leaving who s ≡ []
+none_leaving (Concerned.one d) s r = ap (λ b. cond b (d ∷ []) []) (not_leaving s r d)
+none_leaving Concerned.due s r = ap (λ o. filter (λ d. is_leaving (fin.get s.rows d)) (senders o)) r.outbox
+
+-- all was served, and then all was sent, and the log was emptied
+pub finished : (came served sent : Shelf) (p : Outcome) (frames : List (List ℕ)) → Came p came → KeepsEnd came served → SameCounts came served → IsServed served → KeepsDialogues served sent
+    → Rest sent → frames ≡ frames_in served.outbox → GoesOn p (record sent { log = [] }) frames
+finished came served sent p frames c ends counts is keeps rest sent_are =
+    let m = ends p c.midway in
     let none = no_jobs served is.ready in
     let dialogues_are : m.dialogues ≡ p.link.dialogues = sym (ap (λ j. (serve_all j m.dialogues).dialogues) none) ∙ m.dialogues_end in
     let frames_are : frames_in served.outbox ≡ p.frames =
     sym (append-nil (frames_in served.outbox)) ∙ ap (λ f. frames_in served.outbox ++ f) (sym (ap (λ j. (serve_all j m.dialogues).frames) none)) ∙ m.frames_end in
+    let free_is : sent.free ≡ p.link.free =
+    sym (append-nil sent.free) ∙ ap (λ l. sent.free ++ map serial_of l) (sym (none_leaving m.who sent rest)) ∙ (keeps.free m.who m.concerns).1
+    ∙ sym (append-nil (all_free m.who served)) ∙ ap (λ f. all_free m.who served ++ f) (sym (ap (λ j. (serve_all j m.dialogues).returned) none)) ∙ m.free_end in
     record {
       matches = record {
         births = c.births ∙ sym (keeps.counts.births ∙ counts.births);
         entries = c.entries ∙ sym (keeps.counts.entries ∙ counts.entries);
+        free = sym free_is;
         same = λ k. ap (found k) (sym dialogues_are) ∙ m.same k ∙ sym (keeps.lives k);
         once = c.once;
       };
-      frames_are = sent ∙ frames_are;
+      frames_are = sent_are ∙ frames_are;
     }

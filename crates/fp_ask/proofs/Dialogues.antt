@@ -1,5 +1,5 @@
 -- The plain list of dialogues.
-use Rattle.std.proofs.Common.{◌≡◌, ℕ, ◌+◌, ◌≤◌, Bool, true, false, cond, eqb, not, Option, Some, None, List, [], ◌∷◌, ◌++◌, map, option_to_list, refl, sym, ◌∙◌, ap, subst, arith, append_assoc, count_by, ⊎_elim}
+use Rattle.std.proofs.Common.{◌≡◌, ℕ, ◌+◌, ◌≤◌, Bool, true, false, cond, eqb, not, ◌&&◌, Option, Some, None, List, [], ◌∷◌, ◌++◌, map, option_to_list, refl, sym, ◌∙◌, ap, subst, arith, append_assoc, ⊎_elim}
 use Rattle.std.proofs.lemmas.Bool.{cases_Bool, cond_both, eqb-true, eq-eqb}
 use Rattle.std.proofs.lemmas.Bool.Decides.{nat_tests}
 use Rattle.std.proofs.lemmas.List.{map-append}
@@ -11,7 +11,9 @@ use Rattle.fp_service.specs.declared.request.Request.{Request}
 use Rattle.fp_service.specs.Dialogue.{is_over}
 use Rattle.fp_service.specs.Fold.{core_after, cut, requests}
 use Rattle.fp_service.specs.Serve.{next, request_of}
+use Rattle.fp_tids.specs.Identifiers.{serial_of}
 use Rattle.fp_ask.specs.Solo.{Job, Dialogue, Served, after, answer_of, found, going_on, jobs_for, serve_all, serve_at, serve_one, without}
+pub use Rattle.fp_ask.specs.Tied.{count}
 use Rattle.fp_ask.specs.Tied.{times}
 
 -- two numbers are different, the other way round
@@ -53,11 +55,15 @@ other_by false t k rest ne = ap (λ b. cond b (Some t) (found k rest)) ne
 pub found_unchanged : (t : Dialogue) (d k : ℕ) (dialogues : List Dialogue) → t.local ≡ d → eqb k d ≡ false → found k (going_on t ++ without d dialogues) ≡ found k dialogues
 found_unchanged t d k dialogues e ne = other_by (is_over t.core) t k (without d dialogues) (other_number t.local d k (eq-eqb t.local d e) ne) ∙ found_others d k dialogues ne
 
+-- what comes of some jobs, and then of others
+abbrev pub both : Served → Served → Served
+both first then = record { dialogues = then.dialogues; returned = first.returned ++ then.returned; frames = first.frames ++ then.frames }
+
 -- nothing comes of entries of a dialogue that doesn't go on
-pub serve_none : (d : ℕ) (entries : List Entry) (dialogues : List Dialogue) → found d dialogues ≡ None → serve_all (jobs_for d entries) dialogues ≡ record { dialogues = dialogues; frames = [] }
+pub serve_none : (d : ℕ) (entries : List Entry) (dialogues : List Dialogue) → found d dialogues ≡ None → serve_all (jobs_for d entries) dialogues ≡ record { dialogues = dialogues; returned = []; frames = [] }
 serve_none d [] dialogues h = refl
 serve_none d (e ∷ es) dialogues h =
-    ap (λ o. let s = serve_at d e dialogues o in let then = serve_all (jobs_for d es) s.dialogues in record { dialogues = then.dialogues; frames = s.frames ++ then.frames }) h
+    ap (λ o. both (serve_at d e dialogues o) (serve_all (jobs_for d es) (serve_at d e dialogues o).dialogues)) h
     ∙ serve_none d es dialogues h
 
 -- ENTRIES OF ONE DIALOGUE, ONE AFTER ANOTHER
@@ -79,15 +85,30 @@ abbrev pub answers_to : Dialogue → List Entry → List (List ℕ)
 answers_to dialogue entries = answers_of dialogue (requests dialogue.core (cut dialogue.core entries))
 
 -- nothing is served of a dialogue that is over
-cut_over : (core : Core) (entries : List Entry) → is_over core ≡ true → cut core entries ≡ []
+pub cut_over : (core : Core) (entries : List Entry) → is_over core ≡ true → cut core entries ≡ []
 cut_over core [] o = refl
 cut_over core (e ∷ es) o = ap (λ b. cond b [] (e ∷ cut (next core e) es)) o
+
+-- its serial comes back if they end it
+abbrev pub returned_in : ℕ → Core → Core → List ℕ
+returned_in d before then = cond (not (is_over before) && is_over then) (serial_of d ∷ []) []
+
+-- nothing ends a dialogue that is unchanged
+returned_none : (d : ℕ) (b : Bool) → cond {A = List ℕ} (not b && b) (serial_of d ∷ []) [] ≡ []
+returned_none d true = refl
+returned_none d false = refl
+
+-- an entry ends it, or the next ones may
+returned_next : (d : ℕ) (now then : Bool) → (now ≡ true → then ≡ true) → cond {A = List ℕ} now (serial_of d ∷ []) [] ++ cond (not now && then) (serial_of d ∷ []) [] ≡ cond then (serial_of d ∷ []) []
+returned_next d true then stays = ap (λ b. cond {A = List ℕ} b (serial_of d ∷ []) []) (sym (stays refl))
+returned_next d false then stays = refl
 
 -- what the plain list makes of them
 pub record AllServed (d : ℕ) (entries : List Entry) (one : Dialogue) (dialogues : List Dialogue) : Type 0 where
   pub own : found d (serve_all (jobs_for d entries) dialogues).dialogues ≡ cond (not (is_over (after_all one entries).core)) (Some (after_all one entries)) None
   pub others : (k : ℕ) → eqb k d ≡ false → found k (serve_all (jobs_for d entries) dialogues).dialogues ≡ found k dialogues
   pub frames : (serve_all (jobs_for d entries) dialogues).frames ≡ answers_to one entries
+  pub returned : (serve_all (jobs_for d entries) dialogues).returned ≡ returned_in d one.core (after_all one entries).core
 
 -- of a dialogue that is over nothing
 served_over : (d : ℕ) (entries : List Entry) (one : Dialogue) (dialogues : List Dialogue) → is_over one.core ≡ true → found d dialogues ≡ None → AllServed d entries one dialogues
@@ -100,6 +121,7 @@ served_over d entries one dialogues o is =
           ∙ ap (λ b. cond (not b) (Some one) None) o);
       others = λ k ne. ap (λ (v : Served). found k v.dialogues) none;
       frames = ap (λ (v : Served). v.frames) none ∙ sym (ap (λ c. answers_of one (requests one.core c)) nothing);
+      returned = ap (λ (v : Served). v.returned) none ∙ sym (ap (λ b. cond (not b && is_over (after_all one entries).core) (serial_of d ∷ []) []) o);
     }
 
 -- of one that goes on an entry, and then the others
@@ -118,11 +140,16 @@ served_next d e es one dialogues o local is rest =
           ∙ (λ i. answer_is one (request_of one.core e) i ++ rest.frames i)
           ∙ sym (map-append (λ request. frame_of request one.local one.peer) (option_to_list (request_of one.core e)) (requests (next one.core e) more))
           ∙ sym (ap (λ c. answers_of one (requests one.core c)) cut_is);
+      returned = ap (λ (v : Served). v.returned ++ (serve_all (jobs_for d es) v.dialogues).returned) front
+          ∙ (λ i. cond (is_over (next one.core e)) (serial_of (local i) ∷ []) [] ++ rest.returned i)
+          ∙ returned_next d (is_over (next one.core e)) (is_over (core_after (next one.core e) more))
+          (λ over. ap (λ c. is_over (core_after (next one.core e) c)) (cut_over (next one.core e) es over) ∙ over)
+          ∙ sym ((λ i. cond (not (o i) && is_over (core_after one.core (cut_is i))) (serial_of d ∷ []) []));
     }
 
 pub all_served : (d : ℕ) (entries : List Entry) (one : Dialogue) (dialogues : List Dialogue) → one.local ≡ d
     → found d dialogues ≡ cond (not (is_over one.core)) (Some one) None → AllServed d entries one dialogues
-all_served d [] one dialogues local is = record { own = is; others = λ k ne. refl; frames = refl }
+all_served d [] one dialogues local is = record { own = is; others = λ k ne. refl; frames = refl; returned = sym (returned_none d (is_over one.core)) }
 all_served d (e ∷ es) one dialogues local is = ⊎_elim
     (λ o. served_over d (e ∷ es) one dialogues o (is ∙ ap (λ b. cond (not b) (Some one) None) o))
     (λ o. served_next d e es one dialogues o local (is ∙ ap (λ b. cond (not b) (Some one) None) o)
@@ -130,15 +157,18 @@ all_served d (e ∷ es) one dialogues local is = ⊎_elim
     (cases_Bool (is_over one.core))
 
 -- some jobs, and then the others
-pub serve_both : (jobs more : List Job) (dialogues : List Dialogue)
-    → serve_all (jobs ++ more) dialogues
-    ≡ (let first = serve_all jobs dialogues in let then = serve_all more first.dialogues in record { dialogues = then.dialogues; frames = first.frames ++ then.frames })
+pub serve_both : (jobs more : List Job) (dialogues : List Dialogue) → serve_all (jobs ++ more) dialogues ≡ both (serve_all jobs dialogues) (serve_all more (serve_all jobs dialogues).dialogues)
 serve_both [] more dialogues = refl
 serve_both (job ∷ jobs) more dialogues =
     let one = serve_one job.local job.entry dialogues in
     let first = serve_all jobs one.dialogues in
-    ap (λ (v : Served). record { dialogues = v.dialogues; frames = one.frames ++ v.frames }) (serve_both jobs more one.dialogues)
-    ∙ (λ i. record { dialogues = (serve_all more first.dialogues).dialogues; frames = sym (append_assoc one.frames first.frames (serve_all more first.dialogues).frames) i })
+    let then = serve_all more first.dialogues in
+    ap (both one) (serve_both jobs more one.dialogues)
+    ∙ (λ i. record {
+      dialogues = then.dialogues;
+      returned = sym (append_assoc one.returned first.returned then.returned) i;
+      frames = sym (append_assoc one.frames first.frames then.frames) i;
+    })
 
 -- HOW OFTEN A NUMBER OR A DIALOGUE IS IN A LIST
 
@@ -146,12 +176,12 @@ serve_both (job ∷ jobs) more dialogues =
 abbrev pub unit : Bool → ℕ
 unit b = cond {A = ℕ} b 1 0
 
--- how often a number is in a list
-abbrev pub count : ℕ → List ℕ → ℕ
-count d xs = count_by (λ (x : ℕ). eqb x d) xs
-
 pub count-cons : (d x : ℕ) (xs : List ℕ) → count d (x ∷ xs) ≡ unit (eqb x d) + count d xs
 count-cons d x xs = sum_by-cons (λ (x : ℕ). cond {A = ℕ} (eqb x d) 1 0) x xs
+
+-- the first of a list is in it
+pub count_own : (x : ℕ) (xs : List ℕ) → count x (x ∷ xs) ≡ 1 + count x xs
+count_own x xs = count-cons x x xs ∙ ap (λ b. unit b + count x xs) (eq-eqb x x refl)
 
 pub times-cons : (d : ℕ) (t : Dialogue) (dialogues : List Dialogue) → times d (t ∷ dialogues) ≡ unit (eqb t.local d) + times d dialogues
 times-cons d t dialogues = sum_by-cons (λ (t : Dialogue). cond {A = ℕ} (eqb t.local d) 1 0) t dialogues

@@ -10,7 +10,7 @@ use Rattle.fp_service.specs.Dialogue.{next_due}
 use Rattle.fp_ask.specs.Solo.{Due, Dialogue, comes_first, due_at, found, placed}
 use Rattle.fp_ask.specs.Tied.{Rows, times}
 use Rattle.fp_ask.proofs.Resting.{not_found}
-use Rattle.fp_ask.proofs.Dialogues.{by_number, count, count-cons, none_if, swapped, times-cons, unit}
+use Rattle.fp_ask.proofs.Dialogues.{by_number, count, count-cons, count_own, none_if, swapped, times-cons, unit}
 
 -- the earlier deadline comes first, and the smaller identifier among equals
 abbrev pub Lt : (ℕ → ℕ) → ℕ → ℕ → Type 0
@@ -46,10 +46,6 @@ above_in key y x (z ∷ zs) a h = ⊎_elim
 none_above : (key : ℕ → ℕ) (x : ℕ) (xs : List ℕ) → Above key x xs → count x xs ≡ 0
 none_above key x [] a = refl
 none_above key x (y ∷ ys) a = omega (arith, count-cons x y ys, ap unit (lt_apart key x y a.0), none_above key x ys a.1)
-
--- the first of a list is in it
-count_own : (x : ℕ) (xs : List ℕ) → count x (x ∷ xs) ≡ 1 + count x xs
-count_own x xs = count-cons x x xs ∙ ap (λ b. unit b + count x xs) (eq-eqb x x refl)
 
 -- two lists that ascend and have the same members are one
 pub same_list : (key : ℕ → ℕ) (xs ys : List ℕ) → Ascends key xs → Ascends key ys → ((d : ℕ) → count d xs ≡ count d ys) → xs ≡ ys

@@ -1,5 +1,6 @@
 mod Arriving
 mod Asking
+mod Clocks
 mod Counting
 mod Dialogues
 mod DueOrder
@@ -10,6 +11,7 @@ mod OneTurn
 mod Posting
 mod Resting
 mod Rows
+mod Serials
 mod Texts
 mod Ticking
 mod Waits

@@ -1,5 +1,5 @@
 -- What is done with a message, by the book and by the list.
-use Rattle.std.proofs.Common.{◌≡◌, ℕ, Bool, true, false, cond, ◌||◌, ◌+◌, ◌≤◌, nat_lt, Option, Some, None, length, refl, sym, ◌∙◌, ap, subst, zero-add, arith}
+use Rattle.std.proofs.Common.{◌≡◌, ℕ, Bool, true, false, cond, ◌||◌, ◌+◌, ◌<◌, ◌≤◌, nat_eq, nat_lt, Option, Some, None, length, refl, sym, ◌∙◌, ap, subst, zero-add, arith}
 use Rattle.std.specs.FinMap as fin
 use Rattle.std.proofs.lemmas.Bool.{false≢true}
 use Rattle.std.proofs.lemmas.Bool.Decides.{nat_tests}
@@ -22,6 +22,7 @@ use Rattle.fp_entry.specs.Entries.{place_count}
 use Rattle.fp_q773.specs.declared.kind.Kind.{Kind}
 use Rattle.fp_q773.specs.declared.provider_abort.AbortCause.{AbortCause}
 use Rattle.fp_q773.specs.Tid.{Tid}
+use Rattle.fp_tids.specs.Identifiers.{first_of}
 use Rattle.fp_ask.specs.Solo.{LinkState, begun, came as came_of, is_read, is_too_much, misread, no_dialogue_left, opened, post, refused, too_many, too_many_entries}
 use Rattle.fp_ask.specs.Tied.{Came, Fit, IsOfFrame, Matches, Rest}
 use Rattle.fp_ask.proofs.Arriving.{done, follows_came, follows_fit}
@@ -36,6 +37,10 @@ by_test a false x y w came e = ap (λ t. cond t (done x w came) (done y w came))
 few_enough : (elements entries : ℕ) → entries ≤ elements + 1 → nat_lt 16 elements ≡ (nat_lt 16 elements || nat_lt 17 entries)
 few_enough elements entries few = grind (arith, nat_tests)
 
+-- one that is read brings an entry
+not_none : (n : ℕ) → 0 < n → nat_eq n 0 ≡ false
+not_none n some = grind (arith, nat_tests)
+
 module _ (s : Shelf) (w : LinkState) (r : Rest s) (m : Matches w s) (arrival : Arrival) (incoming : Incoming) (known : IsAsRead arrival incoming) where
   -- too many elements,
   many_test : too_many incoming ≡ book.too_many incoming
@@ -46,11 +51,14 @@ module _ (s : Shelf) (w : LinkState) (r : Rest s) (m : Matches w s) (arrival : A
   open_test = λ i. many_test i || (dialogue_test s w r m i || nat_lt 64 (sym (zero-add (place_count incoming.entries)) i))
 
   -- a Begin,
-  begun_is : (o : Option Tid) → arrival.ids.orig ≡ o → begun w o arrival.moment incoming ≡ done (book.begin_of s o incoming) w (Message arrival incoming)
-  begun_is None e = refl
-  begun_is (Some peer) e =
-      ap (λ o. cond (too_many incoming || (no_dialogue_left w || too_many_entries incoming)) (refused w (Some AbortCause.ResourceLimitation) None o) (opened w peer arrival.moment incoming.entries)) (sym e)
-      ∙ by_test _ _ (Refuse (Some AbortCause.ResourceLimitation) None) (Open peer) w (Message arrival incoming) open_test
+  begun_is : (o : Option Tid) → arrival.ids.kind ≡ Kind.Begin → arrival.ids.orig ≡ o → begun w o arrival.moment incoming ≡ done (book.begin_of s o incoming) w (Message arrival incoming)
+  begun_is None is e = refl
+  begun_is (Some peer) is e =
+      let refuses : Verdict = Refuse (Some AbortCause.ResourceLimitation) None in
+      ap (λ o. cond (too_many incoming || (no_dialogue_left w || too_many_entries incoming)) (refused w (Some AbortCause.ResourceLimitation) None o) (opened w (first_of 0 w.free) peer arrival.moment incoming.entries)) (sym e)
+      ∙ by_test _ _ refuses (Open peer) w (Message arrival incoming) open_test
+      ∙ ap (λ b. done (cond b Discard (cond (book.too_many incoming || (book.no_dialogue_left s || book.no_place_left None (place_count incoming.entries))) refuses (Open peer))) w (Message arrival incoming))
+      (sym (not_none (length incoming.entries) (known.begins_some is)))
 
   -- no place for more entries,
   more_test : (local : ℕ) → is_too_much w incoming ≡ (book.too_many incoming || (book.no_place_left (fin.get s.rows local) (place_count incoming.entries) || book.is_full s))
@@ -58,7 +66,7 @@ module _ (s : Shelf) (w : LinkState) (r : Rest s) (m : Matches w s) (arrival : A
 
   -- and any message
   message_is : (kind : Kind) (dialogue : Option ℕ) → arrival.ids.kind ≡ kind → came_of w arrival.ids arrival.moment incoming kind dialogue ≡ done (book.message_of s arrival.ids incoming kind dialogue) w (Message arrival incoming)
-  message_is Kind.Begin dialogue is = begun_is arrival.ids.orig refl
+  message_is Kind.Begin dialogue is = begun_is arrival.ids.orig is refl
   message_is Kind.Continue (Some local) is = by_test _ _ (Refuse (Some AbortCause.ResourceLimitation) (Some local)) (Extend local false) w (Message arrival incoming) (more_test local)
   message_is Kind.End (Some local) is = by_test _ _ (Refuse (Some AbortCause.ResourceLimitation) (Some local)) (Extend local true) w (Message arrival incoming) (more_test local)
   message_is Kind.Abort (Some local) is =

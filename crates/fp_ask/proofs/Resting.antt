@@ -1,8 +1,8 @@
 -- A book in which nothing waits.
-use Rattle.std.proofs.Common.{◌≡◌, ℕ, ◌≤◌, ◌+◌, Bool, true, false, cond, eqb, not, ◌&&◌, ◌||◌, nat_eq, nat_le, nat_lt, ◌^◌, Option, Some, None, is_some, List, [], ◌∷◌, ◌++◌, length, drop, refl, sym, ◌∙◌, ap, arith, append-nil, zero-add}
+use Rattle.std.proofs.Common.{◌≡◌, ℕ, ◌≤◌, ◌+◌, Bool, true, false, cond, eqb, not, ◌&&◌, ◌||◌, nat_le, nat_lt, ◌^◌, Option, Some, None, is_some, List, [], ◌∷◌, ◌++◌, length, drop, refl, sym, ◌∙◌, ap, arith, append-nil, zero-add}
 use Rattle.std.specs.FinMap as fin
 use Rattle.std.specs.Option.{option_and_then, option_map_or}
-use Rattle.std.proofs.lemmas.Bool.{cond_both, eq-eqb}
+use Rattle.std.proofs.lemmas.Bool.{cond_both, eq-eqb, false≢true}
 use Rattle.std.proofs.lemmas.Bool.Decides.{nat_tests}
 use Rattle.std.proofs.lemmas.List.{length-take-le}
 use Rattle.fp_book.specs.Shelf.{Shelf, Sound, of_row, ready_count, unsent_for}
@@ -18,18 +18,18 @@ use Rattle.fp_row.specs.declared.row.Row.{Row}
 use Rattle.fp_row.specs.Row.{frames_of, is_admitted, is_closed, is_ready, kept_of, places_taken, sent_of, unserved, waiting_of, waits, has_turn_out}
 use Rattle.fp_row.proofs.Keeping.{queued_within, sent_within}
 use Rattle.fp_service.specs.Dialogue.{is_over}
-use Rattle.fp_tids.specs.Identifiers.{identifier}
+use Rattle.fp_tids.specs.Identifiers.{identifier, is_free}
 use Rattle.fp_ask.specs.Solo.{Dialogue, LinkState, found, going, is_full, named, no_dialogue_left}
-use Rattle.fp_ask.specs.Tied.{Matches, Rest, Rows, Same, is_out, live, dialogue_of, times}
+use Rattle.fp_ask.specs.Tied.{Matches, Rest, Rows, Same, is_leaving, is_out, live, dialogue_of, times}
 use Rattle.fp_ask.proofs.Rows.{none_waits}
 use Rattle.fp_ask.proofs.Dialogues.{by_number, count, none_if, swapped, times-cons, unit}
 
 -- of a dialogue that is not ready, and of which no turn is out, nothing waits
-waits_by : (out waits : Bool) → out ≡ false → (not out && waits) ≡ false → waits ≡ false
+pub waits_by : (out waits : Bool) → out ≡ false → (not out && waits) ≡ false → waits ≡ false
 waits_by out waits o h = grind (arith, nat_tests)
 
 -- as many frames were sent as are counted, and kept as are counted
-all_sent : (row : Row) → sent_of row ≡ kept_of row → row.sent ≡ row.kept
+pub all_sent : (row : Row) → sent_of row ≡ kept_of row → row.sent ≡ row.kept
 all_sent row same =
     let n = length (frames_of row) in
     let kept : row.kept ≤ n = omega (arith, row.kept_within, queued_within row) in
@@ -40,7 +40,7 @@ held_by : (a o w k : Bool) → (a || (o || (w || k))) ≡ true → o ≡ false �
 held_by a o w k h x y z = grind (arith, nat_tests)
 
 -- equal numbers are not less
-not_less : (m n : ℕ) → m ≡ n → nat_lt m n ≡ false
+pub not_less : (m n : ℕ) → m ≡ n → nat_lt m n ≡ false
 not_less m n e = grind (arith, nat_tests)
 
 -- what is known of a dialogue then
@@ -75,6 +75,14 @@ quiet s r d row was =
       admitted = admitted;
       unserved = unserved_by row.ended (is_over row.core) row.out (unserved row) admitted (turns_none row out) none;
     }
+
+-- none has left the list and is held
+leaving_none : (o : Option Row) → ((row : Row) → o ≡ Some row → is_admitted row ≡ true) → is_leaving o ≡ false
+leaving_none None h = refl
+leaving_none (Some row) h = ap not (h row refl)
+
+pub not_leaving : (s : Shelf) → Rest s → (d : ℕ) → is_leaving (fin.get s.rows d) ≡ false
+not_leaving s r d = leaving_none (fin.get s.rows d) (λ row was. (quiet s r d row was).admitted)
 
 -- THE TESTS OF A BOOK ARE THOSE OF THE LIST
 
@@ -145,8 +153,7 @@ full_test s w m = ap (λ n. nat_le (2 ^ 63) n) m.entries
 
 -- no further dialogue
 pub dialogue_test : (s : Shelf) (w : LinkState) → Rest s → Matches w s → no_dialogue_left w ≡ book.no_dialogue_left s
-dialogue_test s w r m =
-    λ i. nat_le 4096 (size_is s w r m i) || (nat_eq ((m.births ∙ r.served.fit.sound.births) i + 1) (2 ^ 29) || full_test s w m i)
+dialogue_test s w r m = λ i. nat_le 4096 (size_is s w r m i) || full_test s w m i
 
 some_by : (b : Bool) (t : Dialogue) → is_some (cond b (Some t) None) ≡ b
 some_by b t = grind arith
@@ -166,12 +173,14 @@ named_by s w m (Some d) = going_test s w m d
 pub named_test : (s : Shelf) (w : LinkState) → Matches w s → (ids : Ids) → named w ids ≡ book.named s ids
 named_test s w m ids = named_by s w m (option_and_then (λ tid. book.number_of (octets_of tid)) ids.dest)
 
--- no dialogue has the identifier of the next one
-next_free : (s : Shelf) (o : Option Row) → Sound s → fin.get s.rows (identifier s.link (s.given + 1)) ≡ o → o ≡ None
-next_free s None k was = refl
-next_free s (Some row) k was =
-    let own = (k.own (identifier s.link (s.given + 1)) row was).serial in
-    absurd (omega (arith, own.2, own.3))
+-- no dialogue has the identifier of the next serial
+fresh_by : (s : Shelf) (serial : ℕ) (rest : List ℕ) (o : Option Row) → Sound s → s.free ≡ serial ∷ rest → fin.get s.rows (identifier s.link serial) ≡ o → o ≡ None
+fresh_by s serial rest None sound first was = refl
+fresh_by s serial rest (Some row) sound first was =
+    let own = (sound.own (identifier s.link serial) row was).serial in
+    let names : identifier s.link serial ≡ identifier s.link own.0 = own.3 in
+    let same : own.0 ≡ serial = omega (arith, names) in
+    absurd (false≢true (sym own.4 ∙ ap (is_free own.0) first ∙ ap (λ b. b || is_free own.0 rest) (eq-eqb own.0 serial same)))
 
-pub next_is_free : (s : Shelf) → Sound s → fin.get s.rows (identifier s.link (s.given + 1)) ≡ None
-next_is_free s k = next_free s (fin.get s.rows (identifier s.link (s.given + 1))) k refl
+pub is_fresh : (s : Shelf) (serial : ℕ) (rest : List ℕ) → Sound s → s.free ≡ serial ∷ rest → fin.get s.rows (identifier s.link serial) ≡ None
+is_fresh s serial rest sound first = fresh_by s serial rest (fin.get s.rows (identifier s.link serial)) sound first refl

@@ -1,5 +1,5 @@
 -- A moment comes to a book in which nothing waits.
-use Rattle.std.proofs.Common.{◌≡◌, ℕ, suc, ◌<◌, ◌≤◌, ◌+◌, Bool, true, false, cond, eqb, not, ◌&&◌, nat_le, nat_lt, Option, Some, None, List, [], ◌∷◌, ◌++◌, length, map, count_by, refl, sym, ◌∙◌, ap, subst, arith, ⊎_elim, inr}
+use Rattle.std.proofs.Common.{◌≡◌, ℕ, suc, ◌<◌, ◌≤◌, ◌+◌, Bool, true, false, cond, eqb, not, ◌&&◌, nat_le, nat_lt, Option, Some, None, is_some, List, [], ◌∷◌, ◌++◌, length, map, count_by, refl, sym, ◌∙◌, ap, subst, arith, add-zero, append-nil, ⊎_elim, inr}
 use Rattle.std.specs.Prelude.{AllPairs}
 use Rattle.std.specs.FinMap as fin
 use Rattle.std.specs.List.{AllByRecursion, filter, list_any}
@@ -19,12 +19,13 @@ use Rattle.fp_entry.specs.declared.entry.EntryKind.{EntryKind}
 use Rattle.fp_entry.specs.Entries.{entry_at, is_clock}
 use Rattle.fp_row.specs.declared.row.Row.{Row}
 use Rattle.fp_row.specs.Row.{deadline_of, has_clock, is_due}
-use Rattle.fp_service.specs.Dialogue.{next_due}
-use Rattle.fp_ask.specs.Solo.{Due, Job, Dialogue, LinkState, clocks, due_at, found, is_full, jobs_for, serve_all, tick}
-use Rattle.fp_ask.specs.Tied.{Came, Fit, Matches, Midway, Rest, Singles, dialogue_of, frames_in, is_out, jobs_in, jobs_of, live, waiting_at}
+use Rattle.fp_service.specs.Dialogue.{is_over, next_due}
+use Rattle.fp_tids.specs.Identifiers.{serial_of}
+use Rattle.fp_ask.specs.Solo.{Due, Job, accepted, Dialogue, LinkState, clocks, due_at, found, is_full, jobs_for, serve_all, tick}
+use Rattle.fp_ask.specs.Tied.{Came, Concerned, Concerns, Fit, Matches, Midway, Rest, Singles, all_free, dialogue_of, frames_in, is_leaving, is_out, jobs_in, jobs_of, live, senders, waiting_at}
 use Rattle.fp_ask.proofs.Counting.{sum_zero_at}
 use Rattle.fp_ask.proofs.DueOrder.{Above, Ascends, Each, InOrder, all_are, in_order, keyed, locals, same_list}
-use Rattle.fp_ask.proofs.Resting.{Quiet, full_test, quiet, stands_nowhere}
+use Rattle.fp_ask.proofs.Resting.{Quiet, full_test, not_leaving, quiet, stands_nowhere}
 use Rattle.fp_ask.proofs.Rows.{live_stays}
 use Rattle.fp_ask.proofs.Dialogues.{count, count-cons, once_served, unit, unit_most}
 
@@ -42,16 +43,18 @@ quiet_deadline row q =
 record AtTick (moment : ℕ) (b : Bool) (o left : Option Row) : Type 0 where
   pub out : is_out left ≡ false
   pub lives : live left ≡ live o
+  pub stays : is_leaving left ≡ is_leaving o
   pub waits : b ≡ true → waiting_at left ≡ clock moment ∷ []
 
 -- one that is due gets a Clock, and any other is unchanged
 at_tick : (moment : ℕ) (b : Bool) (o left : Option Row) → is_out o ≡ false → ((row : Row) → o ≡ Some row → Quiet row) → ClocksAt b moment o left → AtTick moment b o left
-at_tick moment false o left idle q g = record { out = ap is_out g ∙ idle; lives = ap live g; waits = λ e. absurd (false≢true e) }
+at_tick moment false o left idle q g = record { out = ap is_out g ∙ idle; lives = ap live g; stays = ap is_leaving g; waits = λ e. absurd (false≢true e) }
 at_tick moment true (Some before) (Some after) idle q g =
     let own = q before refl in
     record {
       out = ap (nat_lt 0) g.out ∙ idle;
       lives = live_stays before after g.same g.ended g.stay.core;
+      stays = λ i. not (not (is_some (g.ended i)) && not (is_over (g.stay.core i)));
       waits = λ e. g.waiting own.admitted ∙ ap (λ w. w ++ clock moment ∷ []) own.waiting;
     }
 at_tick moment true o None idle q g = absurd g
@@ -67,6 +70,11 @@ none_any k (d ∷ dues) e =
 -- a Clock for each of these
 abbrev clock_jobs : ℕ → List ℕ → List Job
 clock_jobs moment xs = map (λ (x : ℕ). record { local = x; entry = clock moment }) xs
+
+-- a test holds of one dialogue at most
+unit_amount : (test : Row → Bool) (o : Option Row) → amount (λ (row : Row). unit (test row)) o ≤ 1
+unit_amount test None = omega arith
+unit_amount test (Some row) = unit_most (test row)
 
 -- as the list gives them
 jobs_of_dues : (moment : ℕ) (dues : List Due) → clock_jobs moment (locals dues) ≡ clocks moment dues
@@ -167,17 +175,38 @@ module _ {s new : Shelf} {moment added wanting : ℕ} (r : Rest s) (t : Ticks s 
     room = omega (arith, ap (λ (o : Outbox). length o.frames) outbox_is, ap length jobs_are, length-map {B = Job} dues (λ (x : ℕ). record { local = x; entry = clock moment }), few);
   }
 
+  -- each that is ready has its Clock, and no frame waits
+  concerns : Concerns Concerned.due new
+  concerns = (
+    λ k ready. (
+      (at k).stays ∙ not_leaving s r k,
+      (
+        moment,
+        (at k).waits (⊎_elim (λ e. e) (λ no. absurd (omega (arith, ready, ap (count k) ready_is, none_any k t.due no))) (cases_Bool (list_any (λ (d : book.Due). eqb d.1 k) t.due))),
+      ),
+    ),
+    λ k. omega (arith, ap (λ o. count k (senders o)) outbox_is, ap (count k) ready_is, counts k, unit_amount (book.due_at s moment) (fin.get s.rows k)),
+  )
+
+  free_is : all_free Concerned.due new ≡ s.free
+  free_is =
+      (λ i. (t.new_is i).free ++ map serial_of (filter (λ k. is_leaving (fin.get new.rows k)) (senders (outbox_is i))))
+      ∙ append-nil s.free
+
   entries_are : new.entries ≡ s.entries + length dues
   entries_are = ap (λ (x : Shelf). x.entries) t.new_is ∙ ap (λ n. s.entries + n) (t.added_is ∙ sym (length-map t.due (λ (d : book.Due). d.1)))
 
   module _ (w : LinkState) (m : Matches w s) where
     -- the dialogues that were due, each with a Clock
-    midway_of : (jobs : List Job) → jobs_of new ≡ jobs → Midway new (serve_all jobs w.dialogues)
-    midway_of jobs e = record {
+    midway_of : (jobs : List Job) (entries : ℕ) → jobs_of new ≡ jobs → Midway new (accepted w entries (serve_all jobs w.dialogues))
+    midway_of jobs entries e = record {
       dialogues = w.dialogues;
       same = λ k. m.same k ∙ sym (at k).lives;
       dialogues_end = ap (λ j. (serve_all j w.dialogues).dialogues) e;
       frames_end = λ i. frames_in (outbox_is i) ++ (serve_all (e i) w.dialogues).frames;
+      who = Concerned.due;
+      concerns = concerns;
+      free_end = λ i. (free_is ∙ sym m.free) i ++ (serve_all (e i) w.dialogues).returned;
     }
 
     -- the list has a dialogue as the book has it
@@ -211,7 +240,8 @@ module _ {s new : Shelf} {moment added wanting : ℕ} (r : Rest s) (t : Ticks s 
         let full = sym (full_test s w m) ∙ e in
         let none : dues ≡ [] = nil_from_length dues (as_many ∙ sum_zero_at weight s.rows (λ k row was. ap (λ b. unit (not b && is_due row moment)) full)) in
         record {
-          midway = midway_of [] (jobs_are ∙ ap (clock_jobs moment) none);
+          midway = subst (λ f. Midway new (record { link = record w { free = f }; frames = [] })) (append-nil w.free)
+              (subst (λ n. Midway new (record { link = record w { entries = n; free = w.free ++ [] }; frames = [] })) (add-zero w.entries) (midway_of [] 0 (jobs_are ∙ ap (clock_jobs moment) none)));
           births = m.births ∙ sym (ap (λ (x : Shelf). x.births) t.new_is);
           entries = omega (arith, m.entries, entries_are, ap length none);
           once = m.once;
@@ -221,7 +251,7 @@ module _ {s new : Shelf} {moment added wanting : ℕ} (r : Rest s) (t : Ticks s 
         let same : locals due ≡ dues =
         same_list key (locals due) dues order.ascends ascends (λ k. count_is (sym (full_test s w m) ∙ e) k (fin.get s.rows k) refl ∙ sym (counts k)) in
         record {
-          midway = midway_of (clocks moment due) (jobs_are ∙ ap (clock_jobs moment) (sym same) ∙ jobs_of_dues moment due);
+          midway = midway_of (clocks moment due) (length due) (jobs_are ∙ ap (clock_jobs moment) (sym same) ∙ jobs_of_dues moment due);
           births = m.births ∙ sym (ap (λ (x : Shelf). x.births) t.new_is);
           entries = omega (arith, m.entries, entries_are, ap length same, length-map due (λ (d : Due). d.local));
           once = once_served (clocks moment due) w.dialogues m.once;

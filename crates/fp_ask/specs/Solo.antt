@@ -1,6 +1,6 @@
--- What is sent for messages and for moments, one after another, over a plain list of dialogues. What one of them brings
--- is served and answered before the next one comes.
-use Rattle.std.specs.Prelude.{ℕ, Bool, true, false, not, ◌+◌, ◌^◌, ◌==◌, ◌&&◌, ◌||◌, List, [], ◌∷◌, ◌++◌, Option, Some, None, is_some, length, map, nat_eq, nat_le, nat_lt, if◌then◌else◌}
+-- What is sent for messages and for moments, one after another, over a plain list of dialogues and the queue of serials
+-- that may be given to the next ones. What one of them brings is served and answered before the next one comes.
+use Rattle.std.specs.Prelude.{ℕ, Bool, true, false, not, ◌+◌, ◌^◌, ◌==◌, ◌&&◌, ◌||◌, List, [], ◌∷◌, ◌++◌, Option, Some, None, is_some, drop, length, map, nat_le, nat_lt, if◌then◌else◌}
 use Rattle.std.specs.List.{filter, find}
 use Rattle.std.specs.Option.{option_and_then}
 use Rattle.fp_ber.specs.Canon.{canon}
@@ -24,7 +24,7 @@ use Rattle.fp_service.specs.declared.dialogue.Core.{Core}
 use Rattle.fp_service.specs.declared.request.Request.{Request}
 use Rattle.fp_service.specs.Dialogue.{fresh, is_over, next_due}
 use Rattle.fp_service.specs.Serve.{next, request_of}
-use Rattle.fp_tids.specs.Identifiers.{identifier}
+use Rattle.fp_tids.specs.Identifiers.{all_serials, first_of, serial_of}
 
 -- DIALOGUES
 
@@ -36,15 +36,17 @@ pub record Dialogue : Type 0 where
   pub peer : List ℕ
   pub core : Core
 
--- how many dialogues were opened, how many entries were accepted, and the dialogues that go on
+-- how many dialogues were opened, how many entries were accepted, the serials that may be given to dialogues, the next
+-- one first, and the dialogues that go on
 pub record LinkState : Type 0 where
   pub births : ℕ
   pub entries : ℕ
+  pub free : List ℕ
   pub dialogues : List Dialogue
 
 -- no dialogue was opened yet
 abbrev pub at_first : LinkState
-at_first = record { births = 0; entries = 0; dialogues = [] }
+at_first = record { births = 0; entries = 0; free = all_serials; dialogues = [] }
 
 -- the dialogue that this end knows by an identifier
 abbrev pub found : ℕ → List Dialogue → Option Dialogue
@@ -56,9 +58,11 @@ without local dialogues = filter (λ (dialogue : Dialogue). not (dialogue.local 
 
 -- SERVING
 
--- the dialogues that go on then, and the frames that are sent, each with its head
+-- the dialogues that go on then; the serials of those that left the list, in the order in which they left; and the
+-- frames that are sent, each with its head
 pub record Served : Type 0 where
   pub dialogues : List Dialogue
+  pub returned : List ℕ
   pub frames : List (List ℕ)
 
 -- the frame of a request, under the identifiers of its dialogue
@@ -74,11 +78,16 @@ after dialogue entry = record dialogue { core = next dialogue.core entry }
 abbrev pub going_on : Dialogue → List Dialogue
 going_on dialogue = if is_over dialogue.core then [] else dialogue ∷ []
 
+-- its serial comes back then
+abbrev pub returned_by : Dialogue → List ℕ
+returned_by dialogue = if is_over dialogue.core then serial_of dialogue.local ∷ [] else []
+
 -- one entry goes through the service step; nothing comes of an entry of a dialogue that doesn't go on
 abbrev pub serve_at : ℕ → Entry → List Dialogue → Option Dialogue → Served
-serve_at local entry dialogues None = record { dialogues = dialogues; frames = [] }
+serve_at local entry dialogues None = record { dialogues = dialogues; returned = []; frames = [] }
 serve_at local entry dialogues (Some dialogue) = record {
   dialogues = going_on (after dialogue entry) ++ without local dialogues;
+  returned = returned_by (after dialogue entry);
   frames = answer_of dialogue (request_of dialogue.core entry);
 }
 
@@ -92,9 +101,11 @@ pub record Job : Type 0 where
 
 -- one entry after another
 abbrev pub serve_all : List Job → List Dialogue → Served
-serve_all [] dialogues = record { dialogues = dialogues; frames = [] }
+serve_all [] dialogues = record { dialogues = dialogues; returned = []; frames = [] }
 serve_all (job ∷ jobs) dialogues = record {
   dialogues = (serve_all jobs (serve_one job.local job.entry dialogues).dialogues).dialogues;
+  returned = (serve_one job.local job.entry dialogues).returned
+      ++ (serve_all jobs (serve_one job.local job.entry dialogues).dialogues).returned;
   frames = (serve_one job.local job.entry dialogues).frames ++ (serve_all jobs (serve_one job.local job.entry dialogues).dialogues).frames;
 }
 
@@ -119,50 +130,64 @@ aborts None sender = []
 aborts (Some cause) None = []
 aborts (Some cause) (Some sender) = framed (canon (provider_abort (octets_of sender) (cause_code cause))) ∷ []
 
--- a dialogue leaves the list
-abbrev pub left_by : Option ℕ → List Dialogue → List Dialogue
-left_by None dialogues = dialogues
-left_by (Some local) dialogues = without local dialogues
+-- a dialogue leaves the list, and its serial comes after all others that may be given
+abbrev pub left : ℕ → LinkState → LinkState
+left local w = record w {
+  free = w.free ++ serial_of local ∷ [];
+  dialogues = without local w.dialogues;
+}
+
+-- the dialogue that is closed, if one is, leaves the list
+abbrev pub left_by : Option ℕ → LinkState → LinkState
+left_by None w = w
+left_by (Some local) w = left local w
 
 -- the message is refused: the dialogue that is closed for it leaves the list
 abbrev pub refused : LinkState → Option AbortCause → Option ℕ → Option Tid → Outcome
-refused w cause closes sender = record {
-  link = record w { dialogues = left_by closes w.dialogues };
-  frames = aborts cause sender;
-}
+refused w cause closes sender = record { link = left_by closes w; frames = aborts cause sender }
 
 -- this many entries more were accepted, and these were served
-abbrev pub accepted : LinkState → ℕ → ℕ → Served → Outcome
-accepted w births entries served = record {
-  link = record { births = births; entries = w.entries + entries; dialogues = served.dialogues };
+abbrev pub accepted : LinkState → ℕ → Served → Outcome
+accepted w entries served = record {
+  link = record w {
+    entries = w.entries + entries;
+    free = w.free ++ served.returned;
+    dialogues = served.dialogues;
+  };
   frames = served.frames;
 }
 
--- the identifier of the next dialogue
-abbrev pub next_local : LinkState → ℕ
-next_local w = identifier 0 (w.births + 1)
-
--- the next dialogue, as its Begin finds it
-abbrev pub newborn : LinkState → Tid → ℕ → Dialogue
-newborn w sender moment = record {
+-- the next dialogue, with this identifier, as its Begin finds it
+abbrev pub newborn : LinkState → ℕ → Tid → ℕ → Dialogue
+newborn w local sender moment = record {
   birth = w.births + 1;
-  local = next_local w;
+  local = local;
   peer = octets_of sender;
   core = fresh (w.births + 1) moment;
 }
 
--- a dialogue is opened
-abbrev pub opened : LinkState → Tid → ℕ → List Entry → Outcome
-opened w sender moment entries =
-    accepted w (w.births + 1) (length entries) (serve_all (jobs_for (next_local w) entries) (newborn w sender moment ∷ w.dialogues))
+-- it was given the next serial
+abbrev pub opening : LinkState → LinkState
+opening w = record w { births = w.births + 1; free = drop 1 w.free }
+
+-- A dialogue is opened with this identifier. One is always left: each of the 131,072 serials may be given or is that of
+-- one of the dialogues that go on, at most 4,096. Without one nothing would come of the message.
+abbrev pub opened : LinkState → Option ℕ → Tid → ℕ → List Entry → Outcome
+opened w None sender moment entries = discarded w
+opened w (Some local) sender moment entries =
+    accepted (opening w) (length entries)
+    (serve_all (jobs_for local entries) (newborn w local sender moment ∷ w.dialogues))
 
 -- a dialogue goes on
 abbrev pub continued : LinkState → ℕ → List Entry → Outcome
-continued w local entries = accepted w w.births (length entries) (serve_all (jobs_for local entries) w.dialogues)
+continued w local entries = accepted w (length entries) (serve_all (jobs_for local entries) w.dialogues)
 
 -- a dialogue is ended by its peer: it leaves the list, and nothing is sent
 abbrev pub ended : LinkState → ℕ → List Entry → Outcome
-ended w local entries = accepted w w.births (length entries) (record { dialogues = without local w.dialogues; frames = [] })
+ended w local entries = record {
+  link = record (left local w) { entries = w.entries + length entries };
+  frames = [];
+}
 
 -- WHICH MESSAGES ARE REFUSED
 
@@ -178,9 +203,9 @@ named w ids = option_and_then (going w) (option_and_then (λ tid. number_of (oct
 abbrev pub is_full : LinkState → Bool
 is_full w = nat_le (2 ^ 63) w.entries
 
--- 4,096 dialogues go on, or no serial is left, or no entry may be accepted
+-- 4,096 dialogues go on, or no entry may be accepted
 abbrev pub no_dialogue_left : LinkState → Bool
-no_dialogue_left w = nat_le 4096 (length w.dialogues) || (nat_eq (w.births + 1) (2 ^ 29) || is_full w)
+no_dialogue_left w = nat_le 4096 (length w.dialogues) || is_full w
 
 -- more than 64 entries that take a place
 abbrev pub too_many_entries : Incoming → Bool
@@ -196,7 +221,7 @@ begun w None moment incoming = discarded w
 begun w (Some sender) moment incoming =
     if too_many incoming || (no_dialogue_left w || too_many_entries incoming)
     then refused w (Some cause.ResourceLimitation) None (Some sender)
-    else opened w sender moment incoming.entries
+    else opened w (first_of 0 w.free) sender moment incoming.entries
 
 -- a Continue or an End of a dialogue that goes on is refused
 abbrev pub is_too_much : LinkState → Incoming → Bool
@@ -272,4 +297,5 @@ clocks moment dues = map (λ (due : Due). record { local = due.local; entry = en
 abbrev pub tick : LinkState → ℕ → Outcome
 tick w moment =
     if is_full w then discarded w
-    else accepted w w.births (length (due_at moment w.dialogues)) (serve_all (clocks moment (due_at moment w.dialogues)) w.dialogues)
+    else accepted w (length (due_at moment w.dialogues))
+    (serve_all (clocks moment (due_at moment w.dialogues)) w.dialogues)

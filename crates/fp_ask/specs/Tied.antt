@@ -1,20 +1,23 @@
 -- How the plain list of dialogues describes a book.
-use Rattle.std.specs.Prelude.{◌≡◌, ◌<◌, ◌≤◌, ◌+◌, ◌==◌, ℕ, Bool, false, List, [], ◌∷◌, ◌++◌, Option, Some, None, count_by, length, map, if◌then◌else◌, ◌⊎◌}
-use Rattle.std.specs.List.{flat_map}
+use Rattle.std.specs.Prelude.{◌≡◌, ◌<◌, ◌≤◌, ◌+◌, ◌==◌, ℕ, Bool, false, not, List, [], ◌∷◌, ◌++◌, Option, Some, None, count_by, length, map, if◌then◌else◌, ◌⊎◌}
+use Rattle.std.specs.List.{filter, flat_map}
 use Rattle.std.specs.Ordering.{nat_cmp}
 use Rattle.std.specs.FinMap.{FinMap, get}
 use Rattle.fp_book.specs.declared.parcel.Waiting.{Waiting}
 use Rattle.fp_book.specs.Outbox.{Outbox, nothing}
 use Rattle.fp_book.specs.Shelf.{Shelf, Sound}
 use Rattle.fp_entry.specs.declared.entry.Entry.{Entry}
+use Rattle.fp_entry.specs.declared.entry.EntryKind.TheVariants.{Clock}
 use Rattle.fp_entry.specs.declared.prepared.Prepared.{Prepared}
+use Rattle.fp_entry.specs.Entries.{entry_at}
 use Rattle.fp_entry.specs.Prepared.{IsPrepared}
 use Rattle.fp_q773.specs.Tid.{octets_of}
 use Rattle.fp_records.specs.Table.{Contents}
 use Rattle.fp_reply.specs.ProviderAbort.{frame_octets}
 use Rattle.fp_row.specs.declared.row.Row.{Row}
 use Rattle.fp_row.specs.Row.{is_admitted, waiting_of, has_turn_out}
-use Rattle.fp_ask.specs.Solo.{Job, Outcome, Served, Dialogue, LinkState, found, jobs_for, serve_all}
+use Rattle.fp_tids.specs.Identifiers.{serial_of}
+use Rattle.fp_ask.specs.Solo.{Job, Outcome, Dialogue, LinkState, found, jobs_for, serve_all}
 
 abbrev pub Rows : Type 0
 Rows = FinMap nat_cmp Row
@@ -87,20 +90,70 @@ times local dialogues = count_by (λ (dialogue : Dialogue). dialogue.local == lo
 pub record Matches (w : LinkState) (s : Shelf) : Type 0 where
   pub births : w.births ≡ s.births
   pub entries : w.entries ≡ s.entries
+  pub free : w.free ≡ s.free
   pub same : Same w.dialogues s.rows
   pub once : (local : ℕ) → times local w.dialogues ≤ 1
 
--- to serve what waits ends with this list, after these frames
-pub record Midway (s : Shelf) (served : Served) : Type 0 where
+-- THE SERIALS OF DIALOGUES THAT LEFT THE LIST
+
+-- how often a number is among these
+abbrev pub count : ℕ → List ℕ → ℕ
+count local locals = count_by (λ (other : ℕ). other == local) locals
+
+-- a dialogue is held that isn't in the list: something of it is left
+abbrev pub is_leaving : Option Row → Bool
+is_leaving None = false
+is_leaving (Some row) = not (is_admitted row)
+
+-- whom it concerns that a message or a moment came: one dialogue alone, or those that were due
+pub data Concerned : Type 0 where
+  one : ℕ → Concerned
+  due : Concerned
+
+-- the dialogues whose frames wait, by frame
+abbrev pub senders : Outbox → List ℕ
+senders outbox = map (λ (w : Waiting). w.local) outbox.frames
+
+-- those that left the list and are held, in the order in which their serials come back: if several do, then as their
+-- frames are sent
+abbrev pub leaving : Concerned → Shelf → List ℕ
+leaving (one local) s = if is_leaving (get s.rows local) then local ∷ [] else []
+leaving due s = filter (λ local. is_leaving (get s.rows local)) (senders s.outbox)
+
+-- the serials that will have come back once nothing of those is left
+abbrev pub all_free : Concerned → Shelf → List ℕ
+all_free who s = s.free ++ map serial_of (leaving who s)
+
+-- one Clock waits of a dialogue that is in the list
+abbrev pub HasClock : Option Row → Type 0
+HasClock o = (is_leaving o ≡ false) × ((moment : ℕ) × (waiting_at o ≡ entry_at moment Clock ∷ []))
+
+-- what holds while what came is served and sent
+abbrev pub Concerns : Concerned → Shelf → Type 0
+-- of a message: no dialogue but this one is ready, or has left the list
+Concerns (one local) s =
+    (other : ℕ) → (other == local) ≡ false
+    → (count other s.ready ≡ 0) × (is_leaving (get s.rows other) ≡ false)
+-- of a moment: each dialogue that is ready has one Clock, and none has two frames, or one while it is ready
+Concerns due s =
+    ((local : ℕ) → 0 < count local s.ready → HasClock (get s.rows local))
+    × ((local : ℕ) → count local (senders s.outbox) + count local s.ready ≤ 1)
+
+-- to serve what waits ends with this list, after these frames, and these serials may be given once nothing is left of
+-- those that left the list
+pub record Midway (s : Shelf) (p : Outcome) : Type 0 where
   pub dialogues : List Dialogue
   pub same : Same dialogues s.rows
-  pub dialogues_end : (serve_all (jobs_of s) dialogues).dialogues ≡ served.dialogues
-  pub frames_end : frames_in s.outbox ++ (serve_all (jobs_of s) dialogues).frames ≡ served.frames
+  pub dialogues_end : (serve_all (jobs_of s) dialogues).dialogues ≡ p.link.dialogues
+  pub frames_end : frames_in s.outbox ++ (serve_all (jobs_of s) dialogues).frames ≡ p.frames
+  pub who : Concerned
+  pub concerns : Concerns who s
+  pub free_end : all_free who s ++ (serve_all (jobs_of s) dialogues).returned ≡ p.link.free
 
 -- a message or a moment came to a book: once what waits is served and sent, the plain list is this one, after these
 -- frames
 pub record Came (p : Outcome) (new : Shelf) : Type 0 where
-  pub midway : Midway new (record { dialogues = p.link.dialogues; frames = p.frames })
+  pub midway : Midway new p
   pub births : p.link.births ≡ new.births
   pub entries : p.link.entries ≡ new.entries
   pub once : (local : ℕ) → times local p.link.dialogues ≤ 1
@@ -112,7 +165,7 @@ pub record SameCounts (old new : Shelf) : Type 0 where
 
 -- whatever the end was, it still is
 abbrev pub KeepsEnd : Shelf → Shelf → Type 0
-KeepsEnd old new = (served : Served) → Midway old served → Midway new served
+KeepsEnd old new = (p : Outcome) → Midway old p → Midway new p
 
 -- a book went on as the plain list does, and these frames were sent
 pub record GoesOn (p : Outcome) (new : Shelf) (frames : List (List ℕ)) : Type 0 where
@@ -144,7 +197,13 @@ pub record IsOfFrame (came : Prepared) : Type 0 where
   pub moment : ℕ
   pub prepared : IsPrepared contents contexts octets moment came
 
--- the dialogues are unchanged, except for what was sent
+-- the serials that will have come back are the same
+abbrev pub KeepsFree : Shelf → Shelf → Type 0
+KeepsFree old new =
+    (who : Concerned) → Concerns who old → Concerns who new × (all_free who new ≡ all_free who old)
+
+-- the dialogues are unchanged, except for what was sent, and so are the serials that will have come back
 pub record KeepsDialogues (old new : Shelf) : Type 0 where
   pub lives : (local : ℕ) → live (get new.rows local) ≡ live (get old.rows local)
   pub counts : SameCounts old new
+  pub free : KeepsFree old new

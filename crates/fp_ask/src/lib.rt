@@ -12,11 +12,12 @@
 //! book says so. The log of the book is emptied after each call, and nobody reads it.
 //!
 //! The layer above may rely on this: what is sent is what `post` and `tick` of `specs/Solo.antt` say, a definition over
-//! a plain list of dialogues that knows no queue, no turn and no position; one line is answered by what
-//! `specs/Answering.antt` says; and what [`ask`] writes is what `specs/Lines.antt` has for the lines of its input, one
-//! after another. Which reads were made is known one by one (`specs/Asked.antt`). A session's clauses hold for every
-//! list that describes it before (`specs/Tied.antt`), and say that the list goes on to describe it after; at the
-//! beginning the empty one does. After an error no clause speaks of a session.
+//! a plain list of dialogues and the serials that may be given to the next ones, which knows no entry that waits, no
+//! turn and no position; one line is answered by what `specs/Answering.antt` says; and what [`ask`] writes is what
+//! `specs/Lines.antt` has for the lines of its input, one after another. Which reads were made is known one by one
+//! (`specs/Asked.antt`). A session's clauses hold for every list that describes it before (`specs/Tied.antt`), and say
+//! that the list goes on to describe it after; at the beginning the empty one does. After an error no clause speaks of
+//! a session.
 #![tactic(auto)]
 
 mod answerer;

@@ -1,7 +1,8 @@
 -- One dialogue of a link changes, comes or goes: what its book keeps then.
-use Rattle.fp_book.proofs.Names.{Bool, Closed, IsOwn, IsSame, List, None, Option, Outbox, Row, Shelf, Some, Sound, Totals, [], accepted_by, add-zero, and_right, ap, arith, cases_Bool, cond, cond_both, count_by, eqb, eqb-true, false, frames_for, frames_held, frames_of, gone_with, has_turn_out, identifier, is_admitted, is_held, is_ready, is_some, keep, kept_of, le_refl, length, length-append, ltb-false, nat_lt, nat_tests, not, of_row, one_if, or_parts, places_held, ready_count, refl, sent_by, sent_of, served_by, subst, sum_of, sym, take, true, turns_of, unsent_for, waits, with_row, ℕ, ⊎_elim, ◌++◌, ◌+◌, ◌<◌, ◌^◌, ◌||◌, ◌∙◌, ◌∷◌, ◌≡◌, ◌≤◌}
+use Rattle.fp_book.proofs.Names.{AreBorn, Bool, Closed, IsOwn, IsSame, List, None, Option, Outbox, Row, Shelf, Some, Sound, Totals, [], accepted_by, add-zero, and_right, ap, arith, cases_Bool, cond, cond_both, count_by, eqb, eqb-true, false, frames_for, frames_held, frames_of, gone_with, has_turn_out, identifier, is_admitted, is_free, is_held, is_ready, is_some, keep, kept_of, le_refl, length, length-append, ltb-false, nat_lt, nat_tests, not, of_row, one_if, or_parts, places_held, ready_count, refl, sent_by, sent_of, served_by, subst, sum_of, sym, take, true, turns_of, unsent_for, unsent_frames, waits, with_row, ℕ, ⊎_elim, ◌++◌, ◌+◌, ◌<◌, ◌^◌, ◌||◌, ◌∙◌, ◌∷◌, ◌≡◌, ◌≤◌}
 use Rattle.std.specs.FinMap as map
-use Rattle.fp_book.proofs.Sums.{OneChanges, amount, kept, left_of, len-sum}
+use Rattle.fp_book.proofs.Serials.{SerialsChange}
+use Rattle.fp_book.proofs.Sums.{OneChanges, Rows, amount, kept, left_of, len-sum}
 
 -- how often a dialogue is in a queue
 abbrev pub count : ℕ → List ℕ → ℕ
@@ -31,6 +32,7 @@ pub record OutboxChanges (s : Shelf) (outbox : Outbox) (local : ℕ) (before : O
   pub other_dropped : (d : ℕ) → eqb d local ≡ false → frames_for d s.outbox.frames ≡ [] → frames_for d outbox.frames ≡ []
   pub own_frames : sent_of after ++ unsent_for local outbox ≡ kept_of after
   pub other_frames : (d : ℕ) → eqb d local ≡ false → unsent_for d outbox ≡ unsent_for d s.outbox
+  pub others_born : (d birth : ℕ) → eqb d local ≡ false → AreBorn d birth (unsent_frames s.outbox) → AreBorn d birth (unsent_frames outbox)
   pub places : frames_held outbox + turns_of after + places_held s ≤ frames_held s.outbox + amount turns_of before + 8192
   pub aborts : length outbox.aborts ≤ 64
   pub quiet : s.is_down ≡ true → (outbox.aborts ≡ []) × (outbox.frames ≡ [])
@@ -44,22 +46,25 @@ pub record CountsChange (old new : Shelf) (before : Option Row) (after : Row) : 
   pub few_accepted : new.totals.accepted ≤ new.entries
   pub few_sent : after.sent ≤ after.served
 
--- the link is the same; more identifiers may have been given
+-- the link is the same; a Begin may have been accepted
 pub record LinkStays (old new : Shelf) : Type 0 where
   pub link : new.link ≡ old.link
-  pub given : old.given ≤ new.given
-  pub serials : new.given < 2 ^ 29
-  pub births : new.births ≡ new.given
+  pub births : old.births ≤ new.births
+  pub few_births : new.births ≤ new.entries
   pub down : new.is_down ≡ old.is_down
 
-pub link_stays : (old new : Shelf) → Sound old → new.link ≡ old.link → new.given ≡ old.given → new.births ≡ old.births → new.is_down ≡ old.is_down → LinkStays old new
-link_stays old new s link given births down = record {
+pub link_stays : (old new : Shelf) → Sound old → new.link ≡ old.link → new.births ≡ old.births → old.entries ≤ new.entries → new.is_down ≡ old.is_down → LinkStays old new
+link_stays old new s link births entries down = record {
   link = link;
-  given = omega (arith, given);
-  serials = omega (arith, given, s.serials);
-  births = births ∙ s.births ∙ sym given;
+  births = omega (arith, births);
+  few_births = omega (arith, births, entries, s.births);
   down = down;
 }
+
+-- a dialogue that changes has the birth that it had, so no other has it
+pub still_apart : (s : Shelf) (local : ℕ) (before after : Row) → Sound s → map.get s.rows local ≡ Some before → after.birth ≡ before.birth
+    → (q : ℕ) (held : Row) → eqb q local ≡ false → map.get s.rows q ≡ Some held → after.birth ≡ held.birth → local ≡ q
+still_apart s local before after k was same q held ne there alike = k.births_apart local q before held was there (sym same ∙ alike)
 
 -- one dialogue changes; `before` is what there was, and `after` what it is then, whether or not something of it is left
 pub record Change (old new : Shelf) (local : ℕ) (before : Option Row) (after : Row) : Type 0 where
@@ -67,6 +72,9 @@ pub record Change (old new : Shelf) (local : ℕ) (before : Option Row) (after :
   pub rows : new.rows ≡ keep old.rows local after
   pub gone : new.gone ≡ gone_with old.gone after
   pub link : LinkStays old new
+  pub serials : SerialsChange old new.free local before (left_of after)
+  -- no other dialogue has its birth
+  pub apart : (q : ℕ) (held : Row) → eqb q local ≡ false → map.get old.rows q ≡ Some held → after.birth ≡ held.birth → local ≡ q
   pub entries : new.entries + sum_of admitted old.rows + admitted after ≤ 2 ^ 63 + 8192 + amount admitted before
   pub room : map.len old.rows < 4096 + amount one before
   pub own : is_held after ≡ true → IsOwn new local after
@@ -171,23 +179,31 @@ gone_by gone row few false = record {
 }
 
 -- what of a dialogue stays if it changes
-pub own_after : (old new : Shelf) (d : ℕ) (before after : Row) → IsOwn old d before → IsSame before after → new.link ≡ old.link → old.given ≤ new.given → old.births ≤ new.births
-    → (is_some after.ended ≡ true → frames_for d new.outbox.frames ≡ []) → (new.is_down ≡ true → after.ended ≡ Some Closed) → is_held after ≡ true → IsOwn new d after
-own_after old new d before after own same link given births dropped closed held = record {
+pub own_after : (old new : Shelf) (d : ℕ) (before after : Row) → IsOwn old d before → IsSame before after → new.link ≡ old.link → (is_held after ≡ true → new.free ≡ old.free) → old.births ≤ new.births
+    → AreBorn d before.birth (unsent_frames new.outbox) → (is_some after.ended ≡ true → frames_for d new.outbox.frames ≡ []) → (new.is_down ≡ true → after.ended ≡ Some Closed) → is_held after ≡ true → IsOwn new d after
+own_after old new d before after own same link free births born dropped closed held = record {
   local_is = same.local ∙ own.local_is;
   is_left = held;
   born = (let more : 0 < before.birth = own.born.0 in omega (arith, same.birth), let most : before.birth ≤ old.births = own.born.1 in omega (arith, same.birth));
-  serial = (own.serial.0, own.serial.1, (let most : own.serial.0 ≤ old.given = own.serial.2 in omega arith), own.serial.3 ∙ ap (λ l. identifier l own.serial.0) (sym link));
-  birth_is = same.birth ∙ own.birth_is;
+  serial = (own.serial.0, own.serial.1, own.serial.2, own.serial.3 ∙ ap (λ l. identifier l own.serial.0) (sym link), ap (is_free own.serial.0) (free held) ∙ own.serial.4);
+  frames_born = subst (λ n. AreBorn d n (unsent_frames new.outbox)) (sym same.birth) born;
   dropped = dropped;
   closed = closed;
 }
 
 -- what holds of a dialogue still holds of it
-pub stays_own : (old new : Shelf) (d : ℕ) (row : Row) → new.link ≡ old.link → old.given ≤ new.given → old.births ≤ new.births → new.is_down ≡ old.is_down
+pub stays_own : (old new : Shelf) (d : ℕ) (row : Row) → new.link ≡ old.link → ((serial : ℕ) → d ≡ identifier old.link serial → is_free serial old.free ≡ false → is_free serial new.free ≡ false)
+    → old.births ≤ new.births → new.is_down ≡ old.is_down → (AreBorn d row.birth (unsent_frames old.outbox) → AreBorn d row.birth (unsent_frames new.outbox))
     → (frames_for d old.outbox.frames ≡ [] → frames_for d new.outbox.frames ≡ []) → IsOwn old d row → IsOwn new d row
-stays_own old new d row link given births down dropped own =
-    own_after old new d row row own (record { local = refl; peer = refl; birth = refl; opened = refl }) link given births (λ e. dropped (own.dropped e)) (λ e. own.closed (sym down ∙ e)) own.is_left
+stays_own old new d row link given births down born dropped own = record {
+  local_is = own.local_is;
+  is_left = own.is_left;
+  born = (own.born.0, let most : row.birth ≤ old.births = own.born.1 in omega (arith, most, births));
+  serial = (own.serial.0, own.serial.1, own.serial.2, own.serial.3 ∙ ap (λ l. identifier l own.serial.0) (sym link), given own.serial.0 own.serial.3 own.serial.4);
+  frames_born = born own.frames_born;
+  dropped = λ e. dropped (own.dropped e);
+  closed = λ e. own.closed (sym down ∙ e);
+}
 
 pub left_by : (b : Bool) (after row : Row) → cond b (Some after) None ≡ Some row → (b ≡ true) × (after ≡ row)
 left_by true after row e = (refl, cc)
@@ -198,20 +214,40 @@ own_left s local after row own e =
     let is : (is_held after ≡ true) × (after ≡ row) = left_by (is_held after) after row e in
     subst (IsOwn s local) is.1 (own is.0)
 
+-- no two dialogues have one birth still
+apart_by : (old new : Rows) (local : ℕ) (before left : Option Row) → OneChanges old new local before left
+    → ((d q : ℕ) (row held : Row) → map.get old d ≡ Some row → map.get old q ≡ Some held → row.birth ≡ held.birth → d ≡ q)
+    → ((q : ℕ) (held row : Row) → eqb q local ≡ false → map.get old q ≡ Some held → left ≡ Some row → row.birth ≡ held.birth → local ≡ q)
+    → (d q : ℕ) (row held : Row) → map.get new d ≡ Some row → map.get new q ≡ Some held → row.birth ≡ held.birth → d ≡ q
+apart_by old new local before left one apart own d q row held was there same =
+    by_local d local (λ d. map.get new d ≡ Some row → d ≡ q)
+    (λ here.
+    by_local q local (λ q. map.get new q ≡ Some held → local ≡ q) (λ _. refl)
+    (λ ne there. own q held row ne (sym (one.others q ne) ∙ there) (sym one.there ∙ here) same) there)
+    (λ ne here.
+    by_local q local (λ q. map.get new q ≡ Some held → d ≡ q) (λ there. sym (own d row held ne (sym (one.others d ne) ∙ here) (sym one.there ∙ there) (sym same)))
+    (λ other there. apart d q row held (sym (one.others d ne) ∙ here) (sym (one.others q other) ∙ there) same) there)
+    was
+
 pub Sound-change : (old new : Shelf) (local : ℕ) (before : Option Row) (after : Row) → Sound old → Change old new local before after → Sound new
 Sound-change old new local before after s g =
     let rows : OneChanges old.rows new.rows local before (left_of after) = subst (λ r. OneChanges old.rows r local before (left_of after)) (sym g.rows) (kept old.rows local before after g.was) in
     let gone : GoneWith old.gone new.gone after (left_of after) = subst (λ t. GoneWith old.gone t after (left_of after)) (sym g.gone) (gone_by old.gone after g.counts.few_sent (is_held after)) in
     record {
       links = omega (arith, g.link.link, s.links);
-      serials = g.link.serials;
-      births = g.link.births;
+      serials = g.serials.serials;
+      serial_count = λ up. omega (arith, g.serials.count, s.serial_count (sym g.link.down ∙ up), rows.sums one, len-sum new.rows, len-sum old.rows);
+      births = g.link.few_births;
+      births_apart = apart_by old.rows new.rows local before (left_of after) rows s.births_apart
+          (λ q held row ne there left same.
+          let is : after ≡ row = (left_by (is_held after) after row left).1 in
+          g.apart q held ne there (ap (λ (r : Row). r.birth) is ∙ same));
       entries = omega (arith, g.entries, rows.sums admitted, admitted_left after);
       own = λ d row.
           by_local d local (λ d. map.get new.rows d ≡ Some row → IsOwn new d row)
           (λ e. own_left new local after row g.own (sym rows.there ∙ e))
           (λ ne e.
-          stays_own old new d row g.link.link g.link.given (omega (arith, g.link.births, g.link.given, s.births)) g.link.down (g.outbox.other_dropped d ne)
+          stays_own old new d row g.link.link (λ serial. g.serials.others d serial ne) g.link.births g.link.down (g.outbox.others_born d row.birth ne) (g.outbox.other_dropped d ne)
           (s.own d row (sym (rows.others d ne) ∙ e)));
       held = omega (arith, rows.sums one, one_left after, g.room, len-sum new.rows, len-sum old.rows);
       frames = λ d.

@@ -1,5 +1,6 @@
 -- To give dialogues a Clock keeps what a book keeps.
-use Rattle.fp_book.proofs.Names.{All, AllByRecursion, AllPairs, AsksOnceAtMost, Bool, Clock, ClocksAt, ComesFirst, Due, Ending, Entry, Extends, IsDue, List, LoggedStep, None, Option, Row, Shelf, Some, Sound, Ticks, Totals, [], add-zero, and_from, and_parts, ap, append-nil, append_assoc, arith, cond, deadline_of, due_at, entry_at, eq-eqb, eqb, eqb-true, false, false_from_ne_true, false≢true, get, has_clock, has_turn_out, idle_among, insert, is_admitted, is_among, is_closed, is_due, is_full, is_idle, is_over, is_ready, is_some, joins, leb-false, len, length, length-append, logged, lt-ltb, more_accepted, nat_eq, nat_lt, next_due, not, not-true, one_if, recursion_from_All, refl, slice_index_or, subst, suc, sum_of, sym, true, waits, ℕ, ⊎_elim, ⊤, ◌&&◌, ◌++◌, ◌+◌, ◌<◌, ◌^◌, ◌||◌, ◌∙◌, ◌∷◌, ◌≡◌, ◌≤◌}
+use Rattle.fp_book.proofs.Names.{All, AllByRecursion, AllPairs, Bool, Clock, ClocksAt, ComesFirst, Due, Ending, Entry, Extends, IsDue, List, LoggedStep, None, Option, Row, Shelf, Some, Sound, Ticks, Totals, [], add-zero, and_from, and_parts, ap, append-nil, append_assoc, arith, cond, deadline_of, due_at, entry_at, eq-eqb, eqb, eqb-true, false, false_from_ne_true, false≢true, get, has_clock, has_turn_out, idle_among, insert, is_admitted, is_among, is_closed, is_due, is_full, is_idle, is_over, is_ready, is_some, joins, leb-false, len, length, length-append, logged, lt-ltb, more_accepted, nat_eq, nat_lt, next_due, not, not-true, one_if, recursion_from_All, refl, slice_index_or, subst, suc, sum_of, sym, true, waits, ℕ, ⊎_elim, ⊤, ◌&&◌, ◌++◌, ◌+◌, ◌<◌, ◌^◌, ◌||◌, ◌∙◌, ◌∷◌, ◌≡◌, ◌≤◌}
+use Rattle.fp_book.proofs.LowerLaws.{LowerLaws}
 use Rattle.fp_book.proofs.Changes.{admitted, one, one_most}
 use Rattle.fp_book.proofs.Extends.{Sound-extended, few_admitted, joined}
 use Rattle.fp_book.proofs.Posts.{Sound-logs}
@@ -128,7 +129,7 @@ clocks_others s then rows moment d due after there left same none q true is g =
 clocks_others s then rows moment d due after there left same none q false is g =
     subst (λ o. ClocksAt (is_among q due) moment o (get rows q)) (sym (same q (eqb_swap d.1 q is))) g
 
-Sound-ticked : AsksOnceAtMost → (due : List Due) (s : Shelf) (rows : Rows) (moment : ℕ) (log : List LoggedStep) → Sound s → Apart due → AllByRecursion (CanClock s) due
+Sound-ticked : LowerLaws → (due : List Due) (s : Shelf) (rows : Rows) (moment : ℕ) (log : List LoggedStep) → Sound s → Apart due → AllByRecursion (CanClock s) due
     → ((q : ℕ) → ClocksAt (is_among q due) moment (get s.rows q) (get rows q)) → s.entries + length due + sum_of admitted s.rows ≤ 2 ^ 63 + 8192 → Sound (ticked s rows due log)
 Sound-ticked law [] s rows moment log k two can clocks limit =
     let path : shelf_of s s.entries s.rows s.ready s.totals log ≡ ticked s rows [] log =
@@ -182,7 +183,7 @@ limit_by s moment (d ∷ due) k are few =
     let room : s.entries < 2 ^ 63 = leb-false (2 ^ 63) s.entries (not-true (is_full s) up.0) in
     omega (arith, few, few_admitted s, k.held)
 
-pub Sound-ticks : AsksOnceAtMost → (old new : Shelf) (moment added wanting : ℕ) → Sound old → Ticks old moment added wanting new → Sound new
+pub Sound-ticks : LowerLaws → (old new : Shelf) (moment added wanting : ℕ) → Sound old → Ticks old moment added wanting new → Sound new
 Sound-ticks law old new moment added wanting s g =
     let few : length g.due ≤ 4096 = omega (arith, g.added_is, g.wanting_is, few_pass (due_at old moment) old.rows, s.held) in
     let log = cond (nat_eq (added + wanting) 0) old.log (logged old.log (line.Tick moment added wanting)) in

@@ -1,5 +1,5 @@
 -- Where dialogues are ended: what of one of them is dropped, and how all of them are closed.
-use Rattle.fp_book.proofs.Names.{AreTimed, Bool, Closed, Closes, ClosesAt, Content, Dropped, Ending, Ends, EndsAt, Entry, Extends, IsAbove, IsAfter, List, None, Option, Outbox, Row, SendsOne, Shelf, Some, Sound, Waiting, [], ap, arith, cases_Bool, cond, deadline_at, dropped_of, drops_frames, eqb, false, false≢true, frame_out, frames_for, is_frame_of, is_ready, is_some, is_unsent, kept_of, length, length-append, ltb-false, min, nat_cmp, nat_lt, nat_tests, nil_from_length, one_if, refl, sending, sent_of, subst, sym, true, unsent_for, without, without_frames_of, ℕ, ⊎_elim, ⊤, ◌&&◌, ◌++◌, ◌+◌, ◌-◌, ◌<◌, ◌^◌, ◌∙◌, ◌∷◌, ◌≡◌, ◌≤◌}
+use Rattle.fp_book.proofs.Names.{AreTimed, Bool, Closed, Closes, ClosesAt, Content, Dropped, Drops, Ending, Ends, EndsAt, Entry, Extends, IsAbove, IsAfter, List, None, Option, Outbox, Row, SendsOne, Shelf, Some, Sound, Waiting, [], ap, arith, cases_Bool, cond, deadline_at, drops_frames, eqb, false, false≢true, frame_out, frames_for, is_frame_of, is_ready, is_some, is_unsent, kept_of, length, length-append, ltb-false, min, nat_cmp, nat_lt, nat_tests, nil_from_length, one_if, refl, sending, sent_of, subst, sym, true, unsent_for, without, without_frames_of, ℕ, ⊎_elim, ⊤, ◌&&◌, ◌++◌, ◌+◌, ◌-◌, ◌<◌, ◌^◌, ◌∙◌, ◌∷◌, ◌≡◌, ◌≤◌}
 use Rattle.std.specs.FinMap as map
 use Rattle.fp_book.proofs.Changes.{by_local, count}
 use Rattle.fp_book.proofs.Kept.{changed, deadline_left}
@@ -68,13 +68,13 @@ by_order q local P below here above =
     (cases_Bool (nat_lt q local)))
 
 -- the next one is closed
-pub one_closed : (out : Option Content) (old rows new : Rows) (sends : Bool) (local : ℕ) (next : Option ℕ) → ClosedBelow out old rows (Some local)
-    → sends ≡ is_frame_of local out → EndsAt rows local Closed sends new → IsAfter new (Some local) next → ClosedBelow out old new next
-one_closed out old rows new sends local next so_far sends_is ends after =
+pub one_closed : (out : Option Content) (old rows new : Rows) (sends held : Bool) (local : ℕ) (next : Option ℕ) → ClosedBelow out old rows (Some local)
+    → sends ≡ is_frame_of local out → EndsAt rows local Closed sends held new → IsAfter new (Some local) next → ClosedBelow out old new next
+one_closed out old rows new sends held local next so_far sends_is ends after =
     let one : OneChanges rows new local (Some ends.before) (left_of ends.after) = changed ends in
     let was : map.get old local ≡ Some ends.before = sym (so_far.others local refl local (omega arith)) ∙ ends.was in
     let closes : Closes (is_frame_of local out) ends.before (map.get new local) =
-    record { after = ends.after; ends = subst (λ b. Ends Closed b ends.before ends.after) sends_is ends.does; left_is = one.there }
+    record { after = ends.after; ends = subst (λ b. Ends Closed b ends.before ends.after) sends_is ends.does.0; left_is = one.there }
     in
     let other : (q : ℕ) → (q ≡ local → ⊥) → map.get new q ≡ map.get rows q = λ q ne. one.others q (grind (arith, nat_tests)) in
     record {
@@ -169,21 +169,20 @@ pub drops_of : (o : Option Row) (before : Row) (is_ended sends drops : Bool) →
     → drops ≡ (is_ended && drops_frames row sends)
 drops_of o before is_ended sends drops was is row there = subst (λ r. drops ≡ (is_ended && drops_frames r sends)) (same_row o before row was there) is
 
-pub dropped_at : (o : Option Row) (ending : Ending) (sends : Bool) (before after : Row) (was_ready frames : Bool) → o ≡ Some before → Ends ending sends before after
-    → was_ready ≡ is_ready before → frames ≡ nat_lt after.kept before.kept → (row : Row) → o ≡ Some row → ◌≡◌ {A = Dropped} (record { was_ready = was_ready; frames = frames }) (dropped_of row sends)
-dropped_at o ending sends before after was_ready frames was ends ready is row there =
-    let make : Bool → Bool → Dropped = λ a b. record { was_ready = a; frames = b } in
-    subst (λ r. make was_ready frames ≡ dropped_of r sends) (same_row o before row was there)
-    (ap (λ a. make a frames) ready ∙ ap (make (is_ready before)) (is ∙ ap (λ n. nat_lt n before.kept) ends.kept))
+pub dropped_at : (o : Option Row) (ending : Ending) (sends : Bool) (before after : Row) (held was_ready frames : Bool) → o ≡ Some before → Ends ending sends before after
+    → was_ready ≡ is_ready before → frames ≡ nat_lt after.kept before.kept → (row : Row) → o ≡ Some row → Drops row sends (record { is_held = held; was_ready = was_ready; frames = frames })
+dropped_at o ending sends before after held was_ready frames was ends ready is row there =
+    subst (λ r. Drops r sends (record { is_held = held; was_ready = was_ready; frames = frames })) (same_row o before row was there)
+    (record { was_ready = ready; frames = is ∙ ap (λ n. nat_lt n before.kept) ends.kept })
 
 -- a dialogue that is closed has left the queue
-pub left_queue : (s : Shelf) (local : ℕ) (row : Row) (sends : Bool) (dropped : Dropped) (queue : List ℕ) → Sound s → map.get s.rows local ≡ Some row → dropped ≡ dropped_of row sends
+pub left_queue : (s : Shelf) (local : ℕ) (row : Row) (sends : Bool) (dropped : Dropped) (queue : List ℕ) → Sound s → map.get s.rows local ≡ Some row → Drops row sends dropped
     → queue ≡ cond dropped.was_ready (without local s.ready) s.ready → queue ≡ without local s.ready
 left_queue s local row sends dropped queue k was is then =
-    then ∙ leaves_by_ready local s.ready dropped.was_ready (ready_at s local (Some row) k was ∙ ap one_if (sym (ap (λ (d : Dropped). d.was_ready) is)))
+    then ∙ leaves_by_ready local s.ready dropped.was_ready (ready_at s local (Some row) k was ∙ ap one_if (sym is.was_ready))
 
 -- and none of its frames waits
-pub left_outbox : (s : Shelf) (local : ℕ) (row : Row) (sends : Bool) (dropped : Dropped) (outbox : Outbox) → Sound s → map.get s.rows local ≡ Some row → dropped ≡ dropped_of row sends
+pub left_outbox : (s : Shelf) (local : ℕ) (row : Row) (sends : Bool) (dropped : Dropped) (outbox : Outbox) → Sound s → map.get s.rows local ≡ Some row → Drops row sends dropped
     → sends ≡ is_frame_of local s.outbox.out → outbox ≡ cond dropped.frames (without_frames_of local s.outbox) s.outbox → outbox ≡ without_frames_of local s.outbox
 left_outbox s local row sends dropped outbox k was is sending_is then =
-    then ∙ drops_by s local row dropped.frames (frames_at s local (Some row) k was) (ap (λ (d : Dropped). d.frames) is ∙ ap (drops_frames row) sending_is)
+    then ∙ drops_by s local row dropped.frames (frames_at s local (Some row) k was) (is.frames ∙ ap (drops_frames row) sending_is)

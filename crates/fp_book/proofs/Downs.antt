@@ -1,6 +1,8 @@
 -- Books whose parcel comes back, and books whose link goes down: to close all dialogues keeps what a book keeps.
-use Rattle.fp_book.proofs.Names.{AreTimed, AsksOnceAtMost, Bool, Closed, Closes, ClosesAt, Content, GoesDown, Inside, IsKept, IsOwn, List, LoggedStep, None, Option, Outbox, Parcel, Row, Sends, SendsAt, Shelf, Some, Sound, Unsends, [], accepted_by, ap, append-nil, arith, component_count, dialogue_of, frame_out, frames_for, inl, inr, is_frame_of, is_held, is_unsent, kept_of, le_refl, length, length-append, logged, nat_tests, nil_from_length, of_row, one_if, one_sent, places_out, refl, sending, sent_by, sent_of, served_by, shelf_of, subst, sum_of, sym, take, true, turns_of, unsent_for, with_dialogue, with_nothing_out, ℕ, ◌++◌, ◌+◌, ◌<◌, ◌^◌, ◌∙◌, ◌∷◌, ◌≡◌, ◌≤◌, ◌⊎◌}
+use Rattle.fp_book.proofs.Names.{AreBorn, AreTimed, AsksOnceAtMost, Bool, Closed, Closes, ClosesAt, Content, GoesDown, Inside, IsKept, IsOwn, List, LoggedStep, None, Option, Outbox, Parcel, Row, Sends, SendsAt, Shelf, Some, Sound, Unsends, [], accepted_by, ap, append-nil, arith, being_sent, birth_of, component_count, dialogue_of, false≢true, frame_out, frames_for, inl, inr, is_frame_of, is_held, is_unsent, kept_of, le_refl, length, length-append, logged, nat_tests, nil_from_length, of_row, one_if, one_sent, places_out, refl, sending, sent_by, sent_of, served_by, shelf_of, subst, sum_of, sym, take, true, turns_of, unsent_for, unsent_frames, with_dialogue, with_nothing_out, ℕ, ◌++◌, ◌+◌, ◌<◌, ◌^◌, ◌∙◌, ◌∷◌, ◌≡◌, ◌≤◌, ◌⊎◌}
+use Rattle.fp_book.proofs.LowerLaws.{LowerLaws}
 use Rattle.std.specs.FinMap as map
+use Rattle.fp_book.proofs.Born.{born_front}
 use Rattle.fp_book.proofs.Changes.{admitted, admitted_left, amount_left, by_held, count_is, entries_of, frames_left, left_by, one, one_left, ready, ready_left, turns_left, own_after}
 use Rattle.fp_book.proofs.Extends.{closed_then, ended_frames, front, none_admitted, not_served, sent_count, kept_count}
 use Rattle.fp_book.proofs.Sums.{Rows, amount, len-sum, sum-zero, sums-le, zero_of, sum-le}
@@ -75,13 +77,32 @@ left_entries sends row left g =
     (λ _. omega (arith, g.ends.served, ap length g.ends.accepted)) (λ _. omega (arith, row.served_within)))
 
 -- what of it was sent
-left_sent : AsksOnceAtMost → (sends : Bool) (row : Row) (left : Option Row) → Closes sends row left → sent_by row + amount served_by left ≤ served_by row + amount sent_by left
+left_sent : LowerLaws → (sends : Bool) (row : Row) (left : Option Row) → Closes sends row left → sent_by row + amount served_by left ≤ served_by row + amount sent_by left
 left_sent law sends row left g =
     subst (λ o. sent_by row + amount served_by o ≤ served_by row + amount sent_by o) (sym g.left_is)
     (by_held g.after (λ o. sent_by row + amount served_by o ≤ served_by row + amount sent_by o)
-    (λ _. omega (arith, g.ends.served, g.ends.sent)) (λ _. omega (arith, few_sent law row)))
+    (λ _. omega (arith, g.ends.served, g.ends.sent)) (λ _. omega (arith, few_sent law.asks row)))
 
-pub Sound-down : AsksOnceAtMost → (out : Option Content) (old : Shelf) (step : LoggedStep) (new : Shelf) → Sound old → StillOut old out → GoesDown out old step new → Sound new
+-- what is still being sent has the birth that it had
+still_born : (s : Shelf) (out : Option Content) (d birth : ℕ) → StillOut s out → AreBorn d birth (unsent_frames s.outbox) → AreBorn d birth (being_sent out ++ [])
+still_born s out d birth (inl same) all =
+    subst (λ o. AreBorn d birth (being_sent o ++ [])) (sym same) (subst (AreBorn d birth) (sym (append-nil (being_sent s.outbox.out))) (born_front d birth (being_sent s.outbox.out) s.outbox.frames all))
+still_born s out d birth (inr none) all = subst (λ o. AreBorn d birth (being_sent o ++ [])) (sym none) tt
+
+-- a dialogue that is left has the birth that it had
+birth_by : (sends : Bool) (before : Row) (left : Option Row) (row : Row) → Closes sends before left → left ≡ Some row → before.birth ≡ row.birth
+birth_by sends before left row closes is =
+    let same : closes.after ≡ row = (left_by (is_held closes.after) closes.after row (sym closes.left_is ∙ is)).1 in
+    sym closes.ends.same.birth ∙ ap (λ (r : Row). r.birth) same
+
+births_by : (s : Shelf) (out : Option Content) (d q : ℕ) (left other : Option Row) (row held : Row) → Sound s → left ≡ left → other ≡ other → ClosesAt (is_frame_of d out) (map.get s.rows d) left → ClosesAt (is_frame_of q out) (map.get s.rows q) other
+    → left ≡ Some row → other ≡ Some held → row.birth ≡ held.birth → d ≡ q
+births_by s out d q left other row held k _ _ closes closing there here same =
+    let was = closed_by (is_frame_of d out) (map.get s.rows d) left row closes there in
+    let were = closed_by (is_frame_of q out) (map.get s.rows q) other held closing here in
+    k.births_apart d q was.0 were.0 was.1 were.1 (birth_by (is_frame_of d out) was.0 left row was.2 there ∙ same ∙ sym (birth_by (is_frame_of q out) were.0 other held were.2 here))
+
+pub Sound-down : LowerLaws → (out : Option Content) (old : Shelf) (step : LoggedStep) (new : Shelf) → Sound old → StillOut old out → GoesDown out old step new → Sound new
 Sound-down law out old step new s still g =
     let outbox : Outbox = record { aborts = []; frames = []; out = out } in
     let then : Shelf = record old {
@@ -106,14 +127,17 @@ Sound-down law out old step new s still g =
     record {
       links = s.links;
       serials = s.serials;
+      serial_count = λ up. absurd (false≢true (sym up));
       births = s.births;
+      births_apart = λ d q row held there here same. births_by old out d q (map.get new.rows d) (map.get new.rows q) row held s refl refl (g.rows d) (g.rows q) there here same;
       entries = omega (arith, s.entries, admits, no_old, no_new);
       own = λ d row e.
           let was = closed_by (is_frame_of d out) (map.get old.rows d) (map.get new.rows d) row (g.rows d) e in
           let closes : Closes (is_frame_of d out) was.0 (map.get new.rows d) = was.2 in
           let held : (is_held closes.after ≡ true) × (closes.after ≡ row) = left_by (is_held closes.after) closes.after row (sym closes.left_is ∙ e) in
           subst (IsOwn then d) held.1
-          (own_after old then d was.0 closes.after (s.own d was.0 was.1) closes.ends.same refl (le_refl old.given) (le_refl old.births) (λ _. refl) (λ _. closes.ends.ended ∙ closed_then was.0.ended) held.0);
+          (own_after old then d was.0 closes.after (s.own d was.0 was.1) closes.ends.same refl (λ _. refl) (le_refl old.births)
+          (still_born old out d was.0.birth still (s.own d was.0 was.1).frames_born) (λ _. refl) (λ _. closes.ends.ended ∙ closed_then was.0.ended) held.0);
       held = omega (arith, s.held, ones, no_old, no_new, len-sum old.rows, len-sum new.rows);
       frames = λ d. frames_by old out d (map.get old.rows d) (map.get new.rows d) still s refl (g.rows d);
       ready = λ d. sym (count_is (map.get new.rows d) ∙ not_ready_by (is_frame_of d out) (map.get old.rows d) (map.get new.rows d) (g.rows d));
@@ -131,10 +155,10 @@ Sound-down law out old step new s still g =
     in
     subst Sound (sym g.new_is) sound
 
-pub Sound-goes_down : AsksOnceAtMost → (old new : Shelf) → Sound old → GoesDown old.outbox.out old line.Down new → Sound new
+pub Sound-goes_down : LowerLaws → (old new : Shelf) → Sound old → GoesDown old.outbox.out old line.Down new → Sound new
 Sound-goes_down law old new s g = Sound-down law old.outbox.out old line.Down new s (inl refl) g
 
-pub Sound-unsends : AsksOnceAtMost → (old new : Shelf) (parcel : Parcel) → Sound old → Unsends old parcel new → Sound new
+pub Sound-unsends : LowerLaws → (old new : Shelf) (parcel : Parcel) → Sound old → Unsends old parcel new → Sound new
 Sound-unsends law old new parcel s g = Sound-down law None old _ new s (inr refl) g.down
 
 -- an Abort that was sent comes back
@@ -143,13 +167,13 @@ abort_sends old new (content.Frame w) none was_out is = absurd (let clash : None
 abort_sends old new (content.Abort frame) none was_out is = record { was_out = was_out; new_is = is }
 
 -- the frame of a dialogue that was sent comes back
-pub frame_sends : (old new : Shelf) (content : Content) (local : ℕ) (rows : Rows) → Some local ≡ dialogue_of content → old.outbox.out ≡ Some content → (h : SendsAt old.rows local rows)
-    → new ≡ record (with_dialogue old local h.after) { outbox = with_nothing_out old.outbox; totals = one_sent old.totals; log = logged old.log (line.Sent local) } → Sends old content new
-frame_sends old new (content.Abort frame) local rows some was_out h is = absurd (let clash : Some local ≡ None = some in cc)
-frame_sends old new (content.Frame w) local rows some was_out h is =
+pub frame_sends : (old new : Shelf) (content : Content) (local : ℕ) (held : Bool) (rows : Rows) → Some local ≡ dialogue_of content → old.outbox.out ≡ Some content → (h : SendsAt old.rows local held rows)
+    → new ≡ record (with_dialogue old local h.after) { outbox = with_nothing_out old.outbox; totals = one_sent old.totals; log = logged old.log (line.Sent (birth_of content)) } → Sends old content new
+frame_sends old new (content.Abort frame) local held rows some was_out h is = absurd (let clash : Some local ≡ None = some in cc)
+frame_sends old new (content.Frame w) local held rows some was_out h is =
     let same : local ≡ w.local = let e : Some local ≡ Some w.local = some in cc in
-    let sent : ℕ → Row → Shelf = λ l after. record (with_dialogue old l after) { outbox = with_nothing_out old.outbox; totals = one_sent old.totals; log = logged old.log (line.Sent l) } in
-    record { before = h.before; after = h.after; was_out = was_out; was = ap (map.get old.rows) (sym same) ∙ h.was; sends = h.does; new_is = is ∙ ap (λ l. sent l h.after) same }
+    let sent : ℕ → Row → Shelf = λ l after. record (with_dialogue old l after) { outbox = with_nothing_out old.outbox; totals = one_sent old.totals; log = logged old.log (line.Sent w.birth) } in
+    record { before = h.before; after = h.after; was_out = was_out; was = ap (map.get old.rows) (sym same) ∙ h.was; sends = h.does.0; new_is = is ∙ ap (λ l. sent l h.after) same }
 
 unsent_by : (frame : List ℕ) (rest : List (List ℕ)) (there : Option Row) → of_row sent_of there ++ frame ∷ rest ≡ of_row kept_of there → is_unsent there ≡ true
 unsent_by frame rest None all = absurd (let clash : frame ∷ rest ≡ [] = all in cc)

@@ -1,8 +1,11 @@
 -- Messages that dialogues accept, that open one or end one, and dialogues that are closed: all that keeps what a book
 -- keeps.
-use Rattle.fp_book.proofs.Names.{AsksOnceAtMost, Bool, ByPeer, Closed, ClosesDialogue, Content, Ending, Ends, EndsDialogue, Entry, Extends, ExtendsDialogue, FramesStay, IsSame, List, LoggedStep, None, OpensDialogue, Option, Posted, Prepared, Request, Row, Shelf, Some, Sound, Tid, [], and_left, and_right, ap, append-nil, append_assoc, arith, component_count, cond, ended_by, entries_in, eqb, false, false≢true, frame_of, frame_out, frames_for, frames_of, has_turn_out, identifier, is_admitted, is_closed, is_frame_of, is_held, is_over, is_ready, is_some, joins, kept_of, le_refl, length, length-append, length-map, length-take-le, logged, more_accepted, nat_lt, not, octets_of, one_if, option_map_or, or_cases, or_left, or_right, posted_line, ready_stays, refl, requests_of, sending, sent_of, subst, sum_of, sym, take, take-append-le, take_all, true, turns_of, unsent_for, waits, with_dialogue, with_row, without, without_frames_of, zero-add, ℕ, ⊎_elim, ◌&&◌, ◌++◌, ◌+◌, ◌<◌, ◌^◌, ◌||◌, ◌∙◌, ◌∷◌, ◌≡◌, ◌≤◌, ◌⊎◌}
+use Rattle.fp_book.proofs.Names.{AreBorn, AreSerials, Bool, ByPeer, Closed, ClosesDialogue, Content, Ending, Ends, EndsDialogue, Entry, Extends, ExtendsDialogue, FramesStay, IsSame, List, LoggedStep, None, OpensDialogue, Option, Posted, Prepared, Request, Row, Shelf, Some, Sound, Tid, [], and_left, and_right, ap, append-nil, append_assoc, arith, being_sent, component_count, cond, ended_by, entries_in, eqb, false, false≢true, frame_of, frame_out, frames_for, frames_of, has_turn_out, identifier, is_admitted, is_closed, is_frame_of, is_held, is_over, is_ready, is_some, joins, kept_of, le_refl, length, length-append, length-map, length-take-le, logged, more_accepted, nat_lt, not, octets_of, one_if, option_map_or, or_cases, or_left, or_right, posted_line, ready_stays, refl, requests_of, sending, sent_of, subst, sum_of, sym, take, take-append-le, take_all, true, turns_of, unsent_for, unsent_frames, waits, with_dialogue, with_row, without, without_frames_of, zero-add, ℕ, ⊎_elim, ◌&&◌, ◌++◌, ◌+◌, ◌<◌, ◌^◌, ◌||◌, ◌∙◌, ◌∷◌, ◌≡◌, ◌≤◌, ◌⊎◌}
+use Rattle.fp_book.proofs.LowerLaws.{LowerLaws}
 use Rattle.std.specs.FinMap as map
-use Rattle.fp_book.proofs.Changes.{Sound-change, admitted, one, one_if_most, ready, QueueChanges, link_stays, own_after}
+use Rattle.fp_book.proofs.Born.{born_append, born_back, born_fewer, born_front, born_none, none_unsent}
+use Rattle.fp_book.proofs.Changes.{Sound-change, admitted, one, one_if_most, ready, QueueChanges, link_stays, own_after, still_apart}
+use Rattle.fp_book.proofs.Serials.{held_free, is_fresh, serial_given, serials_end}
 use Rattle.fp_book.proofs.Queue.{queue_joins, queue_leaves}
 use Rattle.fp_book.proofs.Sums.{len-sum, put_held, sum-le}
 use Rattle.fp_book.proofs.Turns.{Sound-stays, admitted_as, components_few, counts_of, few_sent, frames_at, held_dialogue, outbox_stays, ready_at}
@@ -41,7 +44,7 @@ pub few_admitted : (s : Shelf) → sum_of admitted s.rows ≤ map.len s.rows
 few_admitted s = omega (arith, len-sum s.rows, sum-le admitted one s.rows (λ row. one_if_most (is_admitted row)))
 
 -- one that is there has accepted entries
-pub Sound-extended : AsksOnceAtMost → (old : Shelf) (local : ℕ) (before after : Row) (more : List Entry) (joins_it : Bool) (log : List LoggedStep) → Sound old → map.get old.rows local ≡ Some before
+pub Sound-extended : LowerLaws → (old : Shelf) (local : ℕ) (before after : Row) (more : List Entry) (joins_it : Bool) (log : List LoggedStep) → Sound old → map.get old.rows local ≡ Some before
     → Extends before more after → one_if (is_ready before) + one_if joins_it ≡ one_if (is_ready after) → old.entries + length more + sum_of admitted old.rows ≤ 2 ^ 63 + 8192
     → Sound (record old {
       entries = old.entries + length more;
@@ -57,32 +60,23 @@ Sound-extended law old l before after more joins_it log s was extends join limit
     (Sound-stays law old l before after more (old.entries + length more) (old.totals.accepted + component_count more) queue log s was extends.same extends.accepted extends.stay extends.ended
     (queue_joins old.ready l joins_it (ready before) (ready after) (ready_at old l (Some before) s was) join) (omega (arith, s.places, extends.out)) refl refl limit)
 
-pub Sound-extends : AsksOnceAtMost → (old new : Shelf) (local : ℕ) (came : Prepared) (answer : Posted) → Sound old → ExtendsDialogue old local came answer new → old.entries < 2 ^ 63
+pub Sound-extends : LowerLaws → (old new : Shelf) (local : ℕ) (came : Prepared) (answer : Posted) → Sound old → ExtendsDialogue old local came answer new → old.entries < 2 ^ 63
     → length (entries_in came) ≤ 17 → Sound new
 Sound-extends law old new local came answer s g room few =
     subst Sound (sym g.new_is)
     (Sound-extended law old local g.before g.after (entries_in came) (not (is_ready g.before) && is_ready g.after) (logged old.log (posted_line came answer)) s g.was g.extends
     (joined (is_ready g.before) (is_ready g.after) g.extends.ready_stays) (omega (arith, room, few, few_admitted old, s.held)))
 
--- an identifier that wasn't given is no dialogue's
-fresh_by : (s : Shelf) (o : Option Row) → Sound s → map.get s.rows (identifier s.link (s.given + 1)) ≡ o → o ≡ None
-fresh_by s None k e = refl
-fresh_by s (Some row) k e =
-    let own = k.own (identifier s.link (s.given + 1)) row e in
-    absurd (let most : own.serial.0 ≤ s.given = own.serial.2 in let same : identifier s.link (s.given + 1) ≡ identifier s.link own.serial.0 = own.serial.3 in omega arith)
-
-pub is_fresh : (s : Shelf) → Sound s → map.get s.rows (identifier s.link (s.given + 1)) ≡ None
-is_fresh s k = fresh_by s (map.get s.rows (identifier s.link (s.given + 1))) k refl
-
-pub Sound-opens : AsksOnceAtMost → (old new : Shelf) (peer : Tid) (came : Prepared) (answer : Posted) → Sound old → OpensDialogue old peer came answer new → old.is_down ≡ false → old.entries < 2 ^ 63
-    → length (entries_in came) ≤ 17 → map.len old.rows < 4096 → old.given + 1 < 2 ^ 29 → Sound new
-Sound-opens law old new peer came answer s g up room few places serial =
-    let l = identifier old.link (old.given + 1) in
+pub Sound-opens : LowerLaws → (old new : Shelf) (peer : Tid) (came : Prepared) (answer : Posted) → Sound old → OpensDialogue old peer came answer new → old.is_down ≡ false → old.entries < 2 ^ 63
+    → length (entries_in came) ≤ 17 → 0 < length (entries_in came) → map.len old.rows < 4096 → Sound new
+Sound-opens law old new peer came answer s g up room few some places =
+    let l = identifier old.link g.serial in
     let more = entries_in came in
     let after = g.after in
-    let was : map.get old.rows l ≡ None = is_fresh old s in
+    let was : map.get old.rows l ≡ None = is_fresh old g.serial g.rest s g.first in
+    let given = law.gives g.serial g.rest (subst AreSerials g.first s.serials) in
     let then : Shelf = record old {
-      given = old.given + 1;
+      free = g.rest;
       births = old.births + 1;
       entries = old.entries + length more;
       rows = map.insert old.rows l after;
@@ -101,15 +95,17 @@ Sound-opens law old new peer came answer s g up room few places serial =
       was = was;
       rows = put_held old.rows l after held;
       gone = ap (λ b. cond b old.gone (with_row old.gone after)) (sym held);
-      link = record { link = refl; given = omega arith; serials = serial; births = omega (arith, s.births); down = refl };
+      link = record { link = refl; births = omega arith; few_births = omega (arith, s.births, some); down = refl };
+      serials = serial_given law old g.serial g.rest l after s g.first held;
+      apart = λ q other ne there same. absurd (let most : other.birth ≤ old.births = (s.own q other there).born.1 in omega (arith, most, same, birth_is));
       entries = omega (arith, room, few, few_admitted old, places, ap one_if is_admitted_then);
       room = omega (arith, places);
       own = λ _. record {
         local_is = g.extends.same.local ∙ g.opens.local_is;
         is_left = held;
         born = (omega arith, omega arith);
-        serial = (old.given + 1, omega arith, omega arith, refl);
-        birth_is = birth_is ∙ ap (λ n. n + 1) s.births;
+        serial = (g.serial, given.0, given.1, refl, given.2);
+        frames_born = born_none l after.birth (unsent_frames old.outbox) (none_unsent l old.outbox (frames_at old l None s was));
         dropped = λ e. absurd (false≢true (sym (ap is_some not_ended) ∙ e));
         closed = λ e. absurd (false≢true (sym up ∙ e));
       };
@@ -122,7 +118,7 @@ Sound-opens law old new peer came answer s g up room few places serial =
         sent = omega (arith, g.extends.stay.sent, g.opens.sent);
         all_entries = omega (arith, ap length accepted_is);
         few_accepted = omega (arith, s.few_accepted, components_few more);
-        few_sent = few_sent law after;
+        few_sent = few_sent law.asks after;
       };
     }))
 
@@ -197,7 +193,7 @@ same_both : (a b c : Row) → IsSame a b → IsSame b c → IsSame a c
 same_both a b c f g = record { local = g.local ∙ f.local; peer = g.peer ∙ f.peer; birth = g.birth ∙ f.birth; opened = g.opened ∙ f.opened }
 
 -- a dialogue accepts entries, or none, and is ended: its frames that wait are dropped
-Sound-ended : AsksOnceAtMost → (ending : Ending) (old : Shelf) (local : ℕ) (before middle after : Row) (more : List Entry) (entries accepted : ℕ) (queue : List ℕ) (log : List LoggedStep) → Sound old
+Sound-ended : LowerLaws → (ending : Ending) (old : Shelf) (local : ℕ) (before middle after : Row) (more : List Entry) (entries accepted : ℕ) (queue : List ℕ) (log : List LoggedStep) → Sound old
     → map.get old.rows local ≡ Some before → IsSame before middle → middle.accepted ≡ before.accepted ++ more → FramesStay before middle → middle.out ≡ before.out
     → Ends ending (is_frame_of local old.outbox.out) middle after → (old.is_down ≡ true → after.ended ≡ Some Closed) → QueueChanges old.ready queue local (ready before) (ready after)
     → entries ≡ old.entries + length more → accepted ≡ old.totals.accepted + component_count more → entries + sum_of admitted old.rows ≤ 2 ^ 63 + 8192 + admitted before
@@ -219,14 +215,21 @@ Sound-ended law ending old l before middle after more entries accepted queue log
     } in
     let all : sent_of middle ++ unsent_for l old.outbox ≡ kept_of middle =
     ap (λ r. r ++ unsent_for l old.outbox) stay.sent_frames ∙ frames_at old l (Some before) s was ∙ sym stay.kept_frames in
+    let fewer_born : (d birth : ℕ) → AreBorn d birth (unsent_frames old.outbox) → AreBorn d birth (unsent_frames then.outbox) =
+    λ d birth all.
+    born_append d birth (being_sent old.outbox.out) (others l old.outbox.frames) (born_front d birth (being_sent old.outbox.out) old.outbox.frames all)
+    (born_fewer d birth l old.outbox.frames (born_back d birth (being_sent old.outbox.out) old.outbox.frames all)) in
     Sound-change old then l (Some before) after s (record {
       was = was;
       rows = refl;
       gone = refl;
-      link = link_stays old then s refl refl refl refl;
+      link = link_stays old then s refl refl (omega (arith, entries_are)) refl;
+      serials = serials_end law old l before after s was;
+      apart = still_apart old l before after s was (ends.same.birth ∙ same.birth);
       entries = omega (arith, limit, ap one_if (none_admitted ending (is_frame_of l old.outbox.out) middle after ends));
       room = omega (arith, s.held);
-      own = own_after old then l before after own (same_both before middle after same ends.same) refl (le_refl old.given) (le_refl old.births) (λ e. dropped_own l old.outbox.frames) closed;
+      own = own_after old then l before after own (same_both before middle after same ends.same) refl (held_free old.free l after) (le_refl old.births) (fewer_born l before.birth own.frames_born)
+          (λ e. dropped_own l old.outbox.frames) closed;
       queue = queued;
       outbox = record {
         other_dropped = λ d ne e. dropped_other d l old.outbox.frames ne ∙ e;
@@ -236,6 +239,7 @@ Sound-ended law ending old l before middle after more entries accepted queue log
             ∙ ap (λ r. sent_of middle ++ r) (append-nil (frame_out l old.outbox.out))
             ∙ ended_frames old l middle all ∙ sym ends.kept_frames;
         other_frames = λ d ne. ap (λ r. frame_out d old.outbox.out ++ r) (dropped_other d l old.outbox.frames ne);
+        others_born = λ d birth ne all. fewer_born d birth all;
         places = omega (arith, s.places, ends.out, out, fewer l old.outbox.frames);
         aborts = s.aborts;
         quiet = λ e. ((s.quiet e).0, ap (others l) (s.quiet e).1);
@@ -243,7 +247,7 @@ Sound-ended law ending old l before middle after more entries accepted queue log
       counts = counts_of law old then before after more s (ends.accepted ∙ is) entries_are accepted_is (omega (arith, ends.served, stay.served)) (omega (arith, ends.sent, stay.sent));
     })
 
-pub Sound-ends : AsksOnceAtMost → (old new : Shelf) (local : ℕ) (came : Prepared) (answer : Posted) → Sound old → EndsDialogue old local came answer new → option_map_or is_admitted (map.get old.rows local) false ≡ true
+pub Sound-ends : LowerLaws → (old new : Shelf) (local : ℕ) (came : Prepared) (answer : Posted) → Sound old → EndsDialogue old local came answer new → option_map_or is_admitted (map.get old.rows local) false ≡ true
     → ((old.entries < 2 ^ 63) × (length (entries_in came) ≤ 17)) ⊎ (length (entries_in came) ≤ 1) → Sound new
 Sound-ends law old new local came answer s g takes_more limit =
     let more = entries_in came in
@@ -272,7 +276,7 @@ frames_same row = record {
   sent_frames = refl;
 }
 
-pub Sound-closes : AsksOnceAtMost → (old new : Shelf) (local : ℕ) → Sound old → ClosesDialogue old local new → Sound new
+pub Sound-closes : LowerLaws → (old new : Shelf) (local : ℕ) → Sound old → ClosesDialogue old local new → Sound new
 Sound-closes law old new local s g =
     let before = g.before in
     subst Sound (sym g.new_is)

@@ -1,5 +1,5 @@
 -- What the verdict on a message has made sure of.
-use Rattle.fp_book.proofs.Names.{Abort, Arrival, Begin, Bool, Continue, Discard, End, Extend, Ids, Incoming, Kind, Lost, Message, None, Open, Option, Prepared, Refuse, Refused, Shelf, Some, Tid, Unidirectional, Verdict, abort_of, ap, arith, arrived, begin_of, cond_both, entries_in, eqb-false, false, inl, inr, is_admitted, is_full, leb-false, length, lost_of, ltb-false, message_of, more_of, named, nat_eq, nat_le, nat_lt, no_dialogue_left, no_place_left, number_of, octets_of, option_and_then, option_map_or, or_parts, place_count, refl, refused_of, subst, too_many, true, verdict, ℕ, ⊤, ◌+◌, ◌<◌, ◌^◌, ◌||◌, ◌∙◌, ◌≡◌, ◌≢◌, ◌≤◌, ◌⊎◌}
+use Rattle.fp_book.proofs.Names.{Abort, Arrival, Begin, Bool, Continue, Discard, End, Extend, Ids, Incoming, Kind, Lost, Message, None, Open, Option, Prepared, Refuse, Refused, Shelf, Some, Tid, Unidirectional, Verdict, abort_of, ap, arith, arrived, begin_of, cond, cond_both, entries_in, eqb-false, false, inl, inr, is_admitted, is_full, leb-false, length, lost_of, ltb-false, message_of, more_of, named, nat_eq, nat_le, nat_lt, no_dialogue_left, no_place_left, number_of, octets_of, option_and_then, option_map_or, or_parts, place_count, refl, refused_of, subst, too_many, true, verdict, ℕ, ⊤, ◌<◌, ◌^◌, ◌||◌, ◌∙◌, ◌≡◌, ◌≢◌, ◌≤◌, ◌⊎◌}
 use Rattle.std.specs.FinMap as map
 use Rattle.fp_book.proofs.Lines.{first_line_decides}
 use Rattle.fp_book.proofs.Tells.{names_by}
@@ -21,7 +21,7 @@ pub record CanOpen (s : Shelf) (came : Prepared) : Type 0 where
   pub up : s.is_down ≡ false
   pub grow : CanGrow s came
   pub rows : map.len s.rows < 4096
-  pub serials : s.given + 1 ≢ 2 ^ 29
+  pub some : 0 < length (entries_in came)
 
 -- the dialogue takes messages, and its peer ends it
 pub record CanEnd (s : Shelf) (local : ℕ) (came : Prepared) : Type 0 where
@@ -68,17 +68,19 @@ begin_fits : (s : Shelf) (arrival : Arrival) (incoming : Incoming) → s.is_down
 begin_fits s arrival incoming up None = tt
 begin_fits s arrival incoming up (Some peer) =
     let none = no_place_left None (place_count incoming.entries) in
-    cond_both (too_many incoming || (no_dialogue_left s || none)) (Refuse (Some cause.ResourceLimitation) None) (Open peer) (Allowed s (Message arrival incoming)) (λ _. none_closed s up) (λ e.
+    let lacks = too_many incoming || (no_dialogue_left s || none) in
+    let away : Verdict = Refuse (Some cause.ResourceLimitation) None in
+    cond_both (nat_eq (length incoming.entries) 0) Discard (cond lacks away (Open peer)) (Allowed s (Message arrival incoming)) (λ _. tt) (λ some.
+    cond_both lacks away (Open peer) (Allowed s (Message arrival incoming)) (λ _. none_closed s up) (λ e.
     let a : (too_many incoming ≡ false) × ((no_dialogue_left s || none) ≡ false) = or_parts (too_many incoming) (no_dialogue_left s || none) e in
     let b : (no_dialogue_left s ≡ false) × (none ≡ false) = or_parts (no_dialogue_left s) none a.1 in
-    let c : (nat_le 4096 (map.len s.rows) ≡ false) × ((nat_eq (s.given + 1) (2 ^ 29) || is_full s) ≡ false) = or_parts (nat_le 4096 (map.len s.rows)) (nat_eq (s.given + 1) (2 ^ 29) || is_full s) b.0 in
-    let d : (nat_eq (s.given + 1) (2 ^ 29) ≡ false) × (is_full s ≡ false) = or_parts (nat_eq (s.given + 1) (2 ^ 29)) (is_full s) c.1 in
+    let c : (nat_le 4096 (map.len s.rows) ≡ false) × (is_full s ≡ false) = or_parts (nat_le 4096 (map.len s.rows)) (is_full s) b.0 in
     record {
       up = up;
-      grow = record { few = few_entries arrival incoming a.0; room = leb-false (2 ^ 63) s.entries d.1 };
+      grow = record { few = few_entries arrival incoming a.0; room = leb-false (2 ^ 63) s.entries c.1 };
       rows = leb-false 4096 (map.len s.rows) c.0;
-      serials = eqb-false (s.given + 1) (2 ^ 29) d.0;
-    })
+      some = let other : length incoming.entries ≢ 0 = eqb-false (length incoming.entries) 0 some in omega (arith, other);
+    }))
 
 -- a Continue or an End that is taken
 more_fits : (s : Shelf) (local : ℕ) (arrival : Arrival) (incoming : Incoming) → CanRefuse s (Some local) → (ends : Bool) → (CanGrow s (Message arrival incoming) → Allowed s (Message arrival incoming) (Extend local ends))

@@ -1,5 +1,5 @@
 -- A book on which nothing came yet keeps what a book keeps.
-use Rattle.fp_book.proofs.Names.{IsKept, None, Option, Row, Some, Sound, [], accepted_by, ap, arith, deadline_at, empty_shelf, false, kept_of, length, nat_cmp, no_totals, nothing, of_row, ready_count, refl, sent_by, sent_of, served_by, subst, sum_of, sym, turns_of, ℕ, ◌++◌, ◌<◌, ◌∙◌, ◌≡◌}
+use Rattle.fp_book.proofs.Names.{AllAreSerials, IsKept, None, Option, Row, Some, Sound, [], accepted_by, all_serials, ap, arith, deadline_at, empty_shelf, false, kept_of, length, nat_cmp, no_totals, nothing, of_row, ready_count, refl, sent_by, sent_of, served_by, subst, sum_of, sym, turns_of, ℕ, ◌++◌, ◌<◌, ◌∙◌, ◌≡◌}
 use Rattle.std.specs.FinMap as map
 use Rattle.fp_book.proofs.Changes.{admitted, ready}
 use Rattle.fp_book.proofs.Kept.{leaves}
@@ -15,11 +15,13 @@ sum-empty f = sum-none f map.empty no_row
 no_own : (o : Option Row) (row : Row) → o ≡ None → o ≡ Some row → ⊥
 no_own o row none some = let clash : None ≡ Some row = sym none ∙ some in cc
 
-pub Sound-empty : (link : ℕ) → link < 8 → Sound (empty_shelf link)
-Sound-empty link lt = record {
+pub Sound-empty : AllAreSerials → (link : ℕ) → link < 8 → Sound (empty_shelf link)
+Sound-empty law link lt = record {
   links = lt;
-  serials = omega arith;
-  births = refl;
+  serials = law.0;
+  serial_count = λ _. omega (arith, law.1, map.len-empty nat_cmp Row);
+  births = omega arith;
+  births_apart = λ local other row held was there same. absurd (no_own (map.get map.empty local) row (no_row local) was);
   entries = omega (arith, sum-empty admitted);
   own = λ local row was. absurd (no_own (map.get map.empty local) row (no_row local) was);
   held = omega (arith, map.len-empty nat_cmp Row);
@@ -38,9 +40,9 @@ Sound-empty link lt = record {
 }
 
 -- a book whose parts are empty is such a one
-pub kept-empty : (link : ℕ) → link < 8 → IsKept (record {
+pub kept-empty : AllAreSerials → (link : ℕ) → link < 8 → IsKept (record {
   link = link;
-  ids = record { link = link; given = 0 };
+  ids = record { link = link; queue = all_serials };
   births = 0;
   entries = 0;
   rows = map.empty;
@@ -52,6 +54,6 @@ pub kept-empty : (link : ℕ) → link < 8 → IsKept (record {
   log = [];
   is_down = false;
 })
-kept-empty link lt =
-    (leaves _ no_totals (λ s. s ≡ empty_shelf link) (λ s e. subst Sound (sym e) (Sound-empty link lt)) refl refl (sym (sum-empty turns_of))
+kept-empty law link lt =
+    (leaves _ no_totals (λ s. s ≡ empty_shelf link) (λ s e. subst Sound (sym e) (Sound-empty law link lt)) refl refl (sym (sum-empty turns_of))
     (λ local. map.get-empty nat_cmp local ∙ sym (ap deadline_at (no_row local)))).kept

@@ -1,6 +1,7 @@
 -- What a message does: a new dialogue, one that accepts it, or one that is closed for it, and the answer.
-use Rattle.fp_book.proofs.Names.{AbortCause, Accepted, Accepts, AnsweredBy, Answers, AreTimed, Bool, Closed, ClosesOne, EndsAt, Entry, Extend, Extends, ExtendsAt, Follows, Grows, Inside, IsKept, Left, List, LoggedStep, None, Opens, OpensAt, Option, Outbox, Posted, PostingKeepsSound, Prepared, Refuse, Refuses, Row, Shelf, Some, Tid, Totals, abort_for, and_parts, ap, arith, arrival_of, cond, entries_in, false, gone_with, inl, is_admitted, is_frame_of, is_held, is_over, is_ready, is_some, joins, left_as, length, logged, more_accepted, not, not-true, option_map_or, or_left, posted_line, refl, shelf_of, subst, sum_of, sym, takes_more, true, turns_of, verdict, with_deadline, with_dialogue, without, without_frames_of, ℕ, ◌&&◌, ◌++◌, ◌+◌, ◌∙◌, ◌≡◌}
+use Rattle.fp_book.proofs.Names.{AbortCause, Accepted, Accepts, AnsweredBy, Answers, AreTimed, Bool, Closed, ClosesOne, EndsAt, Entry, Extend, Extends, ExtendsAt, Follows, Grows, Inside, IsKept, Left, List, LocalIds, LoggedStep, None, Opens, OpensAt, Option, Outbox, Posted, PostingKeepsSound, Prepared, Refuse, Refuses, Row, Shelf, Some, Tid, Totals, abort_for, and_parts, ap, arith, arrival_of, cond, entries_in, false, gone_with, inl, is_admitted, is_frame_of, is_held, is_over, is_ready, is_some, joins, left_as, length, logged, more_accepted, not, not-true, option_map_or, or_left, posted_line, refl, shelf_of, subst, sum_of, sym, takes_more, true, turns_of, verdict, with_deadline, with_dialogue, with_returned, without, without_frames_of, ℕ, ◌&&◌, ◌++◌, ◌+◌, ◌∙◌, ◌≡◌}
 use Rattle.std.specs.FinMap as map
+use Rattle.fp_book.proofs.Serials.{freed, linked}
 use Rattle.fp_book.proofs.Sums.{Rows}
 use Rattle.fp_book.proofs.Turns.{admitted_as, held_dialogue}
 use Rattle.fp_book.proofs.Fits.{CanRefuse, Allowed, verdict_allowed}
@@ -13,7 +14,7 @@ extended_by rows local before extended entries taken was admitted is accepts =
     subst (λ b. Accepts b before entries extended) (is ∙ sym (ap (λ o. option_map_or is_admitted o false) was) ∙ admitted) accepts
 
 -- a dialogue that has become ready wasn't
-pub was_idle : (before after : Row) (left : Left) (deadline : Option ℕ) → left ≡ record { is_ready = not (is_ready before) && is_ready after; deadline = deadline } → left.is_ready ≡ true → is_ready before ≡ false
+pub was_idle : (before after : Row) (left : Left) (deadline : Option ℕ) → left ≡ record { birth = after.birth; is_held = is_held after; is_ready = not (is_ready before) && is_ready after; deadline = deadline } → left.is_ready ≡ true → is_ready before ≡ false
 was_idle before after left deadline is joins = not-true (is_ready before) (and_parts (not (is_ready before)) (is_ready after) (sym (ap (λ (x : Left). x.is_ready) is) ∙ joins)).0
 
 -- its turn stays out
@@ -101,10 +102,10 @@ pub record ClosedAs (b m : Inside) (closes : Option ℕ) : Type 0 where
 pub none_closed : (b : Inside) → IsKept b → ClosedAs b b None
 none_closed b k = record { gone = (shelf_of b).gone; closing = refl; aborts = refl; links = k.links; turns = k.turns; timed = k.timed }
 
-pub one_closed : (b : Inside) (local : ℕ) (rows : Rows) (deadlines : Deadlines) (ready : List ℕ) (outbox : Outbox) → IsKept b → EndsAt b.rows local Closed (is_frame_of local b.outbox.out) rows
-    → deadlines ≡ map.remove b.deadlines local → ready ≡ without local b.ready → outbox ≡ without_frames_of local b.outbox
-    → ClosedAs b (record b { rows = rows; deadlines = deadlines; ready = ready; outbox = outbox }) (Some local)
-one_closed b local rows deadlines ready outbox k ends cleared left dropped =
+pub one_closed : (b : Inside) (local : ℕ) (held : Bool) (ids : LocalIds) (rows : Rows) (deadlines : Deadlines) (ready : List ℕ) (outbox : Outbox) → IsKept b → EndsAt b.rows local Closed (is_frame_of local b.outbox.out) held rows
+    → ids ≡ cond held b.ids (with_returned b.ids local) → deadlines ≡ map.remove b.deadlines local → ready ≡ without local b.ready → outbox ≡ without_frames_of local b.outbox
+    → ClosedAs b (record b { ids = ids; rows = rows; deadlines = deadlines; ready = ready; outbox = outbox }) (Some local)
+one_closed b local held ids rows deadlines ready outbox k ends ended cleared left dropped =
     let gone = gone_with (shelf_of b).gone ends.after in
     record {
       gone = gone;
@@ -112,13 +113,13 @@ one_closed b local rows deadlines ready outbox k ends cleared left dropped =
         before = ends.before;
         after = ends.after;
         was = ends.was;
-        ends = ends.does;
-        new_is = same_parts (record (shelf_of b) { gone = gone }) ends.rows left dropped refl;
+        ends = ends.does.0;
+        new_is = same_parts (record (shelf_of b) { gone = gone }) (freed b.ids ids local held ends.after ended ends.does.1) ends.rows left dropped refl;
       };
       aborts = ap (λ (o : Outbox). o.aborts) dropped;
-      links = k.links;
-      turns = turns_by b.turns b.turns ends k.turns (omega (arith, ends.does.out));
-      timed = timed_by b.deadlines deadlines ends k.timed (cleared ∙ ap (with_deadline b.deadlines local) (sym ends.does.deadline));
+      links = linked b.ids ids local held ended ∙ k.links;
+      turns = turns_by b.turns b.turns ends k.turns (omega (arith, ends.does.0.out));
+      timed = timed_by b.deadlines deadlines ends k.timed (cleared ∙ ap (with_deadline b.deadlines local) (sym ends.does.0.deadline));
     }
 
 -- the message is answered

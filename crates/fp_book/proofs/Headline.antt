@@ -44,4 +44,5 @@ kept_in_order law s sound local row there =
       all_entries = λ taken live. ap (λ e. served_of row ++ (e ++ waiting_of row)) (sym entries) ∙ order.whole taken live;
       frames = subst (IsPrefix _) framed (rest, ap (λ (frames : List (List ℕ)). frames ++ rest) kept ∙ take-append-drop row.kept (frames_of row));
       all_frames = λ none. kept ∙ order.all_kept none ∙ framed;
+      frames_born = (sound.own local row there).frames_born;
     }

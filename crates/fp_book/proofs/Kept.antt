@@ -1,5 +1,5 @@
 -- What a book keeps if one of its dialogues changes, and what a call may rely on.
-use Rattle.fp_book.proofs.Names.{AreTimed, Bool, Changes, HasRoom, Inside, IsKept, List, LoggedStep, None, Option, Outbox, Row, Shelf, Some, Sound, Totals, accepted_by, ap, arith, cond, deadline_at, deadline_of, eq-eqb, eqb, eqb-true, false, gone_of, has_clock, has_turn_out, inl, inr, is_admitted, is_ready, is_some, length, nat_cmp, nat_cmp_total, next_due, not, one_if, refl, sent_by, served_by, shelf_of, subst, sum_of, sym, true, turns_of, with_deadline, ℕ, ◌&&◌, ◌+◌, ◌-◌, ◌<◌, ◌^◌, ◌∙◌, ◌≡◌, ◌≤◌}
+use Rattle.fp_book.proofs.Names.{AreTimed, Bool, Changes, HasRoom, Inside, IsKept, List, LoggedStep, None, Option, Outbox, Row, Shelf, Some, Sound, Totals, accepted_by, ap, arith, cond, deadline_at, deadline_of, eq-eqb, eqb, eqb-true, false, gone_of, has_clock, inl, inr, is_admitted, is_ready, is_some, length, nat_cmp, nat_cmp_total, next_due, not, one_if, refl, sent_by, served_by, shelf_of, subst, sum_of, sym, true, turns_of, with_deadline, ℕ, ◌&&◌, ◌+◌, ◌-◌, ◌<◌, ◌^◌, ◌∙◌, ◌≡◌, ◌≤◌}
 use Rattle.std.specs.FinMap as map
 use Rattle.fp_book.proofs.Changes.{by_held, by_local, not_held, one_if_most, ready, turns_left}
 use Rattle.fp_book.proofs.Sums.{OneChanges, Rows, amount, get-inserted, get-removed, inserted, kept, left_of, len-sum, removed, sum-le, sum-zero, sums-le, zero_of}
@@ -30,9 +30,10 @@ leaves b gone Is law is links turns timed =
     record { kept = record { sound = subst Sound same sound; links = links; turns = turns; timed = timed }; is = subst Is same is }
 
 -- two books are alike in their parts
-pub same_parts : (s : Shelf) {rows rows_then : Rows} {ready ready_then : List ℕ} {outbox outbox_then : Outbox} {log log_then : List LoggedStep} → rows ≡ rows_then → ready ≡ ready_then → outbox ≡ outbox_then → log ≡ log_then
-    → record s { rows = rows; ready = ready; outbox = outbox; log = log } ≡ record s { rows = rows_then; ready = ready_then; outbox = outbox_then; log = log_then }
-same_parts s a b c d = rw (a, b, c, d) refl
+pub same_parts : (s : Shelf) {free free_then : List ℕ} {rows rows_then : Rows} {ready ready_then : List ℕ} {outbox outbox_then : Outbox} {log log_then : List LoggedStep} → free ≡ free_then → rows ≡ rows_then → ready ≡ ready_then
+    → outbox ≡ outbox_then → log ≡ log_then
+    → record s { free = free; rows = rows; ready = ready; outbox = outbox; log = log } ≡ record s { free = free_then; rows = rows_then; ready = ready_then; outbox = outbox_then; log = log_then }
+same_parts s e a b c d = rw (e, a, b, c, d) refl
 
 -- deadlines
 

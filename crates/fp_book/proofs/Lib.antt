@@ -1,6 +1,7 @@
 -- the names that all of them use
 mod Names
 mod Accounts
+mod Born
 mod Busy
 pub mod Changes
 pub mod Clocks
@@ -14,9 +15,11 @@ mod Grows
 mod Headline
 pub mod Kept
 pub mod Lines
+mod LowerLaws
 pub mod Posts
 pub mod Queue
 mod Sends
+mod Serials
 pub mod Sums
 pub mod Tells
 mod Ticks

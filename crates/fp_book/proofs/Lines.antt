@@ -1,5 +1,5 @@
 -- What the private functions find is what the first line says that fits; what holds of each message that was read.
-use Rattle.fp_book.proofs.Names.{Abort, AreEntries, AreGiven, Arrival, Begin, Bool, ComponentValue, Contents, Continue, Delivers, Discard, End, Entry, Extend, Fault, IdentifiersAreThoseOfTheMessage, IdsAreOne, Incoming, IsAsRead, IsSome, Kind, List, Lost, Message, MessageValue, None, Open, Option, PeerEnd, Prepared, ReadMessagesHaveFewEntries, Refuse, Refused, Row, SameIds, SevenLinesDecide, Shelf, Some, Tid, Unidirectional, Unknown, Verdict, [], abort, ap, arith, arrival_of, begin, begin_of, cond, continuing, delivered, destination_identifier, element_count, end, entry_at, false, false≢true, first_lines, first_that_fits, is_faulty, is_none, judged, last_lines, length, length-append, lost_of, lt-ltb, ltb-true, message_kind, message_of, more_of, named, nat_eq, nat_le, nat_lt, octets_of, of_row, option_map, option_map_or, or-false, or_assoc, or_comm, originating_identifier, own_tests, place_count, places_taken, refl, refused_of, suc, sum_by-append, sym, takes_a_place, true, unidirectional, unserved, unserved_in, verdict, ℕ, ◌++◌, ◌+◌, ◌<◌, ◌^◌, ◌||◌, ◌∙◌, ◌∷◌, ◌≡◌, ◌≢◌, ◌≤◌}
+use Rattle.fp_book.proofs.Names.{Abort, AreEntries, AreGiven, Arrival, Begin, Bool, ComponentValue, Contents, Continue, Delivers, Discard, End, Entry, Extend, Fault, IdentifiersAreThoseOfTheMessage, IdsAreOne, Incoming, IsAsRead, IsSome, Kind, List, Lost, Message, MessageValue, None, Open, Option, PeerEnd, Prepared, ReadMessagesHaveFewEntries, Refuse, Refused, Row, SameIds, SevenLinesDecide, Shelf, Some, Tid, Unidirectional, Unknown, Verdict, [], abort, ap, arith, arrival_of, begin, begin_of, cond, continuing, delivered, destination_identifier, element_count, end, entry_at, false, false≢true, first_lines, first_that_fits, is_faulty, is_none, judged, last_lines, length, length-append, lost_of, lt-ltb, ltb-true, message_kind, message_of, more_of, named, nat_eq, nat_le, nat_lt, nat_tests, octets_of, of_row, option_map, option_map_or, or-false, or_comm, originating_identifier, own_tests, place_count, places_taken, refl, refused_of, suc, sum_by-append, sym, takes_a_place, true, unidirectional, unserved, unserved_in, verdict, ℕ, ◌++◌, ◌+◌, ◌<◌, ◌^◌, ◌||◌, ◌∙◌, ◌∷◌, ◌≡◌, ◌≢◌, ◌≤◌}
 use Rattle.std.specs.FinMap as map
 use Rattle.fp_q773.specs.declared.provider_abort.AbortCause.TheVariants as cause
 use Rattle.fp_entry.specs.declared.entry.EntryKind.TheVariants.{Opened}
@@ -26,14 +26,14 @@ refused_line s arrival fault others Unidirectional dialogue = refl
 refused_line s arrival fault others kind dialogue = refl
 
 -- if there is one of several reasons it is refused, in whatever order they are looked for
-reasons_of_begin : (elements entries rows serials full places : Bool) (away taken : Verdict)
-    → cond ((elements || entries) || ((rows || (serials || full)) || places)) away taken
-    ≡ cond entries away (cond (elements || (places || (full || (rows || serials)))) away taken)
-reasons_of_begin true true rows serials full places away taken = refl
-reasons_of_begin true false rows serials full places away taken = refl
-reasons_of_begin false true rows serials full places away taken = refl
-reasons_of_begin false false rows serials full places away taken =
-    ap (λ b. cond b away taken) (or_comm (rows || (serials || full)) places ∙ ap (λ b. places || b) (sym (or_assoc rows serials full) ∙ or_comm (rows || serials) full))
+reasons_of_begin : (elements entries rows full places : Bool) (away taken : Verdict)
+    → cond ((elements || entries) || ((rows || full) || places)) away taken
+    ≡ cond entries away (cond (elements || (places || (full || rows))) away taken)
+reasons_of_begin true true rows full places away taken = refl
+reasons_of_begin true false rows full places away taken = refl
+reasons_of_begin false true rows full places away taken = refl
+reasons_of_begin false false rows full places away taken =
+    ap (λ b. cond b away taken) (or_comm (rows || full) places ∙ ap (λ b. places || b) (or_comm rows full))
 
 reasons_of_more : (elements entries places full : Bool) (away taken : Verdict)
     → cond ((elements || entries) || (places || full)) away taken ≡ cond entries away (cond (elements || (places || (full || false))) away taken)
@@ -51,20 +51,21 @@ places_of_all (Some row) entries = sym (sum_by-append (λ (entry : Entry). cond 
 begin_line : (s : Shelf) (incoming : Incoming) (orig : Option Tid)
     → begin_of s orig incoming
     ≡ cond (is_none orig) Discard
+    (cond (nat_eq (length incoming.entries) 0) Discard
     (cond (nat_lt 17 (length incoming.entries)) (Refuse (Some cause.ResourceLimitation) None)
-    (cond (nat_lt 16 incoming.elements || (nat_lt 64 (place_count incoming.entries) || (nat_le (2 ^ 63) s.entries || (nat_le 4096 (map.len s.rows) || nat_eq (s.given + 1) (2 ^ 29)))))
+    (cond (nat_lt 16 incoming.elements || (nat_lt 64 (place_count incoming.entries) || (nat_le (2 ^ 63) s.entries || nat_le 4096 (map.len s.rows))))
     (Refuse (Some cause.ResourceLimitation) None)
-    (option_map_or (λ peer. Open peer) orig Discard)))
+    (option_map_or (λ peer. Open peer) orig Discard))))
 begin_line s incoming None = refl
 begin_line s incoming (Some peer) =
     let many = nat_lt 16 incoming.elements in
     let long = nat_lt 17 (length incoming.entries) in
     let held = nat_le 4096 (map.len s.rows) in
-    let given = nat_eq (s.given + 1) (2 ^ 29) in
     let full = nat_le (2 ^ 63) s.entries in
     let away : Verdict = Refuse (Some cause.ResourceLimitation) None in
-    ap (λ (n : ℕ). cond ((many || long) || ((held || (given || full)) || nat_lt 64 n)) away (Open peer)) (places_of_all None incoming.entries)
-    ∙ reasons_of_begin many long held given full (nat_lt 64 (place_count incoming.entries)) away (Open peer)
+    ap (λ (v : Verdict). cond (nat_eq (length incoming.entries) 0) Discard v)
+    (ap (λ (n : ℕ). cond ((many || long) || ((held || full) || nat_lt 64 n)) away (Open peer)) (places_of_all None incoming.entries)
+    ∙ reasons_of_begin many long held full (nat_lt 64 (place_count incoming.entries)) away (Open peer))
 
 -- what they say of a Continue or an End of an admitted dialogue
 more_line : (s : Shelf) (local : ℕ) (ends : Bool) (incoming : Incoming)
@@ -133,6 +134,10 @@ begin_unasked : (orig : Option Tid) (v : Verdict) → IsSome orig → cond (is_n
 begin_unasked None v there = absurd (false≢true there)
 begin_unasked (Some peer) v there = refl
 
+-- and brings an entry
+not_empty : (n : ℕ) (v : Verdict) → 0 < n → cond (nat_eq n 0) Discard v ≡ v
+not_empty n v some = ap (λ b. cond b Discard v) (let none : nat_eq n 0 ≡ false = grind (arith, nat_tests) in none)
+
 -- the book's own tests decide nothing on a message that was read
 unasked : (s : Shelf) (arrival : Arrival) (incoming : Incoming) → IsAsRead arrival incoming → (kind : Kind) (dialogue : Option ℕ) → arrival.ids.kind ≡ kind
     → first_that_fits (own_tests (Message arrival incoming) kind dialogue ++ last_lines s (Message arrival incoming) kind dialogue)
@@ -140,8 +145,9 @@ unasked : (s : Shelf) (arrival : Arrival) (incoming : Incoming) → IsAsRead arr
 unasked s arrival incoming is Unidirectional dialogue e = refl
 unasked s arrival incoming is Begin dialogue e =
     begin_unasked arrival.ids.orig _ (is.begins e)
+    ∙ not_empty (length incoming.entries) _ (is.begins_some e)
     ∙ covered (nat_lt 17 (length incoming.entries)) (nat_lt 16 incoming.elements)
-    (nat_lt 64 (place_count incoming.entries) || (nat_le (2 ^ 63) s.entries || (nat_le 4096 (map.len s.rows) || nat_eq (s.given + 1) (2 ^ 29))))
+    (nat_lt 64 (place_count incoming.entries) || (nat_le (2 ^ 63) s.entries || nat_le 4096 (map.len s.rows)))
     (Refuse (Some cause.ResourceLimitation) None) (option_map_or (λ peer. Open peer) arrival.ids.orig Discard) (many_by arrival incoming is)
 unasked s arrival incoming is Continue dialogue e =
     covered (nat_lt 17 (length incoming.entries)) (nat_lt 16 incoming.elements)
@@ -211,6 +217,14 @@ abort_one : (contents : Contents) (contexts : List (List ℕ)) (moment : ℕ) (m
 abort_one contents contexts moment (abort destination reason) entries is e = ap length is
 abort_one contents contexts moment message entries is e = absurd (cc)
 
+-- a Begin brings one at least, of what it opens
+begin_some : (contents : Contents) (contexts : List (List ℕ)) (moment : ℕ) (message : MessageValue) (entries : List Entry) → AreEntries contents contexts moment message entries
+    → message_kind message ≡ Begin → 0 < length entries
+begin_some contents contexts moment (begin originating dialogue components) entries is e =
+    let opening = entry_at moment (Opened is.0) ∷ [] in
+    omega (arith, ap length is.2.2 ∙ length-append opening is.2.0)
+begin_some contents contexts moment message entries is e = absurd (cc)
+
 -- no message is of an unknown kind
 kind_known : (message : MessageValue) → message_kind message ≢ Unknown
 kind_known unidirectional e = absurd (cc)
@@ -240,6 +254,7 @@ read_messages of_message one contents contexts octets moment arrival incoming is
     in
     record {
       known = λ e. kind_known message (sym same.kinds ∙ e);
+      begins_some = λ e. begin_some contents contexts moment message incoming.entries came.are_entries (sym same.kinds ∙ e);
       begins = λ e. begin_there message arrival.ids.orig same.originating (sym same.kinds ∙ e);
       aborts = λ e. abort_one contents contexts moment message incoming.entries came.are_entries (sym same.kinds ∙ e);
       few = omega (arith, entries_few contents contexts moment message incoming.entries came.are_entries, came.are_elements);

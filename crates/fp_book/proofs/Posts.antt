@@ -1,5 +1,6 @@
 -- A message that is posted keeps what a book keeps, whatever is done with it.
-use Rattle.fp_book.proofs.Names.{AbortCause, Answers, AsksOnceAtMost, Bool, ClosesOne, Discard, Discards, Extend, Follows, List, LoggedStep, None, Open, Option, Outbox, Posted, Posts, Prepared, Queues, Refuse, Refuses, Shelf, Some, Sound, Tid, Verdict, [], abort_for, ap, arith, arrival_of, cond, false, false≢true, frames_held, le_refl, length, length-append, logged, ltb-true, nat_lt, posted_line, refl, subst, sym, true, verdict, ℕ, ⊎_elim, ◌++◌, ◌+◌, ◌<◌, ◌^◌, ◌∙◌, ◌∷◌, ◌≡◌, ◌≢◌}
+use Rattle.fp_book.proofs.Names.{AbortCause, Answers, Bool, ClosesOne, Discard, Discards, Extend, Follows, List, LoggedStep, None, Open, Option, Outbox, Posted, Posts, Prepared, Queues, Refuse, Refuses, Shelf, Some, Sound, Tid, Verdict, [], abort_for, ap, arith, arrival_of, cond, false, false≢true, frames_held, le_refl, length, length-append, logged, ltb-true, nat_lt, posted_line, refl, subst, sym, true, verdict, ℕ, ⊎_elim, ◌++◌, ◌<◌, ◌∙◌, ◌∷◌, ◌≡◌}
+use Rattle.fp_book.proofs.LowerLaws.{LowerLaws}
 use Rattle.fp_book.proofs.Extends.{Sound-closes, Sound-ends, Sound-extends, Sound-opens}
 use Rattle.fp_book.proofs.Fits.{Allowed, verdict_allowed}
 use Rattle.fp_book.proofs.Sends.{Sound-outbox, WaitsAlike}
@@ -7,13 +8,13 @@ use Rattle.fp_entry.specs.declared.prepared.Prepared.TheVariants as prepared
 
 -- a line is logged, and nothing else changes
 pub Sound-logs : (s : Shelf) (log : List LoggedStep) → Sound s → Sound (record s { log = log })
-Sound-logs s log k = Sound-outbox s s.outbox log k (record { dropped = λ d e. e; unsent = λ d. refl; places = le_refl (frames_held s.outbox); aborts = k.aborts; quiet = k.quiet })
+Sound-logs s log k = Sound-outbox s s.outbox log k (record { dropped = λ d e. e; unsent = λ d. refl; all_unsent = refl; places = le_refl (frames_held s.outbox); aborts = k.aborts; quiet = k.quiet })
 
 Sound-discards : (old new : Shelf) (came : Prepared) (answer : Posted) → Sound old → Discards old came answer new → Sound new
 Sound-discards old new came answer s g = subst Sound (sym g.new_is) (Sound-logs old (logged old.log (posted_line came answer)) s)
 
 -- the dialogue that is closed, if one is, leaves as many Aborts
-closing : AsksOnceAtMost → (old closed : Shelf) (closes : Option ℕ) → Sound old → ClosesOne old closes closed → Sound closed × (closed.outbox.aborts ≡ old.outbox.aborts) × (closed.is_down ≡ old.is_down)
+closing : LowerLaws → (old closed : Shelf) (closes : Option ℕ) → Sound old → ClosesOne old closes closed → Sound closed × (closed.outbox.aborts ≡ old.outbox.aborts) × (closed.is_down ≡ old.is_down)
 closing law old closed None s e = (subst Sound (sym e) s, ap (λ (t : Shelf). t.outbox.aborts) e, ap (λ (t : Shelf). t.is_down) e)
 closing law old closed (Some local) s g = (Sound-closes law old closed local s g, ap (λ (t : Shelf). t.outbox.aborts) g.new_is, ap (λ (t : Shelf). t.is_down) g.new_is)
 
@@ -34,6 +35,7 @@ Sound-queues old new peer cause s up room g =
     record {
       dropped = λ d e. e;
       unsent = λ d. refl;
+      all_unsent = refl;
       places = le_refl (frames_held old.outbox);
       aborts = omega (arith, length-append old.outbox.aborts (g.frame ∷ []));
       quiet = λ e. absurd (false≢true (sym up ∙ e));
@@ -46,7 +48,7 @@ Sound-answers : (old new : Shelf) (closes : Option ℕ) (abort : Option (Tid × 
 Sound-answers old new closes None answer s up room g = subst Sound (sym g.1) s
 Sound-answers old new closes (Some (peer, cause)) answer s up room g = Sound-queues old new peer cause s up (room (peer, cause) refl) g.1
 
-Sound-refuses : AsksOnceAtMost → (old new : Shelf) (cause : Option AbortCause) (closes : Option ℕ) (came : Prepared) (answer : Posted) → Sound old → old.is_down ≡ false
+Sound-refuses : LowerLaws → (old new : Shelf) (cause : Option AbortCause) (closes : Option ℕ) (came : Prepared) (answer : Posted) → Sound old → old.is_down ≡ false
     → Refuses old cause closes came answer new → Sound new
 Sound-refuses law old new cause closes came answer s up g =
     let closed = closing law old g.closed closes s g.closing in
@@ -58,18 +60,15 @@ Sound-refuses law old new cause closes came answer s up g =
     in
     subst Sound (sym g.new_is) (Sound-logs g.answered (logged g.answered.log (posted_line came answer)) answered)
 
-opens_by : (s : Shelf) → Sound s → s.given + 1 ≢ 2 ^ 29 → s.given + 1 < 2 ^ 29
-opens_by s k other = let few : s.given < 2 ^ 29 = k.serials in omega (arith, other)
-
 -- what is done with a message, by its verdict
-Sound-follows : AsksOnceAtMost → (old new : Shelf) (came : Prepared) (answer : Posted) (v : Verdict) → Sound old → Allowed old came v → Follows v old came answer new → Sound new
+Sound-follows : LowerLaws → (old new : Shelf) (came : Prepared) (answer : Posted) (v : Verdict) → Sound old → Allowed old came v → Follows v old came answer new → Sound new
 Sound-follows law old new came answer Discard s fits g = Sound-discards old new came answer s g
 Sound-follows law old new came answer (Refuse cause closes) s fits g = Sound-refuses law old new cause closes came answer s fits.up g
-Sound-follows law old new came answer (Open peer) s fits g = Sound-opens law old new peer came answer s g fits.up fits.grow.room fits.grow.few fits.rows (opens_by old s fits.serials)
+Sound-follows law old new came answer (Open peer) s fits g = Sound-opens law old new peer came answer s g fits.up fits.grow.room fits.grow.few fits.some fits.rows
 Sound-follows law old new came answer (Extend local false) s fits g = Sound-extends law old new local came answer s g fits.room fits.few
 Sound-follows law old new came answer (Extend local true) s fits g = Sound-ends law old new local came answer s g fits.admitted fits.limit
 
-pub Sound-posts : AsksOnceAtMost → (old new : Shelf) (came : Prepared) (answer : Posted) → Sound old → Posts old came answer new → Sound new
+pub Sound-posts : LowerLaws → (old new : Shelf) (came : Prepared) (answer : Posted) → Sound old → Posts old came answer new → Sound new
 Sound-posts law old new came answer s g =
     ⊎_elim
     (λ h. Sound-follows law old new came answer (verdict old came) s (verdict_allowed old came) h)

@@ -1,5 +1,5 @@
 -- What the verdict on a message says of it.
-use Rattle.fp_book.proofs.Names.{Abort, AbortCause, Answers, Begin, Bool, ClosesOne, Continue, Discard, End, Extend, Follows, Ids, Incoming, Kind, Lost, Message, None, Open, Option, Posted, Prepared, Refuse, Refused, Shelf, Some, Tid, Unidirectional, Verdict, abort_for, abort_of, admitted, ap, arrival_of, arrived, begin_of, cond, cond_both, false, inl, inr, is_admitted, is_full, length, logged, lost_of, message_of, more_of, named, nat_lt, no_dialogue_left, no_place_left, number_of, octets_of, option_and_then, option_map_or, place_count, posted_line, refl, refused_of, subst, sym, too_many, true, verdict, ℕ, ⊤, ◌||◌, ◌∙◌, ◌≡◌, ◌⊎◌}
+use Rattle.fp_book.proofs.Names.{Abort, AbortCause, Answers, Begin, Bool, ClosesOne, Continue, Discard, End, Extend, Follows, Ids, Incoming, Kind, Lost, Message, None, Open, Option, Posted, Prepared, Refuse, Refused, Shelf, Some, Tid, Unidirectional, Verdict, abort_for, abort_of, admitted, ap, arrival_of, arrived, begin_of, cond, cond_both, false, inl, inr, is_admitted, is_full, length, logged, lost_of, message_of, more_of, named, nat_eq, nat_lt, no_dialogue_left, no_place_left, number_of, octets_of, option_and_then, option_map_or, place_count, posted_line, refl, refused_of, subst, sym, too_many, true, verdict, ℕ, ⊤, ◌||◌, ◌∙◌, ◌≡◌, ◌⊎◌}
 use Rattle.std.specs.FinMap as map
 use Rattle.fp_book.proofs.Lines.{first_line_decides}
 use Rattle.fp_q773.specs.declared.provider_abort.AbortCause.TheVariants as cause
@@ -31,7 +31,9 @@ refused_tells ids kind dialogue = refl
 begin_tells : (s : Shelf) (ids : Ids) (incoming : Incoming) (orig : Option Tid) (dialogue : Option ℕ) → ids.orig ≡ orig → dialogue ≡ None → TellsOf ids Begin dialogue (begin_of s orig incoming)
 begin_tells s ids incoming None dialogue orig none = tt
 begin_tells s ids incoming (Some peer) dialogue orig none =
-    cond_both (too_many incoming || (no_dialogue_left s || no_place_left None (place_count incoming.entries))) (Refuse (Some cause.ResourceLimitation) None) (Open peer) (TellsOf ids Begin dialogue) (λ _. sym none) (λ _. orig)
+    let lacks = too_many incoming || (no_dialogue_left s || no_place_left None (place_count incoming.entries)) in
+    let away : Verdict = Refuse (Some cause.ResourceLimitation) None in
+    cond_both (nat_eq (length incoming.entries) 0) Discard (cond lacks away (Open peer)) (TellsOf ids Begin dialogue) (λ _. tt) (λ _. cond_both lacks away (Open peer) (TellsOf ids Begin dialogue) (λ _. sym none) (λ _. orig))
 
 more_tells : (s : Shelf) (ids : Ids) (incoming : Incoming) (kind : Kind) (local : ℕ) (ends : Bool) → TellsOf ids kind (Some local) (Extend local ends) → TellsOf ids kind (Some local) (more_of s local ends incoming)
 more_tells s ids incoming kind local ends extends =

@@ -1,9 +1,12 @@
 -- To hand out a turn, and to take it back, keeps what a book keeps.
-use Rattle.fp_book.proofs.Names.{AsksOnceAtMost, Bool, Changes, Closed, Done, Ending, Entry, FramesStay, Given, GivesDone, HandsOut, HandsOutAt, Inside, IsEmptyIfNone, IsKept, IsSame, IsServed, List, LoggedStep, Memory, NoRoom, None, Nothing, Option, PutsTurnBack, Requested, Row, Shelf, Some, Sound, Taken, Takes, TakesTurn, Turn, [], accepted_by, and_left, and_parts, ap, append-nil, append_assoc, arith, component_count, cond, count_by-le-length, eqb, false, false≢true, frame_out, frames_for, frames_in, has_turn_out, is_admitted, is_from_component, is_held, is_over, is_ready, is_some, joins, kept_of, le_refl, length, length-append, length-take-le, logged, min, more_served, most_entries, nat_lt, nat_tests, not, not-true, of_row, one_if, option_to_list, or_left, or_right, places_held, ready_count, refl, request_count, requested_of, sent_of, slice_get, start_of, subst, sum_by-append, sum_of, sym, take, true, turn_out, turns_of, unsent_for, waiting_in, waiting_of, waits, with_dialogue, with_row, ℕ, ◌&&◌, ◌++◌, ◌+◌, ◌-◌, ◌<◌, ◌^◌, ◌∙◌, ◌∷◌, ◌≡◌, ◌≤◌}
+use Rattle.fp_book.proofs.Names.{AreBorn, AsksOnceAtMost, Bool, Changes, Closed, Done, Ending, Entry, FramesStay, Given, GivesDone, HandsOut, HandsOutAt, Inside, IsEmptyIfNone, IsKept, IsSame, IsServed, List, LoggedStep, Memory, NoRoom, None, Nothing, Option, PutsTurnBack, Requested, Row, Shelf, Some, Sound, Taken, Takes, TakesTurn, Turn, [], accepted_by, and_left, and_parts, ap, append-nil, append_assoc, arith, being_sent, component_count, cond, count_by-le-length, eqb, false, false≢true, frame_out, frames_for, frames_in, has_turn_out, is_admitted, is_from_component, is_held, is_over, is_ready, is_some, joins, kept_of, le_refl, length, length-append, length-take-le, logged, min, more_served, most_entries, nat_lt, nat_tests, not, not-true, of_row, one_if, option_to_list, or_left, or_right, places_held, ready_count, refl, request_count, requested_of, sent_of, serial_of, slice_get, start_of, subst, sum_by-append, sum_of, sym, take, true, turn_out, turns_of, unsent_for, unsent_frames, waiting_in, waiting_of, waits, with_dialogue, with_row, ℕ, ◌&&◌, ◌++◌, ◌+◌, ◌-◌, ◌<◌, ◌^◌, ◌∙◌, ◌∷◌, ◌≡◌, ◌≤◌}
+use Rattle.fp_book.proofs.LowerLaws.{LowerLaws}
 use Rattle.std.specs.FinMap as map
-use Rattle.fp_book.proofs.Changes.{CountsChange, OutboxChanges, QueueChanges, Sound-change, admitted, count, count_is, link_stays, one_most, own_after, ready, turns_none}
+use Rattle.fp_book.proofs.Changes.{CountsChange, OutboxChanges, QueueChanges, Sound-change, admitted, count, count_is, link_stays, one_most, own_after, ready, still_apart}
 use Rattle.fp_book.proofs.Queue.{queue_joins, queue_next, count_first}
 use Rattle.fp_book.proofs.Sums.{amount, Rows}
+use Rattle.fp_book.proofs.Born.{asked_other, asked_own, born_append}
+use Rattle.fp_book.proofs.Serials.{held_free, serials_end}
 use Rattle.fp_book.proofs.Unsent.{frames_for-append, requested_count, requested_other, requested_own}
 use Rattle.fp_book.specs.declared.line.LoggedStep.TheVariants as line
 use Rattle.fp_book.specs.declared.taken.Taken.TheVariants.{Turn as ATurn}
@@ -13,7 +16,7 @@ use Rattle.fp_book.proofs.Kept.{amount_within, turns_by}
 
 -- what is held is where it was, and nothing of it is gone
 pub held_dialogue : (s : Shelf) (local : ℕ) (after : Row) → is_held after ≡ true → with_dialogue s local after ≡ record s { rows = map.insert s.rows local after }
-held_dialogue s local after held = ap (λ b. record s { rows = cond b (map.insert s.rows local after) (map.remove s.rows local); gone = cond b s.gone (with_row s.gone after) }) held
+held_dialogue s local after held = ap (λ b. record s { free = cond b s.free (s.free ++ serial_of local ∷ []); rows = cond b (map.insert s.rows local after) (map.remove s.rows local); gone = cond b s.gone (with_row s.gone after) }) held
 
 -- each frame that was sent is that of an entry that was served
 pub few_sent : AsksOnceAtMost → (row : Row) → row.sent ≤ row.served
@@ -61,7 +64,7 @@ pub components_few : (more : List Entry) → component_count more ≤ length mor
 components_few more = count_by-le-length (λ (entry : Entry). is_from_component entry.kind) more
 
 -- what is counted if a dialogue accepts more, or none
-pub counts_of : AsksOnceAtMost → (old new : Shelf) (before after : Row) (more : List Entry) → Sound old → after.accepted ≡ before.accepted ++ more → new.entries ≡ old.entries + length more
+pub counts_of : LowerLaws → (old new : Shelf) (before after : Row) (more : List Entry) → Sound old → after.accepted ≡ before.accepted ++ more → new.entries ≡ old.entries + length more
     → new.totals.accepted ≡ old.totals.accepted + component_count more → new.totals.served + before.served ≡ old.totals.served + after.served → new.totals.sent + before.sent ≡ old.totals.sent + after.sent
     → CountsChange old new (Some before) after
 counts_of law old new before after more s is entries accepted served sent = record {
@@ -70,7 +73,7 @@ counts_of law old new before after more s is entries accepted served sent = reco
   sent = sent;
   all_entries = omega (arith, entries, ap length is ∙ length-append before.accepted more);
   few_accepted = omega (arith, s.few_accepted, accepted, entries, components_few more);
-  few_sent = few_sent law after;
+  few_sent = few_sent law.asks after;
 }
 
 -- what is to be sent stays
@@ -80,13 +83,14 @@ outbox_stays s local before after k was sent kept places = record {
   other_dropped = λ d ne e. e;
   own_frames = ap (λ r. r ++ unsent_for local s.outbox) sent ∙ frames_at s local before k was ∙ sym kept;
   other_frames = λ d ne. refl;
+  others_born = λ d birth ne all. all;
   places = omega (arith, places);
   aborts = k.aborts;
   quiet = k.quiet;
 }
 
 -- a dialogue accepts entries, or none, and its turn goes out, or comes back: all that was served and requested stays
-pub Sound-stays : AsksOnceAtMost → (old : Shelf) (local : ℕ) (before after : Row) (more : List Entry) (entries accepted : ℕ) (queue : List ℕ) (log : List LoggedStep) → Sound old → map.get old.rows local ≡ Some before
+pub Sound-stays : LowerLaws → (old : Shelf) (local : ℕ) (before after : Row) (more : List Entry) (entries accepted : ℕ) (queue : List ℕ) (log : List LoggedStep) → Sound old → map.get old.rows local ≡ Some before
     → IsSame before after → after.accepted ≡ before.accepted ++ more → FramesStay before after → after.ended ≡ before.ended → QueueChanges old.ready queue local (ready before) (ready after)
     → places_held old + turns_of after ≤ turns_of before + 8192 → entries ≡ old.entries + length more → accepted ≡ old.totals.accepted + component_count more → entries + sum_of admitted old.rows ≤ 2 ^ 63 + 8192
     → Sound (record (with_dialogue old local after) { entries = entries; ready = queue; totals = record old.totals { accepted = accepted }; log = log })
@@ -97,10 +101,12 @@ Sound-stays law old l before after more entries accepted queue log s was same is
       was = was;
       rows = refl;
       gone = refl;
-      link = link_stays old then s refl refl refl refl;
+      link = link_stays old then s refl refl (omega (arith, entries_are)) refl;
+      serials = serials_end law old l before after s was;
+      apart = still_apart old l before after s was same.birth;
       entries = omega (arith, limit, ap one_if (admitted_as before after ended stay.core));
       room = omega (arith, s.held);
-      own = own_after old then l before after own same refl (le_refl old.given) (le_refl old.births) (λ e. own.dropped (ap is_some (sym ended) ∙ e)) (λ e. ended ∙ own.closed e);
+      own = own_after old then l before after own same refl (held_free old.free l after) (le_refl old.births) own.frames_born (λ e. own.dropped (ap is_some (sym ended) ∙ e)) (λ e. ended ∙ own.closed e);
       queue = queued;
       outbox = outbox_stays old l (Some before) after s was stay.sent_frames stay.kept_frames places;
       counts = counts_of law old then before after more s is entries_are accepted_is (omega (arith, stay.served)) (omega (arith, stay.sent));
@@ -117,17 +123,17 @@ some_out n some = grind (arith, nat_tests)
 pub taken_out : (free : ℕ) (before : Row) (turn : Turn) (after : Row) → HandsOut free before turn after → has_turn_out after ≡ true
 taken_out free before turn after takes = some_out after.out (omega (arith, takes.out, takes.some))
 
-pub Sound-takes : AsksOnceAtMost → (old new : Shelf) (turn : Turn) → Sound old → TakesTurn old turn new → Sound new
+pub Sound-takes : LowerLaws → (old new : Shelf) (turn : Turn) → Sound old → TakesTurn old turn new → Sound new
 Sound-takes law old new turn s g =
     let l = turn.local in
-    let log = logged old.log (line.Take l turn.position (length turn.entries)) in
+    let log = logged old.log (line.Take g.before.birth turn.position (length turn.entries)) in
     subst Sound (ap (λ (t : Shelf). record t { ready = g.rest; log = log }) (held_dialogue old l g.after (held_out g.after (taken_out (8192 - places_held old) g.before turn g.after g.takes))) ∙ sym g.new_is)
     (Sound-stays law old l g.before g.after [] old.entries old.totals.accepted g.rest log s g.was g.takes.same (g.takes.accepted ∙ sym (append-nil g.before.accepted)) g.takes.stay g.takes.ended
     (queue_next old.ready g.rest l (ready g.before) (ready g.after) g.first (ready_at old l (Some g.before) s g.was) (ap one_if g.takes.was_ready) (ap one_if (not_ready_out g.after (taken_out (8192 - places_held old) g.before turn g.after g.takes))))
     (omega (arith, g.room, g.takes.out, g.takes.count, min_most most_entries (length (waiting_of g.before)) (8192 - places_held old))) (omega arith) (omega arith) s.entries)
 
 -- a turn is handed out, or none
-pub Sound-takes_one : AsksOnceAtMost → (old new : Shelf) (taken : Taken) → Sound old → Takes old taken new → Sound new
+pub Sound-takes_one : LowerLaws → (old new : Shelf) (taken : Taken) → Sound old → Takes old taken new → Sound new
 Sound-takes_one law old new (ATurn turn) s g = Sound-takes law old new turn s g
 Sound-takes_one law old new Nothing s g = subst Sound (sym g.1) s
 Sound-takes_one law old new NoRoom s g = subst Sound (sym g.2) s
@@ -155,12 +161,12 @@ is_out row turn e =
 pub not_queued : (s : Shelf) (local : ℕ) (row : Row) → Sound s → map.get s.rows local ≡ Some row → has_turn_out row ≡ true → count local s.ready ≡ 0
 not_queued s local row k was out = ready_at s local (Some row) k was ∙ ap one_if (not_ready_out row out)
 
-pub Sound-puts_back : AsksOnceAtMost → (old new : Shelf) (turn : Turn) → Sound old → PutsTurnBack old turn new → Sound new
+pub Sound-puts_back : LowerLaws → (old new : Shelf) (turn : Turn) → Sound old → PutsTurnBack old turn new → Sound new
 Sound-puts_back law old new turn s g =
     let l = turn.local in
     let out = is_out g.before turn g.puts.was_out in
     subst Sound (sym g.new_is)
-    (Sound-stays law old l g.before g.after [] old.entries old.totals.accepted (old.ready ++ joins l (is_ready g.after)) (logged old.log (line.PutBack l turn.position)) s g.was g.puts.same
+    (Sound-stays law old l g.before g.after [] old.entries old.totals.accepted (old.ready ++ joins l (is_ready g.after)) (logged old.log (line.PutBack g.before.birth turn.position)) s g.was g.puts.same
     (g.puts.accepted ∙ sym (append-nil g.before.accepted)) g.puts.stay g.puts.ended
     (queue_joins old.ready l (is_ready g.after) (ready g.before) (ready g.after) (ready_at old l (Some g.before) s g.was) (omega (arith, ap one_if (not_ready_out g.before out.is_out))))
     (omega (arith, s.places, g.puts.out)) (omega arith) (omega arith) s.entries)
@@ -183,32 +189,36 @@ fewer_admitted before after ended live =
     let was : admitted before ≡ one_if (not (is_some before.ended) && true) = ap (λ b. one_if (not (is_some before.ended) && not b)) live in
     omega (arith, then, was, fewer_by (not (is_some before.ended)) (not (is_over after.core)))
 
-pub Sound-gives : AsksOnceAtMost → (old new : Shelf) (done : Done) (given : Given) → Sound old → GivesDone old done given new → Sound new
+pub Sound-gives : LowerLaws → (old new : Shelf) (done : Done) (given : Given) → Sound old → GivesDone old done given new → Sound new
 Sound-gives law old new done given s g =
     let l = done.turn.local in
     let own = s.own l g.before g.was in
     let out = is_out g.before done.turn g.gives.was_out in
     let joined = is_ready g.after in
-    let more = waiting_in l g.asked in
+    let more = waiting_in l g.before.birth g.asked in
     let then : Shelf = record (with_dialogue old l g.after) {
       ready = old.ready ++ joins l joined;
       outbox = record old.outbox { frames = old.outbox.frames ++ more };
       totals = more_served old.totals done.served;
-      log = logged old.log (line.Give l done.turn.position done.served given);
+      log = logged old.log (line.Give g.before.birth done.turn.position done.served given);
     } in
     let frames_then : frames_for l (old.outbox.frames ++ more) ≡ frames_for l old.outbox.frames ++ frames_in g.asked =
-    frames_for-append l old.outbox.frames more ∙ ap (λ r. frames_for l old.outbox.frames ++ r) (requested_own l g.asked) in
+    frames_for-append l old.outbox.frames more ∙ ap (λ r. frames_for l old.outbox.frames ++ r) (requested_own l g.before.birth g.asked) in
     let others_then : (d : ℕ) → eqb d l ≡ false → frames_for d (old.outbox.frames ++ more) ≡ frames_for d old.outbox.frames =
-    λ d ne. frames_for-append d old.outbox.frames more ∙ ap (λ r. frames_for d old.outbox.frames ++ r) (requested_other d l g.asked ne) ∙ append-nil _ in
+    λ d ne. frames_for-append d old.outbox.frames more ∙ ap (λ r. frames_for d old.outbox.frames ++ r) (requested_other d l g.before.birth g.asked ne) ∙ append-nil _ in
     let first_out = frame_out l old.outbox.out in
+    let all_then : unsent_frames old.outbox ++ more ≡ unsent_frames then.outbox = append_assoc (being_sent old.outbox.out) old.outbox.frames more in
     subst Sound (sym g.new_is) (Sound-change old then l (Some g.before) g.after s (record {
       was = g.was;
       rows = refl;
       gone = refl;
-      link = link_stays old then s refl refl refl refl;
+      link = link_stays old then s refl refl (le_refl old.entries) refl;
+      serials = serials_end law old l g.before g.after s g.was;
+      apart = still_apart old l g.before g.after s g.was g.gives.same.birth;
       entries = omega (arith, s.entries, fewer_admitted g.before g.after g.gives.ended out.live);
       room = omega (arith, s.held);
-      own = own_after old then l g.before g.after own g.gives.same refl (le_refl old.given) (le_refl old.births)
+      own = own_after old then l g.before g.after own g.gives.same refl (held_free old.free l g.after) (le_refl old.births)
+          (subst (AreBorn l g.before.birth) all_then (born_append l g.before.birth (unsent_frames old.outbox) more own.frames_born (asked_own l g.before.birth g.asked)))
           (λ e.
           let was : is_some g.before.ended ≡ true = ap is_some (sym g.gives.ended) ∙ e in
           frames_then ∙ ap (λ r. r ++ frames_in g.asked) (own.dropped was) ∙ ap frames_in g.gives.requested_is ∙ none_asked (λ r. frames_in r ≡ []) refl (λ count. refl) g.before.ended done.frames was)
@@ -223,12 +233,13 @@ Sound-gives law old new done given s g =
             ∙ sym (append_assoc (sent_of g.before) (unsent_for l old.outbox) (frames_in g.asked))
             ∙ ap (λ r. r ++ frames_in g.asked) (frames_at old l (Some g.before) s g.was) ∙ sym g.gives.kept_frames;
         other_frames = λ d ne. ap (λ r. frame_out d old.outbox.out ++ r) (others_then d ne);
-        places = omega (arith, s.places, g.gives.out, length-append old.outbox.frames more, requested_count l g.asked, g.gives.few_frames);
+        others_born = λ d birth ne all. subst (AreBorn d birth) all_then (born_append d birth (unsent_frames old.outbox) more all (asked_other d l birth g.before.birth g.asked ne));
+        places = omega (arith, s.places, g.gives.out, length-append old.outbox.frames more, requested_count l g.before.birth g.asked, g.gives.few_frames);
         aborts = s.aborts;
         quiet = λ e.
             let closed : g.before.ended ≡ Some Closed = own.closed e in (
               (s.quiet e).0,
-              ap (λ r. r ++ more) (s.quiet e).1 ∙ ap (waiting_in l) g.gives.requested_is ∙ none_asked (λ r. waiting_in l r ≡ []) refl (λ count. refl) g.before.ended done.frames (ap is_some closed),
+              ap (λ r. r ++ more) (s.quiet e).1 ∙ ap (waiting_in l g.before.birth) g.gives.requested_is ∙ none_asked (λ r. waiting_in l g.before.birth r ≡ []) refl (λ count. refl) g.before.ended done.frames (ap is_some closed),
             );
       };
       counts = counts_of law old then g.before g.after [] s (g.gives.accepted ∙ sym (append-nil g.before.accepted)) (omega arith) (omega arith) (omega (arith, g.gives.served)) (omega (arith, g.gives.sent));

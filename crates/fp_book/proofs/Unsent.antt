@@ -14,32 +14,32 @@ pub first_other : (d : ℕ) (w : Waiting) (ws : List Waiting) → eqb d w.local 
 first_other d w ws ne = ap (λ b. cond b (w.frame ∷ []) [] ++ frames_for d ws) (eqb_swap d w.local ne)
 
 -- frames of a dialogue are all of it
-abbrev pub waiting_as : ℕ → List ℕ → Waiting
-waiting_as local frame = record { local = local; frame = frame }
+abbrev pub waiting_as : ℕ → ℕ → List ℕ → Waiting
+waiting_as local birth frame = record { local = local; birth = birth; frame = frame }
 
-all_own : (d : ℕ) (frames : List (List ℕ)) → frames_for d (waiting_frames d frames) ≡ frames
-all_own d [] = refl
-all_own d (frame ∷ frames) = first_own d (waiting_as d frame) (waiting_frames d frames) refl ∙ ap (λ r. frame ∷ r) (all_own d frames)
+all_own : (d birth : ℕ) (frames : List (List ℕ)) → frames_for d (waiting_frames d birth frames) ≡ frames
+all_own d birth [] = refl
+all_own d birth (frame ∷ frames) = first_own d (waiting_as d birth frame) (waiting_frames d birth frames) refl ∙ ap (λ r. frame ∷ r) (all_own d birth frames)
 
-all_other : (d l : ℕ) (frames : List (List ℕ)) → eqb d l ≡ false → frames_for d (waiting_frames l frames) ≡ []
-all_other d l [] ne = refl
-all_other d l (frame ∷ frames) ne = first_other d (waiting_as l frame) (waiting_frames l frames) ne ∙ all_other d l frames ne
+all_other : (d l birth : ℕ) (frames : List (List ℕ)) → eqb d l ≡ false → frames_for d (waiting_frames l birth frames) ≡ []
+all_other d l birth [] ne = refl
+all_other d l birth (frame ∷ frames) ne = first_other d (waiting_as l birth frame) (waiting_frames l birth frames) ne ∙ all_other d l birth frames ne
 
 -- what a turn requests
-pub requested_own : (d : ℕ) (asked : Requested) → frames_for d (waiting_in d asked) ≡ frames_in asked
-requested_own d requested.Nothing = refl
-requested_own d (requested.Frames frames) = all_own d frames
-requested_own d (requested.Dropped count) = refl
+pub requested_own : (d birth : ℕ) (asked : Requested) → frames_for d (waiting_in d birth asked) ≡ frames_in asked
+requested_own d birth requested.Nothing = refl
+requested_own d birth (requested.Frames frames) = all_own d birth frames
+requested_own d birth (requested.Dropped count) = refl
 
-pub requested_other : (d l : ℕ) (asked : Requested) → eqb d l ≡ false → frames_for d (waiting_in l asked) ≡ []
-requested_other d l requested.Nothing ne = refl
-requested_other d l (requested.Frames frames) ne = all_other d l frames ne
-requested_other d l (requested.Dropped count) ne = refl
+pub requested_other : (d l birth : ℕ) (asked : Requested) → eqb d l ≡ false → frames_for d (waiting_in l birth asked) ≡ []
+requested_other d l birth requested.Nothing ne = refl
+requested_other d l birth (requested.Frames frames) ne = all_other d l birth frames ne
+requested_other d l birth (requested.Dropped count) ne = refl
 
-pub requested_count : (l : ℕ) (asked : Requested) → length (waiting_in l asked) ≡ length (frames_in asked)
-requested_count l requested.Nothing = refl
-requested_count l (requested.Frames frames) = length-map frames (waiting_as l)
-requested_count l (requested.Dropped count) = refl
+pub requested_count : (l birth : ℕ) (asked : Requested) → length (waiting_in l birth asked) ≡ length (frames_in asked)
+requested_count l birth requested.Nothing = refl
+requested_count l birth (requested.Frames frames) = length-map frames (waiting_as l birth)
+requested_count l birth (requested.Dropped count) = refl
 
 -- what is left once the frames of a dialogue are dropped
 abbrev pub others : ℕ → List Waiting → List Waiting

@@ -24,7 +24,7 @@ pub use Rattle.fp_book.specs.Lines.{entries_in}
 use Rattle.fp_book.specs.Lines.{is_full, verdict}
 use Rattle.fp_book.specs.Log.{Drains, logged}
 use Rattle.fp_book.specs.Outbox.{Outbox, IsNext, nothing, waiting_frames, with_nothing_out, without_frames_of}
-use Rattle.fp_book.specs.Parcel.{local_of}
+use Rattle.fp_book.specs.Parcel.{birth_of}
 use Rattle.fp_book.specs.Shelf.{Shelf, places_held, with_dialogue}
 use Rattle.fp_book.specs.Sending.{is_frame_of}
 use Rattle.fp_book.specs.Totals.{accepted_by, sent_by, served_by, sum_of}
@@ -87,7 +87,7 @@ pub record TakesTurn (old : Shelf) (turn : Turn) (new : Shelf) : Type 0 where
   pub new_is : new ≡ record old {
     rows = insert old.rows turn.local after;
     ready = rest;
-    log = logged old.log (line.Take turn.local turn.position (length turn.entries));
+    log = logged old.log (line.Take before.birth turn.position (length turn.entries));
   }
 
 abbrev pub Takes : Shelf → Taken → Shelf → Type 0
@@ -110,10 +110,10 @@ given_of requested.Nothing = Silent
 given_of (requested.Frames frames) = Queued (length frames)
 given_of (requested.Dropped count) = Dropped count
 
-abbrev pub waiting_in : ℕ → Requested → List Waiting
-waiting_in local requested.Nothing = []
-waiting_in local (requested.Frames frames) = waiting_frames local frames
-waiting_in local (requested.Dropped count) = []
+abbrev pub waiting_in : ℕ → ℕ → Requested → List Waiting
+waiting_in local birth requested.Nothing = []
+waiting_in local birth (requested.Frames frames) = waiting_frames local birth frames
+waiting_in local birth (requested.Dropped count) = []
 
 pub record GivesDone (old : Shelf) (done : Done) (given : Given) (new : Shelf) : Type 0 where
   pub before : Row
@@ -124,9 +124,11 @@ pub record GivesDone (old : Shelf) (done : Done) (given : Given) (new : Shelf) :
   pub given_is : given ≡ given_of asked
   pub new_is : new ≡ record (with_dialogue old done.turn.local after) {
     ready = old.ready ++ joins done.turn.local (is_ready after);
-    outbox = record old.outbox { frames = old.outbox.frames ++ waiting_in done.turn.local asked };
+    outbox = record old.outbox {
+      frames = old.outbox.frames ++ waiting_in done.turn.local before.birth asked;
+    };
     totals = more_served old.totals done.served;
-    log = logged old.log (line.Give done.turn.local done.turn.position done.served given);
+    log = logged old.log (line.Give before.birth done.turn.position done.served given);
   }
 
 -- the turn of a dialogue that is out
@@ -143,7 +145,7 @@ pub record PutsTurnBack (old : Shelf) (turn : Turn) (new : Shelf) : Type 0 where
   pub puts : PutsBack before turn after
   pub new_is : new ≡ record (with_dialogue old turn.local after) {
     ready = old.ready ++ joins turn.local (is_ready after);
-    log = logged old.log (line.PutBack turn.local turn.position);
+    log = logged old.log (line.PutBack before.birth turn.position);
   }
 
 -- PICK: what is sent next is handed out
@@ -154,7 +156,7 @@ pub record PicksParcel (old : Shelf) (picked : Content) (new : Shelf) : Type 0 w
   pub next : IsNext old.outbox picked rest
   pub new_is : new ≡ record old {
     outbox = record { aborts = rest.aborts; frames = rest.frames; out = Some picked };
-    log = logged old.log (line.Pick (local_of picked));
+    log = logged old.log (line.Pick (birth_of picked));
   }
 
 -- what a pick hands out
@@ -180,7 +182,7 @@ pub record SendsFrame (old : Shelf) (w : Waiting) (new : Shelf) : Type 0 where
   pub new_is : new ≡ record (with_dialogue old w.local after) {
     outbox = with_nothing_out old.outbox;
     totals = one_sent old.totals;
-    log = logged old.log (line.Sent w.local);
+    log = logged old.log (line.Sent w.birth);
   }
 
 pub record SendsAbort (old : Shelf) (frame : AbortFrame) (new : Shelf) : Type 0 where
@@ -203,7 +205,8 @@ abbrev pub ClosesAt : Bool → Option Row → Option Row → Type 0
 ClosesAt sending None left = left ≡ None
 ClosesAt sending (Some row) left = Closes sending row left
 
--- all of them; `out` is what is still being sent
+-- all of them; `out` is what is still being sent. Going down ends no serial; a dialogue that goes afterwards does;
+-- nobody sees it, since no Begin is accepted any more.
 pub record GoesDown (out : Option Content) (old : Shelf) (step : LoggedStep) (new : Shelf) : Type 0 where
   pub rows : (local : ℕ) → ClosesAt (is_frame_of local out) (get old.rows local) (get new.rows local)
   -- what was counted of the dialogues that are no longer held is kept
@@ -221,7 +224,7 @@ pub record GoesDown (out : Option Content) (old : Shelf) (step : LoggedStep) (ne
 
 pub record Unsends (old : Shelf) (parcel : Parcel) (new : Shelf) : Type 0 where
   pub was_out : old.outbox.out ≡ Some parcel.content
-  pub down : GoesDown None old (line.Unsent (local_of parcel.content)) new
+  pub down : GoesDown None old (line.Unsent (birth_of parcel.content)) new
 
 -- TICK: each dialogue that is due is given a Clock
 
@@ -278,23 +281,30 @@ pub record Ticks (old : Shelf) (moment added wanting : ℕ) (new : Shelf) : Type
 
 -- a step of a message is logged with its answer
 abbrev pub posted_line : Prepared → Posted → LoggedStep
-posted_line (prepared.Message arrival incoming) answer = line.Post arrival.moment arrival.frame answer
-posted_line (prepared.Refused arrival fault) answer = line.Post arrival.moment arrival.frame answer
+posted_line (prepared.Message arrival incoming) answer =
+    line.Post arrival.table arrival.moment arrival.frame answer
+posted_line (prepared.Refused arrival fault) answer =
+    line.Post arrival.table arrival.moment arrival.frame answer
 posted_line (prepared.Lost arrival) answer = line.Lost arrival.moment arrival.frame answer
 
 -- a dialogue is opened
 pub record OpensDialogue (old : Shelf) (peer : Tid) (came : Prepared) (answer : Posted) (new : Shelf) : Type 0 where
+  pub serial : ℕ
+  pub rest : List ℕ
   pub opened : Row
   pub after : Row
-  pub opens : Opens (identifier old.link (old.given + 1)) peer (old.births + 1) (arrival_of came).moment opened
+  -- the next serial is given
+  pub first : old.free ≡ serial ∷ rest
+  pub opens : Opens (identifier old.link serial) peer (old.births + 1)
+      (arrival_of came).moment opened
   pub extends : Extends opened (entries_in came) after
-  pub answer_is : answer ≡ Opened (identifier old.link (old.given + 1))
+  pub answer_is : answer ≡ Opened (identifier old.link serial)
   pub new_is : new ≡ record old {
-    given = old.given + 1;
+    free = rest;
     births = old.births + 1;
     entries = old.entries + length (entries_in came);
-    rows = insert old.rows (identifier old.link (old.given + 1)) after;
-    ready = old.ready ++ joins (identifier old.link (old.given + 1)) (is_ready after);
+    rows = insert old.rows (identifier old.link serial) after;
+    ready = old.ready ++ joins (identifier old.link serial) (is_ready after);
     totals = more_accepted old.totals (entries_in came);
     log = logged old.log (posted_line came answer);
   }

@@ -27,14 +27,19 @@ use Rattle.fp_row.specs.declared.requested.Requested.TheVariants as requested
 use Rattle.fp_row.specs.declared.row.Row.{Row}
 use Rattle.fp_row.specs.declared.turn.Turn.{Turn}
 use Rattle.fp_row.specs.Calls.{Ends, Extends, Gives, HandsOut, Opens, PutsBack, SendsOne, sending}
-use Rattle.fp_row.specs.Row.{deadline_of, is_admitted, is_due, is_ready}
+use Rattle.fp_row.specs.Row.{deadline_of, is_admitted, is_due, is_held, is_ready}
 
 abbrev pub Rows : Type 0
 Rows = FinMap nat_cmp Row
 
 -- what the other parts of a book need of a dialogue that changed
 abbrev pub left_as : Row → Left
-left_as row = record { is_ready = is_ready row; deadline = deadline_of row }
+left_as row = record {
+  birth = row.birth;
+  is_held = is_held row;
+  is_ready = is_ready row;
+  deadline = deadline_of row;
+}
 
 -- a deadline is set, or taken away
 abbrev pub with_deadline : FinMap nat_cmp ℕ → ℕ → Option ℕ → FinMap nat_cmp ℕ
@@ -63,22 +68,26 @@ request_count requested.Nothing = 0
 request_count (requested.Frames frames) = length frames
 request_count (requested.Dropped count) = count
 
--- it takes it back, not served, and is ready then or not
-abbrev pub PutsBackAt : Rows → Turn → Bool → Rows → Type 0
-PutsBackAt old turn joins new = Changes (λ before after. PutsBack before turn after × (joins ≡ is_ready after)) old turn.local new
+-- it takes it back, not served
+abbrev pub PutsBackAt : Rows → Turn → Left → Rows → Type 0
+PutsBackAt old turn left new =
+    Changes (λ before after. PutsBack before turn after × (left ≡ left_as after)) old turn.local new
 
 -- whether a frame of the dialogue is kept that wasn't sent
 abbrev pub is_unsent : Option Row → Bool
 is_unsent None = false
 is_unsent (Some row) = nat_lt row.sent row.kept
 
--- one more of its frames was sent
-abbrev pub SendsAt : Rows → ℕ → Rows → Type 0
-SendsAt old local new = Changes SendsOne old local new
+-- one more of its frames was sent, and something of it is left or not
+abbrev pub SendsAt : Rows → ℕ → Bool → Rows → Type 0
+SendsAt old local held new =
+    Changes (λ before after. SendsOne before after × (held ≡ is_held after)) old local new
 
--- it is ended from outside
-abbrev pub EndsAt : Rows → ℕ → Ending → Bool → Rows → Type 0
-EndsAt old local ending is_sending new = Changes (Ends ending is_sending) old local new
+-- it is ended from outside, and something of it is left or not
+abbrev pub EndsAt : Rows → ℕ → Ending → Bool → Bool → Rows → Type 0
+EndsAt old local ending is_sending held new =
+    Changes (λ before after. Ends ending is_sending before after × (held ≡ is_held after))
+    old local new
 
 -- whether a dialogue that is ended drops frames that wait: those that are kept and weren't sent, but the one that is
 -- being sent
@@ -86,8 +95,9 @@ abbrev pub drops_frames : Row → Bool → Bool
 drops_frames row is_sending = nat_lt (min row.kept (row.sent + sending is_sending)) row.kept
 
 -- what of it is to be dropped
-abbrev pub dropped_of : Row → Bool → Dropped
-dropped_of row is_sending = record { was_ready = is_ready row; frames = drops_frames row is_sending }
+pub record Drops (row : Row) (is_sending : Bool) (dropped : Dropped) : Type 0 where
+  pub was_ready : dropped.was_ready ≡ is_ready row
+  pub frames : dropped.frames ≡ drops_frames row is_sending
 
 -- whether there is a dialogue that takes messages
 abbrev pub takes_more : Option Row → Bool
@@ -100,7 +110,12 @@ Grows entries true is_sending before after = (extended : Row) × Extends before 
 
 abbrev pub ExtendsAt : Rows → ℕ → List Entry → Bool → Bool → Left → Rows → Type 0
 ExtendsAt old local entries ends is_sending left new =
-    Changes (λ before after. Grows entries ends is_sending before after × (left ≡ record { is_ready = not (is_ready before) && is_ready after; deadline = deadline_of after })) old local new
+    Changes (λ before after. Grows entries ends is_sending before after × (left ≡ record {
+      birth = after.birth;
+      is_held = is_held after;
+      is_ready = not (is_ready before) && is_ready after;
+      deadline = deadline_of after;
+    })) old local new
 
 -- a dialogue is opened with these entries
 pub record OpensAt (old : Rows) (local : ℕ) (peer : Tid) (birth moment : ℕ) (entries : List Entry) (left : Left) (new : Rows) : Type 0 where

@@ -1,6 +1,6 @@
 -- When a message is held back: to post it now would get it refused, or leave what it brings unserved, for a cause that
 -- goes away as turns are served and frames are sent. And when a link is quiet: nothing is left to be served or sent.
-use Rattle.std.specs.Prelude.{◌≡◌, ℕ, ◌+◌, ◌^◌, ◌&&◌, ◌||◌, not, Bool, true, false, Some, is_some, length, nat_eq, nat_le, nat_lt}
+use Rattle.std.specs.Prelude.{◌≡◌, ℕ, ◌&&◌, ◌||◌, not, Bool, true, false, Some, is_some, length, nat_le, nat_lt}
 use Rattle.std.specs.FinMap.{get}
 use Rattle.fp_book.specs.declared.verdict.Verdict.{Verdict}
 use Rattle.fp_book.specs.declared.verdict.Verdict.TheVariants.{Extend, Open, Refuse}
@@ -51,11 +51,9 @@ lacks_only_room s (Message arrival incoming) = not (too_many incoming) && not (i
 lacks_only_room s came = false
 
 -- there will be room for it: among the 64 entries of its dialogue once some of these are served; among the 4,096
--- dialogues if one of them is busy, since it may go then, and a serial is left
+-- dialogues if one of them is busy, since it may go then
 abbrev pub gets_room : Shelf → Prepared → Bool
-gets_room s came =
-    not (is_begin (arrival_of came).ids.kind)
-    || (not (nat_eq (s.given + 1) (2 ^ 29)) && nat_lt 0 (busy_count s))
+gets_room s came = not (is_begin (arrival_of came).ids.kind) || nat_lt 0 (busy_count s)
 
 -- the message is held back. (Not if memory runs out at its post: it is posted, and its Abort may find no place.)
 abbrev pub holds_back : Shelf → Prepared → Bool

@@ -1,5 +1,5 @@
 -- What holds of all logs, what the calls of a book keep, and what that says of each dialogue.
-use Rattle.std.specs.Prelude.{◌≡◌, ℕ, ◌+◌, ◌<◌, List, [], ◌∷◌, ◌++◌, length, filter, map, nat_lt, Bool, true, false, not, is_some, IsSome, option_map, option_to_list, unwrap_or, Option, None, Some, if◌then◌else◌}
+use Rattle.std.specs.Prelude.{◌≡◌, ℕ, ◌+◌, ◌<◌, List, [], ◌∷◌, ◌++◌, length, filter, nat_lt, take, Bool, true, false, not, is_some, IsSome, unwrap_or, Option, None, Some, if◌then◌else◌}
 use Rattle.std.specs.FinMap.{get}
 use mathlib.Core.List.{IsPrefix}
 use Rattle.fp_book.specs.declared.line.LoggedStep.{LoggedStep}
@@ -11,18 +11,18 @@ use Rattle.fp_book.specs.declared.parcel.Content.{Content}
 use Rattle.fp_book.specs.declared.parcel.Parcel.{Parcel}
 use Rattle.fp_book.specs.declared.taken.Taken.{Taken}
 use Rattle.fp_book.specs.Calls.{GivesDone, GoesDown, PicksParcel, Posts, PutsTurnBack, Sends, Takes, Ticks, Unsends}
-use Rattle.fp_book.specs.Shelf.{Shelf, Sound, frame_out, frames_for}
+use Rattle.fp_book.specs.Outbox.{unsent_frames}
+use Rattle.fp_book.specs.Shelf.{AreBorn, Shelf, Sound, frame_out, frames_for}
 use Rattle.fp_entry.specs.declared.entry.Entry.{Entry}
 use Rattle.fp_entry.specs.declared.prepared.Prepared.{Prepared}
-use Rattle.fp_q773.specs.Tid.{Tid, octets_of}
 use Rattle.fp_row.specs.declared.done.Done.{Done}
 use Rattle.fp_row.specs.declared.row.Row.{Row}
 use Rattle.fp_row.specs.declared.turn.Turn.{Turn}
 pub use Rattle.fp_row.specs.Turn.{frames_under}
 use Rattle.fp_row.specs.Row.{is_closed, sent_of, served_of, start_of, turn_out, waiting_of, has_turn_out}
-use Rattle.fp_service.specs.declared.request.Request.{Request}
 use Rattle.fp_service.specs.Dialogue.{is_over}
 use Rattle.fp_service.specs.Fold.{core_after, cut, requests}
+use Rattle.fp_tids.specs.Identifiers.{is_free, serial_of}
 
 -- how many steps a log accounts for: each that it has, and as many as its gaps count
 abbrev pub accounted : List LoggedStep → ℕ
@@ -109,6 +109,8 @@ pub record IsKeptInOrder (s : Shelf) (local : ℕ) (row : Row) : Type 0 where
   -- under its identifiers, or the first of them where it was ended from outside
   pub frames : IsPrefix (sent_of row ++ (frame_out local s.outbox.out ++ frames_for local s.outbox.frames)) (frames_under local row.peer (requests (start_of row) (served_of row)))
   pub all_frames : row.ended ≡ None → sent_of row ++ (frame_out local s.outbox.out ++ frames_for local s.outbox.frames) ≡ frames_under local row.peer (requests (start_of row) (served_of row))
+  -- each frame of it that is to be sent has its birth
+  pub frames_born : AreBorn local row.birth (unsent_frames s.outbox)
 
 abbrev pub DialoguesAreKeptInOrder : Type 0
 DialoguesAreKeptInOrder = (s : Shelf) → Sound s → (local : ℕ) (row : Row) → get s.rows local ≡ Some row → IsKeptInOrder s local row
@@ -116,4 +118,14 @@ DialoguesAreKeptInOrder = (s : Shelf) → Sound s → (local : ℕ) (row : Row) 
 -- no two dialogues that are held have the same birth
 abbrev pub BirthsAreDistinct : Type 0
 BirthsAreDistinct =
-    (s : Shelf) → Sound s → (local other : ℕ) (row held : Row) → get s.rows local ≡ Some row → get s.rows other ≡ Some held → row.birth ≡ held.birth → local ≡ other
+    (s : Shelf) → Sound s → (local other : ℕ) (row held : Row)
+    → get s.rows local ≡ Some row → get s.rows other ≡ Some held
+    → row.birth ≡ held.birth → local ≡ other
+
+-- while the link is up the serial of a dialogue that is held isn't among the 126,976 that are given next once it comes
+-- back, whatever comes back after it
+abbrev pub SerialsOfDialoguesComeBackLate : Type 0
+SerialsOfDialoguesComeBackLate =
+    (s : Shelf) (local : ℕ) (row : Row) (more : List ℕ)
+    → Sound s → s.is_down ≡ false → get s.rows local ≡ Some row
+    → is_free (serial_of local) (take 126976 (s.free ++ serial_of local ∷ more)) ≡ false

@@ -1,6 +1,6 @@
 -- The rules of receipt: the first matching line applies to a message. If memory runs out for a message that line 7
 -- takes, it is treated as one that was lost (`Posts`).
-use Rattle.std.specs.Prelude.{◌≡◌, ◌≢◌, ℕ, ◌+◌, ◌*◌, ◌≤◌, ◌^◌, ◌&&◌, ◌||◌, Bool, true, false, List, [], ◌∷◌, ◌++◌, Option, Some, None, IsSome, is_none, length, nat_eq, nat_le, nat_lt, if◌then◌else◌}
+use Rattle.std.specs.Prelude.{◌≡◌, ◌≢◌, ℕ, ◌+◌, ◌*◌, ◌<◌, ◌≤◌, ◌^◌, ◌&&◌, ◌||◌, Bool, true, false, List, [], ◌∷◌, ◌++◌, Option, Some, None, IsSome, is_none, length, nat_eq, nat_le, nat_lt, if◌then◌else◌}
 use Rattle.std.specs.FinMap.{FinMap, get, len}
 use Rattle.std.specs.Option.{option_and_then, option_map_or}
 use Rattle.std.specs.Ordering.{nat_cmp}
@@ -129,13 +129,15 @@ first_lines s came kind dialogue =
     ∷ []
 
 -- The tests that a book makes besides, so that it needn't rely on what it is handed. No message that was read meets one
--- of the first three, nor the fourth without more than 16 elements, for which line 6 does the same.
+-- of the first four, nor the fifth without more than 16 elements, for which line 6 does the same.
 abbrev pub own_tests : Prepared → Kind → Option ℕ → List (Bool × Verdict)
 own_tests came kind dialogue =
     -- A message with an unknown tag.
     (is_unknown kind, Discard)
     -- A Begin without the identifier by which its sender knows the dialogue.
     ∷ (is_begin kind && is_none (arrival_of came).ids.orig, Discard)
+    -- A Begin without entries.
+    ∷ (is_begin kind && nat_eq (length (entries_in came)) 0, Discard)
     -- An Abort with more than one entry.
     ∷ (is_abort kind && nat_lt 1 (length (entries_in came)), Refuse None dialogue)
     -- A Begin, a Continue or an End with more than 17 entries, which is more than 16 elements bring.
@@ -147,14 +149,14 @@ abbrev pub last_lines : Shelf → Prepared → Kind → Option ℕ → List (Boo
 last_lines s came kind dialogue =
     -- 6. A Begin, a Continue or an End with more than 16 elements in its component portion; or with which more than 64
     -- entries of the dialogue would be accepted and not yet served, the peer's end, its abort and the clock not
-    -- counted; or on a link that has accepted 2^63 entries; or a Begin while 4,096 dialogues are held or no serial is
-    -- left: cause 4, and the dialogue of a Continue or an End is closed.
+    -- counted; or on a link that has accepted 2^63 entries; or a Begin while 4,096 dialogues are held: cause 4, and the
+    -- dialogue of a Continue or an End is closed.
     (
       grows_a_dialogue kind
           && (nat_lt 16 (elements_in came)
           || (nat_lt 64 (place_count (unserved_in s (going_on kind dialogue) ++ entries_in came))
           || (is_full s
-          || (is_begin kind && (nat_le 4096 (len s.rows) || nat_eq (s.given + 1) (2 ^ 29)))))),
+          || (is_begin kind && nat_le 4096 (len s.rows))))),
       Refuse (Some cause.ResourceLimitation) (going_on kind dialogue),
     )
     -- 7. Else it is taken: a Begin opens a dialogue, a Continue goes on with the one that it names, and an End or an
@@ -187,6 +189,8 @@ pub record IsAsRead (arrival : Arrival) (incoming : Incoming) : Type 0 where
   pub known : arrival.ids.kind ≢ Unknown
   -- a Begin has the identifier by which its sender knows the dialogue
   pub begins : arrival.ids.kind ≡ Begin → IsSome arrival.ids.orig
+  -- and brings an entry
+  pub begins_some : arrival.ids.kind ≡ Begin → 0 < length incoming.entries
   -- an Abort brings its own entry
   pub aborts : arrival.ids.kind ≡ Abort → length incoming.entries ≡ 1
   -- any brings one entry for each of its elements at most, and one of its own

@@ -9,15 +9,15 @@ use Rattle.fp_book.specs.declared.line.LoggedStep.TheVariants as steps
 
 -- how many steps a gap counts; no other step counts any
 abbrev pub lost_in : LoggedStep → Option ℕ
-lost_in (steps.Post moment message answer) = None
+lost_in (steps.Post table moment message answer) = None
 lost_in (steps.Lost moment message answer) = None
 lost_in (steps.Tick moment added wanting) = None
-lost_in (steps.Take local position count) = None
-lost_in (steps.Give local position served given) = None
-lost_in (steps.PutBack local position) = None
-lost_in (steps.Pick local) = None
-lost_in (steps.Sent local) = None
-lost_in (steps.Unsent local) = None
+lost_in (steps.Take birth position count) = None
+lost_in (steps.Give birth position served given) = None
+lost_in (steps.PutBack birth position) = None
+lost_in (steps.Pick birth) = None
+lost_in (steps.Sent birth) = None
+lost_in (steps.Unsent birth) = None
 lost_in steps.Down = None
 lost_in (steps.Gap lost) = Some lost
 

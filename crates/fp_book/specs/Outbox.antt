@@ -47,8 +47,19 @@ abbrev pub abort_added : Outbox → AbortFrame → Outbox
 abort_added outbox frame = if nat_lt (length outbox.aborts) 64 then with_abort outbox frame else outbox
 
 -- frames of a dialogue, as they wait
-abbrev pub waiting_frames : ℕ → List (List ℕ) → List Waiting
-waiting_frames local frames = map (λ frame. record { local = local; frame = frame }) frames
+abbrev pub waiting_frames : ℕ → ℕ → List (List ℕ) → List Waiting
+waiting_frames local birth frames =
+    map (λ frame. record { local = local; birth = birth; frame = frame }) frames
+
+-- the frame of a dialogue that is being sent
+abbrev pub being_sent : Option Content → List Waiting
+being_sent None = []
+being_sent (Some (contents.Abort frame)) = []
+being_sent (Some (contents.Frame waiting)) = waiting ∷ []
+
+-- the frames of dialogues that are to be sent, the one that is being sent first
+abbrev pub unsent_frames : Outbox → List Waiting
+unsent_frames outbox = being_sent outbox.out ++ outbox.frames
 
 -- more frames wait, after the others
 abbrev pub with_frames : Outbox → List Waiting → Outbox

@@ -15,6 +15,11 @@ abbrev pub local_of : Content → ℕ
 local_of (contents.Abort frame) = 0
 local_of (contents.Frame waiting) = waiting.local
 
+-- the birth of its dialogue, 0 for an Abort of the provider
+abbrev pub birth_of : Content → ℕ
+birth_of (contents.Abort frame) = 0
+birth_of (contents.Frame waiting) = waiting.birth
+
 -- its octets, the head of the frame included
 abbrev pub octets_of : Content → List ℕ
 octets_of (contents.Abort frame) = frame_octets frame

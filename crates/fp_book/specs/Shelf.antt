@@ -1,6 +1,6 @@
 -- A book: the dialogues of a link, the order in which they are served, what waits to be sent, and the log.
 use Rattle.std.specs.Prelude.{◌≡◌, ◌<◌, ◌≤◌, ◌+◌, ◌^◌, ◌==◌, ℕ, Bool, true, false, List, [], ◌∷◌, ◌++◌, Option, Some, None, length, count_by, is_some, if◌then◌else◌}
-use Rattle.std.specs.List.{flat_map}
+use Rattle.std.specs.List.{AllByRecursion, flat_map}
 use Rattle.std.specs.Ordering.{nat_cmp}
 use Rattle.std.specs.FinMap.{FinMap, empty, get, insert, remove, len}
 use Rattle.fp_book.specs.declared.line.LoggedStep.{LoggedStep}
@@ -8,19 +8,19 @@ use Rattle.fp_book.specs.declared.parcel.Content.{Content}
 use Rattle.fp_book.specs.declared.parcel.Content.TheVariants as content
 use Rattle.fp_book.specs.declared.parcel.Waiting.{Waiting}
 use Rattle.fp_book.specs.declared.totals.Totals.{Totals}
-use Rattle.fp_book.specs.Outbox.{Outbox, frames_held, nothing}
+use Rattle.fp_book.specs.Outbox.{Outbox, frames_held, nothing, unsent_frames}
 use Rattle.fp_book.specs.Totals.{accepted_by, sent_by, served_by, sum_of, with_row}
 use Rattle.fp_row.specs.declared.ending.Ending.TheVariants.{Closed}
 use Rattle.fp_row.specs.declared.row.Row.{Row}
 use Rattle.fp_row.specs.Row.{is_admitted, is_held, is_ready, kept_of, sent_of}
-use Rattle.fp_tids.specs.Identifiers.{identifier}
+use Rattle.fp_tids.specs.Identifiers.{AreSerials, all_serials, identifier, is_free, last_serial, serial_of}
 
 -- what contracts see of a book
 pub record Shelf : Type 0 where
   -- the link, 0 to 7
   pub link : ℕ
-  -- how many serials were given to dialogues
-  pub given : ℕ
+  -- the serials that may be given to dialogues, the next one first
+  pub free : List ℕ
   -- how many Begins were accepted
   pub births : ℕ
   -- how many entries were ever accepted
@@ -48,7 +48,7 @@ no_totals = record { accepted = 0; served = 0; sent = 0 }
 abbrev pub empty_shelf : ℕ → Shelf
 empty_shelf link = record {
   link = link;
-  given = 0;
+  free = all_serials;
   births = 0;
   entries = 0;
   rows = empty;
@@ -79,6 +79,11 @@ abbrev pub of_row : {X : Type 0} → (Row → List X) → Option Row → List X
 of_row f None = []
 of_row f (Some row) = f row
 
+-- of these frames, those of a dialogue have this birth
+abbrev pub AreBorn : ℕ → ℕ → List Waiting → Type 0
+AreBorn local birth frames =
+    AllByRecursion (λ (w : Waiting). w.local ≡ local → w.birth ≡ birth) frames
+
 -- how often a dialogue is in the queue
 abbrev pub ready_count : Option Row → ℕ
 ready_count None = 0
@@ -100,9 +105,17 @@ keep rows local row = if is_held row then insert rows local row else remove rows
 abbrev pub gone_with : Totals → Row → Totals
 gone_with gone row = if is_held row then gone else with_row gone row
 
+-- its serial may be given again then, after all others
+abbrev pub free_with : List ℕ → ℕ → Row → List ℕ
+free_with free local row = if is_held row then free else free ++ serial_of local ∷ []
+
 -- a book in which a dialogue is this, or gone if nothing of it is left
 abbrev pub with_dialogue : Shelf → ℕ → Row → Shelf
-with_dialogue s local row = record s { rows = keep s.rows local row; gone = gone_with s.gone row }
+with_dialogue s local row = record s {
+  free = free_with s.free local row;
+  rows = keep s.rows local row;
+  gone = gone_with s.gone row;
+}
 
 -- one for each dialogue of a kind
 abbrev pub one_if : Bool → ℕ
@@ -114,9 +127,11 @@ pub record IsOwn (s : Shelf) (local : ℕ) (row : Row) : Type 0 where
   pub local_is : row.local ≡ local
   pub is_left : is_held row ≡ true
   pub born : (0 < row.birth) × (row.birth ≤ s.births)
-  pub serial : (serial : ℕ) × (0 < serial) × (serial ≤ s.given) × (local ≡ identifier s.link serial)
-  -- its birth is its serial, as long as no serial is used twice: so no other that is held has this birth
-  pub birth_is : row.birth ≡ serial.0
+  -- its identifier is one of the link, and its serial isn't free
+  pub serial : (serial : ℕ) × (0 < serial) × (serial ≤ last_serial)
+      × (local ≡ identifier s.link serial) × (is_free serial s.free ≡ false)
+  -- each frame of it that waits or is being sent has its birth
+  pub frames_born : AreBorn local row.birth (unsent_frames s.outbox)
   -- of a dialogue that was ended from outside no frame waits
   pub dropped : is_some row.ended ≡ true → frames_for local s.outbox.frames ≡ []
   -- where the link is down it is closed
@@ -125,8 +140,14 @@ pub record IsOwn (s : Shelf) (local : ℕ) (row : Row) : Type 0 where
 -- what the type of a book keeps
 pub record Sound (s : Shelf) : Type 0 where
   pub links : s.link < 8
-  pub serials : s.given < 2 ^ 29
-  pub births : s.births ≡ s.given
+  -- no serial is free twice, and while the link is up each is free or a dialogue's that is held
+  pub serials : AreSerials s.free
+  pub serial_count : s.is_down ≡ false → length s.free + len s.rows ≡ last_serial
+  -- each Begin that was accepted brought an entry, and no two dialogues that are held have the same birth
+  pub births : s.births ≤ s.entries
+  pub births_apart : (local other : ℕ) (row held : Row)
+      → get s.rows local ≡ Some row → get s.rows other ≡ Some held
+      → row.birth ≡ held.birth → local ≡ other
   -- an Abort of the peer is taken however many entries there were, and ends its dialogue
   pub entries : s.entries + sum_of (λ row. one_if (is_admitted row)) s.rows ≤ 2 ^ 63 + 8192
   pub own : (local : ℕ) (row : Row) → get s.rows local ≡ Some row → IsOwn s local row

@@ -1,6 +1,6 @@
 -- What the private functions find one by one, for each kind of message. What they find together,
 -- `judged`, is what the first line that fits says (`verdict` in `Lines`).
-use Rattle.std.specs.Prelude.{◌≡◌, ℕ, Bool, true, false, ◌+◌, ◌^◌, ◌||◌, Option, Some, None, length, nat_le, nat_lt, nat_eq, if◌then◌else◌}
+use Rattle.std.specs.Prelude.{◌≡◌, ℕ, Bool, true, false, ◌+◌, ◌||◌, Option, Some, None, length, nat_le, nat_lt, nat_eq, if◌then◌else◌}
 use Rattle.std.specs.Option.{option_map, option_map_or}
 use Rattle.std.specs.FinMap.{get, len}
 use Rattle.fp_book.specs.declared.posting.Named.{Named}
@@ -44,9 +44,9 @@ refused_of Unidirectional dialogue = Discard
 refused_of Unknown dialogue = Refuse (Some cause.UnrecognizedMessageType) dialogue
 refused_of kind dialogue = Refuse (Some cause.BadlyFormattedTransactionPortion) dialogue
 
--- no further dialogue may be held, or no serial is left
+-- no further dialogue may be held, or the link takes no more entries
 abbrev pub no_dialogue_left : Shelf → Bool
-no_dialogue_left s = nat_le 4096 (len s.rows) || (nat_eq (s.given + 1) (2 ^ 29) || is_full s)
+no_dialogue_left s = nat_le 4096 (len s.rows) || is_full s
 
 -- more than 64 entries of the dialogue would wait to be served
 abbrev pub no_place_left : Option Row → ℕ → Bool
@@ -60,7 +60,10 @@ too_many incoming = nat_lt 16 incoming.elements || nat_lt 17 (length incoming.en
 abbrev pub begin_of : Shelf → Option Tid → Incoming → Verdict
 begin_of s None incoming = Discard
 begin_of s (Some peer) incoming =
-    if too_many incoming || (no_dialogue_left s || no_place_left None (place_count incoming.entries))
+    if nat_eq (length incoming.entries) 0
+    then Discard
+    else if too_many incoming
+    || (no_dialogue_left s || no_place_left None (place_count incoming.entries))
     then Refuse (Some cause.ResourceLimitation) None
     else Open peer
 

@@ -22,7 +22,7 @@ gone_of totals rows = record {
 abbrev pub shelf_of : Inside → Shelf
 shelf_of b = record {
   link = b.link;
-  given = b.ids.given;
+  free = b.ids.queue;
   births = b.births;
   entries = b.entries;
   rows = b.rows;

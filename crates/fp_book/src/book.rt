@@ -9,7 +9,7 @@ ghost use Rattle.fp_book.specs.declared.totals.Totals as counts;
 
 use crate::{Line, Log, Outbox, ReadyQueue, Totals};
 use fp_row::Rows;
-use fp_tids::LocalIds;
+use fp_tids::{LocalIds, serials_are_distinct};
 use fp_timers::Deadlines;
 use std::alloc::{AllocError, Global};
 use std::marker::Model;
@@ -71,15 +71,17 @@ impl Book {
     /// and no dialogue is given a Clock. An Abort of the peer is accepted all the same.
     pub const ALL_ENTRIES: u64 = 1 << 63;
 
-    /// The book of a link, 0 to 7, which is up. It holds no dialogue, and has memory for all but the dialogues.
+    /// The book of a link, 0 to 7, which is up. It holds no dialogue, and has memory for everything except the
+    /// dialogues; the queue of serials is reserved too.
     pub fn new(alloc: Global, link: u8) -> Result<Book, AllocError>
         requires { link < LocalIds.LINKS }
         ensures value { IfOk result (λ book. book ≡ empty_shelf link) }
         ensures sound { IfOk result (λ book. Sound book) }
     {
+        serials_are_distinct();
         Ok(Book {
             link,
-            ids: LocalIds::new(link),
+            ids: LocalIds::new(alloc, link)?,
             births: 0,
             entries: 0,
             rows: Rows::new(alloc),

@@ -3,7 +3,7 @@
 ghost use Rattle.std.specs.Prelude.{◌≡◌, ◌≢◌, ◌<◌, [], ◌↔◌, not, true, Some, IfErr, IfOk, IsOk, IsTrue, OnErr, ◌&&◌, if◌then◌else◌};
 ghost use Rattle.std.specs.FinMap.{contains_key, get, remove};
 ghost use Rattle.fp_book.specs.Calls.{turn_of};
-ghost use Rattle.fp_book.specs.Dialogues.{ClockedAt, EndsAt, ExtendsAt, GivesAt, HandsOutAt, OpensAt, PutsBackAt, SendsAt, dropped_of, drops_frames, is_due_at, is_unsent, left_as, takes_more};
+ghost use Rattle.fp_book.specs.Dialogues.{ClockedAt, EndsAt, ExtendsAt, GivesAt, HandsOutAt, OpensAt, PutsBackAt, SendsAt, Drops, drops_frames, is_due_at, is_unsent, left_as, takes_more};
 ghost use Rattle.fp_row.specs.declared.row.Row.{Row};
 ghost use Rattle.fp_row.specs.Row.{is_ready};
 ghost use Rattle.fp_book.specs.Shelf.{ready_count};
@@ -18,6 +18,10 @@ use std::alloc::{AllocError, Global};
 /// What the other parts of a book have to know of a dialogue that changed.
 #[derive(Clone, Copy, Debug)]
 pub(crate) struct Left {
+    /// Its birth.
+    pub(crate) birth: u64,
+    /// Whether something of it is left.
+    pub(crate) is_held: bool,
     /// Whether it is ready, or has become so.
     pub(crate) is_ready: bool,
     /// The earliest moment at which it is given a Clock, in milliseconds, if there is one.
@@ -30,6 +34,8 @@ impl Left {
         ensures { result ≡ left_as row.now }
     {
         Left {
+            birth: row.birth(),
+            is_held: row.is_held(),
             is_ready: row.is_ready(),
             deadline: row.deadline(),
         }
@@ -56,9 +62,11 @@ pub(crate) struct Extended {
     pub(crate) drops_frames: bool,
 }
 
-/// What of a dialogue that is ended from outside is to be dropped by the other parts of a book.
+/// What becomes of a dialogue that is ended from outside, and what of it is to be dropped by the other parts of a book.
 #[derive(Clone, Copy, Debug)]
 pub(crate) struct Dropped {
+    /// Whether something of it is left.
+    pub(crate) is_held: bool,
     /// Whether it was ready, so that it has a place in the order of service.
     pub(crate) was_ready: bool,
     /// Whether frames of it wait.
@@ -117,15 +125,14 @@ pub(crate) fn give(rows: &mut Rows, done: Done) -> Result<Served, Done>
         Err(foreign) => return Err(foreign),
     };
     let left = Left::of(row);
-    let is_held = row.is_held();
-    keep(rows, local, is_held);
+    keep(rows, local, left.is_held);
     Ok(Served { requested, left })
 }
 
-/// Gives a turn that wasn't served back to its dialogue, which goes if nothing of it is left, and says whether the
-/// dialogue is ready then. A stale or foreign one comes back, and nothing changes. Takes no memory.
-pub(crate) fn put_back(rows: &mut Rows, turn: Turn) -> Result<bool, Turn>
-    ensures ok { IfOk result (λ joins. PutsBackAt rows.old turn joins rows.new) }
+/// Gives a turn that wasn't served back to its dialogue, which goes if nothing of it is left. A stale or foreign one
+/// comes back, and nothing changes. Takes no memory.
+pub(crate) fn put_back(rows: &mut Rows, turn: Turn) -> Result<Left, Turn>
+    ensures ok { IfOk result (λ left. PutsBackAt rows.old turn left rows.new) }
     ensures err { IfErr result (λ back. (back ≡ turn) × (rows.new ≡ rows.old)) }
     ensures known { IsOk result ↔ (turn_of (get rows.old turn.local) ≡ Some turn) }
 {
@@ -138,17 +145,16 @@ pub(crate) fn put_back(rows: &mut Rows, turn: Turn) -> Result<bool, Turn>
         Ok(()) => {}
         Err(foreign) => return Err(foreign),
     }
-    let is_ready = row.is_ready();
-    let is_held = row.is_held();
-    keep(rows, local, is_held);
-    Ok(is_ready)
+    let left = Left::of(row);
+    keep(rows, local, left.is_held);
+    Ok(left)
 }
 
-/// Counts one more frame of a dialogue as sent, of which one is kept that wasn't. The dialogue goes where nothing of it
-/// is left. Takes no memory.
-pub(crate) fn sent(rows: &mut Rows, local: u32)
+/// Counts one more frame of a dialogue as sent, of which one is kept that wasn't. Says whether something of it is left;
+/// it goes where nothing is. Takes no memory.
+pub(crate) fn sent(rows: &mut Rows, local: u32) -> bool
     requires { is_unsent (get rows.old local) ≡ true }
-    ensures { SendsAt rows.old local rows.new }
+    ensures { SendsAt rows.old local result rows.new }
 {
     let Some(row) = rows.get_mut(local) else {
         unreachable!()
@@ -156,14 +162,15 @@ pub(crate) fn sent(rows: &mut Rows, local: u32)
     row.sent();
     let is_held = row.is_held();
     keep(rows, local, is_held);
+    is_held
 }
 
-/// Ends a dialogue that is there from outside, which goes if nothing of it is left. Returns what of it is to be dropped
-/// elsewhere. Takes no memory.
+/// Ends a dialogue that is there from outside, which goes if nothing of it is left. Returns whether it stays, and what
+/// of it is to be dropped elsewhere. Takes no memory.
 pub(crate) fn end(rows: &mut Rows, local: u32, ending: Ending, is_sending: bool) -> Dropped
     requires { IsTrue (contains_key rows.old local) }
-    ensures ends { EndsAt rows.old local ending is_sending rows.new }
-    ensures dropped { (row : Row) → get rows.old local ≡ Some row → result ≡ dropped_of row is_sending }
+    ensures ends { EndsAt rows.old local ending is_sending result.is_held rows.new }
+    ensures dropped { (row : Row) → get rows.old local ≡ Some row → Drops row is_sending result }
 {
     let Some(row) = rows.get_mut(local) else {
         unreachable!()
@@ -172,7 +179,11 @@ pub(crate) fn end(rows: &mut Rows, local: u32, ending: Ending, is_sending: bool)
     let frames = row.end(ending, is_sending);
     let is_held = row.is_held();
     keep(rows, local, is_held);
-    Dropped { was_ready, frames }
+    Dropped {
+        is_held,
+        was_ready,
+        frames,
+    }
 }
 
 /// Puts entries after those of a dialogue that takes messages, and ends it if its peer does. It goes if nothing of it
@@ -205,11 +216,12 @@ pub(crate) fn extend(
         false
     };
     let left = Left {
+        birth: row.birth(),
+        is_held: row.is_held(),
         is_ready: has_become_ready(row, was_ready),
         deadline: row.deadline(),
     };
-    let is_held = row.is_held();
-    keep(rows, local, is_held);
+    keep(rows, local, left.is_held);
     Ok(Extended {
         deadline_before,
         left,

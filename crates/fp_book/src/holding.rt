@@ -48,7 +48,7 @@ impl Book {
         ensures { result ≡ gets_room self.now came.now }
     {
         match came.arrival().ids.kind {
-            Kind::Begin => self.ids.next().is_some() && self.has_busy(),
+            Kind::Begin => self.has_busy(),
             _ => true,
         }
     }
@@ -59,7 +59,7 @@ impl Book {
     /// * if it would be taken while [`Book::MANY_PLACES`] for frames are held;
     /// * if an Abort of the provider is to answer it, and [`Outbox::MOST_ABORTS`](crate::Outbox::MOST_ABORTS) wait;
     /// * if it is a readable Continue or End with which more than [`Book::MOST_ENTRIES`] of its dialogue would wait;
-    /// * if it is a readable Begin while [`Book::MOST_DIALOGUES`] are held, one of which is busy, and a serial is left.
+    /// * if it is a readable Begin while [`Book::MOST_DIALOGUES`] are held, one of which is busy.
     ///
     /// The last two only with at most [`Book::MOST_ELEMENTS`] elements, on a link that takes more entries. Any other
     /// message is posted at once: it is accepted, or refused for a cause that serving and sending don't take away. So

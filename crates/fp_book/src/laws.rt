@@ -1,12 +1,13 @@
 //! What holds of all logs, what the calls of a book keep, what holds of messages that were read, and
 //! how dialogues are kept.
 
-ghost use Rattle.fp_book.specs.Laws.{BirthsAreDistinct, DialoguesAreKeptInOrder, EachStepIsAccountedFor, GivingKeepsSound, GoingDownKeepsSound, PickingKeepsSound, PostingKeepsSound, PuttingBackKeepsSound, SendingKeepsSound, TakingKeepsSound, TickingKeepsSound, ToldStepsStay, UnsendingKeepsSound};
+ghost use Rattle.fp_book.specs.Laws.{BirthsAreDistinct, DialoguesAreKeptInOrder, EachStepIsAccountedFor, GivingKeepsSound, GoingDownKeepsSound, PickingKeepsSound, PostingKeepsSound, PuttingBackKeepsSound, SendingKeepsSound, SerialsOfDialoguesComeBackLate, TakingKeepsSound, TickingKeepsSound, ToldStepsStay, UnsendingKeepsSound};
 ghost use Rattle.fp_book.specs.Lines.{ReadMessagesHaveFewEntries, SevenLinesDecide};
 
 use fp_q773::{identifiers_are_those_of_the_message, ids_are_one};
 use fp_row::rows_keep_their_order;
 use fp_service::entries_ask_once_at_most;
+use fp_tids::{identifiers_are_distinct, serials_are_distinct, serials_come_back_last};
 
 /// A log has each step that it is given, or counts it in a gap, as long as it accounts for fewer than 2^64 - 1; and
 /// what it has stays, in its order.
@@ -22,6 +23,8 @@ pub fn turns_keep_a_book_sound()
     ensures puts_back { PuttingBackKeepsSound }
 {
     entries_ask_once_at_most();
+    serials_are_distinct();
+    identifiers_are_distinct();
 }
 
 /// To hand out what is sent next, and to take it back once it was sent, keeps what the type of a book keeps.
@@ -30,6 +33,8 @@ pub fn sending_keeps_a_book_sound()
     ensures sends { SendingKeepsSound }
 {
     entries_ask_once_at_most();
+    serials_are_distinct();
+    identifiers_are_distinct();
 }
 
 /// To post a message keeps what the type of a book keeps: whether it opens a dialogue, extends or ends one, or is
@@ -38,6 +43,8 @@ pub fn messages_keep_a_book_sound()
     ensures { PostingKeepsSound }
 {
     entries_ask_once_at_most();
+    serials_are_distinct();
+    identifiers_are_distinct();
 }
 
 /// To close all dialogues of a link keeps what the type of a book keeps: where the link goes down, and where what was
@@ -47,6 +54,8 @@ pub fn going_down_keeps_a_book_sound()
     ensures unsent { UnsendingKeepsSound }
 {
     entries_ask_once_at_most();
+    serials_are_distinct();
+    identifiers_are_distinct();
 }
 
 /// To give a Clock to each dialogue that is due keeps what the type of a book keeps.
@@ -54,11 +63,14 @@ pub fn clocks_keep_a_book_sound()
     ensures { TickingKeepsSound }
 {
     entries_ask_once_at_most();
+    serials_are_distinct();
+    identifiers_are_distinct();
 }
 
-/// A message that was read has a known tag, a Begin an originating identifier and an Abort one entry, and any has at
-/// most one entry more than its component portion has elements. So the tests that a book makes besides the seven lines
-/// change nothing: on a frame that was prepared the seven alone decide.
+/// A message that was read has a known tag, a Begin an originating identifier and at least one entry, an Abort one
+/// entry, and any has at most one entry more than its component portion has elements. So the tests that a book makes
+/// besides the seven lines, such as that for a Begin without entries, which is discarded, change nothing: on a frame
+/// that was prepared the seven alone decide.
 pub fn read_messages_have_few_entries()
     ensures few { ReadMessagesHaveFewEntries }
     ensures seven { SevenLinesDecide }
@@ -72,11 +84,20 @@ pub fn births_are_distinct()
     ensures { BirthsAreDistinct }
 {}
 
+/// While the link is up, the serial of a dialogue that is held is given again only after 126,976 others at least, once
+/// the dialogue goes: at most 4,096 dialogues are held, and all other serials are before it.
+pub fn serials_of_dialogues_come_back_late()
+    ensures { SerialsOfDialoguesComeBackLate }
+{
+    identifiers_are_distinct();
+    serials_come_back_last();
+}
+
 /// Of each dialogue that is held: the entries served are the first of those that its service logic serves of the
 /// accepted ones, its core is that after them, and the turn that is out has this core and the next entries. Served, out
 /// and waiting entries are together those accepted, or the first of them where it was closed or its core is over. What
 /// was sent, what is being sent and what waits are the frames of what its served entries request, in their order, under
-/// its own identifiers, or the first of them where it was ended from outside.
+/// its own identifiers, or the first of them where it was ended from outside; and each that wasn't sent has its birth.
 pub fn dialogues_are_kept_in_order()
     ensures { DialoguesAreKeptInOrder }
 {

@@ -27,7 +27,9 @@
 //! A dialogue is *admitted* from its Begin until its core is over, its peer's End or Abort is accepted, a message for
 //! it is refused, or its link goes down; it is *closed* by the last two of these. It is *ready* when an entry of it
 //! waits and no turn of it is out, and *held* as long as it is admitted, an entry or a frame of it waits, or a turn or
-//! a parcel of it is out. What is no longer held is forgotten, but for what was counted.
+//! a parcel of it is out. What is no longer held is forgotten, but for what was counted; its identifier may be given to
+//! another dialogue, after 126,976 others at least ([`serials_of_dialogues_come_back_late`]). So a dialogue is named by
+//! its *birth* in the log: its number among those that the link opened.
 //!
 //! A [`Turn`](fp_row::Turn) and a [`Parcel`] must be spent. What comes back is compared with what is out, and a
 //! stale or foreign one comes back and changes nothing. A dialogue whose turn or parcel was abandoned stays held.
@@ -39,28 +41,28 @@
 //! them. `tick` does so for each dialogue that is due, and looks at one deadline if none is. `entry_count`, `down`,
 //! `unsent`, and a tick for which memory ran out, go through all dialogues. A message that is refused or ends its
 //! dialogue goes through the frames that wait only if one of them is that dialogue's, and through the order of service
-//! only if that dialogue is in it. Nothing else grows with what other dialogues have.
+//! only if that dialogue is in it. Nothing else grows with what other dialogues have: an identifier is given by a count
+//! or from the front of a queue, and its serial goes to the back of that queue once the dialogue is no longer held.
 //!
 //! [`Log`], [`Outbox`] and [`ReadyQueue`] are parts of a book, public so that worked cases can try each alone; the
 //! layers above use [`Log::MOST`] alone.
 //!
-//! The layer above may rely on this: contracts see a [`Book`] as a `Shelf` (`specs/Shelf.antt`),
-//! and its type keeps what `Sound` says: identifiers are those of the link, each of a serial that
-//! was given; of each dialogue what was sent, then what is being sent, then what waits is what is
-//! kept of the frames that its served entries request (its [`Row`](fp_row::Row) keeps the rest of
-//! it); each dialogue that is ready is once in the order of service; all limits; and no total
-//! is below the sum over the dialogues that are held. Each call says of the whole shelf what it is
-//! then (`specs/Calls.antt`), so that the totals are the sums over the dialogues held and those
-//! gone. A message gets what the first line of `specs/Lines.antt` that fits it says. That a stale
-//! or foreign turn or parcel comes back, and the right one never, is said by the clauses named
-//! `known`. Laws say what follows:
+//! The layer above may rely on this: contracts see a [`Book`] as a `Shelf` (`specs/Shelf.antt`), and its type keeps
+//! what `Sound` says: identifiers are those of the link, each of a serial that isn't free meanwhile, and births
+//! are distinct; of each dialogue what was sent, then what is being sent, then what waits is what is kept of the frames
+//! that its served entries request (its [`Row`](fp_row::Row) keeps the rest of it); each dialogue that is ready is once
+//! in the order of service; all limits; and no total is below the sum over the dialogues that are held. Each call says
+//! of the whole shelf what it is then (`specs/Calls.antt`), so that the totals are the sums over the dialogues held and
+//! those gone. A message gets what the first line of `specs/Lines.antt` that fits it says. That a stale or foreign turn
+//! or parcel comes back, and the right one never, is said by the clauses named `known`. Laws say what follows:
 //!
 //! * [`read_messages_have_few_entries`]: on a frame that was prepared seven of those lines alone decide.
 //! * [`births_are_distinct`]: no two dialogues that are held have the same birth.
+//! * [`serials_of_dialogues_come_back_late`]: the serial of a dialogue is given again after 126,976 others at least.
 //! * [`dialogues_are_kept_in_order`]: of each dialogue that is held the entries served, the one that is out and those
 //!   that wait are those accepted; and the frames sent, the one that is being sent and those that wait are those that
-//!   it requests on the entries served. Where it was closed, is over or was ended from outside they are the first of
-//!   these.
+//!   it requests on the entries served, each unsent one under its birth. Where it was closed, is over or was ended from
+//!   outside they are the first of these.
 #![tactic(auto)]
 
 mod answers;
@@ -88,7 +90,8 @@ pub use book::Book;
 pub use laws::{
     births_are_distinct, clocks_keep_a_book_sound, dialogues_are_kept_in_order,
     going_down_keeps_a_book_sound, messages_keep_a_book_sound, read_messages_have_few_entries,
-    sending_keeps_a_book_sound, steps_are_told_or_counted, turns_keep_a_book_sound,
+    sending_keeps_a_book_sound, serials_of_dialogues_come_back_late, steps_are_told_or_counted,
+    turns_keep_a_book_sound,
 };
 pub use line::{Line, LoggedStep};
 pub use log::Log;

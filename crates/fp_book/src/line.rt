@@ -21,11 +21,14 @@ pub enum Line {
     },
 }
 
-/// A step of a link as the log has it.
+/// A step of a link as the log has it. A dialogue is named by its birth: its number among those that its link opened,
+/// from 1.
 #[derive(Debug, Drop)]
 pub enum LoggedStep {
     /// A message was posted.
     Post {
+        /// The index of the table by whose records it was read, among those of the run.
+        table: u16,
         /// When it came.
         moment: Moment,
         /// The message, without its head.
@@ -53,8 +56,8 @@ pub enum LoggedStep {
     },
     /// A turn was taken.
     Take {
-        /// The local transaction identifier of its dialogue.
-        local: u32,
+        /// The birth of its dialogue.
+        birth: u64,
         /// The place of its first entry among those that the dialogue accepted, from 0.
         position: u64,
         /// How many entries it has.
@@ -62,8 +65,8 @@ pub enum LoggedStep {
     },
     /// A turn was given back, served.
     Give {
-        /// The local transaction identifier of its dialogue.
-        local: u32,
+        /// The birth of its dialogue.
+        birth: u64,
         /// The place of its first entry.
         position: u64,
         /// How many entries were served.
@@ -73,25 +76,25 @@ pub enum LoggedStep {
     },
     /// A turn was put back, not served.
     PutBack {
-        /// The local transaction identifier of its dialogue.
-        local: u32,
+        /// The birth of its dialogue.
+        birth: u64,
         /// The place of its first entry.
         position: u64,
     },
     /// A parcel was picked.
     Pick {
-        /// The local transaction identifier of its dialogue, 0 for an Abort of the provider.
-        local: u32,
+        /// The birth of its dialogue, 0 for an Abort of the provider.
+        birth: u64,
     },
     /// A parcel was sent.
     Sent {
-        /// The local transaction identifier of its dialogue, 0 for an Abort of the provider.
-        local: u32,
+        /// The birth of its dialogue, 0 for an Abort of the provider.
+        birth: u64,
     },
     /// A parcel couldn't be sent.
     Unsent {
-        /// The local transaction identifier of its dialogue, 0 for an Abort of the provider.
-        local: u32,
+        /// The birth of its dialogue, 0 for an Abort of the provider.
+        birth: u64,
     },
     /// The link went down.
     Down,

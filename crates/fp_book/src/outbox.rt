@@ -36,13 +36,18 @@ impl Model for Outbox {
 }
 
 /// Puts frames of a dialogue after those that wait, in their order. There is memory for them.
-fn push_all(waiting: &mut VecDeque<Waiting>, local: u32, frames: Vec<RequestFrame>)
+fn push_all(waiting: &mut VecDeque<Waiting>, local: u32, birth: u64, frames: Vec<RequestFrame>)
     requires { length waiting.old.items + length frames.items ≤ deque_capacity waiting.old }
-    ensures items { waiting.new.items ≡ waiting.old.items ++ waiting_frames local frames.items }
+    ensures items { waiting.new.items
+        ≡ waiting.old.items ++ waiting_frames local birth frames.items }
     ensures capacity { deque_capacity waiting.new ≡ deque_capacity waiting.old }
 {
     for frame in frames {
-        waiting.push_back_reserved(Waiting { local, frame });
+        waiting.push_back_reserved(Waiting {
+            local,
+            birth,
+            frame,
+        });
     }
 }
 
@@ -100,13 +105,13 @@ impl Outbox {
         true
     }
 
-    /// Puts frames of a dialogue after the others that wait, in their order. With them at most [`Outbox::MOST_FRAMES`]
-    /// do. Takes no memory.
-    pub fn add_frames(&mut self, local: u32, frames: RequestFrames)
+    /// Puts frames of the dialogue with this local transaction identifier and this birth after the others that wait, in
+    /// their order. With them at most [`Outbox::MOST_FRAMES`] do. Takes no memory.
+    pub fn add_frames(&mut self, local: u32, birth: u64, frames: RequestFrames)
         requires room { length self.old.frames + length frames ≤ Self.MOST_FRAMES }
-        ensures { self.new ≡ with_frames self.old (waiting_frames local frames) }
+        ensures { self.new ≡ with_frames self.old (waiting_frames local birth frames) }
     {
-        push_all(&mut self.frames, local, frames.into_vec());
+        push_all(&mut self.frames, local, birth, frames.into_vec());
     }
 
     /// Drops the frames of a dialogue that wait. What is being sent stays. Takes no memory.

@@ -1,7 +1,7 @@
 //! Parcels.
 
 ghost use Rattle.std.specs.Prelude.{◌≡◌};
-ghost use Rattle.fp_book.specs.Parcel.{dialogue_of, local_of, octets_of};
+ghost use Rattle.fp_book.specs.Parcel.{birth_of, dialogue_of, local_of, octets_of};
 
 use fp_reply::AbortFrame;
 use fp_row::RequestFrame;
@@ -30,6 +30,8 @@ pub(crate) enum Content {
 pub(crate) struct Waiting {
     /// The local transaction identifier of the dialogue.
     pub(crate) local: u32,
+    /// Its birth.
+    pub(crate) birth: u64,
     /// The frame of its request.
     pub(crate) frame: RequestFrame,
 }
@@ -64,6 +66,16 @@ impl Parcel {
         match &self.content {
             Content::Abort(_) => 0,
             Content::Frame(waiting) => waiting.local,
+        }
+    }
+
+    /// The birth of the dialogue, 0 for an Abort of the provider.
+    pub fn birth(&self) -> u64
+        ensures { result ≡ birth_of self.now.content }
+    {
+        match &self.content {
+            Content::Abort(_) => 0,
+            Content::Frame(waiting) => waiting.birth,
         }
     }
 

@@ -11,7 +11,7 @@ ghost use Rattle.fp_book.specs.Receipt.{IsReceipt};
 ghost use Rattle.fp_book.specs.Shelf.{Sound};
 ghost use Rattle.fp_book.specs.Verdict.{HasItsPlaces, abort_of, begin_of, local_in, lost_of, message_of, more_of, no_dialogue_left, refused_of, too_many};
 
-use crate::serving::{change_deadline, join, set_deadline};
+use crate::serving::{change_deadline, end_serial_unless_held, join, set_deadline};
 use crate::verdict::Verdict;
 use crate::{
     Book, LoggedStep, Outbox, Posted, ReadyQueue, Receipt, dialogues, messages_keep_a_book_sound,
@@ -98,11 +98,13 @@ fn line_of(came: Prepared, answer: Posted) -> LoggedStep
 {
     match came {
         Prepared::Message { arrival, .. } => LoggedStep::Post {
+            table: arrival.table,
             moment: arrival.moment,
             message: arrival.frame,
             answer,
         },
         Prepared::Refused { arrival, .. } => LoggedStep::Post {
+            table: arrival.table,
             moment: arrival.moment,
             message: arrival.frame,
             answer,
@@ -183,7 +185,7 @@ impl Book {
     fn no_dialogue_left(&self) -> bool
         ensures { result ≡ no_dialogue_left self.now }
     {
-        self.rows.len() >= Self::MOST_DIALOGUES || self.ids.next().is_none() || self.is_full()
+        self.rows.len() >= Self::MOST_DIALOGUES || self.is_full()
     }
 
     /// What is to be done with a Begin.
@@ -193,6 +195,9 @@ impl Book {
         let Some(peer) = peer else {
             return Verdict::Discard;
         };
+        if incoming.entries.is_empty() {
+            return Verdict::Discard;
+        }
         if too_many(incoming)
             || self.no_dialogue_left()
             || incoming.entries.place_count() > Self::MOST_ENTRIES
@@ -293,6 +298,7 @@ impl Book {
         join(&mut self.ready, local, left.is_ready);
         let posted = Posted::Opened(local);
         self.log.add(LoggedStep::Post {
+            table: arrival.table,
             moment,
             message: arrival.frame,
             answer: posted,
@@ -326,10 +332,12 @@ impl Book {
         self.entries += count as u64;
         self.totals.accepted += components as u64;
         let before = extended.deadline_before;
+        end_serial_unless_held(&mut self.ids, local, extended.left.is_held);
         change_deadline(&mut self.deadlines, local, before, extended.left.deadline);
         join(&mut self.ready, local, extended.left.is_ready);
         let posted = Posted::Accepted(count as u32);
         self.log.add(LoggedStep::Post {
+            table: arrival.table,
             moment: arrival.moment,
             message: arrival.frame,
             answer: posted,
@@ -351,6 +359,7 @@ impl Book {
         if let Some(local) = closes {
             let is_sending = self.outbox.is_sending(local);
             let dropped = dialogues::end(&mut self.rows, local, Ending::Closed, is_sending);
+            end_serial_unless_held(&mut self.ids, local, dropped.is_held);
             self.deadlines.clear(local);
             leave_if(&mut self.ready, local, dropped.was_ready);
             drop_frames_if(&mut self.outbox, local, dropped.frames);
@@ -412,6 +421,9 @@ impl Book {
     ///    that the link takes: cause 4, and the dialogue is closed. If memory runs out as a message is accepted, it
     ///    gets what line 3 says.
     /// 7. Else `Opened` or `Accepted`.
+    ///
+    /// Before rule 6 the book has a test of its own: a Begin without entries is discarded. No message that was read is
+    /// one.
     ///
     /// If a cause is named, the sender gave its identifier, and fewer than 64 Aborts of the provider wait, one more
     /// waits, and the answer is `Aborted`; else it is `Ended` if a dialogue was closed, and `Discarded` if none was.

@@ -2,7 +2,7 @@
 
 ghost use Rattle.std.specs.Prelude.{◌≡◌, ◌↔◌, Some, None, IfOk, IsTrue, is_some};
 ghost use Rattle.fp_book.specs.declared.parcel.Content.TheVariants as contents;
-ghost use Rattle.fp_book.specs.Sending.{is_frame, is_frame_of};
+ghost use Rattle.fp_book.specs.Sending.{is_frame, is_frame_of, is_frame_under};
 
 use crate::parcel::Content;
 use fp_reply::{AbortFrame, MOST_OCTETS};
@@ -23,8 +23,8 @@ pub(crate) struct Sending {
 enum Kind {
     /// This Abort of the provider.
     Abort(AbortFrame),
-    /// The frame of the dialogue with this local transaction identifier.
-    Frame(u32),
+    /// The frame of the dialogue with this local transaction identifier and this birth.
+    Frame { local: u32, birth: u64 },
 }
 
 impl Model for Sending {
@@ -61,7 +61,10 @@ impl Sending {
                 self.octets.clear();
                 // There is room, so this takes no memory and succeeds.
                 drop(self.octets.extend_from_slice(waiting.frame.octets()));
-                self.kind = Some(Kind::Frame(waiting.local));
+                self.kind = Some(Kind::Frame {
+                    local: waiting.local,
+                    birth: waiting.birth,
+                });
             }
         }
     }
@@ -85,7 +88,7 @@ impl Sending {
         ensures { result ≡ is_frame self.now }
     {
         match &self.kind {
-            Some(Kind::Frame(_)) => true,
+            Some(Kind::Frame { .. }) => true,
             Some(Kind::Abort(_)) => false,
             None => false,
         }
@@ -96,7 +99,7 @@ impl Sending {
         ensures { result ≡ is_frame_of local self.now }
     {
         match &self.kind {
-            Some(Kind::Frame(own)) => *own == local,
+            Some(Kind::Frame { local: own, .. }) => *own == local,
             Some(Kind::Abort(_)) => false,
             None => false,
         }
@@ -109,8 +112,25 @@ impl Sending {
         match content {
             Content::Abort(frame) => self.is_abort(frame),
             Content::Frame(waiting) => {
-                self.is_frame_of(waiting.local) && self.octets.as_slice() == waiting.frame.octets()
+                self.is_frame_under(waiting.local, waiting.birth)
+                    && self.octets.as_slice() == waiting.frame.octets()
             }
+        }
+    }
+
+    /// Whether a frame of the dialogue with this local transaction identifier and this birth is being sent.
+    fn is_frame_under(&self, local: u32, birth: u64) -> bool
+        ensures { result ≡ is_frame_under local birth self.now }
+    {
+        match &self.kind {
+            Some(
+                Kind::Frame {
+                    local: own,
+                    birth: own_birth,
+                },
+            ) => *own == local && *own_birth == birth,
+            Some(Kind::Abort(_)) => false,
+            None => false,
         }
     }
 
@@ -120,7 +140,7 @@ impl Sending {
     {
         match &self.kind {
             Some(Kind::Abort(own)) => own == frame,
-            Some(Kind::Frame(_)) => false,
+            Some(Kind::Frame { .. }) => false,
             None => false,
         }
     }

@@ -8,6 +8,7 @@ ghost use Rattle.fp_book.specs.Sending.{is_frame_of};
 ghost use Rattle.fp_book.specs.Shelf.{Sound};
 ghost use Rattle.fp_book.specs.Views.{AreTimed};
 
+use crate::serving::end_serial_unless_held;
 use crate::{
     Book, LoggedStep, Outbox, Parcel, Picked, dialogues, going_down_keeps_a_book_sound,
     sending_keeps_a_book_sound,
@@ -41,8 +42,8 @@ impl Book {
         sending_keeps_a_book_sound();
         let picked = self.outbox.pick(self.link);
         if let Picked::Parcel(parcel) = &picked {
-            let local = parcel.local();
-            self.log.add(LoggedStep::Pick { local });
+            let birth = parcel.birth();
+            self.log.add(LoggedStep::Pick { birth });
         }
         picked
     }
@@ -59,17 +60,19 @@ impl Book {
         sending_keeps_a_book_sound();
         entries_ask_once_at_most();
         let dialogue = parcel.dialogue();
+        let birth = parcel.birth();
         match self.outbox.take_back(self.link, parcel) {
             Ok(()) => {}
             Err(foreign) => return Err(foreign),
         }
         let Some(local) = dialogue else {
-            self.log.add(LoggedStep::Sent { local: 0 });
+            self.log.add(LoggedStep::Sent { birth: 0 });
             return Ok(());
         };
-        dialogues::sent(&mut self.rows, local);
+        let is_held = dialogues::sent(&mut self.rows, local);
         self.totals.sent += 1;
-        self.log.add(LoggedStep::Sent { local });
+        end_serial_unless_held(&mut self.ids, local, is_held);
+        self.log.add(LoggedStep::Sent { birth });
         Ok(())
     }
 
@@ -82,7 +85,7 @@ impl Book {
         ensures sound { Sound self.new }
     {
         going_down_keeps_a_book_sound();
-        let local = parcel.local();
+        let birth = parcel.birth();
         match self.outbox.take_back(self.link, parcel) {
             Ok(()) => {}
             Err(foreign) => return Err(foreign),
@@ -91,13 +94,13 @@ impl Book {
         self.ready.clear();
         self.outbox.clear();
         self.is_down = true;
-        self.log.add(LoggedStep::Unsent { local });
+        self.log.add(LoggedStep::Unsent { birth });
         Ok(())
     }
 
     /// The link goes down: all dialogues are closed, and what waits is dropped. What is out may still come back: turns,
-    /// whose requests aren't accepted, and the parcel. Each message that is posted from now on is discarded. Where the
-    /// link is down already, nothing but the log changes. Takes no memory.
+    /// whose requests aren't accepted, and the parcel. Each message that is posted from now on is discarded, so no
+    /// identifier is given any more. Where the link is down already, nothing but the log changes. Takes no memory.
     pub fn down(&mut self)
         ensures down { GoesDown self.old.outbox.out self.old line.Down self.new }
         ensures sound { Sound self.new }

@@ -1,18 +1,30 @@
 //! Turns of a book: taken, given and put back.
 
-ghost use Rattle.std.specs.Prelude.{◌≡◌, ◌↔◌, ◌<◌, ◌≤◌, ◌+◌, ◌++◌, true, Some, IfErr, IfOk, IsOk, IsSome, IsTrue, length, is_some, OnOk};
+ghost use Rattle.std.specs.Prelude.{◌≡◌, ◌↔◌, ◌<◌, ◌≤◌, ◌+◌, ◌++◌, false, true, Some, IfErr, IfOk, IsOk, IsSome, IsTrue, length, is_some, OnOk, if◌then◌else◌};
 ghost use Rattle.std.specs.FinMap.{get};
 ghost use Rattle.fp_timers.specs.Deadlines.{HasRoom};
 ghost use Rattle.fp_book.specs.Calls.{GivesDone, NoneReady, PutsTurnBack, Takes, given_of, joins, turn_of, waiting_in};
 ghost use Rattle.fp_book.specs.Dialogues.{request_count, with_deadline};
 ghost use Rattle.fp_row.specs.Calls.{frames_in};
 ghost use Rattle.fp_book.specs.Shelf.{Sound};
+ghost use Rattle.fp_tids.specs.Identifiers.{IsGiven, with_returned};
 
 use crate::{
     Book, Given, LoggedStep, Outbox, ReadyQueue, Taken, dialogues, turns_keep_a_book_sound,
 };
 use fp_row::{Done, Requested, Turn, turns_are_served_by_the_step};
+use fp_tids::LocalIds;
 use fp_timers::Deadlines;
+
+/// Puts the serial of a dialogue that is held no longer after the others that may be given. Takes no memory.
+pub(crate) fn end_serial_unless_held(ids: &mut LocalIds, local: u32, is_held: bool)
+    requires { is_held ≡ false → IsGiven ids.old local }
+    ensures { ids.new ≡ (if is_held then ids.old else with_returned ids.old local) }
+{
+    if !is_held {
+        ids.end(local);
+    }
+}
 
 /// Gives a dialogue its deadline, or takes it away. Takes no memory.
 pub(crate) fn set_deadline(deadlines: &mut Deadlines, local: u32, deadline: Option<u64>)
@@ -53,17 +65,18 @@ pub(crate) fn join(ready: &mut ReadyQueue, local: u32, is_ready: bool)
 }
 
 /// Puts the frames of requests after the others that wait, if they are to be sent. Takes no memory.
-fn queue(outbox: &mut Outbox, local: u32, requested: Requested) -> Given
+fn queue(outbox: &mut Outbox, local: u32, birth: u64, requested: Requested) -> Given
     requires place { length outbox.old.frames + length (frames_in requested) ≤ Outbox.MOST_FRAMES }
     requires few { request_count requested ≤ Outbox.MOST_FRAMES }
-    ensures value { outbox.new ≡ record outbox.old { frames = outbox.old.frames ++ waiting_in local requested } }
+    ensures value { outbox.new
+        ≡ record outbox.old { frames = outbox.old.frames ++ waiting_in local birth requested } }
     ensures given { result ≡ given_of requested }
 {
     match requested {
         Requested::Nothing => Given::Silent,
         Requested::Frames(frames) => {
             let count = frames.len() as u32;
-            outbox.add_frames(local, frames);
+            outbox.add_frames(local, birth, frames);
             Given::Queued(count)
         }
         Requested::Dropped(count) => Given::Dropped(count as u32),
@@ -96,7 +109,7 @@ impl Book {
         let count = turn.count();
         self.turns += count;
         self.log.add(LoggedStep::Take {
-            local,
+            birth: turn.birth(),
             position,
             count: count as u32,
         });
@@ -123,13 +136,15 @@ impl Book {
             Ok(served) => served,
             Err(foreign) => return Err(foreign),
         };
+        let birth = served.left.birth;
         self.turns -= count;
         self.totals.served += served_count as u64;
+        end_serial_unless_held(&mut self.ids, local, served.left.is_held);
         set_deadline(&mut self.deadlines, local, served.left.deadline);
         join(&mut self.ready, local, served.left.is_ready);
-        let given = queue(&mut self.outbox, local, served.requested);
+        let given = queue(&mut self.outbox, local, birth, served.requested);
         self.log.add(LoggedStep::Give {
-            local,
+            birth,
             position,
             served: served_count as u32,
             given,
@@ -150,13 +165,17 @@ impl Book {
         let local = turn.local();
         let position = turn.position();
         let count = turn.count();
-        let is_ready = match dialogues::put_back(&mut self.rows, turn) {
-            Ok(is_ready) => is_ready,
+        let left = match dialogues::put_back(&mut self.rows, turn) {
+            Ok(left) => left,
             Err(foreign) => return Err(foreign),
         };
         self.turns -= count;
-        join(&mut self.ready, local, is_ready);
-        self.log.add(LoggedStep::PutBack { local, position });
+        end_serial_unless_held(&mut self.ids, local, left.is_held);
+        join(&mut self.ready, local, left.is_ready);
+        self.log.add(LoggedStep::PutBack {
+            birth: left.birth,
+            position,
+        });
         Ok(())
     }
 }

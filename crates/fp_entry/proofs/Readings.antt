@@ -95,8 +95,9 @@ refused_same laws contexts octets Badly UnknownMessage h k =
 refused_same laws contexts octets Badly Badly h k = refl
 
 -- octets that came at a moment are one arrival
-arrival_same : (laws : LowerLaws) (octets : List ℕ) (moment : ℕ) (x y : Arrival) → IsArrival octets moment x → IsArrival octets moment y → SameArrival x y
-arrival_same laws octets moment x y g h = record {
+arrival_same : (laws : LowerLaws) (octets : List ℕ) (moment : ℕ) (x y : Arrival) → x.table ≡ y.table → IsArrival octets moment x → IsArrival octets moment y → SameArrival x y
+arrival_same laws octets moment x y tables g h = record {
+  tables = tables;
   frames = g.is_frame ∙ sym h.is_frame;
   moments = g.is_moment ∙ sym h.is_moment;
   identifiers = laws.ids_are_one octets x.ids.kind y.ids.kind _ _ _ _ g.has_ids h.has_ids;
@@ -115,6 +116,6 @@ reading_same laws contents contexts octets moment (Lost a) y g h = tt
 
 pub prepared_same : LowerLaws → PreparedIsOne
 prepared_same laws contents contexts octets moment x y g h = record {
-  same_arrival = arrival_same laws octets moment (arrival_of x) (arrival_of y) g.is_arrival h.is_arrival;
+  same_arrival = arrival_same laws octets moment (arrival_of x) (arrival_of y) (g.by_table ∙ sym h.by_table) g.is_arrival h.is_arrival;
   same_reading = reading_same laws contents contexts octets moment x y g.is_reading h.is_reading;
 }

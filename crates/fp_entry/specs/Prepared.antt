@@ -44,7 +44,7 @@ IsRefused contexts octets UnknownMessage =
     (element : Tree) × IsElement octets element × IsElementFault contexts element UnknownMessage
 IsRefused contexts octets Badly = (element : Tree) × IsElement octets element × IsElementFault contexts element Badly
 
--- the frame, its moment and its identifiers, whatever it is prepared to
+-- the frame, its moment, the index of its table and its identifiers, whatever it is prepared to
 abbrev pub arrival_of : Prepared → Arrival
 arrival_of (Message arrival incoming) = arrival
 arrival_of (Refused arrival fault) = arrival
@@ -56,16 +56,18 @@ IsReading contents contexts octets moment (Message arrival incoming) = Brings co
 IsReading contents contexts octets moment (Refused arrival fault) = IsRefused contexts octets fault
 IsReading contents contexts octets moment (Lost arrival) = ⊤
 
--- a frame of these octets, which came at this moment, is prepared to this
+-- a frame of these octets, which came at this moment, is prepared to this, by the records of this table, whose index it
+-- has
 pub record IsPrepared (contents : Contents) (contexts : List (List ℕ)) (octets : List ℕ) (moment : ℕ) (prepared : Prepared) : Type 0 where
   pub is_arrival : IsArrival octets moment (arrival_of prepared)
+  pub by_table : (arrival_of prepared).table ≡ contents.index
   pub is_reading : IsReading contents contexts octets moment prepared
 
--- neither a message nor a refusal, but what came
+-- neither a message nor a refusal, but what came, by no table: the index is 0
 abbrev pub IsLost : List ℕ → ℕ → Prepared → Type 0
 IsLost octets moment (Message arrival incoming) = ⊥
 IsLost octets moment (Refused arrival fault) = ⊥
-IsLost octets moment (Lost arrival) = IsArrival octets moment arrival
+IsLost octets moment (Lost arrival) = IsArrival octets moment arrival × (arrival.table ≡ 0)
 
 -- the same entries and number of elements
 pub record SameIncoming (a b : Incoming) : Type 0 where

@@ -7,7 +7,8 @@
 //!
 //! * [`Prepared`] is what a frame is prepared to: a readable message, with what it brings, [`Incoming`], and so its
 //!   [`Entries`]; or a refusal, with its [`Fault`]; or neither, if memory ran out. Each of them has its
-//!   [`Arrival`]: the frame, its moment, and what can be known of its octets, their kind and identifiers.
+//!   [`Arrival`]: the frame, its moment, the index of the table by which it was read, and what can be known of
+//!   its octets, their kind and identifiers.
 //! * [`Entry`] is what a dialogue is handed at a time: a moment, and an [`EntryKind`].
 //! * [`Found`] is what the table has of the number that an InitialDP asks for; a [`SharedRecord`] is a share of the
 //!   record itself, and no copy.

@@ -34,21 +34,24 @@ use std::alloc::Global;
 pub enum Prepared {
     /// The octets are a readable message.
     Message {
-        /// The frame, its moment and its identifiers, which are those of the message.
+        /// The frame, its moment, the index of the table by which it was read, and its identifiers, which are those of
+        /// the message.
         arrival: Arrival,
         /// What the message brings.
         incoming: Incoming,
     },
     /// The octets are no message that is taken.
     Refused {
-        /// The frame, its moment and what can be known of its octets all the same.
+        /// The frame, its moment, the index of the table by which it was read, and what can be known of its octets all
+        /// the same.
         arrival: Arrival,
         /// Why.
         fault: Fault,
     },
     /// Memory ran out, and the frame wasn't read to its end.
     Lost {
-        /// The frame, its moment and what can be known of its octets all the same.
+        /// The frame, its moment and what can be known of its octets all the same. Its index is that of the table if
+        /// [`Prepared::read`] ran out of memory, and 0 if [`Prepared::lost`] made it; nothing reads it.
         arrival: Arrival,
     },
 }
@@ -115,7 +118,8 @@ fn read_octets(
 
 /// What a frame that came is prepared to.
 fn prepare(alloc: Global, table: &Table, contexts: &[Name], arrival: Arrival) -> Prepared
-    ensures { (octets : List ℕ) (moment : ℕ) → IsArrival octets moment arrival → IsPrepared table.now contexts.now octets moment result }
+    ensures { (octets : List ℕ) (moment : ℕ) → IsArrival octets moment arrival
+        → arrival.table ≡ table.now.index → IsPrepared table.now contexts.now octets moment result }
 {
     match read_octets(
         alloc,
@@ -132,14 +136,14 @@ fn prepare(alloc: Global, table: &Table, contexts: &[Name], arrival: Arrival) ->
 
 impl Prepared {
     /// Reads the message of a frame that came at this moment, over the records of a table and the application
-    /// context names that are accepted. Each answer has the frame, the moment and the identifiers, which are told
-    /// by the octets alone.
+    /// context names that are accepted. Each answer has the frame, the moment, the index of the table, and the
+    /// identifiers, which depend on the octets alone.
     ///
     /// What isn't readable, has the tag of no message, or has other contents than its own is
     /// [`Prepared::Refused`], and so is a Begin whose dialogue portion is no request for a dialogue. The dialogue
     /// portion of any other message isn't looked at, nor what a Unidirectional holds. No message is refused for
     /// how many components it has. [`Prepared::Lost`] comes only if memory runs out, also for one more share
-    /// of a record.
+    /// of a record. It has the index of the table, too, which nothing reads.
     pub fn read(
         alloc: Global,
         table: &Table,
@@ -154,19 +158,25 @@ impl Prepared {
         ensures only { (other : Prepared) → IsPrepared table.now contexts.now frame moment other → Answers result other }
     {
         prepared_is_one();
-        prepare(alloc, table, contexts, Arrival::new(frame, moment))
+        prepare(
+            alloc,
+            table,
+            contexts,
+            Arrival::new(frame, moment, table.index()),
+        )
     }
 
-    /// A frame that came at this moment and that isn't read, as if memory had run out. Takes no memory.
+    /// A frame that came at this moment and that isn't read, as if memory had run out. No table is looked at: the index
+    /// is 0, and nothing reads it. Takes no memory.
     pub fn lost(frame: Frame, moment: Moment) -> Prepared
         ensures { IsLost frame moment result }
     {
         Prepared::Lost {
-            arrival: Arrival::new(frame, moment),
+            arrival: Arrival::new(frame, moment, 0),
         }
     }
 
-    /// The frame, its moment and its identifiers, whatever it is prepared to.
+    /// The frame, its moment, the index of its table and its identifiers, whatever it is prepared to.
     pub fn arrival(&self) -> &Arrival
         ensures { result.now ≡ arrival_of self.now }
     {
@@ -177,7 +187,7 @@ impl Prepared {
         }
     }
 
-    /// The frame, its moment and its identifiers, the rest given up. Takes no memory.
+    /// The frame, its moment, the index of its table and its identifiers, the rest given up. Takes no memory.
     pub fn into_arrival(self) -> Arrival
         ensures { result ≡ arrival_of self }
     {

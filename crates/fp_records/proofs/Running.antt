@@ -127,7 +127,7 @@ read-fault (first ∷ rows) at reason is = by (head_of first) is
 -- an answer to a file is its table
 pub reads-file : (result : Result Contents RecordsFault) (rows : List (List (List ℕ))) (file : File) → Reads result rows → IsFile rows file
     → MatchResult result (λ contents. IsTable file contents) (λ fault. fault ≡ Memory)
-reads-file (Ok contents) rows file (other, is_other, table) is =
+reads-file (Ok contents) rows file (other, is_other, table, first) is =
     let same : other ≡ file = cc (read-file rows other is_other, read-file rows file is) in
     rw same at table
 reads-file (Err (Record at reason)) rows file fault is = cc (read-fault rows at reason fault, read-file rows file is)
@@ -136,7 +136,7 @@ reads-file (Err Memory) rows file fault is = refl
 -- an answer to a text with a first fault is this fault
 pub reads-fault : (result : Result Contents RecordsFault) (rows : List (List (List ℕ))) (at : ℕ) (reason : Reason) → Reads result rows → FirstFault rows at reason
     → IsErrAnd result (λ fault. (fault ≡ Record at reason) ⊎ (fault ≡ Memory))
-reads-fault (Ok contents) rows at reason (file, is_file, table) is = cc (read-fault rows at reason is, read-file rows file is_file)
+reads-fault (Ok contents) rows at reason (file, is_file, table, first) is = cc (read-fault rows at reason is, read-file rows file is_file)
 reads-fault (Err (Record other why)) rows at reason fault is =
     let same : Record other why ≡ Record at reason = cc (read-fault rows other why fault, read-fault rows at reason is) in
     inl same

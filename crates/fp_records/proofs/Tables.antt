@@ -30,9 +30,9 @@ record_with-some offset [] = refl
 record_with-some offset (rule ∷ rules) = refl
 
 pub reads : (first : List (List ℕ)) (rows : List (List (List ℕ))) (head : Head) (rules : List NumberedRule) (grouped : Grouped) (contents : Contents)
-    → head_of first ≡ Some head → AreRules rows rules → Groups rules grouped → contents.key ≡ head.key → contents.rule_count ≡ grouped.count
+    → head_of first ≡ Some head → AreRules rows rules → Groups rules grouped → contents.index ≡ 0 → contents.key ≡ head.key → contents.rule_count ≡ grouped.count
     → contents.records ≡ map (record_of_group head.offset) grouped.groups → Reads (Ok contents) (first ∷ rows)
-reads first rows head rules grouped contents is_head are holds key count records = (
+reads first rows head rules grouped contents is_head are holds first_table key count records = (
   record { key = head.key; offset = head.offset; rules = rules },
   (is_head, are),
   record {
@@ -41,4 +41,5 @@ reads first rows head rules grouped contents is_head are holds key count records
     each = λ digits. rw (records, lookup-records head.offset digits grouped.groups, holds.each digits) (record_with-some head.offset (rules_of digits rules));
     once = rw (records, keys-records head.offset grouped.groups) holds.once;
   },
+  first_table,
 )

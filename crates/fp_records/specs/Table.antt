@@ -12,8 +12,9 @@ use Rattle.fp_records.specs.declared.fault.RecordsFault.{RecordsFault}
 use Rattle.fp_records.specs.declared.fault.RecordsFault.TheVariants.{Record, Memory}
 use Rattle.fp_records.specs.declared.rule.Rule.{Rule}
 
--- the service key, how many rules there are, and each number with its record
+-- the index among the tables of a run, the service key, how many rules there are, and each number with its record
 pub record Contents : Type 0 where
+  pub index : ℕ
   pub key : ℕ
   pub rule_count : ℕ
   pub records : List (List ℕ × Rules)
@@ -32,16 +33,17 @@ abbrev pub record_with : ℤ → List Rule → Option Rules
 record_with offset [] = None
 record_with offset (rule ∷ rules) = Some (record { offset = offset; rules = rule ∷ rules })
 
--- a table is that of a file: the record of any digits is that of the rules of that number, and each number stands
--- there once, in rising order
+-- a table is that of a file, whatever its index: the record of any digits is that of the rules of that number, and each
+-- number is there once, in rising order
 pub record IsTable (file : File) (contents : Contents) : Type 0 where
   pub key : contents.key ≡ file.key
   pub rule_count : contents.rule_count ≡ length file.rules
   pub each : (digits : List ℕ) → record_at contents digits ≡ record_with file.offset (rules_of digits file.rules)
   pub once : IsStrictlySortedBy (slice_cmp nat_cmp) (keys_of contents.records)
 
--- an answer is what the records of a text are: a table of the file, or their first fault, want of memory aside
+-- an answer is what the records of a text are: the table of the file, as the first one of a run, or their first fault;
+-- or memory ran out
 abbrev pub Reads : Result Contents RecordsFault → List (List (List ℕ)) → Type 0
-Reads (Ok contents) rows = (file : File) × IsFile rows file × IsTable file contents
+Reads (Ok contents) rows = (file : File) × IsFile rows file × IsTable file contents × (contents.index ≡ 0)
 Reads (Err (Record at reason)) rows = FirstFault rows at reason
 Reads (Err Memory) rows = Unit {0}

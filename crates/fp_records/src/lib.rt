@@ -9,7 +9,8 @@
 //! moment. It never asks the system for a file, the time or anything else.
 //!
 //! - [`Table`] is the records of a file. [`Table::read`] reads it, and [`Table::find`] finds the
-//!   [`Record`] of a called number by its digits.
+//!   [`Record`] of a called number by its digits. It has an index among the tables of a run, 0 as
+//!   it is read: [`Table::numbered`] gives it another one, and [`Table::index`] says it.
 //! - [`Record`] is the rules of one number, and [`Record::choose`] is the [`Rule`] that a call gets:
 //!   by the calling number's prefix, the weekday, the minute and the rules' shares. Two records,
 //!   rules or destinations are equal by `==` exactly where they say the same.

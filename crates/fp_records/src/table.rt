@@ -1,6 +1,6 @@
 //! The table of the records.
 
-ghost use Rattle.std.specs.Prelude.{◌≡◌, ◌⊎◌, ℕ, List, IsErrAnd, MatchResult, length, option_map};
+ghost use Rattle.std.specs.Prelude.{◌≡◌, ◌≤◌, ◌⊎◌, ℕ, List, IsErrAnd, MatchResult, length, option_map};
 ghost use Rattle.std.specs.Arc.{arc_value};
 ghost use Rattle.fp_records.specs.declared.fault.Reason.{Reason};
 
@@ -17,31 +17,41 @@ use std::collections::BTreeMap;
 use std::marker::Model;
 use std::sync::Arc;
 
-/// The records of one service key. Contracts see it as its `Contents`.
+/// The records of one service key, with their index among the tables of a run. Contracts see it as its `Contents`.
 #[derive(Debug, Drop)]
 pub struct Table {
+    index: u16,
     key: u32,
     rule_count: u32,
     records: BTreeMap<DecimalDigits, Arc<Record>>,
 }
 
 impl Model for Table {
-    ghost use Rattle.std.specs.Prelude.{map};
+    ghost use Rattle.std.specs.Prelude.{map, ◌≤◌};
     ghost use Rattle.std.specs.Arc.{arc_value};
     ghost use Rattle.fp_records.specs.Table.{Contents, IsKept};
 
     ghost Value = { Contents };
 
-    ghost view = { λ table. record { key = table.key; rule_count = table.rule_count; records = map (λ e. (e.0, arc_value e.1)) table.records.entries } };
+    ghost view = { λ table. record {
+      index = table.index;
+      key = table.key;
+      rule_count = table.rule_count;
+      records = map (λ e. (e.0, arc_value e.1)) table.records.entries;
+    } };
 
-    ghost invariant = { λ table. IsKept (map (λ e. (e.0, arc_value e.1)) table.records.entries) };
+    ghost invariant = { λ table. IsKept (map (λ e. (e.0, arc_value e.1)) table.records.entries)
+        × (table.index ≤ 999) };
 }
 
 impl Table {
     ghost use Rattle.fp_records.specs.File.{File, FirstFault, IsFile, records_of};
     ghost use Rattle.fp_records.specs.Table.{IsTable, Reads, record_at};
 
-    /// Reads the text of a records file.
+    /// The last index among the tables of a run.
+    pub const LAST_INDEX: u16 = 999;
+
+    /// Reads the text of a records file, as the first table of a run, whose index is 0.
     ///
     /// The fault is the first one from the top, by the number of its record (the first is 1, and empty
     /// lines are no records) and the first reason that fits it: `BadHead` where record 1 is not
@@ -77,10 +87,27 @@ impl Table {
         };
         let groups = Groups::read(alloc, &mut records, &mut row)?;
         Ok(Table {
+            index: 0,
             key: head.key,
             rule_count: groups.count() as u32,
             records: groups.into_records(alloc, head.offset)?,
         })
+    }
+
+    /// The same records under this index among the tables of a run, 0 to 999. Takes no memory.
+    pub fn numbered(self, index: u16) -> Table
+        requires { index ≤ Self.LAST_INDEX }
+        ensures { result ≡ record self { index = index } }
+    {
+        Table { index, ..self }
+    }
+
+    /// Its index among the tables of a run, 0 to 999. Takes no memory.
+    pub fn index(&self) -> u16
+        ensures value { result ≡ self.now.index }
+        ensures most { result ≤ Self.LAST_INDEX }
+    {
+        self.index
     }
 
     /// How many numbers and how many rules there are.

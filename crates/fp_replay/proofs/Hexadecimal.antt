@@ -119,15 +119,19 @@ identifier_read local =
     decode_sized-twice (identifier_text local) 4 (length-encode_with upper_digits (to_be_bytes w32 local))
     ∙ decode_of-encode_upper (to_be_bytes w32 local) (identifier_octets local)
 
--- one more octet stands behind what was written
-pub octet_more : (octets text new old : List ℕ) (i high low : ℕ) → i < length octets
+-- one more octet comes after what was written, digit by digit
+pub octet_more : (octets text half new old : List ℕ) (i high low : ℕ) → i < length octets
     → high ≡ slice_index octets i / 16 → low ≡ slice_index octets i % 16
-    → new ≡ text ++ slice_index upper_digits high ∷ slice_index upper_digits low ∷ []
+    → half ≡ text ++ slice_index upper_digits high ∷ [] → new ≡ half ++ slice_index upper_digits low ∷ []
     → text ++ encode_upper (drop i octets) ≡ old ++ encode_upper octets
     → new ++ encode_upper (drop (i + 1) octets) ≡ old ++ encode_upper octets
-octet_more octets text new old i high low lt is_high is_low is so_far =
+octet_more octets text half new old i high low lt is_high is_low first second so_far =
+    let h = slice_index upper_digits (slice_index octets i / 16) in
+    let l = slice_index upper_digits (slice_index octets i % 16) in
+    let rest = encode_upper (drop (i + 1) octets) in
     let one = encode_with-drop upper_digits octets i lt in
-    rw (is, is_high, is_low) (append_assoc text (slice_index upper_digits (slice_index octets i / 16) ∷ slice_index upper_digits (slice_index octets i % 16) ∷ []) (encode_upper (drop (i + 1) octets)) ∙ sym (ap (λ (x : List ℕ). text ++ x) one) ∙ so_far)
+    rw (second, first, is_high, is_low)
+    (append_assoc (text ++ h ∷ []) (l ∷ []) rest ∙ append_assoc text (h ∷ []) (l ∷ rest) ∙ sym (ap (λ (x : List ℕ). text ++ x) one) ∙ so_far)
 
 -- all octets are written
 pub octets_end : (octets text old : List ℕ) (i : ℕ) → length octets ≤ i

@@ -22,7 +22,7 @@ use Rattle.fp_replay.proofs.Lines.{small_cause}
 
 -- NO LINE FEED
 
--- a letter, and what stands behind it
+-- a letter, and what comes after it
 behind : (octet : ℕ) (text : List ℕ) → 10 < octet → IsOneLine text → IsOneLine (octet ∷ text)
 behind octet text above plain = All-cons (λ o. o ≢ 10) octet text (λ e. omega (arith, e, above)) plain
 
@@ -50,23 +50,28 @@ given_plain (Queued count) is = behind 81 (decimal count) (omega arith) (decimal
 given_plain (Dropped count) is = behind 68 (decimal count) (omega arith) (decimal_plain count (omega (arith, is)))
 given_plain Silent is = letter 83 (omega arith)
 
-posting_plain : (moment : ℕ) (message : List ℕ) (answer : Posted) → IsPosting moment message answer
-    → AllByRecursion IsOneLine (decimal moment ∷ encode_upper message ∷ posted_text answer ∷ [])
-posting_plain moment message answer is = (decimal_plain moment (omega (arith, is.in_time)), (octets_plain message, (posted_plain answer is.numbers, tt)))
+answered_plain : (moment : ℕ) (message : List ℕ) (answer : Posted) → IsPosting moment message answer
+    → AllByRecursion IsOneLine (encode_upper message ∷ posted_text answer ∷ [])
+answered_plain moment message answer is = (octets_plain message, (posted_plain answer is.numbers, tt))
+
+moment_plain : (moment : ℕ) (message : List ℕ) (answer : Posted) → IsPosting moment message answer → IsOneLine (decimal moment)
+moment_plain moment message answer is = decimal_plain moment (omega (arith, is.in_time))
 
 fields_plain : (step : LoggedStep) → IsStep step → AllByRecursion IsOneLine (fields_of step)
-fields_plain (Post moment message answer) is = (letter 80 (omega arith), posting_plain moment message answer is)
-fields_plain (Lost moment message answer) is = (letter 76 (omega arith), posting_plain moment message answer is)
+fields_plain (Post table moment message answer) is =
+    (letter 80 (omega arith), (moment_plain moment message answer is.1, (decimal_plain table (omega (arith, is.0)), answered_plain moment message answer is.1)))
+fields_plain (Lost moment message answer) is =
+    (letter 76 (omega arith), (moment_plain moment message answer is, answered_plain moment message answer is))
 fields_plain (Tick moment added wanting) is =
     (letter 75 (omega arith), (decimal_plain moment (omega (arith, is.0)), (decimal_plain added (omega (arith, is.1)), (decimal_plain wanting (omega (arith, is.2)), tt))))
-fields_plain (Take local position count) is =
-    (letter 84 (omega arith), (local_plain local, (decimal_plain position is.1, (decimal_plain count (omega (arith, is.2)), tt))))
-fields_plain (Give local position served given) is =
-    (letter 71 (omega arith), (local_plain local, (decimal_plain position is.1, (decimal_plain served (omega (arith, is.2)), (given_plain given is.3, tt)))))
-fields_plain (PutBack local position) is = (letter 66 (omega arith), (local_plain local, (decimal_plain position is.1, tt)))
-fields_plain (Pick local) is = (letter 81 (omega arith), (local_plain local, tt))
-fields_plain (Sent local) is = (letter 89 (omega arith), (local_plain local, tt))
-fields_plain (Unsent local) is = (letter 85 (omega arith), (local_plain local, tt))
+fields_plain (Take birth position count) is =
+    (letter 84 (omega arith), (decimal_plain birth is.0, (decimal_plain position is.1, (decimal_plain count (omega (arith, is.2)), tt))))
+fields_plain (Give birth position served given) is =
+    (letter 71 (omega arith), (decimal_plain birth is.0, (decimal_plain position is.1, (decimal_plain served (omega (arith, is.2)), (given_plain given is.3, tt)))))
+fields_plain (PutBack birth position) is = (letter 66 (omega arith), (decimal_plain birth is.0, (decimal_plain position is.1, tt)))
+fields_plain (Pick birth) is = (letter 81 (omega arith), (decimal_plain birth is, tt))
+fields_plain (Sent birth) is = (letter 89 (omega arith), (decimal_plain birth is, tt))
+fields_plain (Unsent birth) is = (letter 85 (omega arith), (decimal_plain birth is, tt))
 fields_plain Down is = (letter 78 (omega arith), tt)
 fields_plain (Gap lost) is = (letter 90 (omega arith), (decimal_plain lost is, tt))
 
@@ -85,7 +90,7 @@ name_plain =
 -- the text of a line has no line feed
 pub text_one_line : (line : Line) → IsLine line → IsOneLine (text_of line)
 text_one_line (Head links) is =
-    joined_plain (codes "fplog" ∷ codes "2" ∷ decimal links ∷ []) (name_plain, (letter 50 (omega arith), (decimal_plain links (omega (arith, is.1)), tt)))
+    joined_plain (codes "fplog" ∷ codes "4" ∷ decimal links ∷ []) (name_plain, (letter 52 (omega arith), (decimal_plain links (omega (arith, is.1)), tt)))
 text_one_line (Step link step) is = joined_plain (decimal link ∷ fields_of step) (decimal_plain link (omega (arith, is.0)), fields_plain step is.1)
 
 -- HOW LONG IT IS
@@ -120,24 +125,25 @@ given_short (Dropped count) is = omega (arith, decimal_short count (omega (arith
 given_short Silent is = omega arith
 
 posting_short : (moment : ℕ) (message : List ℕ) (answer : Posted) → IsPosting moment message answer
-    → length (decimal moment) + (length (encode_upper message) + length (posted_text answer)) ≤ 8260
+    → length (decimal moment) + (length (encode_upper message) + length (posted_text answer)) ≤ 8240
 posting_short moment message answer is =
     let n = is.in_time in let size = is.size in
     omega (arith, decimal_short moment (omega (arith, n)), length-encode_with upper_digits message, size.1, posted_short answer is.numbers)
 
 fields_short : (step : LoggedStep) → IsStep step → room (fields_of step) ≤ 8270
 unfolding room
-fields_short (Post moment message answer) is = omega (arith, posting_short moment message answer is)
+fields_short (Post table moment message answer) is =
+    omega (arith, posting_short moment message answer is.1, decimal_short table (omega (arith, is.0)))
 fields_short (Lost moment message answer) is = omega (arith, posting_short moment message answer is)
 fields_short (Tick moment added wanting) is =
     omega (arith, decimal_short moment (omega (arith, is.0)), decimal_short added (omega (arith, is.1)), decimal_short wanting (omega (arith, is.2)))
-fields_short (Take local position count) is = omega (arith, local_length local, decimal_short position is.1, decimal_short count (omega (arith, is.2)))
-fields_short (Give local position served given) is =
-    omega (arith, local_length local, decimal_short position is.1, decimal_short served (omega (arith, is.2)), given_short given is.3)
-fields_short (PutBack local position) is = omega (arith, local_length local, decimal_short position is.1)
-fields_short (Pick local) is = omega (arith, local_length local)
-fields_short (Sent local) is = omega (arith, local_length local)
-fields_short (Unsent local) is = omega (arith, local_length local)
+fields_short (Take birth position count) is = omega (arith, decimal_short birth is.0, decimal_short position is.1, decimal_short count (omega (arith, is.2)))
+fields_short (Give birth position served given) is =
+    omega (arith, decimal_short birth is.0, decimal_short position is.1, decimal_short served (omega (arith, is.2)), given_short given is.3)
+fields_short (PutBack birth position) is = omega (arith, decimal_short birth is.0, decimal_short position is.1)
+fields_short (Pick birth) is = omega (arith, decimal_short birth is)
+fields_short (Sent birth) is = omega (arith, decimal_short birth is)
+fields_short (Unsent birth) is = omega (arith, decimal_short birth is)
 fields_short Down is = omega arith
 fields_short (Gap lost) is = omega (arith, decimal_short lost is)
 
@@ -145,6 +151,6 @@ fields_short (Gap lost) is = omega (arith, decimal_short lost is)
 pub text_short : (line : Line) → IsLine line → length (text_of line) ≤ 8300
 unfolding room
 text_short (Head links) is =
-    omega (arith, joined_short (codes "fplog" ∷ codes "2" ∷ decimal links ∷ []), decimal_short links (omega (arith, is.1)))
+    omega (arith, joined_short (codes "fplog" ∷ codes "4" ∷ decimal links ∷ []), decimal_short links (omega (arith, is.1)))
 text_short (Step link step) is =
     omega (arith, joined_short (decimal link ∷ fields_of step), decimal_short link (omega (arith, is.0)), fields_short step is.1)

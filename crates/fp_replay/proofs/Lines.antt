@@ -19,7 +19,7 @@ use Rattle.fp_book.specs.declared.line.LoggedStep.{LoggedStep}
 use Rattle.fp_book.specs.declared.line.LoggedStep.TheVariants as steps
 use Rattle.fp_replay.specs.Fields.{IsField}
 use Rattle.fp_replay.specs.Format.{IsCounted, IsLine, IsInRange, IsPosting, IsStep, given_text, identifier_text, posted_text, text_of}
-use Rattle.fp_replay.specs.Reading.{posting_fields, step_text, turn_fields}
+use Rattle.fp_replay.specs.Reading.{step_text}
 use Rattle.fp_replay.proofs.Cutting.{decimal_is_field, octets_are_field, one_cut}
 use Rattle.fp_replay.proofs.Hexadecimal.{identifier_octets}
 use Rattle.fp_replay.proofs.Letters.{first}
@@ -36,16 +36,11 @@ one_identifier a b p q e =
     let octets = one_message (to_be_bytes w32 a) (to_be_bytes w32 b) (identifier_octets a) (identifier_octets b) e in
     sym (from_be_bytes-to_be_bytes_4 a p) ∙ ap (from_be_bytes w32) octets ∙ from_be_bytes-to_be_bytes_4 b q
 
--- a number, or an identifier, and what stands behind it
+-- a number, and what comes after it
 one_number : (m n : ℕ) (a b : List ℕ) → m < 2 ^ 64 → n < 2 ^ 64 → decimal m ++ 32 ∷ a ≡ decimal n ++ 32 ∷ b → (m ≡ n) × (a ≡ b)
 one_number m n a b p q e =
     let parts = one_cut 32 (decimal m) a (decimal n) b (decimal_is_field m p) (decimal_is_field n q) e in
     (decimal_injective m n p q parts.0, parts.1)
-
-one_local : (l m : ℕ) (a b : List ℕ) → l < 2 ^ 32 → m < 2 ^ 32 → identifier_text l ++ 32 ∷ a ≡ identifier_text m ++ 32 ∷ b → (l ≡ m) × (a ≡ b)
-one_local l m a b p q e =
-    let parts = one_cut 32 (identifier_text l) a (identifier_text m) b (octets_are_field (to_be_bytes w32 l)) (octets_are_field (to_be_bytes w32 m)) e in
-    (one_identifier l m p q parts.0, parts.1)
 
 -- the value of a cause is small, and no two causes have one
 pub small_cause : (cause : AbortCause) → cause_code cause < 2 ^ 64
@@ -78,41 +73,47 @@ one_given _ _ p q e = absurd (omega (arith, ap first e))
 
 -- ONE STEP
 
--- the fields of a message that was posted are of one
-one_posting : (m n : ℕ) (s t : List ℕ) (a b : Posted) → IsPosting m s a → IsPosting n t b → posting_fields m s a ≡ posting_fields n t b → (m ≡ n) × (s ≡ t) × (a ≡ b)
-one_posting m n s t a b p q e =
-    let moments = one_number m n (encode_upper s ++ 32 ∷ posted_text a) (encode_upper t ++ 32 ∷ posted_text b) (omega (arith, p.in_time)) (omega (arith, q.in_time)) (ap (drop 1) e) in
-    let messages = one_cut 32 (encode_upper s) (posted_text a) (encode_upper t) (posted_text b) (octets_are_field s) (octets_are_field t) moments.1 in
-    (moments.0, one_message s t p.octets q.octets messages.0, one_posted a b p.numbers q.numbers messages.1)
+-- a message and its answer
+abbrev answered : List ℕ → Posted → List ℕ
+answered message answer = encode_upper message ++ 32 ∷ posted_text answer
 
--- the fields of a turn are of one
-one_turn : (l m i j : ℕ) → (l < 2 ^ 32) × (i < 2 ^ 64) → (m < 2 ^ 32) × (j < 2 ^ 64) → turn_fields l i ≡ turn_fields m j → (l ≡ m) × (i ≡ j)
-one_turn l m i j p q e =
-    let locals = one_local l m (decimal i) (decimal j) p.0 q.0 (ap (drop 1) e) in
-    (locals.0, decimal_injective i j p.1 q.1 locals.1)
+-- have one text
+one_answered : (m n : ℕ) (s t : List ℕ) (a b : Posted) → IsPosting m s a → IsPosting n t b → answered s a ≡ answered t b → (s ≡ t) × (a ≡ b)
+one_answered m n s t a b p q e =
+    let parts = one_cut 32 (encode_upper s) (posted_text a) (encode_upper t) (posted_text b) (octets_are_field s) (octets_are_field t) e in
+    (one_message s t p.octets q.octets parts.0, one_posted a b p.numbers q.numbers parts.1)
 
 -- no two steps have one text
 one_step : (a b : LoggedStep) → IsStep a → IsStep b → step_text a ≡ step_text b → a ≡ b
-one_step (steps.Post m s a) (steps.Post n t b) p q e = let same = one_posting m n s t a b p q (ap (drop 1) e) in λ i. steps.Post (same.0 i) (same.1 i) (same.2 i)
-one_step (steps.Lost m s a) (steps.Lost n t b) p q e = let same = one_posting m n s t a b p q (ap (drop 1) e) in λ i. steps.Lost (same.0 i) (same.1 i) (same.2 i)
+one_step (steps.Post i m s a) (steps.Post j n t b) p q e =
+    let moments = one_number m n (decimal i ++ 32 ∷ answered s a) (decimal j ++ 32 ∷ answered t b) (omega (arith, p.1.in_time)) (omega (arith, q.1.in_time)) (ap (drop 2) e) in
+    let tables = one_number i j (answered s a) (answered t b) (omega (arith, p.0)) (omega (arith, q.0)) moments.1 in
+    let same = one_answered m n s t a b p.1 q.1 tables.1 in
+    λ k. steps.Post (tables.0 k) (moments.0 k) (same.0 k) (same.1 k)
+one_step (steps.Lost m s a) (steps.Lost n t b) p q e =
+    let moments = one_number m n (answered s a) (answered t b) (omega (arith, p.in_time)) (omega (arith, q.in_time)) (ap (drop 2) e) in
+    let same = one_answered m n s t a b p q moments.1 in
+    λ k. steps.Lost (moments.0 k) (same.0 k) (same.1 k)
 one_step (steps.Tick m a v) (steps.Tick n b w) p q e =
     let moments = one_number m n (decimal a ++ 32 ∷ decimal v) (decimal b ++ 32 ∷ decimal w) (omega (arith, p.0)) (omega (arith, q.0)) (ap (drop 2) e) in
     let counts = one_number a b (decimal v) (decimal w) (omega (arith, p.1)) (omega (arith, q.1)) moments.1 in
     let left = decimal_injective v w (omega (arith, p.2)) (omega (arith, q.2)) counts.1 in
     cc (moments.0, counts.0, left)
 one_step (steps.Take l i x) (steps.Take m j y) p q e =
-    let locals = one_local l m (decimal i ++ 32 ∷ decimal x) (decimal j ++ 32 ∷ decimal y) p.0 q.0 (ap (drop 2) e) in
-    let places = one_number i j (decimal x) (decimal y) p.1 q.1 locals.1 in
-    cc (locals.0, places.0, decimal_injective x y (omega (arith, p.2)) (omega (arith, q.2)) places.1)
+    let births = one_number l m (decimal i ++ 32 ∷ decimal x) (decimal j ++ 32 ∷ decimal y) p.0 q.0 (ap (drop 2) e) in
+    let places = one_number i j (decimal x) (decimal y) p.1 q.1 births.1 in
+    cc (births.0, places.0, decimal_injective x y (omega (arith, p.2)) (omega (arith, q.2)) places.1)
 one_step (steps.Give l i x a) (steps.Give m j y b) p q e =
-    let locals = one_local l m (decimal i ++ 32 ∷ (decimal x ++ 32 ∷ given_text a)) (decimal j ++ 32 ∷ (decimal y ++ 32 ∷ given_text b)) p.0 q.0 (ap (drop 2) e) in
-    let places = one_number i j (decimal x ++ 32 ∷ given_text a) (decimal y ++ 32 ∷ given_text b) p.1 q.1 locals.1 in
+    let births = one_number l m (decimal i ++ 32 ∷ (decimal x ++ 32 ∷ given_text a)) (decimal j ++ 32 ∷ (decimal y ++ 32 ∷ given_text b)) p.0 q.0 (ap (drop 2) e) in
+    let places = one_number i j (decimal x ++ 32 ∷ given_text a) (decimal y ++ 32 ∷ given_text b) p.1 q.1 births.1 in
     let counts = one_number x y (given_text a) (given_text b) (omega (arith, p.2)) (omega (arith, q.2)) places.1 in
-    cc (locals.0, places.0, counts.0, one_given a b p.3 q.3 counts.1)
-one_step (steps.PutBack l i) (steps.PutBack m j) p q e = let same = one_turn l m i j p q (ap (drop 1) e) in λ i. steps.PutBack (same.0 i) (same.1 i)
-one_step (steps.Pick l) (steps.Pick m) p q e = ap steps.Pick (one_identifier l m p q (ap (drop 2) e))
-one_step (steps.Sent l) (steps.Sent m) p q e = ap steps.Sent (one_identifier l m p q (ap (drop 2) e))
-one_step (steps.Unsent l) (steps.Unsent m) p q e = ap steps.Unsent (one_identifier l m p q (ap (drop 2) e))
+    cc (births.0, places.0, counts.0, one_given a b p.3 q.3 counts.1)
+one_step (steps.PutBack l i) (steps.PutBack m j) p q e =
+    let births = one_number l m (decimal i) (decimal j) p.0 q.0 (ap (drop 2) e) in
+    cc (births.0, decimal_injective i j p.1 q.1 births.1)
+one_step (steps.Pick l) (steps.Pick m) p q e = ap steps.Pick (decimal_injective l m p q (ap (drop 2) e))
+one_step (steps.Sent l) (steps.Sent m) p q e = ap steps.Sent (decimal_injective l m p q (ap (drop 2) e))
+one_step (steps.Unsent l) (steps.Unsent m) p q e = ap steps.Unsent (decimal_injective l m p q (ap (drop 2) e))
 one_step steps.Down steps.Down p q e = refl
 one_step (steps.Gap m) (steps.Gap n) p q e = ap steps.Gap (decimal_injective m n p q (ap (drop 2) e))
 one_step _ _ p q e = absurd (omega (arith, ap first e))
@@ -141,9 +142,9 @@ one_line (Step l a) (Step m b) p q e =
     let parts = one_number l m (step_text a) (step_text b) (omega (arith, p.0)) (omega (arith, q.0)) (sym (step_line l a) ∙ e ∙ step_line m b) in
     cc (parts.0, one_step a b p.1 q.1 parts.1)
 
--- behind the name of the format and a blank stands the rest of a head
+-- after the name of the format and a blank comes the rest of a head
 pub head_told : (text : List ℕ) (line : Line) → IsLine line → codes "fplog " ++ text ≡ text_of line
-    → (links : ℕ) × (line ≡ Head links) × (text ≡ 50 ∷ 32 ∷ decimal links)
+    → (links : ℕ) × (line ≡ Head links) × (text ≡ 52 ∷ 32 ∷ decimal links)
 head_told text (Head links) fits e = (links, refl, ap (drop 6) e)
 head_told text (Step link step) fits e = absurd (no_name link step fits.0 (ap first e))
 
@@ -152,8 +153,8 @@ name_is_field : IsField (codes "fplog")
 name_is_field =
     All-from_recursion (λ octet. octet ≡ 32 → ⊥) (codes "fplog") (λ e. omega arith, (λ e. omega arith, (λ e. omega arith, (λ e. omega arith, (λ e. omega arith, tt)))))
 
-pub version_is_field : IsField (codes "2")
-version_is_field = All-from_recursion (λ octet. octet ≡ 32 → ⊥) (codes "2") (λ e. omega arith, tt)
+pub version_is_field : IsField (codes "4")
+version_is_field = All-from_recursion (λ octet. octet ≡ 32 → ⊥) (codes "4") (λ e. omega arith, tt)
 
 -- a line has a blank
 pub line_is_cut : (line : Line) → IsLine line → (a : List ℕ) × (b : List ℕ) × IsField a × (text_of line ≡ a ++ 32 ∷ b)

@@ -1,25 +1,35 @@
 -- The log of a run is replayed.
-use Rattle.std.proofs.Common.{◌≡◌, ℕ, ◌+◌, Bool, true, false, cond, eqb, List, [], ◌∷◌, ◌++◌, refl, sym, ◌∙◌, ap, subst, arith, add-one, append-nil, length-append, eq-eqb, ne_eqb}
-use Rattle.std.specs.Prelude.{map, reverse}
+use Rattle.std.proofs.Common.{◌≡◌, ℕ, ◌+◌, ◌<◌, zero, suc, Bool, true, false, cond, eqb, List, [], ◌∷◌, ◌++◌, length, Option, Some, None, refl, sym, ◌∙◌, ap, subst, arith, add-one, append-nil, length-append, eq-eqb, ne_eqb}
+use Rattle.std.specs.Prelude.{IfSome, map, nat_le, option_map, option_to_list, reverse, slice_get, if◌then◌else◌}
 use Rattle.std.specs.List.{AllByRecursion}
 use Rattle.std.proofs.lemmas.Bool.{eqb-true}
 use Rattle.std.proofs.lemmas.Grind.{flat_map-append, reverse_onto}
 use Rattle.std.proofs.lemmas.List.{map-append, reverse-append}
 use Rattle.fp_book.specs.declared.line.Line.{Line}
 use Rattle.fp_book.specs.declared.line.Line.TheVariants.{Head, Step}
+use Rattle.fp_book.specs.declared.answers.Posted.{Posted}
 use Rattle.fp_book.specs.declared.line.LoggedStep.{LoggedStep}
+use Rattle.fp_book.specs.declared.line.LoggedStep.TheVariants as logged
 use Rattle.fp_book.specs.declared.totals.Totals.{Totals}
+use Rattle.fp_entry.specs.declared.prepared.Prepared.{Prepared}
 use Rattle.fp_records.specs.Table.{Contents}
-use Rattle.fp_steps.specs.History.{Event}
+use Rattle.fp_records.specs.declared.table.TheConstants.Table.{LAST_INDEX}
+use Rattle.fp_steps.specs.Answers.{AllAnswered, IsAnswer}
+use Rattle.fp_steps.specs.Births.{named}
+use Rattle.fp_steps.specs.History.{Event, IsCame, IsReadBy, table_at}
 use Rattle.fp_steps.specs.Retold.{Retells}
-use Rattle.fp_steps.specs.Told.{lines_told, log_of}
+use Rattle.fp_steps.specs.Told.{birth_out, is_written, lines_told, log_of, told, told_back, told_message, told_tick, written}
 use Rattle.fp_steps.specs.Totals.{totals_of}
+use Rattle.fp_steps.specs.declared.output.Output.{Output}
+use Rattle.fp_steps.specs.declared.output.Output.TheVariants as outputs
+use Rattle.fp_steps.specs.declared.step.Step.{Step as MadeStep}
+use Rattle.fp_steps.specs.declared.step.Step.TheVariants as made
 use Rattle.fp_replay.specs.Format.{IsLine, text_of}
 use Rattle.fp_replay.specs.OfRuns.{LogsOfRunsAreReplayed, file_of}
-use Rattle.fp_replay.specs.Replayed.{AllFit, IsInPlace, links_in, log_text, report_line, report_of, steps_of, totals_along, totals_in}
+use Rattle.fp_replay.specs.Replayed.{AllFit, HasTable, IsInPlace, links_in, log_text, report_line, report_of, steps_of, totals_along, totals_in}
 use Rattle.fp_replay.proofs.OneLog.{same_report}
 
--- the lines of a run, the newest first: its steps, and behind them the head
+-- the lines of a run, the newest first: its steps, and after them the head
 abbrev newest_first : ℕ → List LoggedStep → List Line
 newest_first link steps = map (Step link) steps ++ Head (link + 1) ∷ []
 
@@ -34,14 +44,93 @@ steps_are other link [] false is = refl
 steps_are other link (step ∷ steps) true is = rw is (ap (λ l. step ∷ l) (steps_are other link steps true is))
 steps_are other link (step ∷ steps) false is = rw is (steps_are other link steps false is)
 
--- each is in its place
-placed : (link : ℕ) (steps : List LoggedStep) (step : LoggedStep) → IsInPlace (newest_first link steps) (Step link step)
-placed link [] step = omega arith
-placed link (last ∷ steps) step = let n = links_are link steps in omega (arith, n)
+module _ (tables : List Contents) where
+  -- each is in its place
+  placed : (link : ℕ) (steps : List LoggedStep) (step : LoggedStep) → HasTable tables step → IsInPlace tables (newest_first link steps) (Step link step)
+  placed link [] step has = (omega arith, has)
+  placed link (last ∷ steps) step has = let n = links_are link steps in (omega (arith, n), has)
 
-all_fit : (link : ℕ) (steps : List LoggedStep) → AllByRecursion IsLine (map (Step link) steps) → IsLine (Head (link + 1)) → AllFit (newest_first link steps)
-all_fit link [] are head = ((head, tt), tt)
-all_fit link (step ∷ steps) are head = ((are.0, placed link steps step), all_fit link steps are.1 head)
+  all_fit : (link : ℕ) (steps : List LoggedStep) → AllByRecursion (HasTable tables) steps → AllByRecursion IsLine (map (Step link) steps) → IsLine (Head (link + 1)) → AllFit tables (newest_first link steps)
+  all_fit link [] have are head = ((head, tt), tt)
+  all_fit link (step ∷ steps) have are head = ((are.0, placed link steps step have.0), all_fit link steps have.1 are.1 head)
+
+-- THE TABLES
+
+-- the place of a table that is there
+place_there : (tables : List Contents) (place : ℕ) (contents : Contents) → slice_get tables place ≡ Some contents → place < length tables
+place_there [] place contents is = absurd (cc)
+place_there (first ∷ tables) zero contents is = omega arith
+place_there (first ∷ tables) (suc place) contents is = let n = place_there tables place contents is in omega (arith, n)
+
+handed_in : (tables : List Contents) (place : ℕ) (b : Bool) (contents : Contents) → (if b then slice_get tables place else None) ≡ Some contents → place < length tables
+handed_in tables place true contents is = place_there tables place contents is
+handed_in tables place false contents is = absurd (cc)
+
+-- a message is read by one
+read_by_one : (table : Option Contents) (contexts : List (List ℕ)) (octets : List ℕ) (moment : ℕ) (came : Prepared) → IsReadBy table contexts octets moment (Some came) → (contents : Contents) × (table ≡ Some contents)
+read_by_one None contexts octets moment came is = absurd is
+read_by_one (Some contents) contexts octets moment came is = (contents, refl)
+
+module _ (tables : List Contents) (contexts : List (List ℕ)) where
+  table_there : (table : ℕ) (octets : List ℕ) (moment : ℕ) (came : Prepared) → IsCame tables contexts (made.Post table octets moment) (Some came) → table < length tables
+  table_there table octets moment came is =
+      let one = read_by_one (table_at tables table) contexts octets moment came is in
+      handed_in tables table (nat_le table LAST_INDEX) one.0 one.1
+
+  -- what is told of a step is by a table that was handed in
+  one_has : (b : Bool) (line : LoggedStep) → HasTable tables line → IfSome (if b then Some line else None) (HasTable tables)
+  one_has true line has = has
+  one_has false line has = tt
+
+  over_has : {X : Type 0} → (of : X → LoggedStep) (told : Option X) → ((x : X) → HasTable tables (of x)) → IfSome (option_map of told) (HasTable tables)
+  over_has of None have = tt
+  over_has of (Some x) have = have x
+
+  message_has : (link : ℕ) (h : List Event) (step : MadeStep) (came : Option Prepared) (answer : Posted) (components : ℕ) → IsCame tables contexts step came
+      → IsAnswer link h step came (outputs.Posted answer components) → IfSome (told_message step answer) (HasTable tables)
+  message_has link h (made.Post table octets moment) None answer components is so = absurd (cc)
+  message_has link h (made.Post table octets moment) (Some came) answer components is so =
+      one_has (nat_le table LAST_INDEX) (logged.Post table moment octets answer) (table_there table octets moment came is)
+  message_has link h (made.Lost octets moment) came answer components is so = tt
+  message_has link h step came answer components is so = tt
+
+  tick_has : (step : MadeStep) (added wanting : ℕ) → IfSome (told_tick step added wanting) (HasTable tables)
+  tick_has (made.Tick moment) added wanting = tt
+  tick_has step added wanting = tt
+
+  back_has : (h : List Event) (step : MadeStep) → IfSome (told_back h step) (HasTable tables)
+  back_has h (made.PutBack local) = over_has _ (named h local) (λ d. tt)
+  back_has h step = tt
+
+  told_has : (link : ℕ) (h : List Event) (step : MadeStep) (came : Option Prepared) (output : Output) → IsCame tables contexts step came → IsAnswer link h step came output
+      → IfSome (told h step output) (HasTable tables)
+  told_has link h step came (outputs.Posted answer components) is so = message_has link h step came answer components is so
+  told_has link h step came (outputs.Ticked added wanting) is so = tick_has step added wanting
+  told_has link h step came (outputs.Took local position count) is so = over_has _ (named h local) (λ d. tt)
+  told_has link h step came (outputs.Gave local position served given) is so = over_has _ (named h local) (λ d. tt)
+  told_has link h step came outputs.WentBack is so = back_has h step
+  told_has link h step came outputs.Sent is so = over_has (λ d. logged.Sent d) (birth_out h) (λ d. tt)
+  told_has link h step came outputs.Unsent is so = over_has (λ d. logged.Unsent d) (birth_out h) (λ d. tt)
+  told_has link h step came output is so = tt
+
+  listed : (b : Bool) (line : LoggedStep) → HasTable tables line → AllByRecursion (HasTable tables) (option_to_list (if b then Some line else None))
+  listed true line has = (has, tt)
+  listed false line has = tt
+
+  both : (a b : List LoggedStep) → AllByRecursion (HasTable tables) a → AllByRecursion (HasTable tables) b → AllByRecursion (HasTable tables) (a ++ b)
+  both [] b first second = second
+  both (line ∷ a) b first second = (first.0, both a b first.1 second)
+
+  written_has : (told : Option LoggedStep) → IfSome told (HasTable tables) → AllByRecursion (HasTable tables) (option_to_list (written told))
+  written_has None has = tt
+  written_has (Some line) has = listed (is_written line) line has
+
+  -- so are the lines of a run
+  lines_have : (link : ℕ) (h : List Event) → AllByRecursion (λ (e : Event). IsCame tables contexts e.step e.came) h → AllAnswered link h → AllByRecursion (HasTable tables) (lines_told h)
+  lines_have link [] messages answers = tt
+  lines_have link (e ∷ h) messages answers =
+      both (option_to_list (written (told h e.step e.output))) (lines_told h)
+      (written_has (told h e.step e.output) (told_has link h e.step e.came e.output messages.0 answers.0)) (lines_have link h messages.1 answers.1)
 
 -- THE TEXT
 
@@ -82,33 +171,33 @@ all_back link (step ∷ steps) are =
 abbrev only : ℕ → List Event → ℕ → List Event
 only link h other = cond (eqb link other) h []
 
-retells_only : (contents : Contents) (contexts : List (List ℕ)) (link other : ℕ) (steps : List LoggedStep) (h : List Event) (b : Bool) → eqb link other ≡ b
-    → Retells contents contexts link steps h → Retells contents contexts other (cond b steps []) (cond b h [])
-retells_only contents contexts link other steps h true is retells = subst (λ k. Retells contents contexts k steps h) (eqb-true link other is) retells
-retells_only contents contexts link other steps h false is retells = tt
+retells_only : (tables : List Contents) (contexts : List (List ℕ)) (link other : ℕ) (steps : List LoggedStep) (h : List Event) (b : Bool) → eqb link other ≡ b
+    → Retells tables contexts link steps h → Retells tables contexts other (cond b steps []) (cond b h [])
+retells_only tables contexts link other steps h true is retells = subst (λ k. Retells tables contexts k steps h) (eqb-true link other is) retells
+retells_only tables contexts link other steps h false is retells = tt
 
 pub logs_replayed : LogsOfRunsAreReplayed
-logs_replayed contents contexts link steps outputs log run is_log =
+logs_replayed tables contexts link steps outputs log run is_log =
     let h = run.history in
-    let told = run.retold in
+    let retold = run.retold in
     let lines = newest_first link (lines_told h) in
-    let log_so : log ≡ log_of link h = is_log.lines_are contents contexts h run.tells run.answers in
+    let log_so : log ≡ log_of link h = is_log.lines_are tables contexts h run.tells run.answers in
     let are : AllByRecursion IsLine (log_of link h) = subst (AllByRecursion IsLine) log_so is_log.in_range in
-    let totals : ℕ → Totals = totals_along (only link told.history) in
+    let totals : ℕ → Totals = totals_along (only link retold.history) in
     let before : report_of link (λ before. totals_of []) ≡ report_of link totals =
-    same_report link (λ before. totals_of []) totals (λ other below. sym (ap (λ b. totals_in (cond b told.history [])) (ne_eqb link other (λ e. omega (arith, e, below))))) in
+    same_report link (λ before. totals_of []) totals (λ other below. sym (ap (λ b. totals_in (cond b retold.history [])) (ne_eqb link other (λ e. omega (arith, e, below))))) in
     let own : totals_of outputs ≡ totals link =
-    ap totals_of (sym run.tells.outputs_are) ∙ sym told.totals ∙ sym (ap (λ b. totals_in (cond b told.history [])) (eq-eqb link link refl)) in
+    ap totals_of (sym run.tells.outputs_are) ∙ sym retold.totals ∙ sym (ap (λ b. totals_in (cond b retold.history [])) (eq-eqb link link refl)) in
     record {
       lines = lines;
       begun = omega (arith, length-append (map (Step link) (lines_told h)) (Head (link + 1) ∷ []));
       text = ap file_of (log_so ∙ log_is link h) ∙ same_text lines;
       good = record {
-        fit = all_fit link (lines_told h) (all_back link (lines_told h) are.1) are.0;
-        history = only link told.history;
+        fit = all_fit tables link (lines_told h) (lines_have tables contexts link h run.tells.messages run.answers) (all_back link (lines_told h) are.1) are.0;
+        history = only link retold.history;
         retells = λ other below.
-            subst (λ l. Retells contents contexts other l (only link told.history other)) (sym (steps_are other link (lines_told h) (eqb link other) refl))
-            (retells_only contents contexts link other (lines_told h) told.history (eqb link other) refl told.retells);
+            subst (λ l. Retells tables contexts other l (only link retold.history other)) (sym (steps_are other link (lines_told h) (eqb link other) refl))
+            (retells_only tables contexts link other (lines_told h) retold.history (eqb link other) refl retold.retells);
       };
       report_is = (λ i. before i ++ report_line link (own i)) ∙ sym (ap (λ n. report_of n totals) (links_are link (lines_told h) ∙ add-one link));
     }

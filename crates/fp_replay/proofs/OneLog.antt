@@ -10,7 +10,7 @@ use Rattle.fp_book.specs.declared.totals.Totals.{Totals}
 use Rattle.fp_entry.specs.declared.prepared.Prepared.{Prepared}
 use Rattle.fp_records.specs.Table.{Contents}
 use Rattle.fp_steps.specs.Answers.{IsAnswer}
-use Rattle.fp_steps.specs.History.{Event, IsCame}
+use Rattle.fp_steps.specs.History.{Event}
 use Rattle.fp_steps.specs.Laws.{AnswersAreOne, LinesAreRetoldOnce, RetoldLinesAreCounted}
 use Rattle.fp_steps.specs.Retold.{Retells, RetellsOne}
 use Rattle.fp_steps.specs.Told.{told}
@@ -21,11 +21,12 @@ use Rattle.fp_replay.specs.Format.{IsLine, text_of}
 use Rattle.fp_replay.specs.Laws.{TextIsOfOneLine}
 use Rattle.fp_replay.specs.Once.{FaultIsOne, IsFaultIn, ReplayedHasNoFault, ReportCountsLines, ReportIsOne, counted_along}
 use Rattle.fp_replay.specs.Replayed.{AllFit, Fits, IsReplayed, IsRetold, links_in, log_text, report_line, report_of, steps_of, totals_along, totals_in}
-use Rattle.fp_replay.specs.Stopped.{BadAt, Differs, Reaches, StepAt, is_gap}
+use Rattle.fp_replay.specs.Stopped.{BadAt, Differs, DiffersBy, HasOtherLine, Reaches, StepAt, is_gap}
 use Rattle.fp_replay.specs.declared.replay_fault.ReplayFault.{ReplayFault}
 use Rattle.fp_replay.specs.declared.replay_fault.ReplayFault.TheVariants.{BadLine, Gap, Disagrees}
 use Rattle.fp_replay.proofs.Cutting.{one_cut}
 use Rattle.fp_replay.proofs.LineTexts.{text_one_line}
+use Rattle.fp_replay.proofs.Retelling.{place_of}
 
 -- ONE LIST OF LINES
 
@@ -50,36 +51,31 @@ same_line one x y r s p q e =
     let parts = one_cut 10 (text_of x) r (text_of y) s (text_one_line x p) (text_one_line y q) e in (one x y p q parts.0, parts.1)
 
 -- as many lines of one input are the same, and so is what follows them
-same_lines : TextIsOfOneLine → (xs ys : List Line) (r s : List ℕ) → AllFit xs → AllFit ys → length xs ≡ length ys → log_text xs ++ r ≡ log_text ys ++ s → (xs ≡ ys) × (r ≡ s)
-same_lines one [] [] r s p q n e = (refl, e)
-same_lines one (x ∷ xs) (y ∷ ys) r s p q n e =
-    let before = same_lines one xs ys (text_of x ++ 10 ∷ r) (text_of y ++ 10 ∷ s) p.1 q.1 (omega (arith, n)) (sym (more_text xs x r) ∙ e ∙ more_text ys y s) in
+same_lines : TextIsOfOneLine → (tables : List Contents) (xs ys : List Line) (r s : List ℕ) → AllFit tables xs → AllFit tables ys → length xs ≡ length ys → log_text xs ++ r ≡ log_text ys ++ s → (xs ≡ ys) × (r ≡ s)
+same_lines one tables [] [] r s p q n e = (refl, e)
+same_lines one tables (x ∷ xs) (y ∷ ys) r s p q n e =
+    let before = same_lines one tables xs ys (text_of x ++ 10 ∷ r) (text_of y ++ 10 ∷ s) p.1 q.1 (omega (arith, n)) (sym (more_text xs x r) ∙ e ∙ more_text ys y s) in
     let last = same_line one x y r s p.0.0 q.0.0 before.1 in
     (λ i. last.0 i ∷ before.0 i, last.1)
-same_lines one _ _ r s p q n e = absurd (omega (arith, n))
-
--- the place of a step
-place : (lines : List Line) (link : ℕ) (step : LoggedStep) → Fits lines (Step link step) → link < links_in lines
-place [] link step fits = absurd fits.1
-place (last ∷ lines) link step fits = fits.1
+same_lines one tables _ _ r s p q n e = absurd (omega (arith, n))
 
 pub same_report : (many : ℕ) (f g : ℕ → Totals) → ((link : ℕ) → link < many → f link ≡ g link) → report_of many f ≡ report_of many g
 same_report zero f g same = refl
 same_report (suc link) f g same =
     let before = same_report link f g (λ k below. same k (omega (arith, below))) in λ i. before i ++ report_line link (same link (omega arith) i)
 
-module _ (contents : Contents) (contexts : List (List ℕ)) where
+module _ (tables : List Contents) (contexts : List (List ℕ)) where
   -- THE NEXT LINE
 
   -- the history of a link behind one line less
   less_if : (b : Bool) (link : ℕ) (step : LoggedStep) (steps : List LoggedStep) (h : List Event)
-      → Retells contents contexts link (cond b (step ∷ steps) steps) h → Retells contents contexts link steps (cond b (drop 1 h) h)
+      → Retells tables contexts link (cond b (step ∷ steps) steps) h → Retells tables contexts link steps (cond b (drop 1 h) h)
   less_if true link step steps [] retells = absurd retells
   less_if true link step steps (e ∷ h) retells = retells.1
   less_if false link step steps h retells = retells
 
   -- so one line less is retold
-  older : (line : Line) (lines : List Line) → IsRetold contents contexts (line ∷ lines) → IsRetold contents contexts lines
+  older : (line : Line) (lines : List Line) → IsRetold tables contexts (line ∷ lines) → IsRetold tables contexts lines
   older (Head links) [] good = record { fit = tt; history = λ link. []; retells = λ link below. absurd (omega (arith, below)) }
   older (Head links) (last ∷ lines) good = absurd good.fit.0.1
   older (Step other step) lines good = record {
@@ -94,10 +90,10 @@ module _ (contents : Contents) (contexts : List (List ℕ)) where
     line : Line
     behind : List ℕ
     many : length before ≡ n
-    good : IsRetold contents contexts (line ∷ before)
+    good : IsRetold tables contexts (line ∷ before)
     text : log_text lines ≡ log_text before ++ (text_of line ++ 10 ∷ behind)
 
-  next_line : (lines : List Line) (n : ℕ) → IsRetold contents contexts lines → n < length lines → NextLine lines n
+  next_line : (lines : List Line) (n : ℕ) → IsRetold tables contexts lines → n < length lines → NextLine lines n
   next_line [] n good below = absurd (omega (arith, below))
   next_line (last ∷ lines) n good below =
       elim (cases_lt n (length lines)) [
@@ -118,32 +114,32 @@ module _ (contents : Contents) (contexts : List (List ℕ)) where
   record Begun (input : List ℕ) : Type 0 where
     lines : List Line
     tail : List ℕ
-    good : IsRetold contents contexts lines
+    good : IsRetold tables contexts lines
     text : input ≡ log_text lines ++ tail
 
   -- what follows these lines begins with one that is good
   record Next (before : List Line) (rest : List ℕ) : Type 0 where
     line : Line
     behind : List ℕ
-    good : IsRetold contents contexts (line ∷ before)
+    good : IsRetold tables contexts (line ∷ before)
     text : rest ≡ text_of line ++ 10 ∷ behind
 
   -- so it does where an input begins with more good lines
-  next_of : TextIsOfOneLine → (input : List ℕ) (b : Begun input) (before : List Line) (rest : List ℕ) → AllFit before → input ≡ log_text before ++ rest
+  next_of : TextIsOfOneLine → (input : List ℕ) (b : Begun input) (before : List Line) (rest : List ℕ) → AllFit tables before → input ≡ log_text before ++ rest
       → length before < length b.lines → Next before rest
   next_of one input b before rest fit e less =
       let next = next_line b.lines (length before) b.good less in
       let whole : log_text b.lines ++ b.tail ≡ log_text next.before ++ (text_of next.line ++ 10 ∷ (next.behind ++ b.tail)) = rw next.text (simp append_assoc) in
-      let same = same_lines one next.before before (text_of next.line ++ 10 ∷ (next.behind ++ b.tail)) rest next.good.fit.1 fit next.many (sym whole ∙ sym b.text ∙ e) in
+      let same = same_lines one tables next.before before (text_of next.line ++ 10 ∷ (next.behind ++ b.tail)) rest next.good.fit.1 fit next.many (sym whole ∙ sym b.text ∙ e) in
       record {
         line = next.line;
         behind = next.behind ++ b.tail;
-        good = subst (λ l. IsRetold contents contexts (next.line ∷ l)) same.0 next.good;
+        good = subst (λ l. IsRetold tables contexts (next.line ∷ l)) same.0 next.good;
         text = sym same.1;
       }
 
   -- no line follows all lines of an input
-  no_more : TextIsOfOneLine → (input : List ℕ) (b : Begun input) (lines : List Line) → AllFit lines → input ≡ log_text lines → length lines < length b.lines → ⊥
+  no_more : TextIsOfOneLine → (input : List ℕ) (b : Begun input) (lines : List Line) → AllFit tables lines → input ≡ log_text lines → length lines < length b.lines → ⊥
   no_more one input b lines fit e less =
       let next = next_of one input b lines [] fit (e ∙ sym (append-nil (log_text lines))) less in nothing_there (text_of next.line) next.behind next.text
 
@@ -159,60 +155,58 @@ module _ (contents : Contents) (contexts : List (List ℕ)) where
       cc told_is
 
   -- a gap isn't retold
-  gap_untold : (link : ℕ) (step : LoggedStep) (h : List Event) (e : Event) → is_gap step ≡ true → RetellsOne contents contexts link step h e → ⊥
+  gap_untold : (link : ℕ) (step : LoggedStep) (h : List Event) (e : Event) → is_gap step ≡ true → RetellsOne tables contexts link step h e → ⊥
   gap_untold link (logged.Tick moment added wanting) h e gap one =
       let none = none_wanting link h e.step e.came e.output moment added wanting one.step one.answer one.tells in
       let both : nat_lt 0 0 ≡ true = ap (λ w. nat_lt 0 w) none ∙ gap in (cc)
   gap_untold link _ h e gap one = let none = one.step in (cc)
 
   -- a step that is retold isn't told otherwise
-  differs_not : AnswersAreOne → (link : ℕ) (step : LoggedStep) (h : List Event) (e : Event) → RetellsOne contents contexts link step h e → Differs contents contexts link h step → ⊥
+  differs_not : AnswersAreOne → (link : ℕ) (step : LoggedStep) (h : List Event) (e : Event) → RetellsOne tables contexts link step h e → Differs tables contexts link h step → ⊥
   differs_not answers link step h e one d =
-      let step_is : e.step ≡ d.step = let both : Some e.step ≡ Some d.step = sym one.step ∙ d.step_is in cc in
-      let came = subst (λ s. IsCame contents contexts s e.came) step_is one.came in
-      let answer = subst (λ s. IsAnswer link h s e.came e.output) step_is one.answer in
-      let output_is : e.output ≡ d.output = answers contents contexts link h d.step e.came d.came e.output d.output came d.came_is answer d.answer in
-      d.differs (sym (λ i. told h (step_is i) (output_is i)) ∙ one.tells)
+      let other : HasOtherLine tables contexts link h step e.step = subst (DiffersBy tables contexts link h step) one.step d in
+      let output_is : e.output ≡ other.output = answers tables contexts link h e.step e.came other.came e.output other.output one.came other.came_is one.answer other.answer in
+      other.differs (sym (λ i. told h e.step (output_is i)) ∙ one.tells)
 
   -- the newest line of a link is retold behind the one history of the others
   newest : LinesAreRetoldOnce → (link : ℕ) (step : LoggedStep) (lines : List LoggedStep) (h g : List Event)
-      → Retells contents contexts link (step ∷ lines) h → Retells contents contexts link lines g → (e : Event) × RetellsOne contents contexts link step g e
+      → Retells tables contexts link (step ∷ lines) h → Retells tables contexts link lines g → (e : Event) × RetellsOne tables contexts link step g e
   newest once link step lines [] g retells others = absurd retells
   newest once link step lines (e ∷ h) g retells others =
-      (e, subst (λ k. RetellsOne contents contexts link step k e) (once contents contexts link lines h g retells.1 others) retells.0)
+      (e, subst (λ k. RetellsOne tables contexts link step k e) (once tables contexts link lines h g retells.1 others) retells.0)
 
   -- A FAULT
 
   -- the lines before it, which are good
-  abbrev begun : (input : List ℕ) (number : ℕ) (before : List Line) (rest : List ℕ) → Reaches contents contexts number input before rest → Begun input
+  abbrev begun : (input : List ℕ) (number : ℕ) (before : List Line) (rest : List ℕ) → Reaches tables contexts number input before rest → Begun input
   begun input number before rest r = record { lines = before; tail = rest; good = r.good; text = r.text }
 
-  abbrev lines_before : (input : List ℕ) (fault : ReplayFault) → IsFaultIn contents contexts input fault → Begun input
+  abbrev lines_before : (input : List ℕ) (fault : ReplayFault) → IsFaultIn tables contexts input fault → Begun input
   lines_before input (BadLine number) f = begun input number f.before f.rest f.reaches
   lines_before input (Gap number) (at, gap) = begun input number at.before (text_of (Step at.link at.step) ++ 10 ∷ at.behind) at.reaches
   lines_before input (Disagrees number) (at, none, d) = begun input number at.before (text_of (Step at.link at.step) ++ 10 ∷ at.behind) at.reaches
   lines_before input _ f = absurd f
 
   -- the lines of a log that is replayed
-  abbrev begun_of : (input report : List ℕ) → IsReplayed contents contexts input report → Begun input
+  abbrev begun_of : (input report : List ℕ) → IsReplayed tables contexts input report → Begun input
   begun_of input report r = record { lines = r.lines; tail = []; good = r.good; text = r.text ∙ sym (append-nil (log_text r.lines)) }
 
   module _ (one : TextIsOfOneLine) (answers : AnswersAreOne) (once : LinesAreRetoldOnce) (input : List ℕ) where
     -- a step after fewer lines than are good is retold
-    retold_step : (number : ℕ) (b : Begun input) (at : StepAt contents contexts number input) → length at.before < length b.lines
-        → (e : Event) × RetellsOne contents contexts at.link at.step (at.reaches.good.history at.link) e
+    retold_step : (number : ℕ) (b : Begun input) (at : StepAt tables contexts number input) → length at.before < length b.lines
+        → (e : Event) × RetellsOne tables contexts at.link at.step (at.reaches.good.history at.link) e
     retold_step number b at less =
         let line = Step at.link at.step in
         let next = next_of one input b at.before (text_of line ++ 10 ∷ at.behind) at.reaches.good.fit at.reaches.text less in
         let same = same_line one next.line line next.behind at.behind next.good.fit.0.0 at.fits.0 (sym next.text) in
-        let good = subst (λ l. IsRetold contents contexts (l ∷ at.before)) same.0 next.good in
-        let below = place at.before at.link at.step at.fits in
+        let good = subst (λ l. IsRetold tables contexts (l ∷ at.before)) same.0 next.good in
+        let below = (place_of tables at.before at.link at.step at.fits.1).0 in
         let there = good.retells at.link below in
         newest once at.link at.step (steps_of at.link at.before) (good.history at.link) (at.reaches.good.history at.link)
         (rw (eq-eqb at.link at.link refl) at there) (at.reaches.good.retells at.link below)
 
     -- it isn't among good lines
-    not_among : (b : Begun input) (fault : ReplayFault) (f : IsFaultIn contents contexts input fault) → length (lines_before input fault f).lines < length b.lines → ⊥
+    not_among : (b : Begun input) (fault : ReplayFault) (f : IsFaultIn tables contexts input fault) → length (lines_before input fault f).lines < length b.lines → ⊥
     not_among b (BadLine number) f less =
         let next = next_of one input b f.before f.rest f.reaches.good.fit f.reaches.text less in f.bad.none next.line next.behind next.good.fit.0 next.text
     not_among b (Gap number) (at, gap) less =
@@ -222,18 +216,18 @@ module _ (contents : Contents) (contexts : List (List ℕ)) where
     not_among b _ f less = absurd f
 
     -- something is there, or no line is
-    something : (fault : ReplayFault) (f : IsFaultIn contents contexts input fault) → 0 < length (lines_before input fault f).lines → (lines_before input fault f).tail ≡ [] → ⊥
+    something : (fault : ReplayFault) (f : IsFaultIn tables contexts input fault) → 0 < length (lines_before input fault f).lines → (lines_before input fault f).tail ≡ [] → ⊥
     something (BadLine number) f some none = let n = f.bad.is some in let m = ap length none in omega (arith, n, m)
     something (Gap number) (at, gap) some none = nothing_there (text_of (Step at.link at.step)) at.behind (sym none)
     something (Disagrees number) (at, gap, d) some none = nothing_there (text_of (Step at.link at.step)) at.behind (sym none)
     something _ f some none = absurd f
 
     -- a line is bad, or a step in its place
-    not_both : (n m : ℕ) (f : BadAt contents contexts n input) (at : StepAt contents contexts m input) → f.before ≡ at.before → f.rest ≡ text_of (Step at.link at.step) ++ 10 ∷ at.behind → ⊥
-    not_both n m f at lines rest = f.bad.none (Step at.link at.step) at.behind (subst (λ l. Fits l (Step at.link at.step)) (sym lines) at.fits) rest
+    not_both : (n m : ℕ) (f : BadAt tables contexts n input) (at : StepAt tables contexts m input) → f.before ≡ at.before → f.rest ≡ text_of (Step at.link at.step) ++ 10 ∷ at.behind → ⊥
+    not_both n m f at lines rest = f.bad.none (Step at.link at.step) at.behind (subst (λ l. Fits tables l (Step at.link at.step)) (sym lines) at.fits) rest
 
     -- a gap or not
-    not_same : (n m : ℕ) (a : StepAt contents contexts n input) (b : StepAt contents contexts m input)
+    not_same : (n m : ℕ) (a : StepAt tables contexts n input) (b : StepAt tables contexts m input)
         → text_of (Step a.link a.step) ++ 10 ∷ a.behind ≡ text_of (Step b.link b.step) ++ 10 ∷ b.behind → is_gap a.step ≡ true → is_gap b.step ≡ false → ⊥
     not_same n m a b text gap none =
         let line = (same_line one (Step a.link a.step) (Step b.link b.step) a.behind b.behind a.fits.0 b.fits.0 text).0 in
@@ -246,7 +240,7 @@ module _ (contents : Contents) (contexts : List (List ℕ)) where
     same_number n m xs ys p q e = p ∙ ap (λ l. length l + 1) e ∙ sym q
 
     -- two faults after the same lines
-    same_fault : (x y : ReplayFault) (f : IsFaultIn contents contexts input x) (g : IsFaultIn contents contexts input y)
+    same_fault : (x y : ReplayFault) (f : IsFaultIn tables contexts input x) (g : IsFaultIn tables contexts input y)
         → (lines_before input x f).lines ≡ (lines_before input y g).lines → (lines_before input x f).tail ≡ (lines_before input y g).tail → x ≡ y
     same_fault (BadLine n) (BadLine m) f g lines rest = ap BadLine (same_number n m f.before g.before f.reaches.number_is g.reaches.number_is lines)
     same_fault (BadLine n) (Gap m) f (at, gap) lines rest = absurd (not_both n m f at lines rest)
@@ -266,46 +260,46 @@ module _ (contents : Contents) (contexts : List (List ℕ)) where
 -- ONE FAULT
 
 pub no_fault : TextIsOfOneLine → AnswersAreOne → LinesAreRetoldOnce → ReplayedHasNoFault
-no_fault one answers once contents contexts input report fault r f =
-    let b = lines_before contents contexts input fault f in
-    let many = equal (length r.lines) (length b.lines) (no_more contents contexts one input b r.lines r.good.fit r.text)
-    (not_among contents contexts one answers once input (begun_of contents contexts input report r) fault f) in
-    let same = same_lines one r.lines b.lines [] b.tail r.good.fit b.good.fit many (append-nil (log_text r.lines) ∙ sym r.text ∙ b.text) in
-    something contents contexts one answers once input fault f (subst (λ l. 0 < length l) same.0 r.begun) (sym same.1)
+no_fault one answers once tables contexts input report fault r f =
+    let b = lines_before tables contexts input fault f in
+    let many = equal (length r.lines) (length b.lines) (no_more tables contexts one input b r.lines r.good.fit r.text)
+    (not_among tables contexts one answers once input (begun_of tables contexts input report r) fault f) in
+    let same = same_lines one tables r.lines b.lines [] b.tail r.good.fit b.good.fit many (append-nil (log_text r.lines) ∙ sym r.text ∙ b.text) in
+    something tables contexts one answers once input fault f (subst (λ l. 0 < length l) same.0 r.begun) (sym same.1)
 
 pub fault_is_one : TextIsOfOneLine → AnswersAreOne → LinesAreRetoldOnce → FaultIsOne
-fault_is_one one answers once contents contexts input x y f g =
-    let a = lines_before contents contexts input x f in
-    let b = lines_before contents contexts input y g in
-    let among = not_among contents contexts one answers once input in
+fault_is_one one answers once tables contexts input x y f g =
+    let a = lines_before tables contexts input x f in
+    let b = lines_before tables contexts input y g in
+    let among = not_among tables contexts one answers once input in
     let many = equal (length a.lines) (length b.lines) (among b x f) (among a y g) in
-    let same = same_lines one a.lines b.lines a.tail b.tail a.good.fit b.good.fit many (sym a.text ∙ b.text) in
-    same_fault contents contexts one answers once input x y f g same.0 same.1
+    let same = same_lines one tables a.lines b.lines a.tail b.tail a.good.fit b.good.fit many (sym a.text ∙ b.text) in
+    same_fault tables contexts one answers once input x y f g same.0 same.1
 
 -- ONE REPORT
 
 -- the lines of two reports of one input are the same
-one_list : TextIsOfOneLine → (contents : Contents) (contexts : List (List ℕ)) (input x y : List ℕ) → (a : IsReplayed contents contexts input x) → (b : IsReplayed contents contexts input y) → a.lines ≡ b.lines
-one_list one contents contexts input x y a b =
-    let many = equal (length a.lines) (length b.lines) (no_more contents contexts one input (begun_of contents contexts input y b) a.lines a.good.fit a.text)
-    (no_more contents contexts one input (begun_of contents contexts input x a) b.lines b.good.fit b.text) in
-    (same_lines one a.lines b.lines [] [] a.good.fit b.good.fit many (ap (λ l. l ++ []) (sym a.text ∙ b.text))).0
+one_list : TextIsOfOneLine → (tables : List Contents) (contexts : List (List ℕ)) (input x y : List ℕ) → (a : IsReplayed tables contexts input x) → (b : IsReplayed tables contexts input y) → a.lines ≡ b.lines
+one_list one tables contexts input x y a b =
+    let many = equal (length a.lines) (length b.lines) (no_more tables contexts one input (begun_of tables contexts input y b) a.lines a.good.fit a.text)
+    (no_more tables contexts one input (begun_of tables contexts input x a) b.lines b.good.fit b.text) in
+    (same_lines one tables a.lines b.lines [] [] a.good.fit b.good.fit many (ap (λ l. l ++ []) (sym a.text ∙ b.text))).0
 
 pub report_is_one : TextIsOfOneLine → LinesAreRetoldOnce → ReportIsOne
-report_is_one one once contents contexts input x y a b =
-    let lines = one_list one contents contexts input x y a b in
+report_is_one one once tables contexts input x y a b =
+    let lines = one_list one tables contexts input x y a b in
     let links : links_in a.lines ≡ links_in b.lines = ap links_in lines in
     a.report_is
     ∙ same_report (links_in a.lines) (totals_along a.good.history) (totals_along b.good.history) (λ link below. ap totals_in
-    (once contents contexts link (steps_of link b.lines) (a.good.history link) (b.good.history link)
-    (subst (λ l. Retells contents contexts link (steps_of link l) (a.good.history link)) lines (a.good.retells link below))
+    (once tables contexts link (steps_of link b.lines) (a.good.history link) (b.good.history link)
+    (subst (λ l. Retells tables contexts link (steps_of link l) (a.good.history link)) lines (a.good.retells link below))
     (b.good.retells link (omega (arith, links, below)))))
     ∙ ap (λ n. report_of n (totals_along b.good.history)) links
     ∙ sym b.report_is
 
 -- the report counts the lines
 pub report_counts : RetoldLinesAreCounted → ReportCountsLines
-report_counts counted contents contexts input report r =
+report_counts counted tables contexts input report r =
     r.report_is
     ∙ same_report (links_in r.lines) (totals_along r.good.history) (counted_along r.lines r.good.history)
-    (λ link below. counted contents contexts link (steps_of link r.lines) (r.good.history link) (r.good.retells link below))
+    (λ link below. counted tables contexts link (steps_of link r.lines) (r.good.history link) (r.good.retells link below))

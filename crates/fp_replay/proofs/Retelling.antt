@@ -1,5 +1,5 @@
 -- The runs of the links, and the lines that they retell.
-use Rattle.std.proofs.Common.{◌≡◌, ◌≢◌, ◌⊎◌, inl, inr, ⊎_elim, ℕ, ◌+◌, ◌<◌, Bool, true, false, cond, eqb, get_or, List, [], ◌∷◌, ◌++◌, length, Some, zero, suc, refl, sym, ◌∙◌, ap, subst, arith, add-one, length-append, length-set, set}
+use Rattle.std.proofs.Common.{◌≡◌, ◌≢◌, ◌⊎◌, inl, inr, ⊎_elim, ℕ, ◌+◌, ◌<◌, ◌≤◌, Bool, true, false, cond, eqb, get_or, List, [], ◌∷◌, ◌++◌, length, Some, None, zero, suc, refl, sym, ◌∙◌, ap, subst, arith, add-one, length-append, length-set, set}
 use Rattle.std.specs.Prelude.{slice_get, Result, Err}
 use Rattle.std.proofs.lemmas.Bool.{eqb-false, eqb-true}
 use Rattle.std.proofs.lemmas.Option.{slice_get-get_or}
@@ -16,9 +16,9 @@ use Rattle.fp_replay.specs.Laws.{TextIsOfOneLine}
 use Rattle.fp_replay.specs.Making.{AreAfter, AreNew, IsKept, IsRunOf, Taking, TakingText}
 use Rattle.fp_replay.specs.declared.replay_fault.Refusal.{Refusal}
 use Rattle.fp_replay.specs.declared.replay_fault.Refusal.TheVariants.{BadLine, Memory}
-use Rattle.fp_replay.specs.Replayed.{AllFit, IsInPlace, links_in, report_line, report_of, steps_of}
+use Rattle.fp_replay.specs.Replayed.{AllFit, HasTable, IsInPlace, links_in, report_line, report_of, steps_of}
 use Rattle.fp_steps.specs.After.{Follows, IsAfter}
-use Rattle.fp_replay.specs.Stopped.{Differs, is_gap}
+use Rattle.fp_replay.specs.Stopped.{Differs, DiffersBy, HasOtherLine, is_gap}
 use Rattle.fp_steps.specs.Retold.{Retells, RetellsOne, step_of}
 use Rattle.fp_steps.specs.declared.stepped.Stepped.{Stepped}
 use Rattle.fp_steps.specs.declared.link_run.LinkRun.{LinkRun}
@@ -50,42 +50,51 @@ read_at old index link run at within is =
 -- LINES IN THEIR PLACES
 
 -- where a line stands there is a link
-links_some : (lines : List Line) → AllFit lines → 0 < length lines → 0 < links_in lines
-links_some [] fit some = absurd (omega arith)
-links_some (Head links ∷ before) fit some = omega (arith, fit.0.0.0)
-links_some (Step link step ∷ []) fit some = absurd fit.0.1
-links_some (Step link step ∷ (last ∷ before)) fit some = let n = fit.0.1 in omega (arith, n)
+links_some : (tables : List Contents) (lines : List Line) → AllFit tables lines → 0 < length lines → 0 < links_in lines
+links_some tables [] fit some = absurd (omega arith)
+links_some tables (Head links ∷ before) fit some = omega (arith, fit.0.0.0)
+links_some tables (Step link step ∷ []) fit some = absurd fit.0.1
+links_some tables (Step link step ∷ (last ∷ before)) fit some = let n = fit.0.1.0 in omega (arith, n)
+
+-- where a step stands its link and its table are there
+pub place_of : (tables : List Contents) (lines : List Line) (link : ℕ) (step : LoggedStep) → IsInPlace tables lines (Step link step) → (link < links_in lines) × HasTable tables step
+place_of tables [] link step place = absurd place
+place_of tables (last ∷ lines) link step place = place
 
 -- RUNS BEGIN
 
 -- one new run more
 pub new_more : (link : ℕ) (runs more : List LinkRun) (run : LinkRun) → AreNew link runs
-    → ((contents : Contents) (contexts : List (List ℕ)) → IsRunOf contents contexts link [] run) → more ≡ runs ++ run ∷ [] → AreNew (link + 1) more
+    → ((tables : List Contents) (contexts : List (List ℕ)) → IsRunOf tables contexts link [] run) → more ≡ runs ++ run ∷ [] → AreNew (link + 1) more
 new_more link runs more run news new is = record {
   length_is = ap length is ∙ length-append runs (run ∷ []) ∙ ap (λ n. n + 1) news.length_is;
-  each = λ contents contexts at r found.
+  each = λ tables contexts at r found.
       ⊎_elim
-      (λ there. news.each contents contexts at r there)
-      (λ last. subst (λ k. IsRunOf contents contexts k [] r) (sym (last.0 ∙ news.length_is)) (subst (IsRunOf contents contexts link []) last.1 (new contents contexts)))
+      (λ there. news.each tables contexts at r there)
+      (λ last. subst (λ k. IsRunOf tables contexts k [] r) (sym (last.0 ∙ news.length_is)) (subst (IsRunOf tables contexts link []) last.1 (new tables contexts)))
       (get_push runs run at r (ap (λ l. slice_get l at) (sym is) ∙ found));
 }
 
-module _ (contents : Contents) (contexts : List (List ℕ)) where
+module _ (tables : List Contents) (contexts : List (List ℕ)) where
   -- where there are no runs there are no lines
-  pub no_lines : (lines : List Line) (runs : List LinkRun) → IsKept contents contexts lines runs → length runs ≡ 0 → lines ≡ []
+  pub no_lines : (lines : List Line) (runs : List LinkRun) → IsKept tables contexts lines runs → length runs ≡ 0 → lines ≡ []
   no_lines [] runs kept none = refl
   no_lines (line ∷ lines) runs kept none =
-      absurd (let n = links_some (line ∷ lines) kept.good.fit (omega arith) in omega (arith, n, kept.many, none))
+      absurd (let n = links_some tables (line ∷ lines) kept.good.fit (omega arith) in omega (arith, n, kept.many, none))
 
-  -- a step of a link that there is is in its place
-  step_place : (lines : List Line) (link : ℕ) (step : LoggedStep) (runs : List LinkRun) → IsKept contents contexts lines runs → link < length runs → IsInPlace lines (Step link step)
-  step_place [] link step runs kept within = absurd (omega (arith, kept.many, within))
-  step_place (line ∷ lines) link step runs kept within = let n = kept.many in omega (arith, n, within)
+  -- a step of a link that there is, by a table that was handed in, is in its place
+  step_place : (lines : List Line) (link : ℕ) (step : LoggedStep) (runs : List LinkRun) → IsKept tables contexts lines runs → link < length runs → HasTable tables step → IsInPlace tables lines (Step link step)
+  step_place [] link step runs kept within table = absurd (omega (arith, kept.many, within))
+  step_place (line ∷ lines) link step runs kept within table = let n = kept.many in (omega (arith, n, within), table)
+
+  -- one of a link that there isn't is in no place
+  pub no_link : (lines : List Line) (link index : ℕ) (step : LoggedStep) (runs : List LinkRun) → IsKept tables contexts lines runs → index ≡ link → length runs ≤ index → IsInPlace tables lines (Step link step) → ⊥
+  no_link lines link index step runs kept at past place = let n = kept.many in let m = (place_of tables lines link step place).0 in omega (arith, n, m, at, past)
 
   -- THE HEAD
 
   -- no line, and no link
-  pub kept_none : (runs : List LinkRun) → runs ≡ [] → IsKept contents contexts [] runs
+  pub kept_none : (runs : List LinkRun) → runs ≡ [] → IsKept tables contexts [] runs
   kept_none runs none = record {
     good = record { fit = tt; history = λ link. []; retells = λ link within. absurd (omega (arith, within)) };
     many = ap length none;
@@ -93,14 +102,14 @@ module _ (contents : Contents) (contexts : List (List ℕ)) where
   }
 
   -- the head, and its links
-  pub kept_head : (lines : List Line) (links : ℕ) (old new : List LinkRun) → IsKept contents contexts lines old → length old ≡ 0 → IsLine (Head links) → AreNew links new
-      → IsInPlace lines (Head links) × IsKept contents contexts (Head links ∷ lines) new
+  pub kept_head : (lines : List Line) (links : ℕ) (old new : List LinkRun) → IsKept tables contexts lines old → length old ≡ 0 → IsLine (Head links) → AreNew links new
+      → IsInPlace tables lines (Head links) × IsKept tables contexts (Head links ∷ lines) new
   kept_head [] links old new kept none is news = (
     tt,
     record {
       good = record { fit = ((is, tt), tt); history = λ link. []; retells = λ link within. tt };
       many = news.length_is;
-      each = news.each contents contexts;
+      each = news.each tables contexts;
     },
   )
   kept_head (line ∷ lines) links old new kept none is news = absurd (let some = no_lines (line ∷ lines) old kept none in (cc))
@@ -109,57 +118,75 @@ module _ (contents : Contents) (contexts : List (List ℕ)) where
 
   -- one line more of this link, or none of another
   retells_if : (b : Bool) (link : ℕ) (line : LoggedStep) (lines : List LoggedStep) (e : Event) (h : List Event)
-      → (b ≡ true → RetellsOne contents contexts link line h e) → Retells contents contexts link lines h
-      → Retells contents contexts link (cond b (line ∷ lines) lines) (cond b (e ∷ h) h)
+      → (b ≡ true → RetellsOne tables contexts link line h e) → Retells tables contexts link lines h
+      → Retells tables contexts link (cond b (line ∷ lines) lines) (cond b (e ∷ h) h)
   retells_if true link line lines e h one before = (one refl, before)
   retells_if false link line lines e h one before = before
 
   -- the run of this link went on, and that of another didn't
   of_if : (b : Bool) (link : ℕ) (e : Event) (h : List Event) (run : LinkRun)
-      → (b ≡ true → IsRunOf contents contexts link (e ∷ h) run) → (b ≡ false → IsRunOf contents contexts link h run) → IsRunOf contents contexts link (cond b (e ∷ h) h) run
+      → (b ≡ true → IsRunOf tables contexts link (e ∷ h) run) → (b ≡ false → IsRunOf tables contexts link h run) → IsRunOf tables contexts link (cond b (e ∷ h) h) run
   of_if true link e h run here other = here refl
   of_if false link e h run here other = other refl
 
-  -- a step was made on the run of its link
-  module _ (lines : List Line) (link index : ℕ) (line : LoggedStep) (step : MadeStep) (made : Stepped) (old : List LinkRun) (run new : LinkRun)
-      (kept : IsKept contents contexts lines old) (at : index ≡ link) (within : index < length old) (read : run ≡ get_or old index run) (same : new.link ≡ run.link) (step_is : step_of line ≡ Some step)
-      (follows_all : (h : List Event) → IsAfter contents contexts h run → Follows contents contexts h step made new) where
+  -- on the run of its link
+  module _ (lines : List Line) (link index : ℕ) (line : LoggedStep) (old : List LinkRun) (run : LinkRun)
+      (kept : IsKept tables contexts lines old) (at : index ≡ link) (within : index < length old) (table : HasTable tables line) (read : run ≡ get_or old index run) where
     -- it is in its place
-    placed : IsInPlace lines (Step link line)
-    placed = step_place lines link line old kept (omega (arith, at, within))
+    placed : IsInPlace tables lines (Step link line)
+    placed = step_place lines link line old kept (omega (arith, at, within)) table
 
     -- the run was one of the link
-    of : IsRunOf contents contexts link (kept.good.history link) run
+    of : IsRunOf tables contexts link (kept.good.history link) run
     of = kept.each link run (read_at old index link run at within read)
 
-    follows : Follows contents contexts (kept.good.history link) step made new
-    follows = follows_all (kept.good.history link) of.after
+    -- it is of a turn that isn't out
+    pub no_turn : ((h : List Event) → IsAfter tables contexts h run → None ≡ step_of h line) → is_gap line ≡ false
+        → IsInPlace tables lines (Step link line) × ((is_gap line ≡ false) × Differs tables contexts link (kept.good.history link) line)
+    no_turn none gap = (placed, (gap, subst (DiffersBy tables contexts link (kept.good.history link) line) (none (kept.good.history link) of.after) tt))
+
+  -- and was made there
+  module _ (lines : List Line) (link index : ℕ) (line : LoggedStep) (step : MadeStep) (made : Stepped) (old : List LinkRun) (run new : LinkRun)
+      (kept : IsKept tables contexts lines old) (at : index ≡ link) (within : index < length old) (table : HasTable tables line) (read : run ≡ get_or old index run) (same : new.link ≡ run.link)
+      (step_all : (h : List Event) → IsAfter tables contexts h run → Some step ≡ step_of h line)
+      (follows_all : (h : List Event) → IsAfter tables contexts h run → Follows tables contexts h step made new) where
+    here : IsInPlace tables lines (Step link line)
+    here = placed lines link index line old run kept at within table read
+
+    was : IsRunOf tables contexts link (kept.good.history link) run
+    was = of lines link index line old run kept at within table read
+
+    step_is : Some step ≡ step_of (kept.good.history link) line
+    step_is = step_all (kept.good.history link) was.after
+
+    follows : Follows tables contexts (kept.good.history link) step made new
+    follows = follows_all (kept.good.history link) was.after
 
     answered : IsAnswer link (kept.good.history link) step follows.came made.output
-    answered = subst (λ l. IsAnswer l (kept.good.history link) step follows.came made.output) (same ∙ of.link_is) follows.answer
+    answered = subst (λ l. IsAnswer l (kept.good.history link) step follows.came made.output) (same ∙ was.link_is) follows.answer
 
     -- it was told as the line tells it: the lines with one more are retold, and the runs are those of their links
-    pub made_again : IsLine (Step link line) → made.line ≡ Some line → IsInPlace lines (Step link line) × IsKept contents contexts (Step link line ∷ lines) (set old index new)
+    pub made_again : IsLine (Step link line) → made.line ≡ Some line → IsInPlace tables lines (Step link line) × IsKept tables contexts (Step link line ∷ lines) (set old index new)
     made_again is told_is =
         let h = kept.good.history link in
         let e : Event = record { step = step; came = follows.came; output = made.output } in
-        let one : RetellsOne contents contexts link line h e = record { step = step_is; came = follows.is_came; answer = answered; tells = sym follows.line ∙ told_is } in
-        let gone : IsRunOf contents contexts link (e ∷ h) new = record { link_is = same ∙ of.link_is; after = follows.after } in (
-          placed,
+        let one : RetellsOne tables contexts link line h e = record { step = sym step_is; came = follows.is_came; answer = answered; tells = sym follows.line ∙ told_is } in
+        let gone : IsRunOf tables contexts link (e ∷ h) new = record { link_is = same ∙ was.link_is; after = follows.after } in (
+          here,
           record {
             good = record {
-              fit = ((is, placed), kept.good.fit);
+              fit = ((is, here), kept.good.fit);
               history = λ k. cond (eqb link k) (e ∷ kept.good.history k) (kept.good.history k);
               retells = λ k below.
                   retells_if (eqb link k) k line (steps_of k lines) e (kept.good.history k)
-                  (λ here. subst (λ n. RetellsOne contents contexts n line (kept.good.history n) e) (eqb-true link k here) one)
+                  (λ here. subst (λ n. RetellsOne tables contexts n line (kept.good.history n) e) (eqb-true link k here) one)
                   (kept.good.retells k below);
             };
             many = length-set old index new ∙ kept.many;
             each = λ k r there.
                 ⊎_elim
                 (λ now. of_if (eqb link k) k e (kept.good.history k) r
-                (λ here. subst (λ n. IsRunOf contents contexts n (e ∷ kept.good.history n) r) (eqb-true link k here) (subst (IsRunOf contents contexts link (e ∷ h)) now.1 gone))
+                (λ here. subst (λ n. IsRunOf tables contexts n (e ∷ kept.good.history n) r) (eqb-true link k here) (subst (IsRunOf tables contexts link (e ∷ h)) now.1 gone))
                 (λ other. absurd (eqb-false link k other (sym (now.0 ∙ at)))))
                 (λ before. of_if (eqb link k) k e (kept.good.history k) r
                 (λ here. absurd (before.0 (sym (at ∙ eqb-true link k here))))
@@ -170,36 +197,31 @@ module _ (contents : Contents) (contexts : List (List ℕ)) where
 
     -- it was told otherwise
     pub disagreed : (made.line ≡ Some line → ⊥) → is_gap line ≡ false
-        → IsInPlace lines (Step link line) × ((is_gap line ≡ false) × Differs contents contexts link (kept.good.history link) line)
-    disagreed other none = (
-      placed,
-      (
-        none,
-        record {
-          step = step;
-          step_is = step_is;
+        → IsInPlace tables lines (Step link line) × ((is_gap line ≡ false) × Differs tables contexts link (kept.good.history link) line)
+    disagreed other none =
+        let h = kept.good.history link in
+        let otherwise : HasOtherLine tables contexts link h line step = record {
           came = follows.came;
           came_is = follows.is_came;
           output = made.output;
           answer = answered;
           differs = λ is. other (follows.line ∙ is);
-        },
-      ),
-    )
+        } in
+        (here, (none, subst (DiffersBy tables contexts link h line) step_is otherwise))
 
   -- A TEXT
 
   -- what comes of a line comes of its text
   pub taken_text : (old : List LinkRun) (line : Line) (text : List ℕ) (result : Result (Unit {0}) Refusal) (new : List LinkRun)
-      → TextIsOfOneLine → IsLine line → text ≡ text_of line → Taking contents contexts old line result new → TakingText contents contexts old text result new
+      → TextIsOfOneLine → IsLine line → text ≡ text_of line → Taking tables contexts old line result new → TakingText tables contexts old text result new
   taken_text old line text (Err BadLine) new one is text_is taking lines kept =
-      λ other fits e. taking lines kept is (subst (λ l. IsInPlace lines l) (one other line fits.0 is (sym e ∙ text_is)) fits.1)
+      λ other fits e. taking lines kept is (subst (λ l. IsInPlace tables lines l) (one other line fits.0 is (sym e ∙ text_is)) fits.1)
   taken_text old line text (Err Memory) new one is text_is taking lines kept = tt
   taken_text old line text _ new one is text_is taking lines kept = let t = taking lines kept is in (line, (is, t.0), text_is, t.1)
 
   -- a run that was read is one of its link
   pub run_at : (history : ℕ → List Event) (same runs : List LinkRun) (link : ℕ) (run : LinkRun)
-      → AreAfter contents contexts history runs → same ≡ runs → link < length same → run ≡ get_or same link run → IsAfter contents contexts (history link) run
+      → AreAfter tables contexts history runs → same ≡ runs → link < length same → run ≡ get_or same link run → IsAfter tables contexts (history link) run
   run_at history same runs link run after is within at =
       (after link run (ap (λ l. slice_get l link) (sym is) ∙ read_at same link link run refl within at)).after
 

@@ -29,11 +29,11 @@ use Rattle.fp_replay.proofs.LineTexts.{text_one_line, text_short}
 use Rattle.fp_replay.proofs.Retelling.{kept_none, no_lines}
 
 -- what taking a text that ended with a line feed makes of the links it makes of a replay
-pub taken : (old new : Replaying) (has_line_feed : Bool) (text : List ℕ) (result : Result (Unit {0}) Refusal) → has_line_feed ≡ true → new.table.now ≡ old.table.now → new.contexts.now ≡ old.contexts.now
-    → TakingText old.table.now old.contexts.now old.links.runs.items text result new.links.runs.items
+pub taken : (old new : Replaying) (has_line_feed : Bool) (text : List ℕ) (result : Result (Unit {0}) Refusal) → has_line_feed ≡ true → new.tables.now ≡ old.tables.now → new.contexts.now ≡ old.contexts.now
+    → TakingText old.tables.now old.contexts.now old.links.runs.items text result new.links.runs.items
     → MatchResult result (λ _. takes old has_line_feed text new) (λ refusal. refuses old has_line_feed text refusal new)
 taken old new false text result is table names taking = absurd (cc)
-taken old new true text (Ok done) is table names taking = record { table = table; contexts = names; taking = taking }
+taken old new true text (Ok done) is table names taking = record { tables = table; contexts = names; taking = taking }
 taken old new true text (Err refusal) is table names taking = taking
 
 -- what a reader has left comes after what was read
@@ -58,21 +58,21 @@ last_none : (last : List ℕ) (old new : Replaying) → following.TakesLast take
 last_none [] old new same = (refl, same)
 last_none (octet ∷ octets) old new t = absurd (let no = t.taking in (cc))
 
-module _ (contents : Contents) (contexts : List (List ℕ)) where
+module _ (tables : List Contents) (contexts : List (List ℕ)) where
   -- THE LINES
 
-  -- a replay by these records and names
+  -- a replay by these tables and names
   pub record IsBy (replaying : Replaying) : Type 0 where
-    pub table : replaying.table.now ≡ contents
+    pub tables_are : replaying.tables.now ≡ tables
     pub names : replaying.contexts.now ≡ contexts
 
-  -- what comes of a text by the records and the names of a replay
+  -- what comes of a text by the tables and the names of a replay
   by_these : (at : Replaying) (has_line_feed : Bool) (text : List ℕ) (result : Result (Unit {0}) Refusal) (new : List LinkRun)
-      → IsBy at → TakingEnded at.table.now at.contexts.now at.links.runs.items has_line_feed text result new
-      → TakingEnded contents contexts at.links.runs.items has_line_feed text result new
+      → IsBy at → TakingEnded at.tables.now at.contexts.now at.links.runs.items has_line_feed text result new
+      → TakingEnded tables contexts at.links.runs.items has_line_feed text result new
   by_these at has_line_feed text result new by taking =
-      subst (λ c. TakingEnded c contexts at.links.runs.items has_line_feed text result new) by.table
-      (subst (λ n. TakingEnded at.table.now n at.links.runs.items has_line_feed text result new) by.names taking)
+      subst (λ c. TakingEnded c contexts at.links.runs.items has_line_feed text result new) by.tables_are
+      (subst (λ n. TakingEnded at.tables.now n at.links.runs.items has_line_feed text result new) by.names taking)
 
   -- texts were taken after these lines: they are lines of the log, too
   record Took (texts : List (List ℕ)) (before : List Line) (new : Replaying) : Type 0 where
@@ -80,21 +80,21 @@ module _ (contents : Contents) (contexts : List (List ℕ)) where
     text : log_text lines ≡ log_text before ++ following.ended texts
     many : length lines ≡ length before + length texts
     by : IsBy new
-    kept : IsKept contents contexts lines new.links.runs.items
+    kept : IsKept tables contexts lines new.links.runs.items
 
   took : (texts : List (List ℕ)) (before : List Line) (old new : Replaying)
-      → IsBy old → IsKept contents contexts before old.links.runs.items → following.Took takes old texts new → Took texts before new
+      → IsBy old → IsKept tables contexts before old.links.runs.items → following.Took takes old texts new → Took texts before new
   took [] before old new by kept same = record {
     lines = before;
     text = sym (append-nil (log_text before));
     many = omega arith;
     by = subst IsBy (sym same) by;
-    kept = subst (λ (r : Replaying). IsKept contents contexts before r.links.runs.items) (sym same) kept;
+    kept = subst (λ (r : Replaying). IsKept tables contexts before r.links.runs.items) (sym same) kept;
   }
   took (text ∷ texts) before old new by kept t =
       let taken = by_these old true text (Ok tt) t.between.links.runs.items by t.first.taking before kept in
       let line = taken.0 in
-      let later = took texts (line ∷ before) t.between new (record { table = t.first.table ∙ by.table; names = t.first.contexts ∙ by.names }) taken.3 t.later in
+      let later = took texts (line ∷ before) t.between new (record { tables_are = t.first.tables ∙ by.tables_are; names = t.first.contexts ∙ by.names }) taken.3 t.later in
       let n = later.many in
       record {
         lines = later.lines;
@@ -112,12 +112,12 @@ module _ (contents : Contents) (contexts : List (List ℕ)) where
     text : octets ≡ log_text lines ++ rest
     many : length lines ≡ length texts
     by : IsBy new
-    kept : IsKept contents contexts lines new.links.runs.items
+    kept : IsKept tables contexts lines new.links.runs.items
 
   reached : (old new : Replaying) (octets rest : List ℕ) (texts : List (List ℕ))
       → IsBy old → old.links.runs.items ≡ [] → following.Reaches takes 8300 old new octets texts rest → Reached octets texts rest new
   reached old new octets rest texts by none r =
-      let t = took texts [] old new by (kept_none contents contexts old.links.runs.items none) r.took in
+      let t = took texts [] old new by (kept_none tables contexts old.links.runs.items none) r.took in
       let n = t.many in
       record { lines = t.lines; text = r.text ∙ ap (λ l. l ++ rest) (sym t.text); many = omega (arith, n); by = t.by; kept = t.kept }
 
@@ -125,7 +125,7 @@ module _ (contents : Contents) (contexts : List (List ℕ)) where
 
   module _ (number : ℕ) (had left : Option (List ℕ)) (octets : List ℕ) (texts : List (List ℕ)) (consumed : Consumes had left octets) (next : following.IsNext number texts) where
     -- the lines, and what is left
-    reaches_then : (rest : List ℕ) (new : Replaying) (r : Reached octets texts rest new) (more : List ℕ) → Reaches contents contexts number (octets ++ more) r.lines (rest ++ more)
+    reaches_then : (rest : List ℕ) (new : Replaying) (r : Reached octets texts rest new) (more : List ℕ) → Reaches tables contexts number (octets ++ more) r.lines (rest ++ more)
     reaches_then rest new r more = record {
       good = r.kept.good;
       text = ap (λ l. l ++ more) r.text ∙ append_assoc (log_text r.lines) rest more;
@@ -134,9 +134,9 @@ module _ (contents : Contents) (contexts : List (List ℕ)) where
 
     -- what follows them is no line
     bad_then : (rest : List ℕ) (new : Replaying) (r : Reached octets texts rest new) → 0 < length rest
-        → ((more : List ℕ) → left ≡ Some more → (line : Line) (after : List ℕ) → Fits r.lines line → rest ++ more ≡ text_of line ++ 10 ∷ after → ⊥) → IfSome had (BadAt contents contexts number)
+        → ((more : List ℕ) → left ≡ Some more → (line : Line) (after : List ℕ) → Fits tables r.lines line → rest ++ more ≡ text_of line ++ 10 ∷ after → ⊥) → IfSome had (BadAt tables contexts number)
     bad_then rest new r some none =
-        consumed_then had left octets (BadAt contents contexts number) consumed (λ more is. record {
+        consumed_then had left octets (BadAt tables contexts number) consumed (λ more is. record {
           before = r.lines;
           rest = rest ++ more;
           reaches = reaches_then rest new r more;
@@ -144,7 +144,7 @@ module _ (contents : Contents) (contexts : List (List ℕ)) where
         })
 
     -- it is too long
-    long : (old new : Replaying) → IsBy old → old.links.runs.items ≡ [] → following.GrowsLong takes 8300 old new octets texts → IfSome had (BadAt contents contexts number)
+    long : (old new : Replaying) → IsBy old → old.links.runs.items ≡ [] → following.GrowsLong takes 8300 old new octets texts → IfSome had (BadAt tables contexts number)
     long old new by none g =
         let n = length-append g.begun g.rest in
         let m = g.long in
@@ -154,8 +154,8 @@ module _ (contents : Contents) (contexts : List (List ℕ)) where
 
     module _ (line tail : List ℕ) (at : Replaying) (new : List LinkRun) (one : IsOneLine line) where
       -- it is a step of a link
-      abbrev step_then : (r : Reached octets texts (line ++ 10 ∷ tail) at) (link : ℕ) (step : LoggedStep) → Fits r.lines (Step link step) → line ≡ text_of (Step link step)
-          → (more : List ℕ) → StepAt contents contexts number (octets ++ more)
+      abbrev step_then : (r : Reached octets texts (line ++ 10 ∷ tail) at) (link : ℕ) (step : LoggedStep) → Fits tables r.lines (Step link step) → line ≡ text_of (Step link step)
+          → (more : List ℕ) → StepAt tables contexts number (octets ++ more)
       step_then r link step fits text_is more = record {
         before = r.lines;
         link = link;
@@ -172,16 +172,16 @@ module _ (contents : Contents) (contexts : List (List ℕ)) where
       }
 
       -- it ends with a line feed, and is refused
-      refused_fed : (refusal : Refusal) (r : Reached octets texts (line ++ 10 ∷ tail) at) → TakesText contents contexts r.lines r.kept.good line (Err refusal) new
-          → Halts contents contexts had left (fault_at refusal number)
+      refused_fed : (refusal : Refusal) (r : Reached octets texts (line ++ 10 ∷ tail) at) → TakesText tables contexts r.lines r.kept.good line (Err refusal) new
+          → Halts tables contexts had left (fault_at refusal number)
       refused_fed BadLine r none =
           bad_then (line ++ 10 ∷ tail) at r (let n = length-append line (10 ∷ tail) in omega (arith, n)) (λ more is other after fits e.
           none other fits
           (one_cut 10 line (tail ++ more) (text_of other) after one (text_one_line other fits.0) (sym (append_assoc line (10 ∷ tail) more) ∙ e)).0)
       refused_fed Gap r (Step link step, fits, text_is, gap) =
-          consumed_then had left octets (GapAt contents contexts number) consumed (λ more is. (step_then r link step fits text_is more, gap))
+          consumed_then had left octets (GapAt tables contexts number) consumed (λ more is. (step_then r link step fits text_is more, gap))
       refused_fed Disagrees r (Step link step, fits, text_is, other) =
-          consumed_then had left octets (DisagreesAt contents contexts number) consumed (λ more is. (step_then r link step fits text_is more, other.0, other.1))
+          consumed_then had left octets (DisagreesAt tables contexts number) consumed (λ more is. (step_then r link step fits text_is more, other.0, other.1))
       refused_fed Memory r done = tt
       refused_fed Gap r (Head links, fits, text_is, never) = absurd never
       refused_fed Disagrees r (Head links, fits, text_is, never) = absurd never
@@ -189,7 +189,7 @@ module _ (contents : Contents) (contexts : List (List ℕ)) where
       -- it is refused
       refused_by : (has_line_feed : Bool) (refusal : Refusal) → Reached octets texts (line ++ following.after_line has_line_feed tail) at
           → 0 < length (line ++ following.after_line has_line_feed tail) → (has_line_feed ≡ false → IsAtEnd left)
-          → TakingEnded contents contexts at.links.runs.items has_line_feed line (Err refusal) new → Halts contents contexts had left (fault_at refusal number)
+          → TakingEnded tables contexts at.links.runs.items has_line_feed line (Err refusal) new → Halts tables contexts had left (fault_at refusal number)
       refused_by true refusal r some end taking = refused_fed refusal r (taking r.lines r.kept)
       refused_by false BadLine r some end taking =
           bad_then (line ++ []) at r some (λ more is other after fits e.
@@ -202,10 +202,10 @@ module _ (contents : Contents) (contexts : List (List ℕ)) where
 
   module _ (had left : Option (List ℕ)) (old new : Replaying) (octets : List ℕ) (by : IsBy old) (none : old.links.runs.items ≡ []) (consumed : Consumes had left octets) where
     -- not all of the input was read
-    begun : following.Begins takes 8300 old new octets → IfSome had (ReachesEnd contents contexts left)
+    begun : following.Begins takes 8300 old new octets → IfSome had (ReachesEnd tables contexts left)
     begun b =
         let r = reached old new octets b.begun b.lines by none b.reaches in
-        consumed_then had left octets (ReachesEnd contents contexts left) consumed (λ rest is. record {
+        consumed_then had left octets (ReachesEnd tables contexts left) consumed (λ rest is. record {
           read = octets;
           consumed = subst (λ l. Consumes (Some (octets ++ rest)) l octets) (sym is) refl;
           lines = r.lines;
@@ -216,7 +216,7 @@ module _ (contents : Contents) (contexts : List (List ℕ)) where
           good = r.kept.good;
         })
 
-    pub halts : (fault : LinesFault Refusal) → following.Stops takes refuses 8300 left old new octets fault → Halts contents contexts had left (fault_of fault)
+    pub halts : (fault : LinesFault Refusal) → following.Stops takes refuses 8300 left old new octets fault → Halts tables contexts had left (fault_of fault)
     halts (TooLong number) (texts, next, grows) = long number had left octets texts consumed next old new by none grows
     halts (Refused number refusal) (texts, next, (d, end)) =
         let r = reached old d.before_line octets (d.line ++ following.after_line d.has_line_feed d.rest) texts by none d.reaches in
@@ -231,7 +231,7 @@ module _ (contents : Contents) (contexts : List (List ℕ)) where
   pub record Whole (octets : List ℕ) (runs : List LinkRun) : Type 0 where
     pub lines : List Line
     pub text : octets ≡ log_text lines
-    pub kept : IsKept contents contexts lines runs
+    pub kept : IsKept tables contexts lines runs
 
   pub whole : (old new : Replaying) (octets : List ℕ) → IsBy old → old.links.runs.items ≡ [] → following.TakesAll takes 8300 old new octets → Whole octets new.links.runs.items
   whole old new octets by none t =
@@ -240,32 +240,32 @@ module _ (contents : Contents) (contexts : List (List ℕ)) where
       record {
         lines = r.lines;
         text = r.text ∙ ap (λ l. log_text r.lines ++ l) last.0 ∙ append-nil (log_text r.lines);
-        kept = subst (λ (s : Replaying). IsKept contents contexts r.lines s.links.runs.items) (sym last.1) r.kept;
+        kept = subst (λ (s : Replaying). IsKept tables contexts r.lines s.links.runs.items) (sym last.1) r.kept;
       }
 
   module _ (had left : Option (List ℕ)) (octets : List ℕ) (runs : List LinkRun) (w : Whole octets runs) (consumed : Consumes had left octets) (end : IsAtEnd left) where
     -- there is a report
     pub reported : {A : Type 0} (bytes : A → List ℕ) (final : Result A ReplayFault) → OnOk final (0 < length runs) → IfOk final (λ report. IsReport runs (bytes report))
-        → IfOk final (λ report. IfSome had (λ input. IsReplayed contents contexts input (bytes report)))
+        → IfOk final (λ report. IfSome had (λ input. IsReplayed tables contexts input (bytes report)))
     reported bytes (Err fault) some is = tt
     reported bytes (Ok report) some is =
-        Consumes-whole had left octets (λ input. IsReplayed contents contexts input (bytes report)) consumed end (record {
+        Consumes-whole had left octets (λ input. IsReplayed tables contexts input (bytes report)) consumed end (record {
           lines = w.lines;
           begun = lines_some w.lines w.kept;
           text = w.text;
           good = w.kept.good;
-          report_is = is contents contexts w.kept.good.history w.kept.each ∙ ap (λ n. report_of n (totals_along w.kept.good.history)) w.kept.many;
+          report_is = is tables contexts w.kept.good.history w.kept.each ∙ ap (λ n. report_of n (totals_along w.kept.good.history)) w.kept.many;
         })
       where
-        lines_some : (lines : List Line) → IsKept contents contexts lines runs → 0 < length lines
+        lines_some : (lines : List Line) → IsKept tables contexts lines runs → 0 < length lines
         lines_some [] kept = absurd (let n = kept.many in omega (arith, n, some))
         lines_some (line ∷ lines) kept = omega arith
 
     -- there is none
-    unreported : (fault : ReplayFault) → IsUnreported runs fault → Halts contents contexts had left fault
+    unreported : (fault : ReplayFault) → IsUnreported runs fault → Halts tables contexts had left fault
     unreported (faults.BadLine number) (is, none) =
-        let n = ap length (no_lines contents contexts w.lines runs w.kept (ap length none)) in
-        consumed_then had left octets (BadAt contents contexts number) consumed (λ rest more. record {
+        let n = ap length (no_lines tables contexts w.lines runs w.kept (ap length none)) in
+        consumed_then had left octets (BadAt tables contexts number) consumed (λ rest more. record {
           before = w.lines;
           rest = rest;
           reaches = record { good = w.kept.good; text = ap (λ l. l ++ rest) w.text; number_is = omega (arith, n, is) };
@@ -278,6 +278,6 @@ module _ (contents : Contents) (contexts : List (List ℕ)) where
     unreported faults.Memory done = tt
     unreported _ never = absurd never
 
-    pub unreported_if : {A : Type 0} (final : Result A ReplayFault) → IfErr final (IsUnreported runs) → IfErr final (Halts contents contexts had left)
+    pub unreported_if : {A : Type 0} (final : Result A ReplayFault) → IfErr final (IsUnreported runs) → IfErr final (Halts tables contexts had left)
     unreported_if (Ok report) is = tt
     unreported_if (Err fault) is = unreported fault is

@@ -33,22 +33,23 @@ given_text (Queued count) = codes "Q" ++ decimal count
 given_text (Dropped count) = codes "D" ++ decimal count
 given_text Silent = codes "S"
 
--- the fields of a step: its letter first
+-- the fields of a step, its letter first; the lines are in the order of those of IsStep, which says the ranges, and of
+-- step_in, which reads the fields
 abbrev pub fields_of : LoggedStep → List (List ℕ)
-fields_of (Post moment message answer) = codes "P" ∷ decimal moment ∷ encode_upper message ∷ posted_text answer ∷ []
+fields_of (Post table moment message answer) = codes "P" ∷ decimal moment ∷ decimal table ∷ encode_upper message ∷ posted_text answer ∷ []
 fields_of (Lost moment message answer) = codes "L" ∷ decimal moment ∷ encode_upper message ∷ posted_text answer ∷ []
 fields_of (Tick moment added wanting) = codes "K" ∷ decimal moment ∷ decimal added ∷ decimal wanting ∷ []
-fields_of (Take local position count) = codes "T" ∷ identifier_text local ∷ decimal position ∷ decimal count ∷ []
-fields_of (Give local position served given) = codes "G" ∷ identifier_text local ∷ decimal position ∷ decimal served ∷ given_text given ∷ []
-fields_of (PutBack local position) = codes "B" ∷ identifier_text local ∷ decimal position ∷ []
-fields_of (Pick local) = codes "Q" ∷ identifier_text local ∷ []
-fields_of (Sent local) = codes "Y" ∷ identifier_text local ∷ []
-fields_of (Unsent local) = codes "U" ∷ identifier_text local ∷ []
+fields_of (Take birth position count) = codes "T" ∷ decimal birth ∷ decimal position ∷ decimal count ∷ []
+fields_of (Give birth position served given) = codes "G" ∷ decimal birth ∷ decimal position ∷ decimal served ∷ given_text given ∷ []
+fields_of (PutBack birth position) = codes "B" ∷ decimal birth ∷ decimal position ∷ []
+fields_of (Pick birth) = codes "Q" ∷ decimal birth ∷ []
+fields_of (Sent birth) = codes "Y" ∷ decimal birth ∷ []
+fields_of (Unsent birth) = codes "U" ∷ decimal birth ∷ []
 fields_of Down = codes "N" ∷ []
 fields_of (Gap lost) = codes "Z" ∷ decimal lost ∷ []
 
 -- the text of a line, without its line feed: the head names the format and its version, and says how many links there
 -- are, and a step begins with its link
 abbrev pub text_of : Line → List ℕ
-text_of (Head links) = join_with_byte 32 (codes "fplog" ∷ codes "2" ∷ decimal links ∷ [])
+text_of (Head links) = join_with_byte 32 (codes "fplog" ∷ codes "4" ∷ decimal links ∷ [])
 text_of (Step link step) = join_with_byte 32 (decimal link ∷ fields_of step)

@@ -32,24 +32,24 @@ fault_of reading.TurnLimit = faults.TurnLimit
 fault_of reading.Memory = faults.Memory
 
 -- a run is one of this link, after this history
-pub record IsRunOf (contents : Contents) (contexts : List (List ℕ)) (link : ℕ) (h : List Event) (run : LinkRun) : Type 0 where
+pub record IsRunOf (tables : List Contents) (contexts : List (List ℕ)) (link : ℕ) (h : List Event) (run : LinkRun) : Type 0 where
   pub link_is : run.link ≡ link
-  pub after : IsAfter contents contexts h run
+  pub after : IsAfter tables contexts h run
 
 -- each run is one of its link, after its history
-abbrev pub AreAfter : Contents → List (List ℕ) → (ℕ → List Event) → List LinkRun → Type 0
-AreAfter contents contexts history runs = (link : ℕ) (run : LinkRun) → slice_get runs link ≡ Some run → IsRunOf contents contexts link (history link) run
+abbrev pub AreAfter : List Contents → List (List ℕ) → (ℕ → List Event) → List LinkRun → Type 0
+AreAfter tables contexts history runs = (link : ℕ) (run : LinkRun) → slice_get runs link ≡ Some run → IsRunOf tables contexts link (history link) run
 
 -- the lines are retold, and the runs are those of their links
-pub record IsKept (contents : Contents) (contexts : List (List ℕ)) (lines : List Line) (runs : List LinkRun) : Type 0 where
-  pub good : IsRetold contents contexts lines
+pub record IsKept (tables : List Contents) (contexts : List (List ℕ)) (lines : List Line) (runs : List LinkRun) : Type 0 where
+  pub good : IsRetold tables contexts lines
   pub many : length runs ≡ links_in lines
-  pub each : AreAfter contents contexts good.history runs
+  pub each : AreAfter tables contexts good.history runs
 
 -- a step disagrees after the history of its link
-abbrev pub DiffersIn : (contents : Contents) (contexts : List (List ℕ)) (lines : List Line) → IsRetold contents contexts lines → Line → Type 0
-DiffersIn contents contexts lines good (Head links) = ⊥
-DiffersIn contents contexts lines good (Step link step) = (is_gap step ≡ false) × Differs contents contexts link (good.history link) step
+abbrev pub DiffersIn : (tables : List Contents) (contexts : List (List ℕ)) (lines : List Line) → IsRetold tables contexts lines → Line → Type 0
+DiffersIn tables contexts lines good (Head links) = ⊥
+DiffersIn tables contexts lines good (Step link step) = (is_gap step ≡ false) × Differs tables contexts link (good.history link) step
 
 -- a line is a gap
 abbrev pub IsGapLine : Line → Type 0
@@ -57,40 +57,40 @@ IsGapLine (Head links) = ⊥
 IsGapLine (Step link step) = is_gap step ≡ true
 
 -- what comes of a line of the format after these
-abbrev pub Taken : (contents : Contents) (contexts : List (List ℕ)) (lines : List Line) → IsRetold contents contexts lines → Line → Result (Unit {0}) Refusal → List LinkRun → Type 0
-Taken contents contexts lines good line (Ok done) new = IsInPlace lines line × IsKept contents contexts (line ∷ lines) new
-Taken contents contexts lines good line (Err BadLine) new = IsInPlace lines line → ⊥
-Taken contents contexts lines good line (Err Gap) new = IsInPlace lines line × IsGapLine line
-Taken contents contexts lines good line (Err Disagrees) new = IsInPlace lines line × DiffersIn contents contexts lines good line
-Taken contents contexts lines good line (Err Memory) new = ⊤
+abbrev pub Taken : (tables : List Contents) (contexts : List (List ℕ)) (lines : List Line) → IsRetold tables contexts lines → Line → Result (Unit {0}) Refusal → List LinkRun → Type 0
+Taken tables contexts lines good line (Ok done) new = IsInPlace tables lines line × IsKept tables contexts (line ∷ lines) new
+Taken tables contexts lines good line (Err BadLine) new = IsInPlace tables lines line → ⊥
+Taken tables contexts lines good line (Err Gap) new = IsInPlace tables lines line × IsGapLine line
+Taken tables contexts lines good line (Err Disagrees) new = IsInPlace tables lines line × DiffersIn tables contexts lines good line
+Taken tables contexts lines good line (Err Memory) new = ⊤
 
-abbrev pub Taking : Contents → List (List ℕ) → List LinkRun → Line → Result (Unit {0}) Refusal → List LinkRun → Type 0
-Taking contents contexts old line result new =
-    (lines : List Line) (kept : IsKept contents contexts lines old) → IsLine line → Taken contents contexts lines kept.good line result new
+abbrev pub Taking : List Contents → List (List ℕ) → List LinkRun → Line → Result (Unit {0}) Refusal → List LinkRun → Type 0
+Taking tables contexts old line result new =
+    (lines : List Line) (kept : IsKept tables contexts lines old) → IsLine line → Taken tables contexts lines kept.good line result new
 
 -- what comes of the text of a line after these
-abbrev pub TakesText : (contents : Contents) (contexts : List (List ℕ)) (lines : List Line) → IsRetold contents contexts lines → List ℕ → Result (Unit {0}) Refusal → List LinkRun → Type 0
-TakesText contents contexts lines good text (Ok done) new =
-    (line : Line) × Fits lines line × (text ≡ text_of line) × IsKept contents contexts (line ∷ lines) new
-TakesText contents contexts lines good text (Err BadLine) new = (line : Line) → Fits lines line → text ≡ text_of line → ⊥
-TakesText contents contexts lines good text (Err Gap) new = (line : Line) × Fits lines line × (text ≡ text_of line) × IsGapLine line
-TakesText contents contexts lines good text (Err Disagrees) new =
-    (line : Line) × Fits lines line × (text ≡ text_of line) × DiffersIn contents contexts lines good line
-TakesText contents contexts lines good text (Err Memory) new = ⊤
+abbrev pub TakesText : (tables : List Contents) (contexts : List (List ℕ)) (lines : List Line) → IsRetold tables contexts lines → List ℕ → Result (Unit {0}) Refusal → List LinkRun → Type 0
+TakesText tables contexts lines good text (Ok done) new =
+    (line : Line) × Fits tables lines line × (text ≡ text_of line) × IsKept tables contexts (line ∷ lines) new
+TakesText tables contexts lines good text (Err BadLine) new = (line : Line) → Fits tables lines line → text ≡ text_of line → ⊥
+TakesText tables contexts lines good text (Err Gap) new = (line : Line) × Fits tables lines line × (text ≡ text_of line) × IsGapLine line
+TakesText tables contexts lines good text (Err Disagrees) new =
+    (line : Line) × Fits tables lines line × (text ≡ text_of line) × DiffersIn tables contexts lines good line
+TakesText tables contexts lines good text (Err Memory) new = ⊤
 
-abbrev pub TakingText : Contents → List (List ℕ) → List LinkRun → List ℕ → Result (Unit {0}) Refusal → List LinkRun → Type 0
-TakingText contents contexts old text result new =
-    (lines : List Line) (kept : IsKept contents contexts lines old) → TakesText contents contexts lines kept.good text result new
+abbrev pub TakingText : List Contents → List (List ℕ) → List LinkRun → List ℕ → Result (Unit {0}) Refusal → List LinkRun → Type 0
+TakingText tables contexts old text result new =
+    (lines : List Line) (kept : IsKept tables contexts lines old) → TakesText tables contexts lines kept.good text result new
 
 -- what comes of a text and what ended it: a line of a log ends with its line feed
-abbrev pub TakingEnded : Contents → List (List ℕ) → List LinkRun → Bool → List ℕ → Result (Unit {0}) Refusal → List LinkRun → Type 0
-TakingEnded contents contexts old true text result new = TakingText contents contexts old text result new
-TakingEnded contents contexts old false text result new = result ≡ Err BadLine
+abbrev pub TakingEnded : List Contents → List (List ℕ) → List LinkRun → Bool → List ℕ → Result (Unit {0}) Refusal → List LinkRun → Type 0
+TakingEnded tables contexts old true text result new = TakingText tables contexts old text result new
+TakingEnded tables contexts old false text result new = result ≡ Err BadLine
 
 -- this is the report of the runs of all links
 abbrev pub IsReport : List LinkRun → List ℕ → Type 0
 IsReport runs report =
-    (contents : Contents) (contexts : List (List ℕ)) (history : ℕ → List Event) → AreAfter contents contexts history runs
+    (tables : List Contents) (contexts : List (List ℕ)) (history : ℕ → List Event) → AreAfter tables contexts history runs
     → report ≡ report_of (length runs) (totals_along history)
 
 -- there is none: there was no head, or memory ran out
@@ -102,4 +102,4 @@ IsUnreported runs _ = ⊥
 -- these are runs of the links 0, 1 and so on, on each of which nothing came yet
 pub record AreNew (many : ℕ) (runs : List LinkRun) : Type 0 where
   pub length_is : length runs ≡ many
-  pub each : (contents : Contents) (contexts : List (List ℕ)) (link : ℕ) (run : LinkRun) → slice_get runs link ≡ Some run → IsRunOf contents contexts link [] run
+  pub each : (tables : List Contents) (contexts : List (List ℕ)) (link : ℕ) (run : LinkRun) → slice_get runs link ≡ Some run → IsRunOf tables contexts link [] run

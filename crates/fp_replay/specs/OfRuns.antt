@@ -22,6 +22,6 @@ report_of_run link outputs = report_of link (λ before. totals_of []) ++ report_
 -- the log of a run is replayed to the totals of the run
 abbrev pub LogsOfRunsAreReplayed : Type 0
 LogsOfRunsAreReplayed =
-    (contents : Contents) (contexts : List (List ℕ)) (link : ℕ) (steps : List Step) (outputs : List Output) (log : List Line)
-    → Runs contents contexts link steps outputs → IsLog link steps outputs log
-    → IsReplayed contents contexts (file_of log) (report_of_run link outputs)
+    (tables : List Contents) (contexts : List (List ℕ)) (link : ℕ) (steps : List Step) (outputs : List Output) (log : List Line)
+    → Runs tables contexts link steps outputs → IsLog link steps outputs log
+    → IsReplayed tables contexts (file_of log) (report_of_run link outputs)

@@ -11,29 +11,29 @@ use Rattle.fp_replay.specs.declared.replay_fault.ReplayFault.{ReplayFault}
 use Rattle.fp_replay.specs.declared.replay_fault.ReplayFault.TheVariants.{BadLine, Gap, Disagrees}
 
 -- the line of this number has this fault, and those before it are good
-abbrev pub IsFaultIn : Contents → List (List ℕ) → List ℕ → ReplayFault → Type 0
-IsFaultIn contents contexts input (BadLine number) = BadAt contents contexts number input
-IsFaultIn contents contexts input (Gap number) = GapAt contents contexts number input
-IsFaultIn contents contexts input (Disagrees number) = DisagreesAt contents contexts number input
-IsFaultIn contents contexts input _ = ⊥
+abbrev pub IsFaultIn : List Contents → List (List ℕ) → List ℕ → ReplayFault → Type 0
+IsFaultIn tables contexts input (BadLine number) = BadAt tables contexts number input
+IsFaultIn tables contexts input (Gap number) = GapAt tables contexts number input
+IsFaultIn tables contexts input (Disagrees number) = DisagreesAt tables contexts number input
+IsFaultIn tables contexts input _ = ⊥
 
 -- an input has one report at most
 abbrev pub ReportIsOne : Type 0
 ReportIsOne =
-    (contents : Contents) (contexts : List (List ℕ)) (input x y : List ℕ)
-    → IsReplayed contents contexts input x → IsReplayed contents contexts input y → x ≡ y
+    (tables : List Contents) (contexts : List (List ℕ)) (input x y : List ℕ)
+    → IsReplayed tables contexts input x → IsReplayed tables contexts input y → x ≡ y
 
 -- an input that has a report has no line that is bad, a gap, or disagrees
 abbrev pub ReplayedHasNoFault : Type 0
 ReplayedHasNoFault =
-    (contents : Contents) (contexts : List (List ℕ)) (input report : List ℕ) (fault : ReplayFault)
-    → IsReplayed contents contexts input report → IsFaultIn contents contexts input fault → ⊥
+    (tables : List Contents) (contexts : List (List ℕ)) (input report : List ℕ) (fault : ReplayFault)
+    → IsReplayed tables contexts input report → IsFaultIn tables contexts input fault → ⊥
 
 -- an input has one fault at most: one line, and one reason
 abbrev pub FaultIsOne : Type 0
 FaultIsOne =
-    (contents : Contents) (contexts : List (List ℕ)) (input : List ℕ) (x y : ReplayFault)
-    → IsFaultIn contents contexts input x → IsFaultIn contents contexts input y → x ≡ y
+    (tables : List Contents) (contexts : List (List ℕ)) (input : List ℕ) (x y : ReplayFault)
+    → IsFaultIn tables contexts input x → IsFaultIn tables contexts input y → x ≡ y
 
 -- what can be counted in the lines of a link
 abbrev pub counted_along : List Line → (ℕ → List Event) → ℕ → Totals
@@ -42,5 +42,5 @@ counted_along lines history link = totals_in (steps_of link lines) (history link
 -- the totals in a report are what can be counted in the lines of the log
 abbrev pub ReportCountsLines : Type 0
 ReportCountsLines =
-    (contents : Contents) (contexts : List (List ℕ)) (input report : List ℕ) → (replayed : IsReplayed contents contexts input report)
+    (tables : List Contents) (contexts : List (List ℕ)) (input report : List ℕ) → (replayed : IsReplayed tables contexts input report)
     → report ≡ report_of (links_in replayed.lines) (counted_along replayed.lines replayed.good.history)

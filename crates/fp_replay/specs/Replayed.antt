@@ -1,8 +1,10 @@
--- Which log is replayed, and to which report. The lines of a log are given the newest first, as histories are.
+-- Which log is replayed, and to which report, by the tables of records that are handed in. The lines of a log are
+-- given the newest first, as histories are.
 use Rattle.std.specs.Prelude.{◌≡◌, ℕ, ◌<◌, ◌==◌, List, [], ◌∷◌, ◌++◌, codes, decimal, length, zero, suc, ⊤, if◌then◌else◌}
 use Rattle.fp_book.specs.declared.line.Line.{Line}
 use Rattle.fp_book.specs.declared.line.Line.TheVariants.{Head, Step}
 use Rattle.fp_book.specs.declared.line.LoggedStep.{LoggedStep}
+use Rattle.fp_book.specs.declared.line.LoggedStep.TheVariants.{Post}
 use Rattle.fp_book.specs.declared.totals.Totals.{Totals}
 use Rattle.fp_records.specs.Table.{Contents}
 use Rattle.fp_steps.specs.History.{Event, outputs_of}
@@ -21,20 +23,26 @@ links_in [] = 0
 links_in (Head links ∷ before) = links
 links_in (Step link step ∷ before) = links_in before
 
--- the head comes before all others, and each other line is a step of a link that the head has
-abbrev pub IsInPlace : List Line → Line → Type 0
-IsInPlace [] (Head links) = ⊤
-IsInPlace [] (Step link step) = ⊥
-IsInPlace (last ∷ before) (Head links) = ⊥
-IsInPlace (last ∷ before) (Step link step) = link < links_in (last ∷ before)
+-- the table by which a message was read is among those handed in
+abbrev pub HasTable : List Contents → LoggedStep → Type 0
+HasTable tables (Post table moment message answer) = table < length tables
+HasTable tables _ = ⊤
+
+-- the head comes before all others, and each other line is a step of a link that the head has, by a table that was
+-- handed in
+abbrev pub IsInPlace : List Contents → List Line → Line → Type 0
+IsInPlace tables [] (Head links) = ⊤
+IsInPlace tables [] (Step link step) = ⊥
+IsInPlace tables (last ∷ before) (Head links) = ⊥
+IsInPlace tables (last ∷ before) (Step link step) = (link < links_in (last ∷ before)) × HasTable tables step
 
 -- a line of the format, in its place after these
-abbrev pub Fits : List Line → Line → Type 0
-Fits before line = IsLine line × IsInPlace before line
+abbrev pub Fits : List Contents → List Line → Line → Type 0
+Fits tables before line = IsLine line × IsInPlace tables before line
 
-abbrev pub AllFit : List Line → Type 0
-AllFit [] = ⊤
-AllFit (line ∷ before) = Fits before line × AllFit before
+abbrev pub AllFit : List Contents → List Line → Type 0
+AllFit tables [] = ⊤
+AllFit tables (line ∷ before) = Fits tables before line × AllFit tables before
 
 -- the steps of a link among these lines
 abbrev pub steps_of : ℕ → List Line → List LoggedStep
@@ -44,10 +52,10 @@ steps_of link (Step other step ∷ before) = if other == link then step ∷ step
 
 -- All lines are of the format and in their places, and each link has a history in which its steps, replayed one after
 -- another, are answered as its lines have it.
-pub record IsRetold (contents : Contents) (contexts : List (List ℕ)) (lines : List Line) : Type 0 where
-  pub fit : AllFit lines
+pub record IsRetold (tables : List Contents) (contexts : List (List ℕ)) (lines : List Line) : Type 0 where
+  pub fit : AllFit tables lines
   pub history : ℕ → List Event
-  pub retells : (link : ℕ) → link < links_in lines → Retells contents contexts link (steps_of link lines) (history link)
+  pub retells : (link : ℕ) → link < links_in lines → Retells tables contexts link (steps_of link lines) (history link)
 
 -- the totals of a history
 abbrev pub totals_in : List Event → Totals
@@ -69,9 +77,9 @@ abbrev pub totals_along : (ℕ → List Event) → ℕ → Totals
 totals_along history link = totals_in (history link)
 
 -- the input is a log, from its head on, whose lines are retold, and this is the report of its links
-pub record IsReplayed (contents : Contents) (contexts : List (List ℕ)) (input report : List ℕ) : Type 0 where
+pub record IsReplayed (tables : List Contents) (contexts : List (List ℕ)) (input report : List ℕ) : Type 0 where
   pub lines : List Line
   pub begun : 0 < length lines
   pub text : input ≡ log_text lines
-  pub good : IsRetold contents contexts lines
+  pub good : IsRetold tables contexts lines
   pub report_is : report ≡ report_of (links_in lines) (totals_along good.history)

@@ -1,5 +1,5 @@
 -- How far a log was replayed, and why no further.
-use Rattle.std.specs.Prelude.{◌≡◌, ◌≢◌, ℕ, ◌+◌, ◌<◌, ◌≤◌, Bool, true, false, nat_lt, List, [], ◌∷◌, ◌++◌, Option, Some, Result, IfSome, MatchResult, length, ⊤}
+use Rattle.std.specs.Prelude.{◌≡◌, ◌≢◌, ℕ, ◌+◌, ◌<◌, ◌≤◌, Bool, true, false, nat_lt, List, [], ◌∷◌, ◌++◌, Option, Some, None, Result, IfSome, MatchResult, length, ⊤}
 use Rattle.std.specs.List.{All}
 use Rattle.std.specs.Io.KnownBytes.{Appends, Consumes, Keeps}
 use Rattle.fp_book.specs.declared.line.Line.{Line}
@@ -25,16 +25,16 @@ use Rattle.fp_replay.specs.declared.replay_fault.ReplayFault.{ReplayFault}
 use Rattle.fp_replay.specs.declared.replay_fault.ReplayFault.TheVariants.{BadLine, Gap, Disagrees, ReadFault, WriteFault, TurnLimit, Memory}
 
 -- these lines are good, this follows them in the input, and the next line would have this number, counted from 1
-pub record Reaches (contents : Contents) (contexts : List (List ℕ)) (number : ℕ) (input : List ℕ) (before : List Line) (rest : List ℕ) : Type 0 where
-  pub good : IsRetold contents contexts before
+pub record Reaches (tables : List Contents) (contexts : List (List ℕ)) (number : ℕ) (input : List ℕ) (before : List Line) (rest : List ℕ) : Type 0 where
+  pub good : IsRetold tables contexts before
   pub text : input ≡ log_text before ++ rest
   pub number_is : number ≡ length before + 1
 
 -- what follows these lines doesn't begin with a line of the format, in its place and ended by a line feed; and
 -- something does follow, or these are none, and the head is missing
-pub record IsBad (before : List Line) (rest : List ℕ) : Type 0 where
+pub record IsBad (tables : List Contents) (before : List Line) (rest : List ℕ) : Type 0 where
   pub is : 0 < length before → 0 < length rest
-  pub none : (line : Line) (behind : List ℕ) → Fits before line → rest ≡ text_of line ++ 10 ∷ behind → ⊥
+  pub none : (line : Line) (behind : List ℕ) → Fits tables before line → rest ≡ text_of line ++ 10 ∷ behind → ⊥
 
 -- whether a line says that lines were lost, or that memory ran out for a Clock
 abbrev pub is_gap : LoggedStep → Bool
@@ -42,45 +42,52 @@ is_gap (logged.Gap lost) = true
 is_gap (logged.Tick moment added wanting) = nat_lt 0 wanting
 is_gap _ = false
 
--- after this history of its link the answer to the step of a line gives another log line
-pub record Differs (contents : Contents) (contexts : List (List ℕ)) (link : ℕ) (h : List Event) (line : LoggedStep) : Type 0 where
-  pub step : MadeStep
-  pub step_is : step_of line ≡ Some step
+-- a step is answered after this history of its link, and has another log line
+pub record HasOtherLine (tables : List Contents) (contexts : List (List ℕ)) (link : ℕ) (h : List Event) (line : LoggedStep) (step : MadeStep) : Type 0 where
   pub came : Option Prepared
-  pub came_is : IsCame contents contexts step came
+  pub came_is : IsCame tables contexts step came
   pub output : Output
   pub answer : IsAnswer link h step came output
   pub differs : told h step output ≢ Some line
 
+-- so the step of a line; or it has none, since by it a turn comes back that isn't out
+abbrev pub DiffersBy : List Contents → List (List ℕ) → ℕ → List Event → LoggedStep → Option MadeStep → Type 0
+DiffersBy tables contexts link h line None = ⊤
+DiffersBy tables contexts link h line (Some step) = HasOtherLine tables contexts link h line step
+
+-- after this history of its link a line disagrees
+abbrev pub Differs : List Contents → List (List ℕ) → ℕ → List Event → LoggedStep → Type 0
+Differs tables contexts link h line = DiffersBy tables contexts link h line (step_of h line)
+
 -- the line of this number is bad, and those before it are good
-pub record BadAt (contents : Contents) (contexts : List (List ℕ)) (number : ℕ) (input : List ℕ) : Type 0 where
+pub record BadAt (tables : List Contents) (contexts : List (List ℕ)) (number : ℕ) (input : List ℕ) : Type 0 where
   pub before : List Line
   pub rest : List ℕ
-  pub reaches : Reaches contents contexts number input before rest
-  pub bad : IsBad before rest
+  pub reaches : Reaches tables contexts number input before rest
+  pub bad : IsBad tables before rest
 
 -- the line of this number is a step of a link, in its place, and those before it are good
-pub record StepAt (contents : Contents) (contexts : List (List ℕ)) (number : ℕ) (input : List ℕ) : Type 0 where
+pub record StepAt (tables : List Contents) (contexts : List (List ℕ)) (number : ℕ) (input : List ℕ) : Type 0 where
   pub before : List Line
   pub link : ℕ
   pub step : LoggedStep
   pub behind : List ℕ
-  pub fits : Fits before (Step link step)
-  pub reaches : Reaches contents contexts number input before (text_of (Step link step) ++ 10 ∷ behind)
+  pub fits : Fits tables before (Step link step)
+  pub reaches : Reaches tables contexts number input before (text_of (Step link step) ++ 10 ∷ behind)
 
 -- and it is a gap
-abbrev pub GapAt : Contents → List (List ℕ) → ℕ → List ℕ → Type 0
-GapAt contents contexts number input = (at : StepAt contents contexts number input) × (is_gap at.step ≡ true)
+abbrev pub GapAt : List Contents → List (List ℕ) → ℕ → List ℕ → Type 0
+GapAt tables contexts number input = (at : StepAt tables contexts number input) × (is_gap at.step ≡ true)
 
 -- and it disagrees: its step, replayed, has another line
-abbrev pub DisagreesAt : Contents → List (List ℕ) → ℕ → List ℕ → Type 0
-DisagreesAt contents contexts number input =
-    (at : StepAt contents contexts number input) × (is_gap at.step ≡ false)
-    × Differs contents contexts at.link (at.reaches.good.history at.link) at.step
+abbrev pub DisagreesAt : List Contents → List (List ℕ) → ℕ → List ℕ → Type 0
+DisagreesAt tables contexts number input =
+    (at : StepAt tables contexts number input) × (is_gap at.step ≡ false)
+    × Differs tables contexts at.link (at.reaches.good.history at.link) at.step
 
 -- this much of the input was read, and each line of it that a line feed ended is good; the line that was begun after
 -- them is at most as long as a line may be
-pub record ReachesEnd (contents : Contents) (contexts : List (List ℕ)) (left : Option (List ℕ)) (input : List ℕ) : Type 0 where
+pub record ReachesEnd (tables : List Contents) (contexts : List (List ℕ)) (left : Option (List ℕ)) (input : List ℕ) : Type 0 where
   pub read : List ℕ
   pub consumed : Consumes (Some input) left read
   pub lines : List Line
@@ -88,34 +95,34 @@ pub record ReachesEnd (contents : Contents) (contexts : List (List ℕ)) (left :
   pub text : read ≡ log_text lines ++ begun
   pub one_line : IsOneLine begun
   pub short : length begun ≤ 8300
-  pub good : IsRetold contents contexts lines
+  pub good : IsRetold tables contexts lines
 
 -- the whole log is replayed, and a front of its report was written
-pub record Reports (contents : Contents) (contexts : List (List ℕ)) (old new : Option (List ℕ)) (input : List ℕ) : Type 0 where
+pub record Reports (tables : List Contents) (contexts : List (List ℕ)) (old new : Option (List ℕ)) (input : List ℕ) : Type 0 where
   pub report : List ℕ
-  pub replayed : IsReplayed contents contexts input report
+  pub replayed : IsReplayed tables contexts input report
   pub front : AppendsFront old new report
 
 -- the whole log is replayed, and its report was written
-pub record Replays (contents : Contents) (contexts : List (List ℕ)) (old new : Option (List ℕ)) (input : List ℕ) : Type 0 where
+pub record Replays (tables : List Contents) (contexts : List (List ℕ)) (old new : Option (List ℕ)) (input : List ℕ) : Type 0 where
   pub report : List ℕ
-  pub replayed : IsReplayed contents contexts input report
+  pub replayed : IsReplayed tables contexts input report
   pub wrote : Appends old new report
 
 -- why a log has no report, of a reader that had these octets and has those left
-abbrev pub Halts : Contents → List (List ℕ) → Option (List ℕ) → Option (List ℕ) → ReplayFault → Type 0
-Halts contents contexts had left (BadLine number) = IfSome had (BadAt contents contexts number)
-Halts contents contexts had left (Gap number) = IfSome had (GapAt contents contexts number)
-Halts contents contexts had left (Disagrees number) = IfSome had (DisagreesAt contents contexts number)
-Halts contents contexts had left ReadFault = IfSome had (ReachesEnd contents contexts left)
-Halts contents contexts had left WriteFault = ⊥
-Halts contents contexts had left TurnLimit = IfSome had (ReachesEnd contents contexts left)
-Halts contents contexts had left Memory = ⊤
+abbrev pub Halts : List Contents → List (List ℕ) → Option (List ℕ) → Option (List ℕ) → ReplayFault → Type 0
+Halts tables contexts had left (BadLine number) = IfSome had (BadAt tables contexts number)
+Halts tables contexts had left (Gap number) = IfSome had (GapAt tables contexts number)
+Halts tables contexts had left (Disagrees number) = IfSome had (DisagreesAt tables contexts number)
+Halts tables contexts had left ReadFault = IfSome had (ReachesEnd tables contexts left)
+Halts tables contexts had left WriteFault = ⊥
+Halts tables contexts had left TurnLimit = IfSome had (ReachesEnd tables contexts left)
+Halts tables contexts had left Memory = ⊤
 
 -- and why its report wasn't written
-abbrev pub Stops : Contents → List (List ℕ) → Option (List ℕ) → Option (List ℕ) → Option (List ℕ) → Option (List ℕ) → ReplayFault → Type 0
-Stops contents contexts had left old new WriteFault = IfSome had (Reports contents contexts old new)
-Stops contents contexts had left old new fault = Halts contents contexts had left fault
+abbrev pub Stops : List Contents → List (List ℕ) → Option (List ℕ) → Option (List ℕ) → Option (List ℕ) → Option (List ℕ) → ReplayFault → Type 0
+Stops tables contexts had left old new WriteFault = IfSome had (Reports tables contexts old new)
+Stops tables contexts had left old new fault = Halts tables contexts had left fault
 
 -- nothing was written, unless writing failed
 abbrev pub IsUnwritten : Option (List ℕ) → Option (List ℕ) → ReplayFault → Type 0

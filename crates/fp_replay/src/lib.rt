@@ -1,9 +1,9 @@
 //! The log as text: its lines are written, and read again; and its replay.
 //!
-//! A log begins with a head, `fplog 2 LINKS`. Each other line is a step of a link: the link, a letter and its fields,
+//! A log begins with a head, `fplog 4 LINKS`. Each other line is a step of a link: the link, a letter and its fields,
 //! with single blanks between them. The layer is handed lines as `fp_book` has them and returns their text, or is
-//! handed the text of a line and returns the line. For a replay it is handed the records, the names of application
-//! contexts, a reader and a writer. It knows no file, and asks the system for nothing but memory.
+//! handed the text of a line and returns the line. For a replay it is handed the tables of records, the names of
+//! application contexts, a reader and a writer. It knows no file, and asks the system for nothing but memory.
 //!
 //! * [`write_line`] appends a line and a line feed to a text.
 //! * [`read_line`] returns the line that was written so.
@@ -31,10 +31,11 @@
 //! memory runs out; [`texts_are_of_one_line`] says that there is no other. So a number with a leading zero, a digit in
 //! lower case, a second blank or a carriage return makes a bad line.
 //!
-//! A log is replayed if its lines are of the format and in their places, and each link has a history whose events
-//! retell its lines: each output is the answer that the history before determines, and a log has just that line of it
-//! (`specs/Replayed.antt`). Else the first line at which that fails is reported, and why (`specs/Stopped.antt`). By
-//! [`logs_have_one_report`] a log has one report or one fault at most, and a report counts the lines of its log.
+//! A log is replayed if its lines are of the format and in their places, its messages are read by tables that were
+//! handed in, and each link has a history whose events retell its lines: each output is the answer that the history
+//! before determines, and a log has just that line of it (`specs/Replayed.antt`). Else the first line at which that
+//! fails is reported, and why (`specs/Stopped.antt`). By [`logs_have_one_report`] a log has one report or one fault at
+//! most, and a report counts the lines of its log.
 #![tactic(auto)]
 
 mod answer;

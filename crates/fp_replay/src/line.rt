@@ -20,7 +20,7 @@ fn write_text(line: &Line, text: &mut Vec<u8>) -> Result<(), AllocError>
 {
     match line {
         Line::Head { links } => {
-            text.extend_from_slice(b"fplog 2 ")?;
+            text.extend_from_slice(b"fplog 4 ")?;
             write_number(u64::from(*links), text)
         }
         Line::Step { link, step } => {
@@ -70,7 +70,7 @@ fn head_in(text: &[u8]) -> Result<Line, LineFault>
     let Some((version, field)) = cut(text) else {
         return Err(LineFault::BadLine);
     };
-    if !is_text(version, b"2") {
+    if !is_text(version, b"4") {
         return Err(LineFault::BadLine);
     }
     let Some(links) = number_in(field, 8) else {

@@ -6,7 +6,7 @@ ghost use Rattle.fp_records.specs.Table.{Contents};
 ghost use Rattle.fp_replay.specs.Making.{AreNew, IsReport, IsUnreported, Taking, TakingText};
 
 use crate::line::line_in;
-use crate::logged::{is_gap, step_of};
+use crate::logged::{has_table, is_gap, step_of};
 use crate::replay_fault::Refusal;
 use crate::report::report_line;
 use crate::same_line::is_told;
@@ -36,11 +36,11 @@ impl Links {
     pub(crate) fn take_line(
         &mut self,
         alloc: Global,
-        table: &Table,
+        tables: &[Table],
         contexts: &[Name],
         text: &[u8],
     ) -> Result<(), Refusal>
-        ensures { TakingText table.now contexts.now self.old.runs.items text.now result self.new.runs.items }
+        ensures { TakingText tables.now contexts.now self.old.runs.items text.now result self.new.runs.items }
     {
         texts_are_of_one_line();
         let line = match line_in(alloc, text) {
@@ -50,15 +50,15 @@ impl Links {
         };
         match line {
             Line::Head { links } => self.begin(alloc, links),
-            Line::Step { link, step } => self.make_again(alloc, table, contexts, link, &step),
+            Line::Step { link, step } => self.make_again(alloc, tables, contexts, link, &step),
         }
     }
 
     /// The head was read: this number of links begin, 1 to 8.
     fn begin(&mut self, alloc: Global, links: u8) -> Result<(), Refusal>
         requires { links ≤ 8 }
-        ensures { (contents : Contents) (contexts : List (List ℕ))
-            → Taking contents contexts self.old.runs.items (lines.Head links) result self.new.runs.items }
+        ensures { (tables : List Contents) (contexts : List (List ℕ))
+            → Taking tables contexts self.old.runs.items (lines.Head links) result self.new.runs.items }
     {
         if !self.runs.is_empty() {
             return Err(Refusal::BadLine);
@@ -67,29 +67,33 @@ impl Links {
         Ok(())
     }
 
-    /// Replays the step of a line on its link, and compares the line that it gives.
+    /// Replays the step of a line on its link, and compares the line that it gives. A line by which a turn comes back
+    /// that isn't out has no step, and disagrees.
     fn make_again(
         &mut self,
         alloc: Global,
-        table: &Table,
+        tables: &[Table],
         contexts: &[Name],
         link: u8,
         line: &LoggedStep,
     ) -> Result<(), Refusal>
-        ensures { Taking table.now contexts.now self.old.runs.items (lines.Step link line.now) result self.new.runs.items }
+        ensures { Taking tables.now contexts.now self.old.runs.items (lines.Step link line.now) result self.new.runs.items }
     {
         let index = usize::from(link);
         if index >= self.runs.len() {
             return Err(Refusal::BadLine);
         }
+        if !has_table(tables, line) {
+            return Err(Refusal::BadLine);
+        }
         if is_gap(line) {
             return Err(Refusal::Gap);
         }
-        let Some(step) = step_of(line)? else {
-            return Err(Refusal::Gap);
-        };
         let run = &mut self.runs[index];
-        let made = run.step(alloc, table, contexts, &step)?;
+        let Some(step) = step_of(run, line)? else {
+            return Err(Refusal::Disagrees);
+        };
+        let made = run.step(alloc, tables, contexts, &step)?;
         if !is_told(&made.line, line) {
             return Err(Refusal::Disagrees);
         }

@@ -1,10 +1,12 @@
-//! Numbers and moments: decimal, without leading zeros.
+//! Numbers, moments and places of tables: decimal, without leading zeros.
 
-ghost use Rattle.std.specs.Prelude.{◌≡◌, ◌++◌, ◌<◌, ◌≤◌, ◌^◌, ℕ, decimal, IfSome, OnErr, OnOk};
+ghost use Rattle.std.specs.Prelude.{◌≡◌, ◌∷◌, ◌++◌, ◌<◌, ◌≤◌, ◌^◌, ℕ, decimal, IfSome, OnErr, OnOk};
 ghost use Rattle.fp_digits.specs.declared.moment.TheConstants.Moment.{END};
+ghost use Rattle.fp_records.specs.declared.table.TheConstants.Table.{LAST_INDEX};
 ghost use Rattle.fp_replay.specs.Writing.{KeepsFront};
 
 use fp_digits::Moment;
+use fp_records::Table;
 use itoa::Buffer;
 use std::alloc::AllocError;
 
@@ -14,6 +16,15 @@ pub(crate) fn write_number(number: u64, text: &mut Vec<u8>) -> Result<(), AllocE
     ensures front { OnErr result (KeepsFront text.old.items text.new.items) }
 {
     text.extend_from_slice(Buffer::new().format(number).as_bytes())
+}
+
+/// Adds a blank and a number to a text.
+pub(crate) fn write_field(number: u64, text: &mut Vec<u8>) -> Result<(), AllocError>
+    ensures written { OnOk result (text.new.items ≡ text.old.items ++ 32 ∷ decimal number) }
+    ensures front { OnErr result (KeepsFront text.old.items text.new.items) }
+{
+    text.push(b' ')?;
+    write_number(number, text)
 }
 
 /// The number of a field, if it is at most `most`: the field must be what is written for it.
@@ -33,6 +44,14 @@ pub(crate) fn number_in(field: &[u8], most: u64) -> Option<u64>
     Some(number)
 }
 
+/// The number of at most 64 bits of a field, as a birth or a position.
+pub(crate) fn long_number_in(field: &[u8]) -> Option<u64>
+    ensures found { IfSome result (λ number. (number < 2 ^ 64) × (field.now ≡ decimal number)) }
+    ensures only { (number : ℕ) → number < 2 ^ 64 → field.now ≡ decimal number → result ≡ Some number }
+{
+    number_in(field, u64::MAX)
+}
+
 /// The number of at most 32 bits of a field.
 pub(crate) fn short_number_in(field: &[u8]) -> Option<u32>
     ensures found { IfSome result (λ number. (number < 2 ^ 32) × (field.now ≡ decimal number)) }
@@ -42,6 +61,17 @@ pub(crate) fn short_number_in(field: &[u8]) -> Option<u32>
         return None;
     };
     Some(number as u32)
+}
+
+/// The place of a table, among those handed in, of a field.
+pub(crate) fn table_in(field: &[u8]) -> Option<u16>
+    ensures found { IfSome result (λ table. (table ≤ LAST_INDEX) × (field.now ≡ decimal table)) }
+    ensures only { (table : ℕ) → table ≤ LAST_INDEX → field.now ≡ decimal table → result ≡ Some table }
+{
+    let Some(number) = number_in(field, u64::from(Table::LAST_INDEX)) else {
+        return None;
+    };
+    Some(number as u16)
 }
 
 /// The moment of a field.

@@ -22,10 +22,10 @@ pub(crate) fn write_octets(octets: &[u8], text: &mut Vec<u8>) -> Result<(), Allo
     ensures written { OnOk result (text.new.items ≡ text.old.items ++ encode_upper octets.now) }
     ensures front { OnErr result (KeepsFront text.old.items text.new.items) }
 {
+    text.reserve(2 * octets.len())?;
     for octet in octets {
-        let high = DIGITS[usize::from(*octet / 16)];
-        let low = DIGITS[usize::from(*octet % 16)];
-        text.extend_from_slice(&[high, low])?;
+        text.push_reserved(DIGITS[usize::from(*octet / 16)]);
+        text.push_reserved(DIGITS[usize::from(*octet % 16)]);
     }
     Ok(())
 }

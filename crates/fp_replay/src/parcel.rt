@@ -6,56 +6,56 @@ ghost use Rattle.fp_replay.specs.Writing.{KeepsFront};
 
 use crate::LineFault;
 use crate::fields::one_field;
-use crate::octets::{identifier_in, write_identifier};
+use crate::number::{long_number_in, write_field};
 use fp_book::LoggedStep;
 use std::alloc::AllocError;
 
 /// Adds the letter and the field of a parcel to a text.
-pub(crate) fn write_parcel(letter: u8, local: u32, text: &mut Vec<u8>) -> Result<(), AllocError>
-    ensures written { OnOk result (text.new.items ≡ text.old.items ++ letter ∷ parcel_fields local) }
+pub(crate) fn write_parcel(letter: u8, birth: u64, text: &mut Vec<u8>) -> Result<(), AllocError>
+    ensures written { OnOk result (text.new.items ≡ text.old.items ++ letter ∷ parcel_fields birth) }
     ensures front { OnErr result (KeepsFront text.old.items text.new.items) }
 {
-    text.extend_from_slice(&[letter, b' '])?;
-    write_identifier(local, text)
+    text.push(letter)?;
+    write_field(birth, text)
 }
 
-/// The dialogue of a parcel, by its field.
-fn parcel_in(fields: &[u8]) -> Option<u32>
-    ensures found { IfSome result (λ local. (local < 2 ^ 32) × (fields.now ≡ parcel_fields local)) }
-    ensures only { (local : ℕ) → local < 2 ^ 32 → fields.now ≡ parcel_fields local → result ≡ Some local }
+/// The birth of a parcel's dialogue, by its field.
+fn parcel_in(fields: &[u8]) -> Option<u64>
+    ensures found { IfSome result (λ birth. (birth < 2 ^ 64) × (fields.now ≡ parcel_fields birth)) }
+    ensures only { (birth : ℕ) → birth < 2 ^ 64 → fields.now ≡ parcel_fields birth → result ≡ Some birth }
 {
     let Some(field) = one_field(fields) else {
         return None;
     };
-    identifier_in(field)
+    long_number_in(field)
 }
 
 /// The parcel that was picked, by the field after its letter.
 pub(crate) fn pick_in(fields: &[u8]) -> Result<LoggedStep, LineFault>
     ensures { ReadsStep 81 fields.now result }
 {
-    let Some(local) = parcel_in(fields) else {
+    let Some(birth) = parcel_in(fields) else {
         return Err(LineFault::BadLine);
     };
-    Ok(LoggedStep::Pick { local })
+    Ok(LoggedStep::Pick { birth })
 }
 
 /// The parcel that was sent, by the field after its letter.
 pub(crate) fn sent_in(fields: &[u8]) -> Result<LoggedStep, LineFault>
     ensures { ReadsStep 89 fields.now result }
 {
-    let Some(local) = parcel_in(fields) else {
+    let Some(birth) = parcel_in(fields) else {
         return Err(LineFault::BadLine);
     };
-    Ok(LoggedStep::Sent { local })
+    Ok(LoggedStep::Sent { birth })
 }
 
 /// The parcel that couldn't be sent, by the field after its letter.
 pub(crate) fn unsent_in(fields: &[u8]) -> Result<LoggedStep, LineFault>
     ensures { ReadsStep 85 fields.now result }
 {
-    let Some(local) = parcel_in(fields) else {
+    let Some(birth) = parcel_in(fields) else {
         return Err(LineFault::BadLine);
     };
-    Ok(LoggedStep::Unsent { local })
+    Ok(LoggedStep::Unsent { birth })
 }

@@ -1,23 +1,24 @@
 //! A message that was posted, or for which memory ran out.
 
-ghost use Rattle.std.specs.Prelude.{◌≡◌, ◌++◌, ◌∷◌, ℕ, List, IfOk, MatchResult, OnErr, OnOk};
+ghost use Rattle.std.specs.Prelude.{◌≡◌, ◌++◌, ◌∷◌, ℕ, List, decimal, IfOk, MatchResult, OnErr, OnOk};
+ghost use Rattle.hex.specs.Hex.{encode_upper};
 ghost use Rattle.fp_book.specs.declared.answers.Posted.{Posted};
-ghost use Rattle.fp_replay.specs.Format.{IsPosting};
-ghost use Rattle.fp_replay.specs.Reading.{ReadsStep, posting_fields};
+ghost use Rattle.fp_replay.specs.Format.{IsPosting, posted_text};
+ghost use Rattle.fp_replay.specs.Reading.{ReadsStep, lost_fields, post_fields};
 ghost use Rattle.fp_replay.specs.Writing.{KeepsFront};
 ghost use Rattle.fp_replay.specs.declared.fault.LineFault.TheVariants.{Memory};
 
 use crate::LineFault;
 use crate::answer::{posted_in, write_posted};
-use crate::fields::three_fields;
-use crate::number::{moment_in, write_number};
+use crate::fields::{four_fields, three_fields};
+use crate::number::{moment_in, table_in, write_field};
 use crate::octets::{message_in, write_octets};
 use fp_book::{LoggedStep, Posted};
 use fp_digits::Moment;
 use fp_frames::Frame;
 use std::alloc::{AllocError, Global};
 
-/// What the fields of a message tell that was posted.
+/// When a message came, what it is, and what became of it.
 #[derive(Drop)]
 struct Posting {
     moment: Moment,
@@ -25,33 +26,62 @@ struct Posting {
     answer: Posted,
 }
 
-/// Adds the letter and the fields of a message that was posted to a text.
-pub(crate) fn write_posting(
-    letter: u8,
-    moment: Moment,
-    message: &Frame,
-    answer: Posted,
-    text: &mut Vec<u8>,
-) -> Result<(), AllocError>
-    ensures written { OnOk result (text.new.items ≡ text.old.items ++ letter ∷ posting_fields moment message.now answer) }
+/// Adds a message and what became of it to a text, each after a blank.
+fn write_answered(message: &Frame, answer: Posted, text: &mut Vec<u8>) -> Result<(), AllocError>
+    ensures written { OnOk result (text.new.items ≡ text.old.items ++ 32 ∷ encode_upper message.now ++ 32 ∷ posted_text answer) }
     ensures front { OnErr result (KeepsFront text.old.items text.new.items) }
 {
-    text.extend_from_slice(&[letter, b' '])?;
-    write_number(moment.milliseconds(), text)?;
     text.push(b' ')?;
     write_octets(message.octets(), text)?;
     text.push(b' ')?;
     write_posted(answer, text)
 }
 
-/// What the fields of a message tell that was posted.
-fn posting_in(alloc: Global, fields: &[u8]) -> Result<Posting, LineFault>
-    ensures found { IfOk result (λ p. IsPosting p.moment p.message p.answer × (fields.now ≡ posting_fields p.moment p.message p.answer)) }
-    ensures only { (moment : ℕ) (message : List ℕ) (answer : Posted) → IsPosting moment message answer → fields.now ≡ posting_fields moment message answer → MatchResult result (λ p. (p.moment ≡ moment) × (p.message ≡ message) × (p.answer ≡ answer)) (λ fault. fault ≡ Memory) }
+/// Adds the letter and the fields of a message that was posted to a text.
+pub(crate) fn write_post(
+    table: u16,
+    moment: Moment,
+    message: &Frame,
+    answer: Posted,
+    text: &mut Vec<u8>,
+) -> Result<(), AllocError>
+    ensures written { OnOk result (text.new.items ≡ text.old.items ++ 80 ∷ post_fields table moment message.now answer) }
+    ensures front { OnErr result (KeepsFront text.old.items text.new.items) }
 {
-    let Some((first, second, third)) = three_fields(fields) else {
-        return Err(LineFault::BadLine);
-    };
+    text.push(b'P')?;
+    write_field(moment.milliseconds(), text)?;
+    write_field(u64::from(table), text)?;
+    write_answered(message, answer, text)
+}
+
+/// Adds the letter and the fields of a message for which memory ran out to a text.
+pub(crate) fn write_lost(
+    moment: Moment,
+    message: &Frame,
+    answer: Posted,
+    text: &mut Vec<u8>,
+) -> Result<(), AllocError>
+    ensures written { OnOk result (text.new.items ≡ text.old.items ++ 76 ∷ lost_fields moment message.now answer) }
+    ensures front { OnErr result (KeepsFront text.old.items text.new.items) }
+{
+    text.push(b'L')?;
+    write_field(moment.milliseconds(), text)?;
+    write_answered(message, answer, text)
+}
+
+/// When a message came, what it is and what became of it, by the fields of these.
+fn posting_in(
+    alloc: Global,
+    first: &[u8],
+    second: &[u8],
+    third: &[u8],
+) -> Result<Posting, LineFault>
+    ensures found { IfOk result (λ p. IsPosting p.moment p.message p.answer
+        × (first.now ≡ decimal p.moment) × (second.now ≡ encode_upper p.message) × (third.now ≡ posted_text p.answer)) }
+    ensures only { (moment : ℕ) (message : List ℕ) (answer : Posted) → IsPosting moment message answer
+        → first.now ≡ decimal moment → second.now ≡ encode_upper message → third.now ≡ posted_text answer
+        → MatchResult result (λ p. (p.moment ≡ moment) × (p.message ≡ message) × (p.answer ≡ answer)) (λ fault. fault ≡ Memory) }
+{
     let Some(moment) = moment_in(first) else {
         return Err(LineFault::BadLine);
     };
@@ -70,12 +100,19 @@ fn posting_in(alloc: Global, fields: &[u8]) -> Result<Posting, LineFault>
 pub(crate) fn post_in(alloc: Global, fields: &[u8]) -> Result<LoggedStep, LineFault>
     ensures { ReadsStep 80 fields.now result }
 {
+    let Some((first, second, third, fourth)) = four_fields(fields) else {
+        return Err(LineFault::BadLine);
+    };
+    let Some(table) = table_in(second) else {
+        return Err(LineFault::BadLine);
+    };
     let Posting {
         moment,
         message,
         answer,
-    } = posting_in(alloc, fields)?;
+    } = posting_in(alloc, first, third, fourth)?;
     Ok(LoggedStep::Post {
+        table,
         moment,
         message,
         answer,
@@ -86,11 +123,14 @@ pub(crate) fn post_in(alloc: Global, fields: &[u8]) -> Result<LoggedStep, LineFa
 pub(crate) fn lost_in(alloc: Global, fields: &[u8]) -> Result<LoggedStep, LineFault>
     ensures { ReadsStep 76 fields.now result }
 {
+    let Some((first, second, third)) = three_fields(fields) else {
+        return Err(LineFault::BadLine);
+    };
     let Posting {
         moment,
         message,
         answer,
-    } = posting_in(alloc, fields)?;
+    } = posting_in(alloc, first, second, third)?;
     Ok(LoggedStep::Lost {
         moment,
         message,

@@ -13,13 +13,13 @@ use thiserror::Error;
 #[derive(Clone, Copy, Debug, PartialEq, Eq, Error)]
 pub enum ReplayFault {
     /// There is no line of this number, though a log has a head, or it isn't a line of the format in its place, ended
-    /// by a line feed.
+    /// by a line feed; or its message was read by a table that wasn't handed in.
     #[error("line {0}: bad line")]
     BadLine(u128),
     /// The line of this number says that lines were lost, or that memory ran out for a Clock.
     #[error("line {0}: gap")]
     Gap(u128),
-    /// The step of the line of this number, when replayed, gives another line.
+    /// The step of the line of this number, when replayed, gives another line, or a turn comes back by it that isn't out.
     #[error("line {0}: disagrees")]
     Disagrees(u128),
     /// The device that is read from failed.
@@ -47,11 +47,11 @@ impl From<AllocError> for ReplayFault {
 /// Why a line isn't taken.
 #[derive(Clone, Copy, Debug, PartialEq, Eq)]
 pub(crate) enum Refusal {
-    /// It isn't a line of the format in its place.
+    /// It isn't a line of the format in its place, or its message was read by a table that wasn't handed in.
     BadLine,
     /// It says that lines were lost, or that memory ran out for a Clock.
     Gap,
-    /// Its step, when replayed, gives another line.
+    /// Its step, when replayed, gives another line, or a turn comes back by it that isn't out.
     Disagrees,
     /// An allocation failed.
     Memory,

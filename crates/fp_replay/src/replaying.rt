@@ -23,16 +23,16 @@ const MOST_OCTETS: usize = 8300;
 ///
 /// The first line is the head, and each other one a step of a link that the head has, with its answer, as
 /// [`write_line`](crate::write_line) writes them: at most 8,300 octets and a line feed. A step is replayed on the run
-/// of its link, and the line that a log has of it then is compared with this one. The records and the names are those
-/// by which the log was written. At most `most_reads` reads are made, of up to 4,096 octets each, and (no clause says
-/// so) one line is held at a time.
+/// of its link, and the line that a log has of it then is compared with this one. The tables and the names are those
+/// by which the log was written: a message is read by the table in the place that its line has. At most `most_reads`
+/// reads are made, of up to 4,096 octets each, and (no clause says so) one line is held at a time.
 ///
-/// Each line is tried for a bad one, then for a gap, then for one that disagrees, and the first fault ends the replay.
-/// The report is written after the last line: after [`ReplayFault::WriteFault`] a prefix of it was written, after any
-/// other fault nothing.
+/// A line is first tried for a bad one (that of a table that wasn't handed in is one), then for a gap, then for one that
+/// disagrees (one by which a turn comes back that isn't out is one), and the first fault ends the replay. The report is written after the
+/// last line: after [`ReplayFault::WriteFault`] a prefix of it was written, after any other fault nothing.
 pub fn replay<R: LinkRead, W: LinkWrite>(
     alloc: Global,
-    table: &Table,
+    tables: &[Table],
     contexts: &[Name],
     most_reads: u64,
     reader: &mut R,
@@ -40,8 +40,8 @@ pub fn replay<R: LinkRead, W: LinkWrite>(
 ) -> Result<(), ReplayFault>
     ensures end { OnOk result (IsAtEnd (R.remaining reader.new)) }
     ensures replayed { OnOk result (IfSome (R.remaining reader.old)
-        (Replays table.now contexts.now (W.contents writer.old) (W.contents writer.new))) }
-    ensures stopped { IfErr result (Stops table.now contexts.now
+        (Replays tables.now contexts.now (W.contents writer.old) (W.contents writer.new))) }
+    ensures stopped { IfErr result (Stops tables.now contexts.now
         (R.remaining reader.old) (R.remaining reader.new) (W.contents writer.old) (W.contents writer.new)) }
     ensures unwritten { IfErr result (IsUnwritten (W.contents writer.old) (W.contents writer.new)) }
     ensures within { Reads most_reads (R.remaining reader.old) (R.remaining reader.new)
@@ -51,14 +51,14 @@ pub fn replay<R: LinkRead, W: LinkWrite>(
 {
     let mut replaying = Replaying {
         alloc,
-        table,
+        tables,
         contexts,
         links: Links::new(alloc),
     };
     let report = replaying.report_of(most_reads, reader);
     let Replaying {
         alloc: _,
-        table: _,
+        tables: _,
         contexts: _,
         links,
     } = replaying;
@@ -69,10 +69,10 @@ pub fn replay<R: LinkRead, W: LinkWrite>(
     }
 }
 
-/// The links of a log, and what its lines are replayed by. The links must be spent.
+/// The links of a log, and the tables and names by which its lines are replayed. The links must be spent.
 pub(crate) struct Replaying<'a> {
     alloc: Global,
-    table: &'a Table,
+    tables: &'a [Table],
     contexts: &'a [Name],
     links: Links,
 }
@@ -90,7 +90,7 @@ impl TakesLine for Replaying<'_> {
             return Err(Refusal::BadLine);
         }
         self.links
-            .take_line(self.alloc, self.table, self.contexts, line)
+            .take_line(self.alloc, self.tables, self.contexts, line)
     }
 }
 
@@ -104,8 +104,8 @@ impl Replaying<'_> {
         requires none { self.old.links.runs.items ≡ [] }
         ensures end { OnOk result (IsAtEnd (R.remaining reader.new)) }
         ensures replayed { IfOk result (λ report. IfSome (R.remaining reader.old)
-            (λ input. IsReplayed self.old.table.now self.old.contexts.now input (string_bytes report))) }
-        ensures halted { IfErr result (Halts self.old.table.now self.old.contexts.now
+            (λ input. IsReplayed self.old.tables.now self.old.contexts.now input (string_bytes report))) }
+        ensures halted { IfErr result (Halts self.old.tables.now self.old.contexts.now
             (R.remaining reader.old) (R.remaining reader.new)) }
         ensures within { Reads most_reads (R.remaining reader.old) (R.remaining reader.new)
             (R.pieces reader.old) (R.pieces reader.new) result }

@@ -20,12 +20,13 @@ fn is_same(step: &LoggedStep, line: &LoggedStep) -> bool
 {
     match line {
         LoggedStep::Post {
+            table,
             moment,
             message,
             answer,
         } => {
-            matches!(step, LoggedStep::Post { moment: at, message: came, answer: became }
-                if at == moment && became == answer && came.octets() == message.octets())
+            matches!(step, LoggedStep::Post { table: by, moment: at, message: came, answer: became }
+                if by == table && at == moment && became == answer && came.octets() == message.octets())
         }
         LoggedStep::Lost {
             moment,
@@ -44,30 +45,30 @@ fn is_same(step: &LoggedStep, line: &LoggedStep) -> bool
                 if at == moment && given == added && left == wanting)
         }
         LoggedStep::Take {
-            local,
+            birth,
             position,
             count,
         } => {
-            matches!(step, LoggedStep::Take { local: of, position: place, count: many }
-                if of == local && place == position && many == count)
+            matches!(step, LoggedStep::Take { birth: of, position: place, count: many }
+                if of == birth && place == position && many == count)
         }
         LoggedStep::Give {
-            local,
+            birth,
             position,
             served,
             given,
         } => {
-            matches!(step, LoggedStep::Give { local: of, position: place, served: many, given: became }
-                if of == local && place == position && many == served && became == given)
+            matches!(step, LoggedStep::Give { birth: of, position: place, served: many, given: became }
+                if of == birth && place == position && many == served && became == given)
         }
-        LoggedStep::PutBack { local, position } => {
-            matches!(step, LoggedStep::PutBack { local: of, position: place }
-                if of == local && place == position)
+        LoggedStep::PutBack { birth, position } => {
+            matches!(step, LoggedStep::PutBack { birth: of, position: place }
+                if of == birth && place == position)
         }
-        LoggedStep::Pick { local } => matches!(step, LoggedStep::Pick { local: of } if of == local),
-        LoggedStep::Sent { local } => matches!(step, LoggedStep::Sent { local: of } if of == local),
-        LoggedStep::Unsent { local } =>
-            matches!(step, LoggedStep::Unsent { local: of } if of == local),
+        LoggedStep::Pick { birth } => matches!(step, LoggedStep::Pick { birth: of } if of == birth),
+        LoggedStep::Sent { birth } => matches!(step, LoggedStep::Sent { birth: of } if of == birth),
+        LoggedStep::Unsent { birth } =>
+            matches!(step, LoggedStep::Unsent { birth: of } if of == birth),
         LoggedStep::Down => matches!(step, LoggedStep::Down),
         LoggedStep::Gap { lost } => matches!(step, LoggedStep::Gap { lost: many } if many == lost),
     }

@@ -6,7 +6,7 @@ ghost use Rattle.fp_replay.specs.Writing.{KeepsFront};
 
 use crate::LineFault;
 use crate::parcel::{pick_in, sent_in, unsent_in, write_parcel};
-use crate::posting::{lost_in, post_in, write_posting};
+use crate::posting::{lost_in, post_in, write_lost, write_post};
 use crate::tick::{gap_in, tick_in, write_gap, write_tick};
 use crate::turn::{give_in, put_back_in, take_in, write_entries, write_give, write_turn};
 use fp_book::LoggedStep;
@@ -19,35 +19,36 @@ pub(crate) fn write_step(step: &LoggedStep, text: &mut Vec<u8>) -> Result<(), Al
 {
     match step {
         LoggedStep::Post {
+            table,
             moment,
             message,
             answer,
-        } => write_posting(b'P', *moment, message, *answer, text),
+        } => write_post(*table, *moment, message, *answer, text),
         LoggedStep::Lost {
             moment,
             message,
             answer,
-        } => write_posting(b'L', *moment, message, *answer, text),
+        } => write_lost(*moment, message, *answer, text),
         LoggedStep::Tick {
             moment,
             added,
             wanting,
         } => write_tick(*moment, *added, *wanting, text),
         LoggedStep::Take {
-            local,
+            birth,
             position,
             count,
-        } => write_entries(b'T', *local, *position, *count, text),
+        } => write_entries(b'T', *birth, *position, *count, text),
         LoggedStep::Give {
-            local,
+            birth,
             position,
             served,
             given,
-        } => write_give(*local, *position, *served, *given, text),
-        LoggedStep::PutBack { local, position } => write_turn(b'B', *local, *position, text),
-        LoggedStep::Pick { local } => write_parcel(b'Q', *local, text),
-        LoggedStep::Sent { local } => write_parcel(b'Y', *local, text),
-        LoggedStep::Unsent { local } => write_parcel(b'U', *local, text),
+        } => write_give(*birth, *position, *served, *given, text),
+        LoggedStep::PutBack { birth, position } => write_turn(b'B', *birth, *position, text),
+        LoggedStep::Pick { birth } => write_parcel(b'Q', *birth, text),
+        LoggedStep::Sent { birth } => write_parcel(b'Y', *birth, text),
+        LoggedStep::Unsent { birth } => write_parcel(b'U', *birth, text),
         LoggedStep::Down => Ok(text.push(b'N')?),
         LoggedStep::Gap { lost } => write_gap(*lost, text),
     }

@@ -6,7 +6,7 @@ ghost use Rattle.fp_replay.specs.Writing.{KeepsFront};
 
 use crate::LineFault;
 use crate::fields::{one_field, three_fields};
-use crate::number::{moment_in, number_in, short_number_in, write_number};
+use crate::number::{long_number_in, moment_in, short_number_in, write_field};
 use fp_book::LoggedStep;
 use fp_digits::Moment;
 use std::alloc::AllocError;
@@ -21,12 +21,10 @@ pub(crate) fn write_tick(
     ensures written { OnOk result (text.new.items ≡ text.old.items ++ 75 ∷ tick_fields moment added wanting) }
     ensures front { OnErr result (KeepsFront text.old.items text.new.items) }
 {
-    text.extend_from_slice(b"K ")?;
-    write_number(moment.milliseconds(), text)?;
-    text.push(b' ')?;
-    write_number(u64::from(added), text)?;
-    text.push(b' ')?;
-    write_number(u64::from(wanting), text)
+    text.push(b'K')?;
+    write_field(moment.milliseconds(), text)?;
+    write_field(u64::from(added), text)?;
+    write_field(u64::from(wanting), text)
 }
 
 /// The tick, by the fields after its letter.
@@ -57,8 +55,8 @@ pub(crate) fn write_gap(lost: u64, text: &mut Vec<u8>) -> Result<(), AllocError>
     ensures written { OnOk result (text.new.items ≡ text.old.items ++ 90 ∷ gap_fields lost) }
     ensures front { OnErr result (KeepsFront text.old.items text.new.items) }
 {
-    text.extend_from_slice(b"Z ")?;
-    write_number(lost, text)
+    text.push(b'Z')?;
+    write_field(lost, text)
 }
 
 /// The gap, by the field after its letter.
@@ -68,7 +66,7 @@ pub(crate) fn gap_in(fields: &[u8]) -> Result<LoggedStep, LineFault>
     let Some(field) = one_field(fields) else {
         return Err(LineFault::BadLine);
     };
-    let Some(lost) = number_in(field, u64::MAX) else {
+    let Some(lost) = long_number_in(field) else {
         return Err(LineFault::BadLine);
     };
     Ok(LoggedStep::Gap { lost })

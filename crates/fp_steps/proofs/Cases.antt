@@ -1,11 +1,21 @@
 -- What is made of a book, by cases: each step with the answers that it may have.
-use Rattle.fp_steps.proofs.Names.{BeginsAnew, Content, Done, Follows, Given, GivesDone, GoesDown, IsSome, List, LoggedStep, MakesOf, None, Option, Output, Parcel, PicksParcel, Posted, PostsTo, Prepared, PutsTurnBack, Sends, Shelf, Some, Step, TakesTurn, Ticks, Turn, Unsends, [], arrival_of, components_in, get, length, nothing, parcel_local as local_of, parcel_octets as octets_of, places_held, posted_totals, refl, subst, sym, turn_of, verdict, ℕ, ⊤, ◌≡◌, ◌≢◌, ◌≤◌}
+use Rattle.fp_steps.proofs.Names.{BeginsAnew, Content, Contents, Done, Follows, Given, GivesDone, GoesDown, IsRead, IsReadBy, IsSome, List, LoggedStep, MakesOf, None, Option, Output, Parcel, PicksParcel, Posted, PostsTo, Prepared, PutsTurnBack, Sends, Shelf, Some, Step, TakesTurn, Ticks, Turn, Unsends, [], arrival_of, components_in, get, length, nothing, parcel_local as local_of, parcel_octets as octets_of, places_held, posted_totals, refl, subst, sym, turn_of, verdict, ℕ, ⊤, ◌≡◌, ◌≢◌, ◌≤◌}
 
 -- a step that posts a message
 abbrev pub IsPost : Step → Type 0
-IsPost (Step.Post octets moment) = ⊤
+IsPost (Step.Post table octets moment) = ⊤
 IsPost (Step.Lost octets moment) = ⊤
 IsPost _ = ⊥
+
+-- a message was read by the records of a table that was handed in
+pub record ReadBy (table : Option Contents) (contexts : List (List ℕ)) (octets : List ℕ) (moment : ℕ) (came : Prepared) : Type 0 where
+  pub contents : Contents
+  pub is : table ≡ Some contents
+  pub read : IsRead contents contexts octets moment (Some came)
+
+pub read_by : (table : Option Contents) (contexts : List (List ℕ)) (octets : List ℕ) (moment : ℕ) (came : Prepared) → IsReadBy table contexts octets moment (Some came) → ReadBy table contexts octets moment came
+read_by None contexts octets moment came is = absurd is
+read_by (Some contents) contexts octets moment came is = record { contents = contents; is = refl; read = is }
 
 -- what came, if it is a Begin, has no destination
 abbrev pub IsAnew : Option Prepared → Type 0
@@ -13,6 +23,7 @@ IsAnew came = (p : Prepared) → came ≡ Some p → BeginsAnew (arrival_of p).i
 
 pub record Cases (P : Step → Output → Type 0) (came : Option Prepared) (old new : Shelf) : Type 0 where
   pub posted : (step : Step) → IsPost step → (p : Prepared) (answer : Posted) (components : ℕ) → came ≡ Some p → components ≡ components_in answer p → Follows (verdict old p) old p answer new → new.totals ≡ posted_totals old.totals p answer → P step (Output.Posted answer components)
+  pub none_posted : (step : Step) → IsPost step → came ≡ None → new ≡ old → P step Output.Nothing
   pub ticked : (moment added wanting : ℕ) → wanting ≡ 0 → Ticks old moment added wanting new → P (Step.Tick moment) (Output.Ticked added wanting)
   pub took : (turn : Turn) → TakesTurn old turn new → P Step.Take (Output.Took turn.local turn.position (length turn.entries))
   pub no_room : old.ready ≢ [] → 8192 ≤ places_held old → new ≡ old → P Step.Take Output.NoRoom
@@ -33,11 +44,11 @@ pub record Cases (P : Step → Output → Type 0) (came : Option Prepared) (old 
 by_post : (P : Step → Output → Type 0) (step : Step) (came : Option Prepared) (output : Output) {old new : Shelf} → IsPost step → Cases P came old new
     → PostsTo output came old new → P step output
 by_post P step (Some p) (Output.Posted answer components) is c g = c.posted step is p answer components refl g.0 g.1 g.2
-by_post P step None (Output.Posted answer components) is c g = absurd g
+by_post P step None Output.Nothing is c g = c.none_posted step is refl g
 by_post P step came output is c g = absurd g
 
 pub by_made : (P : Step → Output → Type 0) (step : Step) {came : Option Prepared} (output : Output) {old new : Shelf} → Cases P came old new → MakesOf step came output old new → P step output
-by_made P (Step.Post octets moment) output c g = by_post _ (Step.Post octets moment) _ output tt c g
+by_made P (Step.Post table octets moment) output c g = by_post _ (Step.Post table octets moment) _ output tt c g
 by_made P (Step.Lost octets moment) output c g = by_post _ (Step.Lost octets moment) _ output tt c g
 by_made P (Step.Tick moment) (Output.Ticked added wanting) c g = c.ticked moment added wanting g.0 g.1
 by_made P Step.Take (Output.Took l position count) c g = subst (P Step.Take) (λ i. Output.Took (g.1 i) (g.2 i) (g.3 i)) (c.took g.0 g.4)

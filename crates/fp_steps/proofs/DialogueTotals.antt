@@ -1,5 +1,5 @@
 -- Each step adds to the totals of its book, and to the sums over all dialogues, what its output tells.
-use Rattle.fp_steps.proofs.Names.{AbortCause, AddUp, AreFew, Bool, Clock, Content, Entry, Event, Follows, Headline, List, MakesOf, None, Option, Output, Posted, Prepared, Request, Row, RowsKeepTheirOrder, Sends, Shelf, Some, Sound, Step, Story, Tells, Tid, Tied, Totals, Verdict, [], abort_for, accepted, accepted_in, add-one, answer_by, ap, arith, arrival_of, births, births_after, cases_Bool, component_count, components_came, components_in, cond, course, destination, entries_in, entry_at, eqb, eqb-false, eqb-true, false, for_one, frame_for, frame_of, frames_of, handed, identifier, is_from_component, is_none, is_sent, length, length-append, length-map, more_accepted, named, ne_eqb, no_totals, not, octets_of, opened_by, opened_in, option_map, out, outputs_of, plus, position_in, positions, posted_totals, receiver, refl, requests_of, sent, sent_by, sent_in, served, served_by, story, subst, suc, sum-le, sum_by-append, sum_of, sum_to, sym, totals_of, totals_over, true, untold, verdict, verdict_tells, zero, ℕ, ⊎_elim, ⊤, ◌++◌, ◌+◌, ◌<◌, ◌^◌, ◌∙◌, ◌∷◌, ◌≡◌, ◌≤◌, numbers_from}
+use Rattle.fp_steps.proofs.Names.{AbortCause, AddUp, AreFew, Bool, Clock, Content, Entry, Event, Follows, Headline, List, MakesOf, None, Option, Output, Posted, Prepared, Request, Row, RowsKeepTheirOrder, Sends, Shelf, Some, Sound, Step, Story, Tells, Tid, Tied, Totals, Verdict, [], abort_for, accepted, accepted_in, add-one, answer_by, ap, arith, arrival_of, births, births_after, cases_Bool, component_count, components_came, components_in, cond, course, destination, entries_in, entry_at, eqb, eqb-false, eqb-true, false, first_identifier, for_one, frame_for, frame_of, frames_of, handed, is_from_component, is_none, is_sent, length, length-append, length-map, more_accepted, named, ne_eqb, no_totals, not, numbers_from, octets_of, opened_by, opened_in, opened_with, option_map, out, outputs_of, plus, position_in, positions, posted_totals, receiver, refl, requests_of, sent, sent_by, sent_in, served, served_by, story, subst, suc, sum-le, sum_by-append, sum_of, sum_to, sym, totals_of, totals_over, true, untold, verdict, verdict_tells, zero, ℕ, ⊎_elim, ⊤, ◌++◌, ◌+◌, ◌<◌, ◌^◌, ◌∙◌, ◌∷◌, ◌≡◌, ◌≤◌}
 use Rattle.fp_steps.proofs.Cases.{Cases, by_made, IsAnew}
 use Rattle.fp_steps.proofs.HeldDialogues.{event, for_other, for_own, held_of, length-numbers_from, none_named, not_abort}
 use Rattle.fp_steps.proofs.MessageAnswers.{answer_is, answer_of}
@@ -116,20 +116,20 @@ out_is : {h : List Event} {s : Shelf} (content : Content) → Tied h s → s.out
 out_is {h} content t was = t.is_out ∙ ap (option_map (handed h)) was
 
 -- a frame of a dialogue, whose identifier isn't 0, is sent, or an Abort of the provider
-frame_sent : {h : List Event} (came : Option Prepared) {old : Shelf} (new : Shelf) (content : Content) → Tied h old → Sound old → Sends old content new → Counts h (event Step.Sent came Output.Sent) old new
-frame_sent {h} came {old} new (Content.Abort frame) t k g =
+frame_sent : {h : List Event} (came : Option Prepared) {old : Shelf} (new : Shelf) (content : Content) → Tied h old → Sends old content new → Counts h (event Step.Sent came Output.Sent) old new
+frame_sent {h} came {old} new (Content.Abort frame) t g =
     let is = out_is (Content.Abort frame) t g.was_out in
     let octets = (handed h (Content.Abort frame)).octets in
     let e = event Step.Sent came Output.Sent in
     quiet h e old new (ap (λ (s : Shelf). s.totals) g.new_is) (ap (λ o. make 0 0 (one_if (is_sent Output.Sent (local_in o)))) is)
     (same (shares (births h) h e) no_totals (zeros (births h)) (zeros (births h))
     (ap (λ o. sum_to (births h) (λ d. length (frame_for o d))) is
-    ∙ ap (λ o. sum_to (births h) (λ d. length (for_one o d (octets ∷ [])))) (none_named old.link h t.opened) ∙ zeros (births h)))
-frame_sent {h} came {old} new (Content.Frame w) t k g =
+    ∙ ap (λ o. sum_to (births h) (λ d. length (for_one o d (octets ∷ [])))) (none_named h t.opened) ∙ zeros (births h)))
+frame_sent {h} came {old} new (Content.Frame w) t g =
     let is = out_is (Content.Frame w) t g.was_out in
-    let born = held_of w.local g.before t k g.was in let e = event Step.Sent came Output.Sent in
+    let born = held_of w.local g.before t g.was in let e = event Step.Sent came Output.Sent in
     let one : one_if (is_sent Output.Sent (local_in (out h))) ≡ 1 =
-    ap (λ o. one_if (is_sent Output.Sent (local_in o))) is ∙ ap (λ b. one_if (not b)) (not_abort w.local g.before t k g.was)
+    ap (λ o. one_if (is_sent Output.Sent (local_in o))) is ∙ ap (λ b. one_if (not b)) (not_abort w.local g.before t g.was)
     in
     let share : sum_to (births h) (λ d. length (frame_for (out h) d)) ≡ 1 =
     ap (λ o. sum_to (births h) (λ d. length (frame_for o d))) is ∙ sum_for length (births h) (named h w.local) g.before.birth (w.frame ∷ []) refl born.name born.first born.last
@@ -185,15 +185,19 @@ refused h came None true = tt
 refused h came None false = tt
 refused h came (Some (peer, cause)) b = tt
 
+opens : (h : List Event) (came : Prepared) (next : Option ℕ) → Receives h came (opened_with next)
+opens h came None = tt
+opens h came (Some local) = tt
+
 -- by the verdict
-receives : {h : List Event} (came : Prepared) (answer : Posted) {old : Shelf} (new : Shelf) (waiting next : ℕ) (v : Verdict) → Tied h old → Sound old → Tells old came v → Follows v old came answer new → Receives h came (answer_of waiting next came v)
-receives came answer new waiting next Verdict.Discard t k told g = tt
-receives {h} came answer new waiting next (Verdict.Refuse cause closes) t k told g = refused h came (abort_for waiting cause (arrival_of came).ids.orig) (is_none closes)
-receives came answer new waiting next (Verdict.Open peer) t k told g = tt
-receives came answer new waiting next (Verdict.Extend local false) t k told g =
-    let born = held_of local g.before t k g.was in (g.before.birth, dest_of came local g.before t k told.0 g.was, born.first, born.last)
-receives came answer new waiting next (Verdict.Extend local true) t k told g =
-    let born = held_of local g.before t k g.was in (g.before.birth, dest_of came local g.before t k told.0 g.was, born.first, born.last)
+receives : {h : List Event} (came : Prepared) (answer : Posted) {old : Shelf} (new : Shelf) (waiting : ℕ) (next : Option ℕ) (v : Verdict) → Tied h old → Tells old came v → Follows v old came answer new → Receives h came (answer_of waiting next came v)
+receives came answer new waiting next Verdict.Discard t told g = tt
+receives {h} came answer new waiting next (Verdict.Refuse cause closes) t told g = refused h came (abort_for waiting cause (arrival_of came).ids.orig) (is_none closes)
+receives {h} came answer new waiting next (Verdict.Open peer) t told g = opens h came next
+receives came answer new waiting next (Verdict.Extend local false) t told g =
+    let born = held_of local g.before t g.was in (g.before.birth, dest_of came local g.before t told.0 g.was, born.first, born.last)
+receives came answer new waiting next (Verdict.Extend local true) t told g =
+    let born = held_of local g.before t g.was in (g.before.birth, dest_of came local g.before t told.0 g.was, born.first, born.last)
 
 -- EACH STEP
 
@@ -209,16 +213,17 @@ counts {h} came {old} new anew t k =
     record {
       posted = λ step posting p answer components is count g totals.
           let v = verdict old p in let waiting = length old.outbox.aborts in
-          let next = identifier old.link (old.given + 1) in
+          let next = first_identifier old.link old.free in
           let says = answer_is old new p answer v g in
           subst (λ c. Counts h (event step c (Output.Posted answer components)) old new) (sym is)
-          (message h step p answer components old new (subst (Receives h p) (sym says) (receives p answer new waiting next v t k (verdict_tells old p (anew p is)) g)) count totals);
+          (message h step p answer components old new (subst (Receives h p) (sym says) (receives p answer new waiting next v t (verdict_tells old p (anew p is)) g)) count totals);
+      none_posted = λ step posting nothing same. none step Output.Nothing (stays same) refl empty;
       ticked = λ moment many wanting zero g. ticked h came moment many wanting old new (ap (λ (s : Shelf). s.totals) g.new_is);
       took = λ turn g. none Step.Take (Output.Took turn.local turn.position (length turn.entries)) (ap (λ (s : Shelf). s.totals) g.new_is) refl empty;
       no_room = λ some full same. none Step.Take Output.NoRoom (stays same) refl empty;
       none_taken = λ none_ready same. none Step.Take Output.Nothing (stays same) refl empty;
       gave = λ done given g.
-          let local = done.turn.local in let born = held_of local g.before t k g.was in
+          let local = done.turn.local in let born = held_of local g.before t g.was in
           let e = event (Step.Give local) came (Output.Gave local done.turn.position done.served given) in
           record {
             shared = same (shares (births h) h e) (added h e) (zeros (births h))
@@ -232,7 +237,7 @@ counts {h} came {old} new anew t k =
       picked = λ content frame octets g. none Step.Pick (Output.Picked _ frame) (ap (λ (s : Shelf). s.totals) g.new_is) refl empty;
       busy = λ some same. none Step.Pick Output.Busy (stays same) refl empty;
       none_picked = λ none_waits same. none Step.Pick Output.Nothing (stays same) refl empty;
-      sent = λ content g. frame_sent came new content t k g;
+      sent = λ content g. frame_sent came new content t g;
       none_sent = λ none_out same. none Step.Sent Output.Nothing (stays same) refl empty;
       unsent = λ parcel g. none Step.Unsent Output.Unsent (ap (λ (s : Shelf). s.totals) g.down.new_is) refl empty;
       none_unsent = λ none_out same. none Step.Unsent Output.Nothing (stays same) refl empty;

@@ -1,5 +1,5 @@
 -- The frames that wait are those that were accepted for sending and not picked: the oldest goes where one is picked,
--- more stand behind the others where requests are accepted, and those of a dialogue go where it is ended.
+-- more stand after the others where requests are accepted, and those of a dialogue go where it is ended.
 use Rattle.fp_steps.proofs.Names.{Bool, Event, Given, List, None, Option, Output, QueuedFrame, Some, [], add-zero, and_parts, ap, append-nil, arith, cases_Bool, cond, eqb, eqb-true, false, filter, for_one, frames, frames_after, frames_by, if_queued, length, length-append, named, nat_le, nat_tests, queued, queued_in, refl, subst, suc, sym, true, ℕ, ⊎_elim, ⊤, ◌&&◌, ◌++◌, ◌+◌, ◌<◌, ◌∙◌, ◌∷◌, ◌≡◌, ◌≤◌, append_assoc, asked_at, eq-eqb, numbered}
 use Rattle.fp_steps.proofs.HeldDialogues.{for_other}
 use Rattle.fp_steps.proofs.TieAtTurns.{none_queued}
@@ -8,7 +8,7 @@ use Rattle.fp_steps.proofs.TieAtTurns.{none_queued}
 abbrev pub bump : ℕ → (ℕ → ℕ) → ℕ → ℕ
 bump d f c = cond (eqb c d) (suc (f c)) (f c)
 
--- the places of each dialogue's frames are one behind the other, from these on
+-- the places of each dialogue's frames are one after the other, from these on
 abbrev pub Numbered : (ℕ → ℕ) → List QueuedFrame → Type 0
 Numbered f [] = ⊤
 Numbered f (a ∷ xs) = (a.place ≡ f a.dialogue) × Numbered (bump a.dialogue f) xs
@@ -18,7 +18,7 @@ abbrev pub n_of : ℕ → List QueuedFrame → ℕ
 n_of d [] = 0
 n_of d (a ∷ xs) = cond (eqb d a.dialogue) (suc (n_of d xs)) (n_of d xs)
 
-n_of_more : (d : ℕ) (f : ℕ → ℕ) (a : QueuedFrame) (xs : List QueuedFrame) → bump a.dialogue f d + n_of d xs ≡ f d + n_of d (a ∷ xs)
+pub n_of_more : (d : ℕ) (f : ℕ → ℕ) (a : QueuedFrame) (xs : List QueuedFrame) → bump a.dialogue f d + n_of d xs ≡ f d + n_of d (a ∷ xs)
 n_of_more d f a xs = grind (arith, nat_tests)
 
 -- one dialogue's, or another's
@@ -142,7 +142,7 @@ counted_gave h l p n given d (Some c) name same =
     omega (arith, all, n_of-other c d place xs e, same, length-append (queued h d) (queued_in (Output.Gave l p n given) h d), ap length none))
     (cases_Bool (eqb d c))
 
--- the places of those that come then are behind the others
+-- the places of those that come then are after the others
 numbered_more : (d : ℕ) (fs : List QueuedFrame) (place : ℕ) (xs : List (List ℕ)) → Numbered zero_of fs → n_of d fs ≡ place → Numbered zero_of (fs ++ numbered d place xs)
 numbered_more d fs place [] n same = subst (Numbered zero_of) (sym (append-nil fs)) n
 numbered_more d fs place (x ∷ xs) n same =

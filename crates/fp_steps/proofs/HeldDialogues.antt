@@ -1,5 +1,5 @@
 -- What a history tells of a dialogue, one event further; and of one that a book holds.
-use Rattle.fp_steps.proofs.Names.{Beginning, Ending, Entry, Event, IsGone, IsOwn, IsPrefix, IsSame, IsStraight, IsTied, KeepsOrder, List, None, NotHeld, OneChanges, Opened, Option, Output, Prepared, Row, RowsKeepTheirOrder, Shelf, Some, Sound, Step, Story, Tied, TiedAt, [], accepted, accepted_in, add-one, admits, and_left, and_right, ap, append-nil, append_assoc, arith, asked_in, began_with, beginning, beginning_of, births, by_held, by_local, cond, core_after, core_in, course, cut, ending, ending_in, eq-eqb, eqb, eqb-false, false, for_one, frame_from, frames_of, fresh, get, get_or_from_slice_get, in_places, insert, inserted, is_admitted, is_closed, is_one, is_over, is_some, keep, kept, left_of, length, length-append, length-take-le, local_of, lt-leb, map_list as map, named, nat_le, nat_lt, nat_tests, ne_eqb, not, not_held, numbers, octets_of, option_map_or, option_to_list, position_in, positions, queued, queued_in, queued_of, refl, requests, row_waits as waits, sent, sent_in, sent_of, served_in, served_of, slice_get, start_in, start_of, story, subst, suc, sym, take, take_more, true, waits_in, zero, ℕ, ◌&&◌, ◌++◌, ◌<◌, ◌∙◌, ◌∷◌, ◌≡◌, ◌≤◌, count_after, count_out, numbers_from, add-zero, drop, drop_at, drop-take, turns_none, ◌+◌, unserved, row_unserved}
+use Rattle.fp_steps.proofs.Names.{Beginning, Ending, Entry, Event, IsGone, IsPrefix, IsSame, IsStraight, IsTied, KeepsOrder, List, None, NotHeld, OneChanges, Opened, Option, Output, Prepared, Row, RowsKeepTheirOrder, Shelf, Some, Step, Story, Tied, TiedAt, [], accepted, accepted_in, add-one, add-zero, admits, and_left, and_right, ap, append-nil, append_assoc, arith, asked_in, beginning, beginning_of, births, by_held, by_local, cond, cond_some, core_after, core_in, count_after, count_out, course, cut, drop, drop-take, drop_at, ending, ending_in, eq-eqb, eqb, eqb-false, eqb-true, false, for_one, frame_from, frames_of, fresh, get, get_or_from_slice_get, in_places, insert, inserted, is_admitted, is_closed, is_one, is_over, is_some, keep, kept, left_of, length, length-append, length-take-le, local_of, lt-leb, map_list as map, named, nat_le, nat_lt, nat_tests, ne_eqb, none-some, not, not_held, numbers, numbers_from, octets_of, option_map_or, option_to_list, position_in, positions, queued, queued_in, queued_of, refl, requests, row_at, row_of, row_unserved, row_waits as waits, same_Some, sent, sent_in, sent_of, served_in, served_of, slice_get, start_in, start_of, story, subst, suc, sym, take, take_more, true, turns_none, unserved, waits_in, zero, ℕ, ◌&&◌, ◌++◌, ◌+◌, ◌<◌, ◌∙◌, ◌∷◌, ◌≡◌, ◌≤◌}
 use Rattle.std.proofs.lemmas.List.Concat.{flat_map-append}
 use Rattle.fp_row.proofs.Fronts.{slice_get_some}
 
@@ -19,7 +19,7 @@ pub same_story : (s t : Story) → s.began ≡ t.began → s.accepts ≡ t.accep
 same_story s t b a p q n e o =
     λ i. record { began = b i; accepts = a i; places = p i; queues = q i; sends = n i; ended = e i; out = o i }
 
--- nothing is added behind a list
+-- nothing is added after a list
 pub none_more : {X : Type 0} → (xs ys : List X) → ys ≡ [] → xs ++ ys ≡ xs
 none_more xs ys e = ap (λ y. xs ++ y) e ∙ append-nil xs
 
@@ -172,24 +172,30 @@ tied_same x k same accepted served queued sent core ended out = let begins = k.b
 
 -- A book and its dialogues
 
--- a dialogue that was opened has an identifier that no other one has
-pub apart : (link : ℕ) (h : List Event) (c d : ℕ) → Opened link h → 0 < d → d ≤ births h → eqb c d ≡ false → eqb (local_of h c) (local_of h d) ≡ false
-apart link h c d g first last ne = ne_eqb (local_of h c) (local_of h d) (λ e.
-    by_option (λ o. ⊥) (beginning h c)
-    (λ is. let none : local_of h c ≡ 0 = ap began_with is in omega (arith, e, none, first, g.locals d first last))
-    (λ b is.
-    let there : (0 < c) × (c ≤ births h) = g.begins c b is in
-    eqb-false c d ne (omega (arith, e, g.locals c there.0 there.1, g.locals d first last))))
-
-pub same_local : (link : ℕ) (h : List Event) (c d : ℕ) → Opened link h → 0 < d → d ≤ births h → eqb (local_of h c) (local_of h d) ≡ eqb c d
-same_local link h c d g first last =
-    by_local c d (λ c. eqb (local_of h c) (local_of h d) ≡ eqb c d) (eq-eqb (local_of h d) (local_of h d) refl ∙ sym (eq-eqb d d refl)) (λ ne. apart link h c d g first last ne ∙ sym ne)
-
 -- no dialogue has the identifier of an Abort of the provider
-pub none_named : (link : ℕ) (h : List Event) → Opened link h → named h 0 ≡ None
-none_named link h g = by_option (λ o. o ≡ None) (named h 0) (λ is. refl) (λ d is.
+pub none_named : (h : List Event) → Opened h → named h 0 ≡ None
+none_named h g = by_option (λ o. o ≡ None) (named h 0) (λ is. refl) (λ d is.
     let there : (0 ≡ local_of h d) × (0 < d) × (d ≤ births h) = g.names 0 d is in
-    absurd (let zero_is : 0 ≡ local_of h d = there.0 in let first : 0 < d = there.1 in omega (arith, zero_is, first, g.locals d there.1 there.2)))
+    absurd (let zero_is : 0 ≡ local_of h d = there.0 in omega (arith, zero_is, g.not_zero d there.1 there.2)))
+
+-- a row is a dialogue's by its birth
+pub own_row : (d : ℕ) (row : Row) → row.birth ≡ d → row_of d (Some row) ≡ Some row
+own_row d row is = ap (λ b. cond b (Some row) None) (eq-eqb row.birth d is)
+
+pub row_there : (d : ℕ) (o : Option Row) (row : Row) → row_of d o ≡ Some row → (o ≡ Some row) × (row.birth ≡ d)
+row_there d None row is = absurd (cc)
+row_there d (Some other) row is =
+    let same = cond_some (eqb other.birth d) other row is in
+    (ap Some same.1, ap (λ (r : Row). r.birth) (sym same.1) ∙ eqb-true other.birth d same.0)
+
+pub other_row : (d : ℕ) (row : Row) → eqb row.birth d ≡ false → row_of d (Some row) ≡ None
+other_row d row ne = ap (λ b. cond b (Some row) None) ne
+
+-- the row of the dialogue that an identifier names is the one under it
+pub row_named : {h : List Event} {s : Shelf} (local d : ℕ) → Tied h s → named h local ≡ Some d → row_at h s d ≡ get s.rows local
+row_named {h} {s} local d t name =
+    ap (λ l. row_of d (get s.rows l)) (sym (t.opened.names local d name).0)
+    ∙ by_option (λ o. row_of d o ≡ o) (get s.rows local) (λ was. refl) (λ row was. own_row d row (same_Some row.birth d (sym (t.names local row was) ∙ name)))
 
 -- a dialogue that a book holds, under this identifier and with this birth
 pub record Held (h : List Event) (local d : ℕ) (row : Row) : Type 0 where
@@ -199,23 +205,45 @@ pub record Held (h : List Event) (local d : ℕ) (row : Row) : Type 0 where
   pub last : d ≤ births h
   pub tied : IsTied d (story h d) row
 
-pub held_of : {h : List Event} {s : Shelf} (local : ℕ) (row : Row) → Tied h s → Sound s → get s.rows local ≡ Some row → Held h local row.birth row
-held_of {h} {s} local row t k was =
-    let own : IsOwn s local row = k.own local row was in let d = own.serial.0 in
-    let last : d ≤ births h = let le : d ≤ s.given = own.serial.2 in omega (arith, le, k.births, t.births_are) in
-    let place : local ≡ local_of h d = own.serial.3 ∙ sym (t.opened.locals d own.serial.1 last) in
-    let tied : IsTied d (story h d) row = subst (TiedAt (births h) d (story h d)) (ap (get s.rows) (sym place) ∙ was) (t.rows d) in
-    subst (λ d. Held h local d row) (sym tied.birth)
-    (record { name = ap (named h) place ∙ t.opened.are_named d own.serial.1 last; place = place; first = own.serial.1; last = last; tied = tied })
+pub held_of : {h : List Event} {s : Shelf} (local : ℕ) (row : Row) → Tied h s → get s.rows local ≡ Some row → Held h local row.birth row
+held_of {h} {s} local row t was =
+    let b = row.birth in let name = t.names local row was in
+    let there : (local ≡ local_of h b) × (0 < b) × (b ≤ births h) = t.opened.names local b name in
+    record { name = name; place = there.0; first = there.1; last = there.2; tied = subst (TiedAt (births h) b (story h b)) (row_named local b t name ∙ was) (t.rows b) }
 
-pub held_at : {h : List Event} {s : Shelf} (d : ℕ) (row : Row) → Tied h s → Sound s → get s.rows (local_of h d) ≡ Some row → Held h (local_of h d) d row
-held_at {h} d row t k was =
-    let tied : IsTied d (story h d) row = subst (TiedAt (births h) d (story h d)) was (t.rows d) in
-    subst (λ d'. Held h (local_of h d) d' row) tied.birth (held_of (local_of h d) row t k was)
+pub held_at : {h : List Event} {s : Shelf} (d : ℕ) (row : Row) → Tied h s → row_at h s d ≡ Some row → Held h (local_of h d) d row
+held_at {h} {s} d row t is =
+    let there = row_there d (get s.rows (local_of h d)) row is in
+    subst (λ b. Held h (local_of h d) b row) there.1 (held_of (local_of h d) row t there.0)
+
+-- one that it doesn't hold is another one
+pub not_gone : {h : List Event} {s : Shelf} (local : ℕ) (row : Row) (d : ℕ) → Tied h s → get s.rows local ≡ Some row → row_at h s d ≡ None → eqb d row.birth ≡ false
+not_gone {h} {s} local row d t was none = ne_eqb d row.birth (λ same. none-some row (sym none ∙ ap (row_at h s) same ∙ row_named local row.birth t (t.names local row was) ∙ was))
 
 -- it isn't under the identifier of an Abort of the provider
-pub not_abort : {h : List Event} {s : Shelf} (local : ℕ) (row : Row) → Tied h s → Sound s → get s.rows local ≡ Some row → eqb local 0 ≡ false
-not_abort local row t k was = let serial = (k.own local row was).serial in ne_eqb local 0 (λ e. let first : 0 < serial.0 = serial.1 in let place = serial.3 in omega (arith, e, first, place))
+pub not_abort : {h : List Event} {s : Shelf} (local : ℕ) (row : Row) → Tied h s → get s.rows local ≡ Some row → eqb local 0 ≡ false
+not_abort {h} {s} local row t was =
+    ne_eqb local 0 (λ zero_is. none-some row.birth (sym (none_named h t.opened) ∙ ap (named h) (sym zero_is) ∙ t.names local row was))
+
+-- where one changes, the others have the rows that they had
+pub row_own : {h : List Event} {old : Shelf} (new : Shelf) {local : ℕ} (before : Row) (left : Option Row) → Tied h old → OneChanges old.rows new.rows local (Some before) left
+    → ((row : Row) → left ≡ Some row → row.birth ≡ before.birth) → row_at h new before.birth ≡ left
+row_own new {local} before left t one is =
+    let b = before.birth in
+    ap (λ l. row_of b (get new.rows l)) (sym (held_of local before t one.was).place) ∙ ap (row_of b) one.there ∙ by_option (λ o. row_of b o ≡ o) left (λ none. refl) (λ row e. own_row b row (is row e))
+
+pub row_other : (h : List Event) (old new : Shelf) {local : ℕ} (b : ℕ) {before : Option Row} (left : Option Row) (d : ℕ) → OneChanges old.rows new.rows local before left
+    → ((row : Row) → before ≡ Some row → row.birth ≡ b) → ((row : Row) → left ≡ Some row → row.birth ≡ b) → eqb d b ≡ false → row_at h new d ≡ row_at h old d
+row_other h old new {local} b {before} left d one was is ne =
+    let none : (o : Option Row) → ((row : Row) → o ≡ Some row → row.birth ≡ b) → row_of d o ≡ None =
+    λ o of. by_option (λ o. row_of d o ≡ None) o (λ e. refl) (λ row e. other_row d row (ap (λ n. eqb n d) (of row e) ∙ eqb_swap d b ne))
+    in
+    by_local (local_of h d) local (λ l. row_of d (get new.rows l) ≡ row_of d (get old.rows l))
+    (ap (row_of d) one.there ∙ none left is ∙ sym (ap (row_of d) one.was ∙ none before was)) (λ other. ap (row_of d) (one.others (local_of h d) other))
+
+-- the same row has the same birth
+pub same_birth : (before row : Row) → Some before ≡ Some row → row.birth ≡ before.birth
+same_birth before row same = ap (λ (r : Row). r.birth) (sym (same_Some before row same))
 
 -- what is left of a dialogue is tied, or it is gone
 pub left_tied : RowsKeepTheirOrder → (n : ℕ) {d : ℕ} {t : Story} {after : Row} → IsTied d t after → TiedAt n d t (left_of after)
@@ -229,19 +257,6 @@ one_put old new local before after was is = subst (λ rows. OneChanges old.rows 
 pub one_left : (old new : Shelf) (local : ℕ) (before after : Row) → get old.rows local ≡ Some before → new.rows ≡ keep old.rows local after
     → OneChanges old.rows new.rows local (Some before) (left_of after)
 one_left old new local before after was is = subst (λ rows. OneChanges old.rows rows local (Some before) (left_of after)) (sym is) (kept old.rows local (Some before) after was)
-
--- one dialogue changes, and the others keep their stories
-pub rows_one : {h : List Event} (e : Event) {old : Shelf} (new : Shelf) {local : ℕ} (before : Row) {left : Option Row} → Tied h old → Sound old → OneChanges old.rows new.rows local (Some before) left
-    → TiedAt (births h) before.birth (story (e ∷ h) before.birth) left → ((d : ℕ) → eqb d before.birth ≡ false → story (e ∷ h) d ≡ story h d)
-    → (d : ℕ) → TiedAt (births h) d (story (e ∷ h) d) (get new.rows (local_of h d))
-rows_one {h} e {old} new {local} before t k one own others d =
-    let b : Held h local before.birth before = held_of local before t k one.was in
-    by_local d before.birth (λ d. TiedAt (births h) d (story (e ∷ h) d) (get new.rows (local_of h d)))
-    (subst (TiedAt (births h) before.birth (story (e ∷ h) before.birth)) (sym one.there ∙ ap (get new.rows) b.place) own)
-    (λ ne.
-    let other : eqb (local_of h d) local ≡ false = ap (eqb (local_of h d)) b.place ∙ apart old.link h d before.birth t.opened b.first b.last ne in
-    subst (λ t. TiedAt (births h) d t (get new.rows (local_of h d))) (sym (others d ne))
-    (subst (TiedAt (births h) d (story h d)) (sym (one.others (local_of h d) other)) (t.rows d)))
 
 -- Which births were given
 

@@ -1,6 +1,6 @@
 -- Where a link is idle, all that is to be served was, and all that is to be sent.
-use Rattle.fp_steps.proofs.Names.{AbortsTied, Content, Core, Ending, Entry, Event, Headline, IdleIsDone, IsPrefix, Lined, List, None, Option, Row, RowsKeepTheirOrder, Shelf, Some, Sound, Tied, TiedAt, [], abort_out, aborts, aborts_sent, aborts_waiting, accepted, ap, append-nil, arith, as_waiting, asked, births, cases_Bool, core_after, core_of, cut, cut-closed, cut-cut, cut-front, ending, false, frame_out, frames_at, frames_for, get, handed, is_closed, is_down, is_over, is_some, kept_of, length, length-append, local_of, map_list, nat_tests, not, option_map, out, positions, refl, sent, sent_of, served, start, story, sym, true, waits, ℕ, ⊎_elim, ◌&&◌, ◌++◌, ◌∙◌, ◌∷◌, ◌≡◌, ◌≤◌}
-use Rattle.fp_steps.proofs.HeldDialogues.{asked_tied}
+use Rattle.fp_steps.proofs.Names.{AbortsTied, Content, Core, Ending, Entry, Event, Headline, IdleIsDone, IsPrefix, Lined, List, None, Option, Row, RowsKeepTheirOrder, Shelf, Some, Sound, Tied, TiedAt, [], abort_out, aborts, aborts_sent, aborts_waiting, accepted, ap, append-nil, arith, as_waiting, asked, births, cases_Bool, core_after, core_of, cut, cut-closed, cut-cut, cut-front, ending, false, frame_out, frames_at, frames_for, get, handed, is_closed, is_down, is_over, is_some, kept_of, length, length-append, local_of, map_list, nat_tests, not, option_map, out, positions, refl, row_at, sent, sent_of, served, start, story, sym, true, waits, ℕ, ⊎_elim, ◌&&◌, ◌++◌, ◌∙◌, ◌∷◌, ◌≡◌, ◌≤◌}
+use Rattle.fp_steps.proofs.HeldDialogues.{asked_tied, row_there}
 use Rattle.fp_steps.proofs.WaitingAtSteps.{aborts_wait}
 
 -- ENTRIES
@@ -18,7 +18,7 @@ cut_shorter core xs =
     let f = cut-front core xs in let n : length (cut core xs ++ f.0) ≡ length xs = ap length f.1 in
     omega (arith, n, length-append (cut core xs) f.0)
 
--- behind what ends a core nothing is served
+-- after what ends a core nothing is served
 ended_all : (core : Core) (xs ys zs : List Entry) → xs ++ ys ≡ cut core zs → is_over (core_after core xs) ≡ true → xs ≡ cut core zs
 ended_all core xs ys zs e over =
     let same : cut core zs ≡ cut core xs = sym (cut-cut core zs) ∙ ap (cut core) (sym e) ∙ cut-closed core xs ys over in
@@ -48,12 +48,12 @@ not_ended None e = refl
 not_ended (Some ending) e = absurd (cc)
 
 -- of a dialogue that nothing ended from outside all was sent
-sent_all : RowsKeepTheirOrder → (h : List Event) {s : Shelf} (d : ℕ) (o : Option Row) → Sound s → s.outbox.out ≡ None → s.outbox.frames ≡ [] → get s.rows (local_of h d) ≡ o
+sent_all : RowsKeepTheirOrder → (h : List Event) {s : Shelf} (d : ℕ) (o : Option Row) → Sound s → s.outbox.out ≡ None → s.outbox.frames ≡ [] → row_at h s d ≡ o
     → TiedAt (births h) d (story h d) o → ending h d ≡ None → sent h d ≡ asked h d
 sent_all law h d None k none_out none_waits was t live = t.all_sent live
 sent_all law h {s} d (Some row) k none_out none_waits was t live =
     let l = local_of h d in
-    let all : sent_of row ++ (frame_out l s.outbox.out ++ frames_for l s.outbox.frames) ≡ kept_of row = frames_at _ l (Some row) k was in
+    let all : sent_of row ++ (frame_out l s.outbox.out ++ frames_for l s.outbox.frames) ≡ kept_of row = frames_at _ l (Some row) k (row_there d (get s.rows l) row was).0 in
     let none : frame_out l s.outbox.out ++ frames_for l s.outbox.frames ≡ [] = ap (λ o. frame_out l o ++ frames_for l s.outbox.frames) none_out ∙ ap (frames_for l) none_waits in
     t.sends ∙ sym (append-nil (sent_of row)) ∙ ap (λ fs. sent_of row ++ fs) (sym none) ∙ all ∙ (law row).all_kept (sym t.ends ∙ live) ∙ sym (asked_tied t)
 
@@ -74,7 +74,7 @@ idle_is_done law {h} {s} t l k head idle =
     let frames_none : s.outbox.frames ≡ [] = sym l.frames ∙ ap (map_list (as_waiting h)) idle.no_pick.2 in
     record {
       all_served = λ d. served_all d head (ap (λ b. not b && waits h d) (sym (idle.no_turn d)) ∙ idle.no_take d);
-      all_sent = λ d live. sent_all law h d (get s.rows (local_of h d)) k out_none frames_none refl (t.rows d) (not_ended (ending h d) live);
+      all_sent = λ d live. sent_all law h d (row_at h s d) k out_none frames_none refl (t.rows d) (not_ended (ending h d) live);
       all_aborts = aborts_all t k l idle.up idle.no_pick.0 idle.no_pick.1;
     }
 

@@ -22,6 +22,8 @@ mod TieKept
 -- WHAT WAITS: frames and dialogues stand in the order that the history tells
 -- the frames that wait, and their numbers
 mod FramesInOrder
+-- of which dialogues they are
+mod HeldFrames
 -- the dialogues that are ready, and what each call makes of their queue
 mod QueueInOrder
 -- what a step owes to keep both orders: turns, parcels, the end of the link
@@ -37,12 +39,16 @@ mod WaitingKept
 mod SumsOverBirths
 -- how many are held
 mod HeldCount
+-- which serials may be given then
+mod FreeSerials
 -- a message, by the first line that fits
 mod MessageAnswers
 -- each step, by its cases
 mod StepAnswers
 -- TOKENS: those that a run keeps are those that its book handed out
 mod TokensKept
+-- and which identifier the dialogue of each has
+mod TurnsOut
 -- THE LOG
 -- the line that is told of a step
 mod LoggedLines
@@ -60,7 +66,7 @@ mod DialogueTotals
 -- RUNS
 -- where a link is idle nothing is left to do
 mod IdleDone
--- a step behind a history, and a run so far
+-- a step after a history, and a run so far
 mod RunsSoFar
 -- what is sent of equal dialogues
 mod SentAlike

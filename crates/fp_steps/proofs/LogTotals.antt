@@ -1,6 +1,7 @@
 -- The totals of a history that retells lines are what can be counted in those.
-use Rattle.fp_steps.proofs.Names.{Contents, Event, Handed, IfSome, IsAnswer, IsCame, IsLost, List, LoggedStep, None, Option, Output, Posted, Prepared, RetoldLinesAreCounted, Some, Step, Totals, [], added_by, answer_to, ap, arith, components_in, count_by, length, named, option_map, out, plus, positions, refl, subst, sum_by-cons, sym, told, told_back, told_message, told_tick, ℕ, ◌+◌, ◌∙◌, ◌∷◌, ◌≡◌, sum_by}
+use Rattle.fp_steps.proofs.Names.{AllAnswered, Beginning, Bool, Contents, Event, Handed, IfSome, IsAnswer, IsCame, IsLost, IsNext, LAST_INDEX, List, LoggedStep, None, Option, Output, Posted, Prepared, QueuedFrame, Retells, RetoldLinesAreCounted, Some, Step, Totals, [], aborts_waiting, added_by, answer_to, ap, arith, began_with, beginning, birth_out, birth_under, components_in, cond, count_by, eq-eqb, eqb, false, false≢true, length, named, nat_le, nat_tests, not, option_map, option_map_or, out, out_after, plus, positions, refl, subst, sum_by, sum_by-cons, sym, told, told_back, told_message, told_tick, true, waiting, ℕ, ⊤, ◌+◌, ◌<◌, ◌∙◌, ◌∷◌, ◌≡◌}
 use Rattle.fp_steps.specs.Counted.{accepted_by, accepted_in, entries_served, is_sent_frame, totals_in}
+use Rattle.fp_steps.proofs.OpenedDialogues.{local_named, picked_is}
 use Rattle.fp_steps.proofs.OutputTotals.{added, local_in, make, one_if, same, totals_next}
 
 -- what is counted of a line, whose message was prepared to this
@@ -28,13 +29,53 @@ answered link h came answer components is =
     let many : components ≡ components_in (answer_to link h came) came = cc in
     many ∙ ap (λ a. components_in a came) (sym so)
 
-message_counts : (contents : Contents) (contexts : List (List ℕ)) (link : ℕ) (h : List Event) (step : Step) (came : Option Prepared) (answer : Posted) (components : ℕ) → IsCame contents contexts step came
+if_line : (P : LoggedStep → Type 0) (b : Bool) (line : LoggedStep) → P line → IfSome (cond b (Some line) None) P
+if_line P true line is = is
+if_line P false line is = tt
+
+message_counts : (tables : List Contents) (contexts : List (List ℕ)) (link : ℕ) (h : List Event) (step : Step) (came : Option Prepared) (answer : Posted) (components : ℕ) → IsCame tables contexts step came
     → IsAnswer link h step came (Output.Posted answer components) → IfSome (told_message step answer) (Counts (out h) came (Output.Posted answer components))
-message_counts contents contexts link h (Step.Post frame moment) None answer components c is = absurd is
-message_counts contents contexts link h (Step.Post frame moment) (Some came) answer components c is = ap (λ n. make n 0 0) (answered link h came answer components is ∙ by_answer answer came)
-message_counts contents contexts link h (Step.Lost frame moment) None answer components c is = absurd is
-message_counts contents contexts link h (Step.Lost frame moment) (Some came) answer components c is = ap (λ n. make n 0 0) (answered link h came answer components is ∙ lost_none frame moment answer came c)
-message_counts contents contexts link h step came answer components c is = tt
+message_counts tables contexts link h (Step.Post table frame moment) None answer components c is = absurd (cc)
+message_counts tables contexts link h (Step.Post table frame moment) (Some came) answer components c is =
+    if_line (Counts (out h) (Some came) (Output.Posted answer components)) (nat_le table LAST_INDEX) (LoggedStep.Post table moment frame answer)
+    (ap (λ n. make n 0 0) (answered link h came answer components is ∙ by_answer answer came))
+message_counts tables contexts link h (Step.Lost frame moment) None answer components c is = absurd c
+message_counts tables contexts link h (Step.Lost frame moment) (Some came) answer components c is = ap (λ n. make n 0 0) (answered link h came answer components is ∙ lost_none frame moment answer came c)
+message_counts tables contexts link h step came answer components c is = tt
+
+-- WHAT IS OUT
+
+-- what is out is an Abort of the provider, or of a dialogue that was opened
+abbrev HasBirth : Option Handed → Type 0
+HasBirth None = ⊤
+HasBirth (Some handed) = eqb handed.local 0 ≡ false → 0 < option_map_or (λ d. d) handed.dialogue 0
+
+place_named : (h : List Event) (d : ℕ) (o : Option Beginning) → beginning h d ≡ o → eqb (began_with o) 0 ≡ false → 0 < option_map_or (λ d. d) (named h (began_with o)) 0
+place_named h d None is ne = absurd (false≢true (sym ne))
+place_named h d (Some b) is ne =
+    let there = local_named h d b is in
+    subst (λ o. 0 < option_map_or (λ d. d) o 0) (sym there.1) there.2
+
+next_named : (h : List Event) (aborts : List (List ℕ)) (frames : List QueuedFrame) (local : ℕ) (octets : List ℕ) → IsNext h aborts frames local octets → eqb local 0 ≡ false → 0 < option_map_or (λ d. d) (named h local) 0
+next_named h (abort ∷ aborts) frames local octets is ne = absurd (false≢true (sym ne ∙ eq-eqb local 0 is.0))
+next_named h [] (first ∷ frames) local octets is ne = subst (λ l. eqb l 0 ≡ false → 0 < option_map_or (λ d. d) (named h l) 0) (sym is.0) (place_named h first.dialogue (beginning h first.dialogue) refl) ne
+next_named h [] [] local octets is ne = absurd is
+
+out_has : (link : ℕ) (h : List Event) (e : Event) (output : Output) (o : Option Handed) → IsAnswer link h e.step e.came output → HasBirth o → HasBirth (out_after output h o)
+out_has link h e (Output.Picked local frame) o is has = next_named h (aborts_waiting h) (waiting h) local frame (picked_is link h e.step e.came local frame is)
+out_has link h e Output.Sent o is has = tt
+out_has link h e Output.Unsent o is has = tt
+out_has link h e output o is has = has
+
+all_have : (link : ℕ) (h : List Event) → AllAnswered link h → HasBirth (out h)
+all_have link [] all = tt
+all_have link (e ∷ h) (is, all) = out_has link h e e.output (out h) is (all_have link h all)
+
+retold_answers : (tables : List Contents) (contexts : List (List ℕ)) (link : ℕ) (lines : List LoggedStep) (h : List Event) → Retells tables contexts link lines h → AllAnswered link h
+retold_answers tables contexts link [] [] k = tt
+retold_answers tables contexts link [] (e ∷ h) k = absurd k
+retold_answers tables contexts link (line ∷ lines) [] k = absurd k
+retold_answers tables contexts link (line ∷ lines) (e ∷ h) (one, rest) = (one.answer, retold_answers tables contexts link lines h rest)
 
 -- OTHER STEPS
 
@@ -47,24 +88,30 @@ over_counts P None of is = tt
 over_counts P (Some x) of is = is x
 
 back_counts : (o : Option Handed) (came : Option Prepared) (h : List Event) (step : Step) → IfSome (told_back h step) (Counts o came Output.WentBack)
-back_counts o came h (Step.PutBack lo) = over_counts (Counts o came Output.WentBack) (named h lo) (λ d. LoggedStep.PutBack lo (length (positions h d))) (λ d. refl)
+back_counts o came h (Step.PutBack lo) = over_counts (Counts o came Output.WentBack) (named h lo) (λ d. LoggedStep.PutBack d (length (positions h d))) (λ d. refl)
 back_counts o came h step = tt
 
-sent_counts : (o : Option Handed) (came : Option Prepared) → IfSome (option_map (λ (handed : Handed). LoggedStep.Sent handed.local) o) (Counts o came Output.Sent)
-sent_counts None came = tt
-sent_counts (Some handed) came = refl
+-- a dialogue's frame has its birth, which isn't 0
+not_zero : (l n : ℕ) → (eqb l 0 ≡ false → 0 < n) → not (eqb l 0) ≡ not (eqb (cond {A = ℕ} (eqb l 0) 0 n) 0)
+not_zero l n some = grind (arith, nat_tests, some)
 
-told_counts : (contents : Contents) (contexts : List (List ℕ)) (link : ℕ) (h : List Event) (step : Step) (came : Option Prepared) (output : Output) → IsCame contents contexts step came → IsAnswer link h step came output
+sent_counts : (o : Option Handed) (came : Option Prepared) → HasBirth o → IfSome (option_map (λ d. LoggedStep.Sent d) (option_map (λ (handed : Handed). birth_under handed.local handed.dialogue) o)) (Counts o came Output.Sent)
+sent_counts None came has = tt
+sent_counts (Some handed) came has = ap (λ b. make 0 0 (one_if b)) (not_zero handed.local (option_map_or (λ d. d) handed.dialogue 0) has)
+
+told_counts : (tables : List Contents) (contexts : List (List ℕ)) (link : ℕ) (h : List Event) (step : Step) (came : Option Prepared) (output : Output) → IsCame tables contexts step came → IsAnswer link h step came output → HasBirth (out h)
     → IfSome (told h step output) (Counts (out h) came output)
-told_counts contents contexts link h step came (Output.Posted answer components) c is = message_counts contents contexts link h step came answer components c is
-told_counts contents contexts link h step came (Output.Ticked many wanting) c is = tick_counts (out h) came step many wanting
-told_counts contents contexts link h step came Output.WentBack c is = back_counts (out h) came h step
-told_counts contents contexts link h step came Output.Sent c is = sent_counts (out h) came
-told_counts contents contexts link h step came Output.Unsent c is = over_counts (Counts (out h) came Output.Unsent) (out h) (λ (handed : Handed). LoggedStep.Unsent handed.local) (λ x. refl)
-told_counts contents contexts link h step came Output.NoRoom c is = tt
-told_counts contents contexts link h step came Output.Busy c is = tt
-told_counts contents contexts link h step came Output.Nothing c is = tt
-told_counts contents contexts link h step came output c is = refl
+told_counts tables contexts link h step came (Output.Posted answer components) c is has = message_counts tables contexts link h step came answer components c is
+told_counts tables contexts link h step came (Output.Ticked many wanting) c is has = tick_counts (out h) came step many wanting
+told_counts tables contexts link h step came (Output.Took local position count) c is has = over_counts (Counts (out h) came (Output.Took local position count)) (named h local) (λ d. LoggedStep.Take d position count) (λ d. refl)
+told_counts tables contexts link h step came (Output.Gave local position served given) c is has = over_counts (Counts (out h) came (Output.Gave local position served given)) (named h local) (λ d. LoggedStep.Give d position served given) (λ d. refl)
+told_counts tables contexts link h step came Output.WentBack c is has = back_counts (out h) came h step
+told_counts tables contexts link h step came Output.Sent c is has = sent_counts (out h) came has
+told_counts tables contexts link h step came Output.Unsent c is has = over_counts (Counts (out h) came Output.Unsent) (birth_out h) (λ d. LoggedStep.Unsent d) (λ x. refl)
+told_counts tables contexts link h step came Output.NoRoom c is has = tt
+told_counts tables contexts link h step came Output.Busy c is has = tt
+told_counts tables contexts link h step came Output.Nothing c is has = tt
+told_counts tables contexts link h step came output c is has = refl
 
 -- ALL LINES
 
@@ -76,9 +123,9 @@ lines_next lines h line e =
     same (totals_in (line ∷ lines) (e ∷ h)) (plus (totals_in lines h) (counted line e.came)) refl (omega (arith, served)) (omega (arith, sends))
 
 pub retold_counted : RetoldLinesAreCounted
-retold_counted contents contexts link [] [] k = refl
-retold_counted contents contexts link [] (e ∷ h) k = absurd k
-retold_counted contents contexts link (line ∷ lines) [] k = absurd k
-retold_counted contents contexts link (line ∷ lines) (e ∷ h) (one, rest) =
-    let counts : added h e ≡ counted line e.came = subst (λ o. IfSome o (Counts (out h) e.came e.output)) one.tells (told_counts contents contexts link h e.step e.came e.output one.came one.answer) in
-    totals_next h e ∙ ap (λ t. plus t (added h e)) (retold_counted contents contexts link lines h rest) ∙ ap (plus (totals_in lines h)) counts ∙ sym (lines_next lines h line e)
+retold_counted tables contexts link [] [] k = refl
+retold_counted tables contexts link [] (e ∷ h) k = absurd k
+retold_counted tables contexts link (line ∷ lines) [] k = absurd k
+retold_counted tables contexts link (line ∷ lines) (e ∷ h) (one, rest) =
+    let counts : added h e ≡ counted line e.came = subst (λ o. IfSome o (Counts (out h) e.came e.output)) one.tells (told_counts tables contexts link h e.step e.came e.output one.came one.answer (all_have link h (retold_answers tables contexts link lines h rest))) in
+    totals_next h e ∙ ap (λ t. plus t (added h e)) (retold_counted tables contexts link lines h rest) ∙ ap (plus (totals_in lines h)) counts ∙ sym (lines_next lines h line e)

@@ -1,61 +1,104 @@
--- What a log tells of a step, by its book, is what the history tells of it.
-use Rattle.fp_steps.proofs.Names.{Bool, ClocksAt, Content, Due, Err, Event, Handed, Holds, IfOk, List, LoggedStep, MakesOf, None, Ok, Option, Output, Parcel, ParcelIs, Prepared, PutsTurnBack, Result, Shelf, Some, Sound, Step, Ticks, Tied, Turn, [], ap, append-nil, arith, back_of, cond, eqb, eqb-true, filter, get, handed, is_idle, length, list_any, map_list, named, nat_cmp-IsAntisymmetric, nat_eq, nat_tests, nil_from_length, not, option_map, out, parcel_local as local_of, positions, refl, same_Some, same_map, sending_of, step_of, subst, sym, told, told_back, told_by, true, turn_of, written, ℕ, ◌++◌, ◌+◌, ◌∙◌, ◌≡◌, known_turn}
+-- What a book logs of a step, and what the history tells of it.
+use Rattle.fp_steps.proofs.Names.{LAST_INDEX, cond_some, nat_le, placed, ⊤, first_step, option_to_list, Bool, ClocksAt, Content, Due, Err, Event, FramesBorn, IfOk, IsOut, List, LoggedStep, MakesOf, None, Ok, Option, Output, PicksParcel, Posted, Prepared, PutsTurnBack, Result, Row, Sends, Shelf, Some, Sound, Step, Ticks, Tied, Turn, Waiting, [], ap, append-nil, arith, being_sent, birth_out, birth_picked, birth_under, cases_Bool, cond, eqb, eqb-true, false, filter, followed_log, get, handed, is_idle, is_written, known_turn, length, list_any, local_if_out, local_of, log_with, logged, map_list, named, nat_cmp-IsAntisymmetric, nat_eq, nat_lt, nat_tests, nil_from_length, not, option_map, option_map_or, out, parcel_birth, parcel_local, positions, posted_line, refl, same_Some, same_map, step_of, subst, sym, tick_in, told, told_back, told_from, told_message, told_tick, true, unsent_frames, written, ℕ, ⊎_elim, ◌++◌, ◌+◌, ◌∙◌, ◌∷◌, ◌≡◌}
 use Rattle.std.specs.Cmp.{nat_cmp_total}
 use Rattle.fp_book.specs.Log as book
-use Rattle.fp_steps.proofs.HeldDialogues.{Held, count_tied, held_of}
+use Rattle.fp_steps.proofs.Cases.{Cases, IsPost, by_made}
+use Rattle.fp_steps.proofs.HeldDialogues.{Held, count_tied, held_of, not_abort}
 use Rattle.fp_steps.proofs.StepAnswers.{sent_out}
+use Rattle.fp_steps.proofs.TieAtParcels.{held, out_there}
 use Rattle.fp_steps.proofs.TieAtTurns.{place_of}
-use Rattle.fp_steps.proofs.TokensKept.{found}
 
 -- what holds of a value holds of it with more
 pub if_ok : {T E : Type 0} → (P Q : T → Type 0) (r : Result T E) → ((x : T) → P x → Q x) → IfOk r P → IfOk r Q
 if_ok P Q (Ok x) more p = more x p
 if_ok P Q (Err e) more p = tt
 
--- what is told of a step, by the book before it
-abbrev back_on : Shelf → Step → Option LoggedStep
-back_on s (Step.PutBack local) = option_map (λ (turn : Turn). LoggedStep.PutBack local turn.position) (turn_of (get s.rows local))
-back_on s _ = None
+-- the line that was taken out of a log is its first
+pub line_from : (log : List LoggedStep) (step : Step) (output : Output) {first line : Option LoggedStep} → first ≡ first_step log → line ≡ told_from (option_to_list first) step output → line ≡ told_from log step output
+line_from [] step output is line_is = line_is ∙ ap (λ o. told_from (option_to_list o) step output) is
+line_from (one ∷ log) step output is line_is = line_is ∙ ap (λ o. told_from (option_to_list o) step output) is
 
-abbrev pub told_on : Shelf → Step → Output → Option LoggedStep
-told_on s step output = told_by (back_on s step) (option_map local_of s.outbox.out) step output
+-- nothing but the log changes
+pub rest_then : (a b c : Shelf) → b ≡ record a { log = b.log } → c ≡ record b { log = c.log } → c ≡ record a { log = c.log }
+rest_then a b c first second = second ∙ ap (λ (s : Shelf). record s { log = c.log }) first
 
--- so by the turns and the parcel that are kept
-back_kept : {turns : List Turn} {parcel : Option Parcel} {s : Shelf} (step : Step) → Holds turns parcel s → back_of turns step ≡ back_on s step
-back_kept {turns} {s} (Step.PutBack local) k = found (λ (t : Turn). eqb t.local local) turns (turn_of (get s.rows local)) (λ (t : Turn). t.position) (λ place. LoggedStep.PutBack local place) (k.turns_are local)
-back_kept step k = refl
+-- BIRTHS
 
-sending_kept : (parcel : Option Parcel) (s : Shelf) → ParcelIs parcel s → sending_of parcel ≡ option_map local_of s.outbox.out
-sending_kept None s is = sym (ap (option_map local_of) is)
-sending_kept (Some parcel) s is = sym (ap (option_map local_of) is.1)
+-- of a frame that waits or is out
+frame_birth : {h : List Event} {s : Shelf} (w : Waiting) (rest : List Waiting) (row : Row) → Tied h s → Sound s → get s.rows w.local ≡ Some row → unsent_frames s.outbox ≡ w ∷ rest → birth_under w.local (named h w.local) ≡ w.birth
+frame_birth {h} {s} w rest row t k was first =
+    let born : FramesBorn w.local row.birth (w ∷ rest) = subst (FramesBorn w.local row.birth) first (k.own w.local row was).frames_born in
+    ap (λ b. cond {A = ℕ} b 0 (option_map_or (λ d. d) (named h w.local) 0)) (not_abort w.local row t was) ∙ ap (λ o. option_map_or (λ (d : ℕ). d) o 0) (t.names w.local row was) ∙ sym (born.0 refl)
 
-pub told_kept : {turns : List Turn} (seen : List Turn) {parcel : Option Parcel} {book : Shelf} (old : Shelf) (step : Step) (output : Output) (back line : Option LoggedStep) (sending : Option ℕ) → Holds turns parcel book → book ≡ old → seen ≡ turns
-    → back ≡ back_of seen step → sending ≡ sending_of parcel → line ≡ told_by back sending step output → line ≡ told_on old step output
-told_kept seen {parcel} {book} old step output back line sending k same is back_is sending_is line_is =
-    line_is ∙ (λ i. told_by ((back_is ∙ ap (λ ts. back_of ts step) is ∙ back_kept step k) i) ((sending_is ∙ sending_kept parcel book k.parcel_is) i) step output)
-    ∙ ap (λ s. told_on s step output) same
+-- of what is out
+pub out_birth : {h : List Event} {s : Shelf} (content : Content) → Tied h s → Sound s → s.outbox.out ≡ Some content → birth_out h ≡ Some (parcel_birth content)
+out_birth {h} {s} (Content.Abort frame) t k is = ap (option_map (λ o. birth_under o.local o.dialogue)) (t.is_out ∙ ap (option_map (handed h)) is)
+out_birth {h} {s} (Content.Frame w) t k is =
+    let there = out_there w k is in
+    ap (option_map (λ o. birth_under o.local o.dialogue)) (t.is_out ∙ ap (option_map (handed h)) is)
+    ∙ ap Some (frame_birth w s.outbox.frames there.0 t k there.1 (ap (λ o. being_sent o ++ s.outbox.frames) is))
+
+-- of what is picked
+pub picked_birth : {h : List Event} {s new : Shelf} (content : Content) → Tied h s → Sound s → PicksParcel s content new → birth_under (parcel_local content) (named h (parcel_local content)) ≡ parcel_birth content
+picked_birth (Content.Abort frame) t k g = refl
+picked_birth {h} {s} (Content.Frame w) t k g =
+    let there = held w g.rest.frames k g.next.2 in
+    frame_birth w g.rest.frames there.0 t k there.1 (ap (λ o. being_sent o ++ s.outbox.frames) g.none_out ∙ g.next.2)
+
+-- THE LINES OF A BOOK
+
+-- of what was out
+pub sent_line : (s : Shelf) (content : Content) (after : Shelf) → Sends s content after → after.log ≡ book.logged s.log (LoggedStep.Sent (parcel_birth content))
+sent_line s (Content.Abort frame) after g = ap (λ (s : Shelf). s.log) g.new_is
+sent_line s (Content.Frame w) after g = ap (λ (s : Shelf). s.log) g.new_is
 
 -- the turn that is out is the one that goes back
-back_there : {s new : Shelf} {turn : Turn} → PutsTurnBack s turn new → back_on s (Step.PutBack turn.local) ≡ Some (LoggedStep.PutBack turn.local turn.position)
-back_there {turn} g = ap (λ o. option_map (λ (t : Turn). LoggedStep.PutBack turn.local t.position) (turn_of o)) g.was ∙ ap (option_map (λ (t : Turn). LoggedStep.PutBack turn.local t.position)) g.puts.was_out
-
-pub back_told : {h : List Event} {s new : Shelf} {turn : Turn} → Tied h s → Sound s → PutsTurnBack s turn new → Some (LoggedStep.PutBack turn.local turn.position) ≡ told_back h (Step.PutBack turn.local)
-back_told {h} {turn} t k g =
+pub back_told : {h : List Event} {s new : Shelf} {turn : Turn} → Tied h s → (g : PutsTurnBack s turn new) → Some (LoggedStep.PutBack g.before.birth turn.position) ≡ told_back h (Step.PutBack turn.local)
+back_told {h} {turn} t g =
     let l = turn.local in let b = g.before.birth in
-    let held : Held h l b g.before = held_of l g.before t k g.was in
+    let held : Held h l b g.before = held_of l g.before t g.was in
     let place : length (positions h b) ≡ turn.position = count_tied held.tied ∙ place_of (known_turn g.before turn g.puts.was_out) in
-    sym (ap (option_map (λ d. LoggedStep.PutBack l (length (positions h d)))) held.name ∙ ap (λ n. Some (LoggedStep.PutBack l n)) place)
+    sym (ap (option_map (λ d. LoggedStep.PutBack d (length (positions h d)))) held.name ∙ ap (λ n. Some (LoggedStep.PutBack b n)) place)
 
--- what is out is what was handed out
-out_by : (h : List Event) (o : Option Content) (of : ℕ → LoggedStep) → option_map of (option_map local_of o) ≡ option_map (λ (x : Handed). of x.local) (option_map (handed h) o)
-out_by h None of = refl
-out_by h (Some content) of = refl
+-- what the log that was empty has of a step is told, or it is a tick at which no dialogue was due
 
-pub line_is : {h : List Event} (step : Step) (came : Option Prepared) (output : Output) {s : Shelf} (new : Shelf) → Tied h s → Sound s → MakesOf step came output s new → told_on s step output ≡ told h step output
-line_is {h} (Step.PutBack local) came Output.WentBack {s} new t k (turn, is, g) = subst (λ l. back_on s (Step.PutBack l) ≡ told_back h (Step.PutBack l)) is (back_there g ∙ back_told t k g)
-line_is {h} step came Output.Sent {s} new t k g = out_by h s.outbox.out (λ l. LoggedStep.Sent l) ∙ ap (option_map (λ (o : Handed). LoggedStep.Sent o.local)) (sym t.is_out)
-line_is {h} step came Output.Unsent {s} new t k g = out_by h s.outbox.out (λ l. LoggedStep.Unsent l) ∙ ap (option_map (λ (o : Handed). LoggedStep.Unsent o.local)) (sym t.is_out)
-line_is step came output new t k g = refl
+abbrev log_after : Option LoggedStep → List LoggedStep
+log_after o = log_with [] o
+
+over_from : {X : Type 0} → (o : Option X) (of : X → LoggedStep) (step : Step) (output : Output) → ((x : X) → is_written (of x) ≡ true) → ((x : X) → placed step (of x) ≡ of x) → tick_in step output ≡ None
+    → told_from (log_after (written (option_map of o))) step output ≡ option_map of o
+over_from None of step output all same none = none
+over_from (Some x) of step output all same none = ap (λ b. told_from (log_after (cond b (Some (of x)) None)) step output) (all x) ∙ ap Some (same x)
+
+tick_by : (b : Bool) (line : LoggedStep) (step : Step) (output : Output) → placed step line ≡ line → tick_in step output ≡ Some line → told_from (log_after (cond b (Some line) None)) step output ≡ Some line
+tick_by true line step output same is = ap Some same
+tick_by false line step output same is = is
+
+tick_from : (step : Step) (added wanting : ℕ) → told_from (log_after (written (told_tick step added wanting))) step (Output.Ticked added wanting) ≡ told_tick step added wanting
+tick_from (Step.Tick moment) added wanting = tick_by (not (nat_eq (added + wanting) 0)) (LoggedStep.Tick moment added wanting) (Step.Tick moment) (Output.Ticked added wanting) refl refl
+tick_from step added wanting = refl
+
+back_from : (h : List Event) (step : Step) → told_from (log_after (written (told_back h step))) step Output.WentBack ≡ told_back h step
+back_from h (Step.PutBack local) = over_from (named h local) (λ d. LoggedStep.PutBack d (length (positions h d))) (Step.PutBack local) Output.WentBack (λ d. refl) (λ d. refl) refl
+back_from h step = refl
+
+-- whether an answer is that of a message
+abbrev pub IsOther : Output → Type 0
+IsOther (Output.Posted answer components) = ⊥
+IsOther output = ⊤
+
+from_written : (h : List Event) (step : Step) (output : Output) → IsOther output → told_from (log_after (written (told h step output))) step output ≡ told h step output
+from_written h step (Output.Posted answer components) other = absurd other
+from_written h step (Output.Ticked added wanting) other = tick_from step added wanting
+from_written h step (Output.Took local position count) other = over_from (named h local) (λ d. LoggedStep.Take d position count) step (Output.Took local position count) (λ d. refl) (λ d. refl) refl
+from_written h step (Output.Gave local position served given) other = over_from (named h local) (λ d. LoggedStep.Give d position served given) step (Output.Gave local position served given) (λ d. refl) (λ d. refl) refl
+from_written h step Output.WentBack other = back_from h step
+from_written h step Output.Sent other = over_from (birth_out h) (λ d. LoggedStep.Sent d) step Output.Sent (λ d. refl) (λ d. refl) refl
+from_written h step Output.Unsent other = over_from (birth_out h) (λ d. LoggedStep.Unsent d) step Output.Unsent (λ d. refl) (λ d. refl) refl
+from_written h step output other = refl
+
+pub from_log : (h : List Event) (step : Step) (output : Output) (before after : List LoggedStep) → IsOther output → before ≡ [] → after ≡ log_with before (logged h step output) → told_from after step output ≡ told h step output
+from_log h step output before after other empty logs = ap (λ log. told_from log step output) (logs ∙ ap (λ log. log_with log (logged h step output)) empty) ∙ from_written h step output other
 
 -- WHAT ISN'T WRITTEN
 
@@ -75,53 +118,108 @@ tick_stays {s} {moment} {added} {wanting} {mid} g none =
     let ready = ap (λ ds. s.ready ++ filter (λ local. is_idle (get s.rows local)) (map_list (λ (d : Due). d.1) ds)) due ∙ append-nil s.ready in
     g.new_is ∙ (λ i. record s { entries = entries i; rows = rows i; ready = ready i; log = cond (none i) s.log (book.logged s.log (LoggedStep.Tick moment added wanting)) })
 
+-- a line that is written
+one_logged : (before after : List LoggedStep) (line : LoggedStep) (step : Step) (output : Output) → before ≡ [] → after ≡ book.logged before line → is_written (placed step line) ≡ true → written (told_from after step output) ≡ None → ⊥
+one_logged before after line step output empty logs is un =
+    let told : told_from after step output ≡ Some (placed step line) = ap (λ log. told_from log step output) (logs ∙ ap (λ log. book.logged log line) empty) in
+    let clash : Some (placed step line) ≡ None = sym (ap written told ∙ ap (λ b. cond b (Some (placed step line)) None) is) ∙ un in cc
+
+posted_written : (step : Step) (p : Prepared) (answer : Posted) → is_written (placed step (posted_line p answer)) ≡ true
+posted_written step (Prepared.Message arrival incoming) answer = refl
+posted_written step (Prepared.Refused arrival fault) answer = refl
+posted_written step (Prepared.Lost arrival) answer = refl
+
+tick_unwritten : {s : Shelf} {moment added wanting : ℕ} {mid : Shelf} → Ticks s moment added wanting mid → s.log ≡ [] → written (told_from mid.log (Step.Tick moment) (Output.Ticked added wanting)) ≡ None → mid ≡ s
+tick_unwritten {s} {moment} {added} {wanting} {mid} g empty un =
+    let line = LoggedStep.Tick moment added wanting in
+    ⊎_elim (λ none. tick_stays g none)
+    (λ some. absurd (one_logged s.log mid.log line (Step.Tick moment) (Output.Ticked added wanting) empty
+    (ap (λ (s : Shelf). s.log) g.new_is ∙ ap (λ b. cond b s.log (book.logged s.log line)) some) (ap not some) un))
+    (cases_Bool (nat_eq (added + wanting) 0))
+
+abbrev Unwritten : Shelf → Shelf → Step → Output → Type 0
+Unwritten s new step output = s.log ≡ [] → written (told_from new.log step output) ≡ None → new ≡ s
+
+unwritten : (came : Option Prepared) (s new : Shelf) → Cases (Unwritten s new) came s new
+unwritten came s new = record {
+  posted = λ step posting p answer components same count g totals empty un. absurd (one_logged s.log new.log (posted_line p answer) step (Output.Posted answer components) empty (followed_log s p answer new g) (posted_written step p answer) un);
+  none_posted = λ step posting none same empty un. same;
+  ticked = λ moment added wanting zero g empty un. tick_unwritten g empty un;
+  took = λ turn g empty un. absurd (one_logged s.log new.log (LoggedStep.Take g.before.birth turn.position (length turn.entries)) Step.Take _ empty (ap (λ (s : Shelf). s.log) g.new_is) refl un);
+  no_room = λ some full same empty un. same;
+  none_taken = λ none same empty un. same;
+  gave = λ done given g empty un. absurd (one_logged s.log new.log (LoggedStep.Give g.before.birth done.turn.position done.served given) _ _ empty (ap (λ (s : Shelf). s.log) g.new_is) refl un);
+  none_given = λ local out same empty un. same;
+  went_back = λ turn g empty un. absurd (one_logged s.log new.log (LoggedStep.PutBack g.before.birth turn.position) _ _ empty (ap (λ (s : Shelf). s.log) g.new_is) refl un);
+  none_back = λ local out same empty un. same;
+  picked = λ content frame octets g empty un. absurd (one_logged s.log new.log (LoggedStep.Pick (parcel_birth content)) _ _ empty (ap (λ (s : Shelf). s.log) g.new_is) refl un);
+  busy = λ some same empty un. same;
+  none_picked = λ none same empty un. same;
+  sent = λ content g empty un. absurd (one_logged s.log new.log (LoggedStep.Sent (parcel_birth content)) _ _ empty (sent_line s content new g) refl un);
+  none_sent = λ none same empty un. same;
+  unsent = λ parcel g empty un. absurd (one_logged s.log new.log (LoggedStep.Unsent (parcel_birth parcel.content)) _ _ empty (ap (λ (s : Shelf). s.log) g.down.new_is) refl un);
+  none_unsent = λ none same empty un. same;
+  down = λ g empty un. absurd (one_logged s.log new.log LoggedStep.Down _ _ empty (ap (λ (s : Shelf). s.log) g.new_is) refl un);
+}
+
 -- what isn't written changed nothing
-pub unwritten_is : (step : Step) (came : Option Prepared) (output : Output) (s new : Shelf) → MakesOf step came output s new → written (told_on s step output) ≡ None → new ≡ s
-unwritten_is (Step.Tick moment) came (Output.Ticked added wanting) s new g un = tick_stays g.1 (none_due (nat_eq (added + wanting) 0) (LoggedStep.Tick moment added wanting) un)
-unwritten_is (Step.PutBack local) came Output.WentBack s new (turn, is, g) un =
-    absurd (let clash : Some (LoggedStep.PutBack turn.local turn.position) ≡ None = sym (ap written (back_there g)) ∙ subst (λ l. written (back_on s (Step.PutBack l)) ≡ None) (sym is) un in cc)
-unwritten_is Step.Sent came Output.Sent s new g un =
-    absurd (let clash : Some (LoggedStep.Sent (local_of g.0)) ≡ None = sym (ap (λ o. written (option_map (λ l. LoggedStep.Sent l) (option_map local_of o))) (sent_out s g.0 new g.1)) ∙ un in cc)
-unwritten_is Step.Unsent came Output.Unsent s new g un =
-    absurd (let clash : Some (LoggedStep.Unsent (local_of g.0.content)) ≡ None = sym (ap (λ o. written (option_map (λ l. LoggedStep.Unsent l) (option_map local_of o))) g.1.was_out) ∙ un in cc)
-unwritten_is Step.Take came Output.NoRoom s new g un = g.2
-unwritten_is Step.Take came Output.Nothing s new g un = g.1
-unwritten_is (Step.Give local) came Output.Nothing s new g un = g.1
-unwritten_is (Step.PutBack local) came Output.Nothing s new g un = g.1
-unwritten_is Step.Pick came Output.Busy s new g un = g.1
-unwritten_is Step.Pick came Output.Nothing s new g un = g.1
-unwritten_is Step.Sent came Output.Nothing s new g un = g.1
-unwritten_is Step.Unsent came Output.Nothing s new g un = g.1
-unwritten_is (Step.Post frame moment) came (Output.Posted answer components) s new g un = absurd (cc)
-unwritten_is (Step.Lost frame moment) came (Output.Posted answer components) s new g un = absurd (cc)
-unwritten_is Step.Take came (Output.Took local position count) s new g un = absurd (cc)
-unwritten_is (Step.Give local) came (Output.Gave l position served given) s new g un = absurd (cc)
-unwritten_is Step.Pick came (Output.Picked local frame) s new g un = absurd (cc)
-unwritten_is Step.Down came Output.Down s new g un = absurd (cc)
-unwritten_is step came output s new g un = absurd g
+pub unwritten_is : (step : Step) (came : Option Prepared) (output : Output) (s new : Shelf) → MakesOf step came output s new → s.log ≡ [] → written (told_from new.log step output) ≡ None → new ≡ s
+unwritten_is step came output s new g = by_made (Unwritten s new) step output (unwritten came s new) g
 
 -- WHICH STEP IS TOLD
 
-step_is : (line other : LoggedStep) (step : Step) → Some other ≡ Some line → step_of other ≡ Some step → step_of line ≡ Some step
-step_is line other step e is = ap step_of (sym (same_Some other line e)) ∙ is
+step_is : (h : List Event) (line other : LoggedStep) (step : Step) → Some other ≡ Some line → step_of h other ≡ Some step → step_of h line ≡ Some step
+step_is h line other step e is = ap (step_of h) (sym (same_Some other line e)) ∙ is
 
-over_step : {X : Type 0} → (o : Option X) (of : X → LoggedStep) (other : LoggedStep) (step : Step) → option_map of o ≡ Some other → ((n : X) → step_of (of n) ≡ Some step) → step_of other ≡ Some step
-over_step None of other step e is = absurd (cc)
-over_step (Some n) of other step e is = step_is other (of n) step e (is n)
+over_step : {X : Type 0} → (h : List Event) (o : Option X) (of : X → LoggedStep) (other : LoggedStep) (step : Step) → option_map of o ≡ Some other → ((n : X) → step_of h (of n) ≡ Some step) → step_of h other ≡ Some step
+over_step h None of other step e is = absurd (cc)
+over_step h (Some n) of other step e is = step_is h other (of n) step e (is n)
+
+message_step : (h : List Event) (step : Step) (answer : Posted) (other : LoggedStep) → told_message step answer ≡ Some other → step_of h other ≡ Some step
+message_step h (Step.Post table frame moment) answer other e =
+    step_is h other (LoggedStep.Post table moment frame answer) (Step.Post table frame moment) (ap Some (cond_some (nat_le table LAST_INDEX) (LoggedStep.Post table moment frame answer) other e).1) refl
+message_step h (Step.Lost frame moment) answer other e = step_is h other (LoggedStep.Lost moment frame answer) (Step.Lost frame moment) e refl
+message_step h step answer other e = absurd (cc)
+
+-- the turn of a dialogue that is out
+out_at : {h : List Event} {s : Shelf} (local : ℕ) (row : Row) (turn : Turn) → Tied h s → get s.rows local ≡ Some row → IsOut row turn → local_if_out h row.birth ≡ Some local
+out_at {h} local row turn t was is =
+    let held : Held h local row.birth row = held_of local row t was in
+    ap (λ b. cond b (Some (local_of h row.birth)) None) (ap (nat_lt 0) held.tied.outs ∙ is.is_out) ∙ ap Some (sym held.place)
+
+abbrev TellsStep : List Event → Step → Output → Type 0
+TellsStep h step output = (other : LoggedStep) → told h step output ≡ Some other → step_of h other ≡ Some step
+
+tells_step : {h : List Event} (came : Option Prepared) {s : Shelf} (new : Shelf) → Tied h s → Cases (TellsStep h) came s new
+tells_step {h} came {s} new t = record {
+  posted = λ step posting p answer components same count g totals other e. message_step h step answer other e;
+  none_posted = λ step posting none same other e. absurd (cc);
+  ticked = λ moment added wanting zero g other e. step_is h other (LoggedStep.Tick moment added wanting) (Step.Tick moment) e refl;
+  took = λ turn g other e. over_step h (named h turn.local) (λ d. LoggedStep.Take d turn.position (length turn.entries)) other Step.Take e (λ n. refl);
+  no_room = λ some full same other e. absurd (cc);
+  none_taken = λ none same other e. absurd (cc);
+  gave = λ done given g other e.
+      let l = done.turn.local in let b = g.before.birth in
+      step_is h other (LoggedStep.Give b done.turn.position done.served given) (Step.Give l)
+      (sym (ap (option_map (λ d. LoggedStep.Give d done.turn.position done.served given)) (t.names l g.before g.was)) ∙ e)
+      (ap (option_map (λ n. Step.Give n)) (out_at l g.before done.turn t g.was (known_turn g.before done.turn g.gives.was_out)));
+  none_given = λ local out same other e. absurd (cc);
+  went_back = λ turn g other e.
+      let l = turn.local in let b = g.before.birth in
+      step_is h other (LoggedStep.PutBack b (length (positions h b))) (Step.PutBack l)
+      (sym (ap (option_map (λ d. LoggedStep.PutBack d (length (positions h d)))) (t.names l g.before g.was)) ∙ e)
+      (ap (option_map (λ n. Step.PutBack n)) (out_at l g.before turn t g.was (known_turn g.before turn g.puts.was_out)));
+  none_back = λ local out same other e. absurd (cc);
+  picked = λ content frame is g other e. step_is h other (LoggedStep.Pick (birth_picked h (parcel_local content))) Step.Pick e refl;
+  busy = λ some same other e. absurd (cc);
+  none_picked = λ none same other e. absurd (cc);
+  sent = λ content g other e. over_step h (birth_out h) (λ d. LoggedStep.Sent d) other Step.Sent e (λ n. refl);
+  none_sent = λ none same other e. absurd (cc);
+  unsent = λ parcel g other e. over_step h (birth_out h) (λ d. LoggedStep.Unsent d) other Step.Unsent e (λ n. refl);
+  none_unsent = λ none same other e. absurd (cc);
+  down = λ g other e. step_is h other LoggedStep.Down Step.Down e refl;
+}
 
 -- the line of a step tells of that step
-pub line_step : (h : List Event) (step : Step) (came : Option Prepared) (output : Output) (old new : Shelf) → MakesOf step came output old new → (other : LoggedStep) → told h step output ≡ Some other → step_of other ≡ Some step
-line_step h (Step.Post frame moment) came (Output.Posted answer components) old new g other e = step_is other (LoggedStep.Post moment frame answer) (Step.Post frame moment) e refl
-line_step h (Step.Lost frame moment) came (Output.Posted answer components) old new g other e = step_is other (LoggedStep.Lost moment frame answer) (Step.Lost frame moment) e refl
-line_step h (Step.Tick moment) came (Output.Ticked added wanting) old new g other e = step_is other (LoggedStep.Tick moment added wanting) (Step.Tick moment) e refl
-line_step h Step.Take came (Output.Took local position count) old new g other e = step_is other (LoggedStep.Take local position count) Step.Take e refl
-line_step h (Step.Give local) came (Output.Gave l position served given) old new g other e = step_is other (LoggedStep.Give l position served given) (Step.Give local) e (ap (λ n. Some (Step.Give n)) g.0)
-line_step h (Step.PutBack local) came Output.WentBack old new g other e = over_step (named h local) (λ d. LoggedStep.PutBack local (length (positions h d))) other (Step.PutBack local) e (λ n. refl)
-line_step h Step.Pick came (Output.Picked local frame) old new g other e = step_is other (LoggedStep.Pick local) Step.Pick e refl
-line_step h Step.Sent came Output.Sent old new g other e = over_step (out h) (λ (o : Handed). LoggedStep.Sent o.local) other Step.Sent e (λ n. refl)
-line_step h Step.Unsent came Output.Unsent old new g other e = over_step (out h) (λ (o : Handed). LoggedStep.Unsent o.local) other Step.Unsent e (λ n. refl)
-line_step h Step.Down came Output.Down old new g other e = step_is other LoggedStep.Down Step.Down e refl
-line_step h step came Output.NoRoom old new g other e = absurd (cc)
-line_step h step came Output.Busy old new g other e = absurd (cc)
-line_step h step came Output.Nothing old new g other e = absurd (cc)
-line_step h step came output old new g other e = absurd g
+pub line_step : {h : List Event} (step : Step) (came : Option Prepared) (output : Output) {old : Shelf} (new : Shelf) → Tied h old → MakesOf step came output old new → (other : LoggedStep) → told h step output ≡ Some other → step_of h other ≡ Some step
+line_step {h} step came output new t g = by_made (TellsStep h) step output (tells_step came new t) g

@@ -1,9 +1,10 @@
 -- What is answered and retold is one.
-use Rattle.fp_steps.proofs.Names.{AllAnswered, AllByRecursion, AnswersAreOne, Arrival, Contents, Event, IsAnswer, IsCame, IsLongestReady, IsLost, IsNext, IsNone, IsPicked, IsPosted, IsReadyBefore, IsTaken, LinesAreRetoldOnce, List, None, Option, Output, Prepared, QueuedFrame, RetellsOne, RunsAreOne, SameAnswers as Answers, SameArrival, SameIncoming, Some, Step, Tid, [], aborts_waiting, ap, arith, cases_Bool, eqb, eqb-true, false, false≢true, is_lost, is_some, length, local_of, map_list as map, octets_of, option_map, out, outputs_of, places, positions, refl, reverse, reverse-reverse, subst, sym, true, waiting, ℕ, ⊎_elim, ◌<◌, ◌∙◌, ◌∷◌, ◌≡◌, ◌≤◌, min, most_entries, unserved, ◌-◌}
+use Rattle.fp_steps.proofs.Names.{AllAnswered, AllByRecursion, AnswersAreOne, Arrival, Contents, Event, IsAnswer, IsCame, IsLongestReady, IsLost, IsNext, IsNone, IsPicked, IsPosted, IsReadBy, IsReadyBefore, IsTaken, LinesAreRetoldOnce, List, None, Option, Output, Prepared, QueuedFrame, RetellsOne, RunsAreOne, SameAnswers as Answers, SameArrival, SameIncoming, Some, Step, Tid, [], aborts_waiting, ap, arith, cases_Bool, eqb, eqb-true, false, false≢true, is_lost, is_some, length, map_list as map, min, most_entries, octets_of, option_map, out, outputs_of, places, positions, refl, reverse, reverse-reverse, subst, sym, table_at, true, unserved, waiting, ℕ, ⊎_elim, ◌-◌, ◌<◌, ◌∙◌, ◌∷◌, ◌≡◌, ◌≤◌}
 use Rattle.fp_entry.specs.Laws.{PreparedIsOne}
 use Rattle.fp_entry.specs.declared.incoming.Incoming.{Incoming}
-use Rattle.fp_steps.proofs.MessageAnswers.{lost_prepared}
+use Rattle.fp_steps.proofs.MessageAnswers.{lost_prepared, no_records}
 use Rattle.fp_steps.proofs.HeldDialogues.{eqb_swap}
+use Rattle.fp_steps.proofs.OpenedDialogues.{same_name}
 
 -- WHAT CAME
 
@@ -17,7 +18,7 @@ one_arrival : {a b : Arrival} → SameArrival a b → a ≡ b
 one_arrival {a} {b} same =
     let orig : a.ids.orig ≡ b.ids.orig = same_option a.ids.orig b.ids.orig same.identifiers.originating in
     let dest : a.ids.dest ≡ b.ids.dest = same_option a.ids.dest b.ids.dest same.identifiers.destination in
-    λ i. record { frame = same.frames i; moment = same.moments i; ids = record { kind = same.identifiers.kinds i; orig = orig i; dest = dest i } }
+    λ i. record { frame = same.frames i; moment = same.moments i; table = same.tables i; ids = record { kind = same.identifiers.kinds i; orig = orig i; dest = dest i } }
 
 one_incoming : {a b : Incoming} → SameIncoming a b → a ≡ b
 one_incoming same = λ i. record { entries = same.entries i; elements = same.elements i }
@@ -41,15 +42,19 @@ no_message None None p q = refl
 no_message None (Some b) p q = absurd q
 no_message (Some a) y p q = absurd p
 
-came_is_one : PreparedIsOne → (contents : Contents) (contexts : List (List ℕ)) (step : Step) (x y : Option Prepared) → IsCame contents contexts step x → IsCame contents contexts step y → x ≡ y
-came_is_one one contents contexts (Step.Post frame moment) None y p q = absurd p
-came_is_one one contents contexts (Step.Post frame moment) (Some a) None p q = absurd q
-came_is_one one contents contexts (Step.Post frame moment) (Some a) (Some b) p q = ap Some (one_read a b p.1 q.1 (one contents contexts frame moment a b p.0 q.0))
-came_is_one one contents contexts (Step.Lost frame moment) None y p q = absurd p
-came_is_one one contents contexts (Step.Lost frame moment) (Some a) None p q = absurd q
-came_is_one one contents contexts (Step.Lost frame moment) (Some a) (Some b) p q =
-    ap Some (one_lost frame moment a b p q (one contents contexts frame moment a b (lost_prepared contents contexts frame moment a p) (lost_prepared contents contexts frame moment b q)))
-came_is_one one contents contexts step x y p q = no_message x y p q
+read_once : PreparedIsOne → (table : Option Contents) (contexts : List (List ℕ)) (octets : List ℕ) (moment : ℕ) (x y : Option Prepared) → IsReadBy table contexts octets moment x → IsReadBy table contexts octets moment y → x ≡ y
+read_once one None contexts octets moment x y p q = no_message x y p q
+read_once one (Some contents) contexts octets moment None y p q = absurd p
+read_once one (Some contents) contexts octets moment (Some a) None p q = absurd q
+read_once one (Some contents) contexts octets moment (Some a) (Some b) p q = ap Some (one_read a b p.1 q.1 (one contents contexts octets moment a b p.0 q.0))
+
+came_is_one : PreparedIsOne → (tables : List Contents) (contexts : List (List ℕ)) (step : Step) (x y : Option Prepared) → IsCame tables contexts step x → IsCame tables contexts step y → x ≡ y
+came_is_one one tables contexts (Step.Post table frame moment) x y p q = read_once one (table_at tables table) contexts frame moment x y p q
+came_is_one one tables contexts (Step.Lost frame moment) None y p q = absurd p
+came_is_one one tables contexts (Step.Lost frame moment) (Some a) None p q = absurd q
+came_is_one one tables contexts (Step.Lost frame moment) (Some a) (Some b) p q =
+    ap Some (one_lost frame moment a b p q (one no_records contexts frame moment a b (lost_prepared contexts frame moment a p) (lost_prepared contexts frame moment b q)))
+came_is_one one tables contexts step x y p q = no_message x y p q
 
 -- ANSWERS
 
@@ -58,11 +63,11 @@ never_both : (h : List Event) (c d : ℕ) → IsReadyBefore h c d → IsReadyBef
 never_both h c d a b = grind arith
 
 one_longest : {h : List Event} {l p n m q k : ℕ} → IsLongestReady h l p n → IsLongestReady h m q k → Output.Took l p n ≡ Output.Took m q k
-one_longest {h} a b =
+one_longest {h} {l} {p} {n} {m} a b =
     let same : a.dialogue ≡ b.dialogue = ⊎_elim (λ e. eqb-true a.dialogue b.dialogue e)
     (λ ne. absurd (never_both h b.dialogue a.dialogue (b.longest a.dialogue a.stands ne) (a.longest b.dialogue b.stands (eqb_swap a.dialogue b.dialogue ne))))
     (cases_Bool (eqb a.dialogue b.dialogue)) in
-    let local = a.local_is ∙ ap (local_of h) same ∙ sym b.local_is in
+    let local = same_name h l m a.dialogue a.name (b.name ∙ ap Some (sym same)) in
     let position = a.next ∙ ap (λ d. length (positions h d)) same ∙ sym b.next in
     let count = a.count_is ∙ ap (λ d. min most_entries (min (length (unserved h d)) (8192 - places h))) same ∙ sym b.count_is in
     λ i. Output.Took (local i) (position i) (count i)
@@ -111,52 +116,52 @@ one_picked h Output.Nothing y a b = absurd b
 one_picked h x y a b = absurd a
 
 one_posted : (link : ℕ) (h : List Event) (came : Option Prepared) (x y : Output) → IsPosted link h came x → IsPosted link h came y → x ≡ y
-one_posted link h None x y a b = absurd a
+one_posted link h None x y a b = a ∙ sym b
 one_posted link h (Some came) x y a b = a ∙ sym b
 
 one_answer : (link : ℕ) (h : List Event) (step : Step) (came : Option Prepared) (x y : Output) → IsAnswer link h step came x → IsAnswer link h step came y → x ≡ y
-one_answer link h (Step.Post frame moment) came x y a b = one_posted link h came x y a b
+one_answer link h (Step.Post table frame moment) came x y a b = one_posted link h came x y a b
 one_answer link h (Step.Lost frame moment) came x y a b = one_posted link h came x y a b
 one_answer link h Step.Take came x y a b = one_taken h x y a b
 one_answer link h Step.Pick came x y a b = one_picked h x y a b
 one_answer link h step came x y a b = a ∙ sym b
 
 pub answers_one : PreparedIsOne → AnswersAreOne
-answers_one one contents contexts link h step came other x y p q a b =
-    let same : other ≡ came = came_is_one one contents contexts step other came q p in
+answers_one one tables contexts link h step came other x y p q a b =
+    let same : other ≡ came = came_is_one one tables contexts step other came q p in
     one_answer link h step came x y a (subst (λ o. IsAnswer link h step o y) same b)
 
 -- HISTORIES
 
 -- an event is one by its step
-one_event : PreparedIsOne → (contents : Contents) (contexts : List (List ℕ)) (link : ℕ) (h : List Event) (e f : Event) → e.step ≡ f.step → IsCame contents contexts e.step e.came → IsCame contents contexts f.step f.came
+one_event : PreparedIsOne → (tables : List Contents) (contexts : List (List ℕ)) (link : ℕ) (h : List Event) (e f : Event) → e.step ≡ f.step → IsCame tables contexts e.step e.came → IsCame tables contexts f.step f.came
     → IsAnswer link h e.step e.came e.output → IsAnswer link h f.step f.came f.output → e ≡ f
-one_event one contents contexts link h e f same p q a b =
-    let came_then : IsCame contents contexts e.step f.came = subst (λ s. IsCame contents contexts s f.came) (sym same) q in
+one_event one tables contexts link h e f same p q a b =
+    let came_then : IsCame tables contexts e.step f.came = subst (λ s. IsCame tables contexts s f.came) (sym same) q in
     let answer_then : IsAnswer link h e.step f.came f.output = subst (λ s. IsAnswer link h s f.came f.output) (sym same) b in
     λ i. record {
       step = same i;
-      came = came_is_one one contents contexts e.step e.came f.came p came_then i;
-      output = answers_one one contents contexts link h e.step e.came f.came e.output f.output p came_then a answer_then i;
+      came = came_is_one one tables contexts e.step e.came f.came p came_then i;
+      output = answers_one one tables contexts link h e.step e.came f.came e.output f.output p came_then a answer_then i;
     }
 
 -- a history is one by its steps
-one_history : PreparedIsOne → (contents : Contents) (contexts : List (List ℕ)) (link : ℕ) (g h : List Event) → map (λ (e : Event). e.step) g ≡ map (λ (e : Event). e.step) h
-    → AllByRecursion (λ (e : Event). IsCame contents contexts e.step e.came) g → AllByRecursion (λ (e : Event). IsCame contents contexts e.step e.came) h → AllAnswered link g → AllAnswered link h → g ≡ h
-one_history one contents contexts link [] [] same p q a b = refl
-one_history one contents contexts link [] (f ∷ h) same p q a b = absurd (let clash : [] ≡ f.step ∷ map (λ (e : Event). e.step) h = same in cc)
-one_history one contents contexts link (e ∷ g) [] same p q a b = absurd (let clash : e.step ∷ map (λ (e : Event). e.step) g ≡ [] = same in cc)
-one_history one contents contexts link (e ∷ g) (f ∷ h) same p q a b =
+one_history : PreparedIsOne → (tables : List Contents) (contexts : List (List ℕ)) (link : ℕ) (g h : List Event) → map (λ (e : Event). e.step) g ≡ map (λ (e : Event). e.step) h
+    → AllByRecursion (λ (e : Event). IsCame tables contexts e.step e.came) g → AllByRecursion (λ (e : Event). IsCame tables contexts e.step e.came) h → AllAnswered link g → AllAnswered link h → g ≡ h
+one_history one tables contexts link [] [] same p q a b = refl
+one_history one tables contexts link [] (f ∷ h) same p q a b = absurd (let clash : [] ≡ f.step ∷ map (λ (e : Event). e.step) h = same in cc)
+one_history one tables contexts link (e ∷ g) [] same p q a b = absurd (let clash : e.step ∷ map (λ (e : Event). e.step) g ≡ [] = same in cc)
+one_history one tables contexts link (e ∷ g) (f ∷ h) same p q a b =
     let all : e.step ∷ map (λ (e : Event). e.step) g ≡ f.step ∷ map (λ (e : Event). e.step) h = same in
     let first : e.step ≡ f.step = cc in
     let others : map (λ (e : Event). e.step) g ≡ map (λ (e : Event). e.step) h = cc in
-    let rest : g ≡ h = one_history one contents contexts link g h others p.1 q.1 a.1 b.1 in
-    ap (λ x. x ∷ g) (one_event one contents contexts link g e f first p.0 q.0 a.0 (subst (λ k. IsAnswer link k f.step f.came f.output) (sym rest) b.0)) ∙ ap (λ k. f ∷ k) rest
+    let rest : g ≡ h = one_history one tables contexts link g h others p.1 q.1 a.1 b.1 in
+    ap (λ x. x ∷ g) (one_event one tables contexts link g e f first p.0 q.0 a.0 (subst (λ k. IsAnswer link k f.step f.came f.output) (sym rest) b.0)) ∙ ap (λ k. f ∷ k) rest
 
 pub runs_one : PreparedIsOne → RunsAreOne
-runs_one one contents contexts link steps outputs others r t =
+runs_one one tables contexts link steps outputs others r t =
     let forth = λ (h : List Event). reverse-reverse (map (λ (e : Event). e.step) h) in
-    let same : r.history ≡ t.history = one_history one contents contexts link r.history t.history
+    let same : r.history ≡ t.history = one_history one tables contexts link r.history t.history
     (sym (forth r.history) ∙ ap reverse (r.tells.steps_are ∙ sym t.tells.steps_are) ∙ forth t.history)
     r.tells.messages t.tells.messages r.answers t.answers in
     (sym r.tells.outputs_are ∙ ap outputs_of same ∙ t.tells.outputs_are, same)
@@ -164,12 +169,12 @@ runs_one one contents contexts link steps outputs others r t =
 -- WHAT IS RETOLD
 
 pub retold_once : PreparedIsOne → LinesAreRetoldOnce
-retold_once one contents contexts link [] [] [] a b = refl
-retold_once one contents contexts link (line ∷ lines) (e ∷ g) (f ∷ h) (a, r) (b, t) =
-    let rest : h ≡ g = retold_once one contents contexts link lines h g t r in
-    let then : RetellsOne contents contexts link line g f = subst (λ k. RetellsOne contents contexts link line k f) rest b in
-    let both : Some e.step ≡ Some f.step = sym a.step ∙ b.step in let same : e.step ≡ f.step = cc in
-    ap (λ x. x ∷ g) (one_event one contents contexts link g e f same a.came b.came a.answer then.answer) ∙ ap (λ k. f ∷ k) (sym rest)
-retold_once one contents contexts link [] (e ∷ g) h a b = absurd a
-retold_once one contents contexts link (line ∷ lines) [] h a b = absurd a
-retold_once one contents contexts link lines g h a b = absurd b
+retold_once one tables contexts link [] [] [] a b = refl
+retold_once one tables contexts link (line ∷ lines) (e ∷ g) (f ∷ h) (a, r) (b, t) =
+    let rest : h ≡ g = retold_once one tables contexts link lines h g t r in
+    let then : RetellsOne tables contexts link line g f = subst (λ k. RetellsOne tables contexts link line k f) rest b in
+    let both : Some e.step ≡ Some f.step = sym a.step ∙ then.step in let same : e.step ≡ f.step = cc in
+    ap (λ x. x ∷ g) (one_event one tables contexts link g e f same a.came b.came a.answer then.answer) ∙ ap (λ k. f ∷ k) (sym rest)
+retold_once one tables contexts link [] (e ∷ g) h a b = absurd a
+retold_once one tables contexts link (line ∷ lines) [] h a b = absurd a
+retold_once one tables contexts link lines g h a b = absurd b

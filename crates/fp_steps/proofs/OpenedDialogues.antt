@@ -1,72 +1,24 @@
 -- Which dialogue an identifier names, and of which a turn may be out, by the answers of a history.
-use Rattle.fp_steps.proofs.Names.{AbortCause, AllAnswered, AllByRecursion, Beginning, Bool, Event, IsAnswer, IsLongestReady, List, None, Opened, OpenedTo, Option, Output, Posted, Prepared, Some, Step, Tid, [], abort_for, aborts_waiting, addressee, answer_by, answer_to, answers_by, ap, arith, arrival_of, beginning_after, begun, births, births_after, cond, cond_both, entries_in, entry_count, eqb, eqb-true, false, false≢true, first_answer, gave, going_on, held, identifier, if_out, inl, inr, is_down, is_none, is_one, length, local_of, named, named_after, nat_tests, opened_in, option_map_or, out, put_back, refl, subst, sym, true, turn_out, ℕ, ⊎_elim, ⊤, ◌+◌, ◌<◌, ◌∙◌, ◌∷◌, ◌≡◌, ◌≤◌, ◌⊎◌, count_after, count_out, nat_lt, unserved_of}
+use Rattle.fp_steps.proofs.Names.{IsNext, aborts_waiting, waiting, Beginning, Bool, Event, IsAnswer, IsLongestReady, List, None, Opened, OpenedTo, Option, Output, Prepared, Some, Step, [], ap, arith, arrival_of, began_with, beginning, beginning_after, births, births_after, cases_Bool, cond, cond_both, eq-eqb, eqb, eqb-true, false, false≢true, gave, if_out, inl, inr, is_one, local_of, named, named_after, nat_lt, nat_tests, ne_eqb, opened_in, out, put_back, refl, same_Some, sender_of, subst, sym, true, turn_out, ℕ, ⊎_elim, ⊤, ◌+◌, ◌<◌, ◌∙◌, ◌∷◌, ◌≡◌, ◌≤◌, ◌⊎◌}
 use Rattle.fp_steps.proofs.Cases.{IsPost}
 use Rattle.fp_steps.proofs.HeldDialogues.{by_option}
 
--- WHICH IDENTIFIER IS GIVEN
-
--- an answer opens no dialogue, or one with this identifier
-abbrev OpensOnly : ℕ → Posted → Type 0
-OpensOnly next answer = (local : ℕ) → answer ≡ Posted.Opened local → local ≡ next
-
-opens_if : (next : ℕ) (b : Bool) (x y : Posted) → OpensOnly next x → OpensOnly next y → OpensOnly next (cond b x y)
-opens_if next true x y p q = p
-opens_if next false x y p q = q
-
-discards : (next : ℕ) → OpensOnly next Posted.Discarded
-discards next local e = absurd (cc)
-
-accepts : (next count : ℕ) → OpensOnly next (Posted.Accepted count)
-accepts next count local e = absurd (cc)
-
-refuses : (next : ℕ) (abort : Option (Tid × AbortCause)) (b : Bool) → OpensOnly next (answer_by abort b)
-refuses next None true local e = absurd (cc)
-refuses next None false local e = absurd (cc)
-refuses next (Some (peer, cause)) b local e = absurd (cc)
-
-begins : (next : ℕ) (o : Option Tid) → OpensOnly next (option_map_or (λ (peer : Tid). Posted.Opened next) o Posted.Discarded)
-begins next None local e = absurd (cc)
-begins next (Some peer) local e = let same : next ≡ local = cc in sym same
-
-first_opens : (next : ℕ) (lines : List (Bool × Posted)) → AllByRecursion (λ (line : Bool × Posted). OpensOnly next line.1) lines → OpensOnly next (first_answer lines)
-first_opens next [] all = discards next
-first_opens next (line ∷ lines) (one, all) = opens_if next line.0 line.1 (first_answer lines) one (first_opens next lines all)
-
-also : {P Q : Type 0} → P → Q → P × Q
-also p q = (p, q)
-
--- a message opens no dialogue but the next one
-pub opens : (link : ℕ) (h : List Event) (came : Prepared) → OpensOnly (identifier link (births h + 1)) (answer_to link h came)
-opens link h came =
-    let next = identifier link (births h + 1) in let kind = (arrival_of came).ids.kind in
-    let orig = (arrival_of came).ids.orig in let waiting = length (aborts_waiting h) in
-    let names_none = is_none (addressee h came) in let none = discards next in
-    let refused : (named : Option AbortCause) (b : Bool) → OpensOnly next (answer_by (abort_for waiting named orig) b) = λ named b. refuses next (abort_for waiting named orig) b in
-    let goes_on : (b : Bool) (count : ℕ) → OpensOnly next (cond b Posted.Discarded (Posted.Accepted count)) = λ b count. opens_if next b Posted.Discarded (Posted.Accepted count) none (accepts next count) in
-    let anew = is_none (going_on kind (addressee h came)) in let count = length (entries_in came) in
-    first_opens next (answers_by (is_down h) waiting names_none anew (unserved_of h (going_on kind (addressee h came))) (entry_count h) (held h) (births h) (begun link h came) came kind)
-    (also none (also none
-    (also (refused (Some AbortCause.ResourceLimitation) true) (also (refused (Some AbortCause.UnrecognizedTransactionIdentifier) true)
-    (also (refused (Some AbortCause.ResourceLimitation) names_none) (also (refused None names_none)
-    (also (refused (Some AbortCause.UnrecognizedMessageType) names_none) (also (refused (Some AbortCause.BadlyFormattedTransactionPortion) names_none)
-    (also (refused (Some AbortCause.UnrecognizedTransactionIdentifier) true) (also none
-    (also (refused (Some AbortCause.ResourceLimitation) anew)
-    (also (begins next orig) (also (goes_on names_none count) (also (goes_on names_none count) tt))))))))))))))
-
 -- WHICH ANSWERS A STEP HAS
 
--- which step has which answer: a message alone is posted, and a turn is taken at a Take
+-- which step has which answer: a message alone is posted, a turn is taken at a Take, and a parcel picked at a Pick
 abbrev Fits : Output → Step → Type 0
 Fits (Output.Posted answer components) step = IsPost step
+Fits (Output.Picked local octets) Step.Pick = ⊤
+Fits (Output.Picked local octets) step = ⊥
 Fits (Output.Took local position count) Step.Take = ⊤
 Fits (Output.Took local position count) step = ⊥
 Fits output step = ⊤
 
 fits : (link : ℕ) (h : List Event) (step : Step) (came : Option Prepared) (output : Output) → IsAnswer link h step came output → Fits output step
-fits link h (Step.Post frame moment) (Some came) output is = subst (λ o. Fits o (Step.Post frame moment)) (sym is) tt
+fits link h (Step.Post table frame moment) (Some came) output is = subst (λ o. Fits o (Step.Post table frame moment)) (sym is) tt
 fits link h (Step.Lost frame moment) (Some came) output is = subst (λ o. Fits o (Step.Lost frame moment)) (sym is) tt
-fits link h (Step.Post frame moment) None output is = absurd is
-fits link h (Step.Lost frame moment) None output is = absurd is
+fits link h (Step.Post table frame moment) None output is = subst (λ o. Fits o (Step.Post table frame moment)) (sym is) tt
+fits link h (Step.Lost frame moment) None output is = subst (λ o. Fits o (Step.Lost frame moment)) (sym is) tt
 fits link h (Step.Tick moment) came output is = subst (λ o. Fits o (Step.Tick moment)) (sym is) tt
 fits link h (Step.Give lo) came output is = subst (λ o. Fits o (Step.Give lo)) (sym is)
     (by_option (λ o. Fits (gave h lo o) (Step.Give lo)) (named h lo) (λ name. tt) (λ d name. cond_both (turn_out h d) _ _ (λ o. Fits o (Step.Give lo)) (λ e. tt) (λ e. tt)))
@@ -77,27 +29,24 @@ fits link h Step.Unsent came output is = subst (λ o. Fits o Step.Unsent) (sym i
 fits link h Step.Down came output is = subst (λ o. Fits o Step.Down) (sym is) tt
 fits link h step came (Output.Posted answer components) is = absurd is
 fits link h Step.Pick came (Output.Took local position count) is = absurd is
+fits link h Step.Take came (Output.Picked local octets) is = absurd is
 fits link h step came output is = tt
 
--- an event opens no dialogue, or the one with the next birth, for a message
-abbrev pub OpensNext : ℕ → ℕ → Option ℕ → Option Prepared → Type 0
-OpensNext link n None came = ⊤
-OpensNext link n (Some local) None = ⊥
-OpensNext link n (Some local) (Some came) = local ≡ identifier link (n + 1)
-
--- a message is answered by the lines
-opened_next : (link : ℕ) (h : List Event) (step : Step) (came : Option Prepared) (local components : ℕ)
-    → IsAnswer link h step came (Output.Posted (Posted.Opened local) components) → OpensNext link (births h) (Some local) came
-opened_next link h (Step.Post frame moment) (Some came) local components is = let so : Posted.Opened local ≡ answer_to link h came = cc in opens link h came local (sym so)
-opened_next link h (Step.Lost frame moment) (Some came) local components is = let so : Posted.Opened local ≡ answer_to link h came = cc in opens link h came local (sym so)
-opened_next link h (Step.Post frame moment) None local components is = absurd is
-opened_next link h (Step.Lost frame moment) None local components is = absurd is
-opened_next link h step came local components is = absurd (fits link h step came (Output.Posted (Posted.Opened local) components) is)
+-- an event opens no dialogue, or one for a message, and not with the identifier of an Abort of the provider
+abbrev pub OpensNext : Option ℕ → Option Prepared → Type 0
+OpensNext None came = ⊤
+OpensNext (Some local) None = ⊥
+OpensNext (Some local) (Some came) = 0 < local
 
 -- a turn is taken for the dialogue that has been ready longest
 pub took_is : (link : ℕ) (h : List Event) (step : Step) (came : Option Prepared) (local position count : ℕ) → IsAnswer link h step came (Output.Took local position count) → IsLongestReady h local position count
 took_is link h Step.Take came local position count is = is.0
 took_is link h step came local position count is = absurd (fits link h step came (Output.Took local position count) is)
+
+-- and a parcel is picked that is next
+pub picked_is : (link : ℕ) (h : List Event) (step : Step) (came : Option Prepared) (local : ℕ) (octets : List ℕ) → IsAnswer link h step came (Output.Picked local octets) → IsNext h (aborts_waiting h) (waiting h) local octets
+picked_is link h Step.Pick came local octets is = is.1
+picked_is link h step came local octets is = absurd (fits link h step came (Output.Picked local octets) is)
 
 -- THE DIALOGUES THAT WERE OPENED
 
@@ -106,25 +55,65 @@ the_one None d e = absurd (false≢true e)
 the_one (Some x) d e = ap Some (sym (eqb-true d x e))
 
 -- those that are opened then
-pub opened_after : {link n : ℕ} {naming : ℕ → Option ℕ} {began : ℕ → Option Beginning} (o : Option ℕ) (came : Option Prepared) → OpenedTo link n naming began → OpensNext link n o came
-    → OpenedTo link (births_after o n) (λ local. named_after o (n + 1) (naming local) local) (λ d. beginning_after o came (eqb d (n + 1)) (began d))
+pub opened_after : {n : ℕ} {naming : ℕ → Option ℕ} {began : ℕ → Option Beginning} (o : Option ℕ) (came : Option Prepared) → OpenedTo n naming began → OpensNext o came
+    → OpenedTo (births_after o n) (λ local. named_after o (n + 1) (naming local) local) (λ d. beginning_after o came (eqb d (n + 1)) (began d))
 opened_after None came g is = g
 opened_after (Some l) None g is = absurd is
 opened_after (Some l) (Some came) g is = record {
   begins = λ d b at. grind (arith, nat_tests, g.begins d b);
-  locals = λ d first last. grind (arith, nat_tests, g.locals d first);
+  not_zero = λ d first last. grind (arith, nat_tests, g.not_zero d first);
   names = λ local d at. grind (arith, nat_tests, g.names local d);
-  are_named = λ d first last. grind (arith, nat_tests, g.locals d first, g.are_named d first);
 }
 
-opens_next : (link : ℕ) (h : List Event) (step : Step) (came : Option Prepared) (output : Output) → IsAnswer link h step came output → OpensNext link (births h) (opened_in output) came
-opens_next link h step came (Output.Posted (Posted.Opened n) components) is = opened_next link h step came n components is
-opens_next link h step came output is = tt
+-- none is opened yet
+pub opened_none : Opened []
+opened_none = record { begins = λ d b is. absurd (cc); not_zero = λ d first last. absurd (omega (arith, first, last)); names = λ local d is. absurd (cc) }
 
-pub all_opened : (link : ℕ) (h : List Event) → AllAnswered link h → Opened link h
-all_opened link [] all =
-    record { begins = λ d b is. absurd (cc); locals = λ d first last. absurd (omega (arith, first, last)); names = λ local d is. absurd (cc); are_named = λ d first last. absurd (omega (arith, first, last)) }
-all_opened link (e ∷ h) (is, all) = opened_after (opened_in e.output) e.came (all_opened link h all) (opens_next link h e.step e.came e.output is)
+-- WHAT IDENTIFIERS NAME, IN EACH HISTORY
+
+-- one that was opened
+born_then : (o : Option ℕ) (n local d : ℕ) (naming : Option ℕ) → (naming ≡ Some d → d ≤ n) → named_after o (n + 1) naming local ≡ Some d → d ≤ births_after o n
+born_then None n local d naming before is = before is
+born_then (Some l) n local d naming before is = grind (arith, nat_tests, before)
+
+pub named_born : (h : List Event) (local d : ℕ) → named h local ≡ Some d → d ≤ births h
+named_born [] local d is = absurd (cc)
+named_born (e ∷ h) local d is = born_then (opened_in e.output) (births h) local d (named h local) (named_born h local d) is
+
+-- no two identifiers name one dialogue
+one_then : (o : Option ℕ) (n l m d : ℕ) (at_l at_m : Option ℕ) → (at_l ≡ Some d → d ≤ n) → (at_m ≡ Some d → d ≤ n) → (at_l ≡ Some d → at_m ≡ Some d → l ≡ m)
+    → named_after o (n + 1) at_l l ≡ Some d → named_after o (n + 1) at_m m ≡ Some d → l ≡ m
+one_then None n l m d at_l at_m born_l born_m same is also = same is also
+one_then (Some k) n l m d at_l at_m born_l born_m same is also = grind (arith, nat_tests, born_l, born_m, same)
+
+pub same_name : (h : List Event) (l m d : ℕ) → named h l ≡ Some d → named h m ≡ Some d → l ≡ m
+same_name [] l m d is also = absurd (cc)
+same_name (e ∷ h) l m d is also = one_then (opened_in e.output) (births h) l m d (named h l) (named h m) (named_born h l d) (named_born h m d) (same_name h l m d) is also
+
+-- a dialogue's identifier names one
+named_then : (l n : ℕ) (naming : Option ℕ) (local : ℕ) → ((c : ℕ) × (naming ≡ Some c) × (0 < c)) → (c : ℕ) × (cond (eqb local l) (Some (n + 1)) naming ≡ Some c) × (0 < c)
+named_then l n naming local there = ⊎_elim
+    (λ e. (n + 1, ap (λ x. cond x (Some (n + 1)) naming) e, omega arith))
+    (λ ne. (there.0, ap (λ x. cond x (Some (n + 1)) naming) ne ∙ there.1, there.2))
+    (cases_Bool (eqb local l))
+
+began_named : (o : Option ℕ) (came : Option Prepared) (n d : ℕ) (naming : ℕ → Option ℕ) (began : Option Beginning) (b : Beginning) → (began ≡ Some b → (c : ℕ) × (naming b.local ≡ Some c) × (0 < c))
+    → beginning_after o came (eqb d (n + 1)) began ≡ Some b → (c : ℕ) × (named_after o (n + 1) (naming b.local) b.local ≡ Some c) × (0 < c)
+began_named None came n d naming began b before is = before is
+began_named (Some l) None n d naming began b before is = named_then l n (naming b.local) b.local (before is)
+began_named (Some l) (Some came) n d naming began b before is = ⊎_elim
+    (λ new.
+    let start : Beginning = record { local = l; peer = sender_of came; moment = (arrival_of came).moment } in
+    let same : start ≡ b = same_Some start b (sym (ap (λ x. cond x (Some start) began) new) ∙ is) in
+    (n + 1, ap (λ x. cond x (Some (n + 1)) (naming b.local)) (eq-eqb b.local l (ap (λ (g : Beginning). g.local) (sym same))), omega arith))
+    (λ old. named_then l n (naming b.local) b.local (before (sym (ap (λ x. cond x (Some (record { local = l; peer = sender_of came; moment = (arrival_of came).moment })) began) old) ∙ is)))
+    (cases_Bool (eqb d (n + 1)))
+
+pub local_named : (h : List Event) (d : ℕ) (b : Beginning) → beginning h d ≡ Some b → (c : ℕ) × (named h b.local ≡ Some c) × (0 < c)
+local_named [] d b is = absurd (cc)
+local_named (e ∷ h) d b is = began_named (opened_in e.output) e.came (births h) d (named h) (beginning h d) b (local_named h d b) is
+
+-- DIALOGUES STAY
 
 grows : (o : Option ℕ) (n : ℕ) → n ≤ births_after o n
 grows None n = omega arith
@@ -134,9 +123,13 @@ pub births_grow : (h : List Event) (e : Event) (d : ℕ) → d ≤ births h → 
 births_grow h e d last = omega (arith, last, grows (opened_in e.output) (births h))
 
 -- a dialogue keeps its identifier
-pub place_stays : (link other : ℕ) (h : List Event) (e : Event) (d : ℕ) → other ≡ link → Opened link h → Opened other (e ∷ h) → 0 < d → d ≤ births h → local_of (e ∷ h) d ≡ local_of h d
-place_stays link other h e d same g k first last =
-    k.locals d first (births_grow h e d last) ∙ ap (λ n. identifier n d) same ∙ sym (g.locals d first last)
+began_stays : (o : Option ℕ) (came : Option Prepared) (is_new : Bool) (before : Option Beginning) → is_new ≡ false → beginning_after o came is_new before ≡ before
+began_stays None came is_new before old = refl
+began_stays (Some l) None is_new before old = refl
+began_stays (Some l) (Some came) is_new before old = grind (arith, nat_tests)
+
+pub place_stays : (h : List Event) (e : Event) (d : ℕ) → d ≤ births h → local_of (e ∷ h) d ≡ local_of h d
+place_stays h e d last = ap began_with (began_stays (opened_in e.output) e.came (eqb d (births h + 1)) (beginning h d) (ne_eqb d (births h + 1) (λ e. omega (arith, e, last))))
 
 -- a turn is out of a dialogue that was born
 pub turned_if : (b : Bool) (before : ℕ) → nat_lt 0 (cond {A = ℕ} b 0 before) ≡ true → nat_lt 0 before ≡ true
@@ -146,14 +139,3 @@ turned_if false before e = e
 pub taken_if : (b : Bool) (count before : ℕ) → nat_lt 0 (cond b count before) ≡ true → (b ≡ true) ⊎ (nat_lt 0 before ≡ true)
 taken_if true count before e = inl refl
 taken_if false count before e = inr e
-
-out_by : (link : ℕ) (h : List Event) (output : Output) (step : Step) (d before : ℕ) → Opened link h → (nat_lt 0 before ≡ true → d ≤ births h) → nat_lt 0 (count_after output step h d before) ≡ true → d ≤ births h
-out_by link h (Output.Took l position count) step d before g was e = ⊎_elim (λ is. (g.names l d (the_one (named h l) d is)).2) was (taken_if (is_one (named h l) d) count before e)
-out_by link h (Output.Gave l position served given) step d before g was e = was (turned_if (is_one (named h l) d) before e)
-out_by link h Output.WentBack (Step.PutBack lo) d before g was e = was (turned_if (is_one (named h lo) d) before e)
-out_by link h output step d before g was e = was e
-
-pub out_born : (link : ℕ) (h : List Event) (d : ℕ) → AllAnswered link h → turn_out h d ≡ true → d ≤ births h
-out_born link [] d all e = absurd (false≢true e)
-out_born link (e ∷ h) d (answer, all) is =
-    births_grow h e d (out_by link h e.output e.step d (count_out h d) (all_opened link h all) (out_born link h d all) is)

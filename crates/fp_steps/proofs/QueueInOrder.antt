@@ -1,8 +1,8 @@
 -- The queue of a book is in the order in which its dialogues became ready; and what each call makes of it.
-use Rattle.fp_steps.proofs.Names.{All-filter, All-from_recursion, AllByRecursion, Bool, ByAge, ClocksAt, ClosesAt, ComesFirst, Content, Due, Event, GoesDown, IsReadyBefore, List, LoggedStep, None, OneChanges, Option, Row, Rows, Shelf, Some, Sorted, Sound, Ticks, Tied, TiedAt, [], amount, and_parts, and_right, ap, append-nil, arith, births, by_local, cases_Bool, cases_lt, cond, cond_both, count, count-append, count-cons, count_is, count_without_other, count_without_own, due_of, eq-eqb, eqb, eqb-true, false, false≢true, filter, get, inl, inr, insert, inserted, is_frame_of, is_held, is_ready, joins, keep, kept, left_by, left_of, local_of, named, nat_tests, next_due, not, not-true, one_if, ready, ready_for, recursion_from_All, refl, row_is_ready, row_waits, same_Some, story, subst, suc, sym, true, true_from_ne_false, turn_out, without, ℕ, ⊎_elim, ◌&&◌, ◌++◌, ◌<◌, ◌∙◌, ◌∷◌, ◌≡◌, ◌≤◌, ◌⊎◌, nat_lt}
-use Rattle.fp_steps.proofs.HeldDialogues.{Held, core_tied, held_at, held_of, waits_tied, by_option}
+use Rattle.fp_steps.proofs.Names.{All-filter, All-from_recursion, AllByRecursion, Bool, ByAge, ClocksAt, ClosesAt, ComesFirst, Content, Due, Event, GoesDown, IsReadyBefore, List, LoggedStep, None, OneChanges, Option, Row, Rows, Shelf, Some, Sorted, Sound, Ticks, Tied, TiedAt, [], amount, and_parts, and_right, ap, append-nil, arith, births, by_local, cases_Bool, cases_lt, cond, cond_both, count, count-append, count-cons, count_is, count_without_other, count_without_own, due_of, eq-eqb, eqb, eqb-true, false, false_from_ne_true, false≢true, filter, get, inl, inr, insert, inserted, is_frame_of, is_held, is_ready, joins, keep, kept, left_by, left_of, local_of, named, nat_lt, nat_tests, next_due, not, not-true, one_if, ready, ready_for, recursion_from_All, refl, row_at, row_is_ready, row_waits, same_Some, story, subst, suc, sym, true, true_from_ne_false, turn_out, without, ℕ, ⊎_elim, ◌&&◌, ◌++◌, ◌<◌, ◌∙◌, ◌∷◌, ◌≡◌, ◌≤◌, ◌⊎◌}
+use Rattle.fp_steps.proofs.HeldDialogues.{Held, by_option, core_tied, held_at, held_of, row_there, waits_tied}
 use Rattle.fp_steps.proofs.TieAtTicks.{among}
-use Rattle.fp_steps.proofs.OpenedDialogues.{births_grow, place_stays}
+use Rattle.fp_steps.proofs.OpenedDialogues.{place_stays}
 use Rattle.fp_row.specs.Row.{has_turn_out}
 
 -- lists
@@ -33,7 +33,7 @@ sorted_same R Q (x ∷ xs) f s = (
   sorted_same R Q xs (λ a b ha hb. f a b (omega (arith, count-cons a x xs, ha)) (omega (arith, count-cons b x xs, hb))) s.1,
 )
 
--- one list stands behind another
+-- one list stands after another
 pub sorted_append : (R : ℕ → ℕ → Type 0) (xs ys : List ℕ) → Sorted R xs → Sorted R ys → ((x y : ℕ) → 0 < count x xs → 0 < count y ys → R x y) → Sorted R (xs ++ ys)
 sorted_append R [] ys s t f = t
 sorted_append R (x ∷ xs) ys s t f = (
@@ -51,20 +51,19 @@ ready_by : (n d : ℕ) (h : List Event) (o : Option Row) → TiedAt n d (story h
 ready_by n d h None k = ap (λ b. not (turn_out h d) && b) k.waits ∙ and_right (not (turn_out h d)) false refl
 ready_by n d h (Some row) k = λ i. not (nat_lt 0 (k.outs i)) && waits_tied k i
 
-pub ready_is : (h : List Event) (s : Shelf) (d : ℕ) → Tied h s → is_ready h d ≡ ready_at (get s.rows (local_of h d))
-ready_is h s d t = ready_by (births h) d h (get s.rows (local_of h d)) (t.rows d)
+pub ready_is : (h : List Event) (s : Shelf) (d : ℕ) → Tied h s → is_ready h d ≡ ready_at (row_at h s d)
+ready_is h s d t = ready_by (births h) d h (row_at h s d) (t.rows d)
 
-amount_ready : (o : Option Row) → amount ready o ≡ one_if (ready_at o)
-amount_ready None = refl
-amount_ready (Some row) = refl
+-- who is ready is held
+pub ready_held : {h : List Event} {s : Shelf} (d : ℕ) → Tied h s → is_ready h d ≡ true → (row : Row) × (row_at h s d ≡ Some row) × (row_is_ready row ≡ true)
+ready_held {h} {s} d t is = by_option (λ o. ready_at o ≡ true → (row : Row) × (o ≡ Some row) × (row_is_ready row ≡ true)) (row_at h s d)
+    (λ was e. absurd (false≢true e)) (λ row was e. (row, refl, e)) (sym (ready_is h s d t) ∙ is)
 
-pub in_queue : {h : List Event} {s : Shelf} (d : ℕ) → Tied h s → Sound s → count (local_of h d) s.ready ≡ one_if (is_ready h d)
-in_queue {h} {s} d t k =
-    let l = local_of h d in
-    k.ready l ∙ count_is (get s.rows l) ∙ amount_ready (get s.rows l) ∙ ap one_if (sym (ready_is _ _ d t))
-
-pub stands_not : (b : Bool) (n : ℕ) → n ≡ one_if b → n ≡ 0 → b ≡ false
-stands_not b n e h = grind (arith, nat_tests)
+-- and stands in the queue
+pub in_queue : {h : List Event} {s : Shelf} (d : ℕ) → Tied h s → Sound s → is_ready h d ≡ true → count (local_of h d) s.ready ≡ 1
+in_queue {h} {s} d t k is =
+    let l = local_of h d in let held = ready_held d t is in
+    k.ready l ∙ count_is (get s.rows l) ∙ ap (amount ready) (row_there d (get s.rows l) held.0 held.1).0 ∙ ap one_if held.2
 
 -- a dialogue that stands in the queue
 pub record InQueue (h : List Event) (s : Shelf) (l : ℕ) : Type 0 where
@@ -77,7 +76,7 @@ pub record InQueue (h : List Event) (s : Shelf) (l : ℕ) : Type 0 where
 pub queued_at : {h : List Event} {s : Shelf} (l : ℕ) → Tied h s → Sound s → 0 < count l s.ready → InQueue h s l
 queued_at {h} {s} l t k stands = by_option (λ o. 0 < amount ready o → InQueue h s l) (get s.rows l) (λ was c. absurd (omega (arith, c)))
     (λ row was c.
-    let held : Held h l row.birth row = held_of l row t k was in
+    let held : Held h l row.birth row = held_of l row t was in
     let is : row_is_ready row ≡ true = true_from_ne_false (row_is_ready row) (λ e. let none : one_if (row_is_ready row) ≡ 0 = ap one_if e in omega (arith, c, none)) in
     record { row = row; was = was; held = held; stands = ready_by (births h) row.birth h (Some row) held.tied ∙ is; free = not-true (has_turn_out row) (and_parts (not (has_turn_out row)) (row_waits row) is).0 })
     (subst (λ n. 0 < n) (k.ready l ∙ count_is (get s.rows l)) stands)
@@ -91,13 +90,16 @@ a_while : (h : List Event) (d : ℕ) → is_ready h d ≡ true → 0 < ready_for
 a_while [] d r = absurd (false≢true r)
 a_while (e ∷ h) d r = let x : ready_for (e ∷ h) d ≡ suc (ready_for h d) = ap (λ b. cond b (suc (ready_for h d)) 0) r in omega (arith, x)
 
--- no core changes but that of a dialogue whose turn is out
+-- the dialogue is the same, and so is its core, if no turn of it was out
+abbrev pub Continues : Row → Row → Type 0
+Continues before after = (after.birth ≡ before.birth) × (has_turn_out before ≡ false → after.core ≡ before.core)
+
+-- no identifier goes from one dialogue to another, and no core changes but that of a dialogue whose turn is out
 abbrev pub CoresStay : Rows → Rows → Type 0
-CoresStay rows then = (l : ℕ) (before after : Row) → get rows l ≡ Some before → get then l ≡ Some after → has_turn_out before ≡ false → after.core ≡ before.core
+CoresStay rows then = (l : ℕ) (before after : Row) → get rows l ≡ Some before → get then l ≡ Some after → Continues before after
 
 -- the queue then: those that stay, and those that join it
 pub record Joins (h : List Event) (e : Event) (old new : Shelf) : Type 0 where
-  pub link_is : new.link ≡ old.link
   pub stay : List ℕ
   pub join : List ℕ
   pub ready_is : new.ready ≡ stay ++ join
@@ -119,35 +121,32 @@ pub record Same (h : List Event) (e : Event) (y : ℕ) : Type 0 where
   -- what is due next of it is the same
   pub due : due_of (e ∷ h) birth ≡ due_of h birth
 
-pub same_dialogue : {h : List Event} (e : Event) {old new : Shelf} (y : ℕ) (before : Row) → Tied h old → Sound old → Tied (e ∷ h) new → Sound new → new.link ≡ old.link → CoresStay old.rows new.rows
+pub same_dialogue : {h : List Event} (e : Event) {old new : Shelf} (y : ℕ) (before : Row) → Tied h old → Tied (e ∷ h) new → Sound new → CoresStay old.rows new.rows
     → get old.rows y ≡ Some before → has_turn_out before ≡ false → 0 < count y new.ready → Same h e y
-same_dialogue {h} e {old} {new} y before t k u m link cores was free c =
-    let b = before.birth in let a : Held h y b before = held_of y before t k was in
+same_dialogue {h} e {old} {new} y before t u m cores was free c =
+    let b = before.birth in let a : Held h y b before = held_of y before t was in
     let q : InQueue (e ∷ h) new y = queued_at y u m c in
-    let place : local_of (e ∷ h) b ≡ y = place_stays old.link new.link h e b link t.opened u.opened a.first a.last ∙ sym a.place in
-    let named_so : named (e ∷ h) (local_of (e ∷ h) b) ≡ Some b = u.opened.are_named b a.first (births_grow h e b a.last) in
-    let same : q.row.birth ≡ b = same_Some q.row.birth b (sym q.held.name ∙ ap (named (e ∷ h)) (sym place) ∙ named_so) in
-    let now : Held (e ∷ h) y b q.row = subst (λ d. Held (e ∷ h) y d q.row) same q.held in
-    let core = core_tied now.tied ∙ cores y before q.row was q.was free ∙ sym (core_tied a.tied) in
+    let same : Continues before q.row = cores y before q.row was q.was in
+    let now : Held (e ∷ h) y b q.row = subst (λ d. Held (e ∷ h) y d q.row) same.0 q.held in
+    let core = core_tied now.tied ∙ same.1 free ∙ sym (core_tied a.tied) in
     record {
       birth = b;
       was = a.name;
       is = now.name;
-      goes = ap (λ r. cond r (suc (ready_for h b)) 0) (subst (λ d. is_ready (e ∷ h) d ≡ true) same q.stands);
+      goes = ap (λ r. cond r (suc (ready_for h b)) 0) (subst (λ d. is_ready (e ∷ h) d ≡ true) same.0 q.stands);
       due = λ i. due_by (next_due (core i)) ((sym now.place ∙ a.place) i);
     }
 
 -- one that stands there for the first time
-pub newly : {h : List Event} (e : Event) {old new : Shelf} {y : ℕ} → Tied h old → Sound old → Tied (e ∷ h) new → Sound new → new.link ≡ old.link → count y old.ready ≡ 0
+pub newly : {h : List Event} (e : Event) {old new : Shelf} {y : ℕ} → Tied h old → Sound old → count y old.ready ≡ 0
     → (q : InQueue (e ∷ h) new y) → ready_for h q.row.birth ≡ 0
-newly {h} e {old} {new} {y} t k u m link none q =
+newly {h} e {old} {new} {y} t k none q =
     let b = q.row.birth in
-    not_at_all h b (by_option (λ o. is_ready h b ≡ false) (get old.rows (local_of h b))
-    (λ is. ready_is _ _ b t ∙ ap ready_at is)
-    (λ row is.
-    let held : Held h (local_of h b) b row = held_at b row t k is in
-    let place : local_of h b ≡ y = sym (place_stays old.link new.link h e b link t.opened u.opened held.first held.last) ∙ sym q.held.place in
-    stands_not (is_ready h b) (count (local_of h b) old.ready) (in_queue b t k) (ap (λ n. count n old.ready) place ∙ none)))
+    not_at_all h b (false_from_ne_true (is_ready h b) (λ is.
+    let held = ready_held b t is in
+    let place : local_of h b ≡ y = sym (place_stays h e b (held_at b held.0 t held.1).last) ∙ sym q.held.place in
+    let one : count y old.ready ≡ 1 = ap (λ n. count n old.ready) (sym place) ∙ in_queue b t k is in
+    omega (arith, one, none)))
 
 -- which of two comes first, by their births
 pub aged : (R : ℕ → ℕ → Type 0) (h : List Event) (x y a b : ℕ) → named h x ≡ Some a → named h y ≡ Some b → R a b → (c d : ℕ) → named h x ≡ Some c → named h y ≡ Some d → R c d
@@ -166,7 +165,7 @@ Order-next {h} {e} {old} {new} t k u m g =
     let in_new : (y : ℕ) → 0 < count y g.stay → 0 < count y new.ready = λ y c. omega (arith, ap (count y) g.ready_is, count-append y g.stay g.join, c) in
     let now : (y : ℕ) → 0 < count y g.join → InQueue (e ∷ h) new y = λ y c. queued_at y u m (omega (arith, ap (count y) g.ready_is, count-append y g.stay g.join, c)) in
     let was : (y : ℕ) → 0 < count y g.stay → InQueue h old y = λ y c. queued_at y t k (g.stayed y c) in
-    let still : (y : ℕ) → 0 < count y g.stay → Same h e y = λ y c. same_dialogue e y (was y c).row t k u m g.link_is g.cores (was y c).was (was y c).free (in_new y c) in
+    let still : (y : ℕ) → 0 < count y g.stay → Same h e y = λ y c. same_dialogue e y (was y c).row t u m g.cores (was y c).was (was y c).free (in_new y c) in
     let stay : Sorted (ByAge (e ∷ h)) g.stay = sorted_same (ByAge h) (ByAge (e ∷ h)) g.stay
     (λ x y cx cy age.
     let a = still x cx in let b = still y cy in
@@ -175,7 +174,7 @@ Order-next {h} {e} {old} {new} t k u m g =
     let behind : (x y : ℕ) → 0 < count x g.stay → 0 < count y g.join → ByAge (e ∷ h) x y = λ x y cx cy.
     let a = still x cx in let q = now y cy in let b = q.row.birth in
     let goes_b : ready_for (e ∷ h) b ≡ suc (ready_for h b) = ap (λ r. cond r (suc (ready_for h b)) 0) q.stands in
-    let none : ready_for h b ≡ 0 = newly e t k u m g.link_is (g.anew y cy) q in
+    let none : ready_for h b ≡ 0 = newly e t k (g.anew y cy) q in
     let some : 0 < ready_for h a.birth =
     a_while h a.birth (subst (λ d. is_ready h d ≡ true) (same_Some (was x cx).row.birth a.birth (sym (was x cx).held.name ∙ a.was)) (was x cx).stands)
     in
@@ -186,38 +185,39 @@ Order-next {h} {e} {old} {new} t k u m g =
 -- EACH CALL
 
 -- the dialogues are the same
+same_row : (before after : Row) → after ≡ before → Continues before after
+same_row before after same = (ap (λ (r : Row). r.birth) same, λ free. ap (λ (r : Row). r.core) same)
+
 pub cores_same : (rows : Rows) → CoresStay rows rows
-cores_same rows l before after was is free = ap (λ (r : Row). r.core) (same_Some after before (sym is ∙ was))
+cores_same rows l before after was is = same_row before after (same_Some after before (sym is ∙ was))
 
 -- one changes
-cores_one : {rows then : Rows} {local : ℕ} (row : Row) {left : Option Row} → OneChanges rows then local (Some row) left → ((after : Row) → left ≡ Some after → has_turn_out row ≡ false → after.core ≡ row.core) → CoresStay rows then
-cores_one {rows} {then} {local} row one same l before after was is free =
-    by_local l local (λ l. get rows l ≡ Some before → get then l ≡ Some after → after.core ≡ before.core)
-    (λ w i.
-    let b : row ≡ before = same_Some row before (sym one.was ∙ w) in
-    same after (sym one.there ∙ i) (ap (λ (r : Row). has_turn_out r) b ∙ free) ∙ ap (λ (r : Row). r.core) b)
-    (λ ne w i. ap (λ (r : Row). r.core) (same_Some after before (sym i ∙ one.others l ne ∙ w)))
+cores_one : {rows then : Rows} {local : ℕ} (row : Row) {left : Option Row} → OneChanges rows then local (Some row) left → ((after : Row) → left ≡ Some after → Continues row after) → CoresStay rows then
+cores_one {rows} {then} {local} row one same l before after was is =
+    by_local l local (λ l. get rows l ≡ Some before → get then l ≡ Some after → Continues before after)
+    (λ w i. subst (λ (r : Row). Continues r after) (same_Some row before (sym one.was ∙ w)) (same after (sym one.there ∙ i)))
+    (λ ne w i. same_row before after (same_Some after before (sym i ∙ one.others l ne ∙ w)))
     was is
 
 -- one is opened
 pub cores_new : (rows : Rows) (local : ℕ) (opened : Row) → get rows local ≡ None → CoresStay rows (insert rows local opened)
-cores_new rows local opened none l before after was is free =
+cores_new rows local opened none l before after was is =
     let one : OneChanges rows (insert rows local opened) local None (Some opened) = inserted rows local None opened none in
-    by_local l local (λ l. get rows l ≡ Some before → get (insert rows local opened) l ≡ Some after → after.core ≡ before.core)
+    by_local l local (λ l. get rows l ≡ Some before → get (insert rows local opened) l ≡ Some after → Continues before after)
     (λ w i. absurd (let clash : None ≡ Some before = sym one.was ∙ w in cc))
-    (λ ne w i. ap (λ (r : Row). r.core) (same_Some after before (sym i ∙ one.others l ne ∙ w)))
+    (λ ne w i. same_row before after (same_Some after before (sym i ∙ one.others l ne ∙ w)))
     was is
 
-pub left_core : (g row after : Row) → g.core ≡ row.core → left_of g ≡ Some after → after.core ≡ row.core
-left_core g row after same e = ap (λ (r : Row). r.core) (sym (left_by (is_held g) g after e).1) ∙ same
+left_same : (g row after : Row) → Continues row g → left_of g ≡ Some after → Continues row after
+left_same g row after same e = subst (Continues row) (left_by (is_held g) g after e).1 same
 
 -- one is put in its place, or what is left of it
-pub cores_put : (rows : Rows) (local : ℕ) (before after : Row) → get rows local ≡ Some before → after.core ≡ before.core → CoresStay rows (insert rows local after)
+pub cores_put : (rows : Rows) (local : ℕ) (before after : Row) → get rows local ≡ Some before → Continues before after → CoresStay rows (insert rows local after)
 cores_put rows local before after was same =
-    cores_one before (inserted rows local (Some before) after was) (λ then e free. ap (λ (r : Row). r.core) (sym (same_Some after then e)) ∙ same)
+    cores_one before (inserted rows local (Some before) after was) (λ then e. subst (Continues before) (same_Some after then e) same)
 
-pub cores_left : (rows : Rows) (local : ℕ) (before after : Row) → get rows local ≡ Some before → (has_turn_out before ≡ false → after.core ≡ before.core) → CoresStay rows (keep rows local after)
-cores_left rows local before after was same = cores_one before (kept rows local (Some before) after was) (λ then e free. left_core after before then (same free) e)
+pub cores_left : (rows : Rows) (local : ℕ) (before after : Row) → get rows local ≡ Some before → Continues before after → CoresStay rows (keep rows local after)
+cores_left rows local before after was same = cores_one before (kept rows local (Some before) after was) (λ then e. left_same after before then same e)
 
 -- a dialogue stands once in a queue at most
 one_most : (b : Bool) → one_if b ≤ 1
@@ -238,11 +238,10 @@ sorted_joins R l false = tt
 pub anew_by : (old : Shelf) {new : Shelf} (join : List ℕ) → Sound new → new.ready ≡ old.ready ++ join → (y : ℕ) → 0 < count y join → count y old.ready ≡ 0
 anew_by old {new} join m is y c = let few : count y new.ready ≤ 1 = once y m in omega (arith, few, ap (count y) is, count-append y old.ready join, c)
 
--- one joins behind the others, or none
-pub joins_one : {h : List Event} {e : Event} {old new : Shelf} (l : ℕ) (b : Bool) → Sound new → new.link ≡ old.link → new.ready ≡ old.ready ++ joins l b → CoresStay old.rows new.rows
+-- one joins after the others, or none
+pub joins_one : {h : List Event} {e : Event} {old new : Shelf} (l : ℕ) (b : Bool) → Sound new → new.ready ≡ old.ready ++ joins l b → CoresStay old.rows new.rows
     → Sorted (ByAge h) old.ready → Joins h e old new
-joins_one {h} {e} {old} l b m link is cores order = record {
-  link_is = link;
+joins_one {h} {e} {old} l b m is cores order = record {
   stay = old.ready;
   join = joins l b;
   ready_is = is;
@@ -254,10 +253,9 @@ joins_one {h} {e} {old} l b m link is cores order = record {
 }
 
 -- some of those stay
-pub joins_none : {h : List Event} {e : Event} {old new : Shelf} (stay : List ℕ) → new.link ≡ old.link → new.ready ≡ stay → ((y : ℕ) → 0 < count y stay → 0 < count y old.ready)
+pub joins_none : {h : List Event} {e : Event} {old new : Shelf} (stay : List ℕ) → new.ready ≡ stay → ((y : ℕ) → 0 < count y stay → 0 < count y old.ready)
     → Sorted (ByAge h) stay → CoresStay old.rows new.rows → Joins h e old new
-joins_none stay link is stayed order cores = record {
-  link_is = link;
+joins_none stay is stayed order cores = record {
   stay = stay;
   join = [];
   ready_is = is ∙ sym (append-nil stay);
@@ -268,8 +266,8 @@ joins_none stay link is stayed order cores = record {
   cores = cores;
 }
 
-pub joins_same : {h : List Event} {e : Event} {old new : Shelf} → new.link ≡ old.link → new.ready ≡ old.ready → Sorted (ByAge h) old.ready → CoresStay old.rows new.rows → Joins h e old new
-joins_same {old} link is order cores = joins_none old.ready link is (λ y c. c) order cores
+pub joins_same : {h : List Event} {e : Event} {old new : Shelf} → new.ready ≡ old.ready → Sorted (ByAge h) old.ready → CoresStay old.rows new.rows → Joins h e old new
+joins_same {old} is order cores = joins_none old.ready is (λ y c. c) order cores
 
 -- those that are left of an ordered list are in order
 pub sorted_filter : (R : ℕ → ℕ → Type 0) (p : ℕ → Bool) (xs : List ℕ) → Sorted R xs → Sorted R (filter p xs)
@@ -279,25 +277,25 @@ sorted_filter R p (x ∷ xs) s = cond_both (p x) (x ∷ filter p xs) (filter p x
     (λ e. sorted_filter R p xs s.1)
 
 -- one leaves
-pub joins_without : {h : List Event} {e : Event} {old new : Shelf} (l : ℕ) → new.link ≡ old.link → new.ready ≡ without l old.ready → Sorted (ByAge h) old.ready → CoresStay old.rows new.rows → Joins h e old new
-joins_without {h} {old} l link is order cores = joins_none (without l old.ready) link is
+pub joins_without : {h : List Event} {e : Event} {old new : Shelf} (l : ℕ) → new.ready ≡ without l old.ready → Sorted (ByAge h) old.ready → CoresStay old.rows new.rows → Joins h e old new
+joins_without {h} {old} l is order cores = joins_none (without l old.ready) is
     (λ y c. grind (arith, nat_tests, count_without_own l old.ready, count_without_other y l old.ready))
     (sorted_filter (ByAge h) (λ other. not (eqb other l)) old.ready order) cores
 
 -- the end of a link
-closed_core : (sending : Bool) (before : Row) (left : Option Row) (after : Row) → ClosesAt sending (Some before) left → left ≡ Some after → after.core ≡ before.core
-closed_core sending before left after c is = left_core c.after before after c.ends.core (sym c.left_is ∙ is)
+closed_same : (sending : Bool) (before : Row) (left : Option Row) (after : Row) → ClosesAt sending (Some before) left → left ≡ Some after → Continues before after
+closed_same sending before left after c is = left_same c.after before after (c.ends.same.birth, λ free. c.ends.core) (sym c.left_is ∙ is)
 
 pub cores_closed : {out : Option Content} {old : Shelf} {step : LoggedStep} {new : Shelf} → GoesDown out old step new → CoresStay old.rows new.rows
-cores_closed {out} {new} g l before after was is free =
-    closed_core (is_frame_of l out) before (get new.rows l) after (subst (λ o. ClosesAt (is_frame_of l out) o (get new.rows l)) was (g.rows l)) is
+cores_closed {out} {new} g l before after was is =
+    closed_same (is_frame_of l out) before (get new.rows l) after (subst (λ o. ClosesAt (is_frame_of l out) o (get new.rows l)) was (g.rows l)) is
 
 -- a tick
 
-clocked_core : (x : Bool) (moment : ℕ) (before after : Row) → ClocksAt x moment (Some before) (Some after) → after.core ≡ before.core
-clocked_core false moment before after c = ap (λ (r : Row). r.core) (same_Some after before c)
-clocked_core true moment before after c = c.stay.core
+clocked_same : (x : Bool) (moment : ℕ) (before after : Row) → ClocksAt x moment (Some before) (Some after) → Continues before after
+clocked_same false moment before after c = same_row before after (same_Some after before c)
+clocked_same true moment before after c = (c.same.birth, λ free. c.stay.core)
 
 pub cores_ticked : {old new : Shelf} {moment added wanting : ℕ} → Ticks old moment added wanting new → CoresStay old.rows new.rows
-cores_ticked {new} {moment} g l before after was is free =
-    clocked_core (among l g.due) moment before after (subst (λ o. ClocksAt (among l g.due) moment (Some before) o) is (subst (λ o. ClocksAt (among l g.due) moment o (get new.rows l)) was (g.rows l)))
+cores_ticked {new} {moment} g l before after was is =
+    clocked_same (among l g.due) moment before after (subst (λ o. ClocksAt (among l g.due) moment (Some before) o) is (subst (λ o. ClocksAt (among l g.due) moment o (get new.rows l)) was (g.rows l)))

@@ -1,9 +1,9 @@
 -- Each step is answered as its history tells, and keeps its link.
-use Rattle.fp_steps.proofs.Names.{Bool, ByAge, Content, Done, Ending, Event, Given, GivesDone, Handed, IsAnswer, IsLongestReady, IsNext, IsPosted, IsTied, KeepsOrder, Lined, List, MakesOf, None, Option, Outbox, Output, PicksParcel, Prepared, PutsTurnBack, QueuedFrame, Request, Row, RowsKeepTheirOrder, Sends, Shelf, Some, Sorted, Sound, Step, TakesTurn, Ticks, Tied, TiedAt, Turn, Waiting, [], aborts_waiting, amount, ap, arith, as_waiting, births, cond, core_of, count, count-cons, due_at, ending, eqb, false, frame_octets, frame_of, gave, get, given_for, given_of, handed, how_many, if_out, is_due, is_ready, is_sending, is_some, length, length-map, local_of, map_list, named, nat_tests, not, octets_of, one_if, option_map, option_map_or, out, parcel_local, parcel_octets, places, places_held, places_out, positions, put_back, refl, requested_of, row_turn, story, subst, sum_of, sym, ticked, true, turn_of, turn_out, turns_of, waiting, ℕ, ◌<◌, ◌||◌, ◌∙◌, ◌∷◌, ◌≡◌, ◌≢◌, IsOut, count_out, cut, is_closed, is_over, known_turn, min, most_entries, nat_lt, next_served, requests, take, unserved, waiting_ready, ◌-◌}
+use Rattle.fp_steps.proofs.Names.{Bool, ByAge, Freed, Content, Done, Ending, Event, Given, GivesDone, Handed, IsAnswer, IsLongestReady, IsNext, IsOut, IsPosted, IsTied, KeepsOrder, Lined, List, MakesOf, None, Option, Outbox, Output, PicksParcel, Prepared, PutsTurnBack, QueuedFrame, Request, Row, RowsKeepTheirOrder, Sends, Shelf, Some, Sorted, Sound, Step, TakesTurn, Ticks, Tied, TiedAt, Turn, Waiting, [], aborts_waiting, amount, ap, arith, as_waiting, births, cond, core_of, count, count-cons, count_out, cut, due_at, ending, eqb, eqb-false, false, false_from_ne_true, frame_octets, frame_of, gave, get, given_for, given_of, handed, how_many, if_out, is_closed, is_due, is_over, is_ready, is_sending, is_some, known_turn, length, length-map, local_of, map_list, min, most_entries, named, nat_lt, nat_tests, ne_eqb, next_served, not, octets_of, one_if, option_map, option_map_or, out, parcel_local, parcel_octets, places, places_held, places_out, positions, put_back, refl, requested_of, requests, row_at, row_turn, same_Some, story, subst, sum_of, sym, take, ticked, true, turn_of, turn_out, turns_of, unserved, waiting, waiting_ready, ℕ, ◌-◌, ◌<◌, ◌||◌, ◌∙◌, ◌∷◌, ◌≡◌, ◌≢◌}
 use Rattle.fp_steps.proofs.Cases.{Cases, IsPost, by_made}
-use Rattle.fp_steps.proofs.HeldDialogues.{Held, apart, core_tied, count_tied, held_at, held_of, not_abort, by_option, eqb_swap, unserved_tied}
+use Rattle.fp_steps.proofs.HeldDialogues.{Held, by_option, core_tied, count_tied, held_at, held_of, not_abort, row_named, unserved_tied}
 use Rattle.fp_steps.proofs.MessageAnswers.{Decided, posted_is}
-use Rattle.fp_steps.proofs.QueueInOrder.{InQueue, all_at, in_queue, queued_at, ready_at, ready_is, stands_not, first_in}
+use Rattle.fp_steps.proofs.QueueInOrder.{InQueue, all_at, in_queue, queued_at, ready_at, ready_held, ready_is, first_in}
 use Rattle.fp_steps.proofs.SumsOverBirths.{sum_is}
 use Rattle.fp_steps.proofs.TieAtParcels.{out_there}
 use Rattle.fp_steps.proofs.TieAtTicks.{due_at_is}
@@ -18,9 +18,9 @@ no_turn law row true out none = let k : KeepsOrder row = law row in absurd (k.ne
 no_turn law row false out none = refl
 
 none_out : RowsKeepTheirOrder → {h : List Event} {s : Shelf} (local d : ℕ) → Tied h s → named h local ≡ Some d → turn_of (get s.rows local) ≡ None → turn_out h d ≡ false
-none_out law {h} {s} local d t name none = by_option (λ o. TiedAt (births h) d (story h d) o → turn_of o ≡ None → turn_out h d ≡ false) (get s.rows (local_of h d))
+none_out law {h} {s} local d t name none = by_option (λ o. TiedAt (births h) d (story h d) o → turn_of o ≡ None → turn_out h d ≡ false) (row_at h s d)
     (λ was tied no. ap (nat_lt 0) tied.outs) (λ row was tied no. ap (nat_lt 0) tied.outs ∙ no_turn law row (has_turn_out row) refl no)
-    (t.rows d) (ap (λ l. turn_of (get s.rows l)) (sym (t.opened.names local d name).0) ∙ none)
+    (t.rows d) (ap turn_of (row_named local d t name) ∙ none)
 
 -- GIVE
 
@@ -46,7 +46,7 @@ pub gave_done : {h : List Event} {old new : Shelf} {done : Done} {given : Given}
     → Output.Gave done.turn.local done.turn.position done.served given ≡ gave h done.turn.local (named h done.turn.local)
 gave_done {h} {old} {done} {given} t k line g =
     let l = done.turn.local in let b = g.before.birth in
-    let held : Held h l b g.before = held_of l g.before t k g.was in
+    let held : Held h l b g.before = held_of l g.before t g.was in
     let is : IsOut g.before done.turn = known_turn g.before done.turn g.gives.was_out in
     let place : length (positions h b) ≡ done.turn.position = count_tied held.tied ∙ turn_place is in
     let next : next_served h b ≡ served_now g.before = next_tied h held.tied in
@@ -69,9 +69,9 @@ pub back_none : RowsKeepTheirOrder → {h : List Event} {s : Shelf} (local : ℕ
 back_none law {h} local t none = by_option (λ o. Output.Nothing ≡ put_back h o) (named h local) (λ name. refl)
     (λ d name. sym (ap (λ b. cond b Output.WentBack Output.Nothing) (none_out law local d t name none)))
 
-pub back_done : {h : List Event} {old new : Shelf} {turn : Turn} → Tied h old → Sound old → PutsTurnBack old turn new → Output.WentBack ≡ put_back h (named h turn.local)
-back_done {h} {turn} t k g =
-    let held : Held h turn.local g.before.birth g.before = held_of turn.local g.before t k g.was in
+pub back_done : {h : List Event} {old new : Shelf} {turn : Turn} → Tied h old → PutsTurnBack old turn new → Output.WentBack ≡ put_back h (named h turn.local)
+back_done {h} {turn} t g =
+    let held : Held h turn.local g.before.birth g.before = held_of turn.local g.before t g.was in
     sym (ap (put_back h) held.name ∙ ap (λ x. cond x Output.WentBack Output.Nothing) (ap (nat_lt 0) held.tied.outs ∙ (known_turn g.before turn g.puts.was_out).is_out))
 
 -- SENT, UNSENT
@@ -85,10 +85,10 @@ if_is {h} output t was = sym (ap (λ o. if_out o output) (t.is_out ∙ ap (optio
 
 -- TICK
 
-pub ticked_is : {h : List Event} {old new : Shelf} {moment added wanting : ℕ} → Tied h old → Sound old → wanting ≡ 0 → Ticks old moment added wanting new → Output.Ticked added wanting ≡ ticked h moment
-ticked_is {h} {old} {moment} {added} t k none g =
+pub ticked_is : {h : List Event} {old new : Shelf} {moment added wanting : ℕ} → Tied h old → wanting ≡ 0 → Ticks old moment added wanting new → Output.Ticked added wanting ≡ ticked h moment
+ticked_is {h} {old} {moment} {added} t none g =
     let due : how_many (births h) (is_due h moment) ≡ sum_of (λ row. cond {A = ℕ} (due_at old moment row) 1 0) old.rows =
-    sum_is (λ row. cond {A = ℕ} (due_at old moment row) 1 0) (λ d. cond {A = ℕ} (is_due h moment d) 1 0) t k (λ d first last. due_at_is moment d (get old.rows (local_of h d)) t k refl (t.rows d))
+    sum_is (λ row. cond {A = ℕ} (due_at old moment row) 1 0) (λ d. cond {A = ℕ} (is_due h moment d) 1 0) t (λ d first last. due_at_is moment d (row_at h old d) t refl (t.rows d))
     in
     let is : added ≡ how_many (births h) (is_due h moment) = omega (arith, g.wanting_is, none, due) in
     λ i. Output.Ticked (is i) (none i)
@@ -102,7 +102,7 @@ out_place : {h : List Event} {s : Shelf} (o : Option Content) → Tied h s → S
 out_place None t k is = refl
 out_place (Some (Content.Abort frame)) t k is = refl
 out_place (Some (Content.Frame w)) t k is =
-    let row = out_there w k is in ap (λ b. cond {A = ℕ} b 0 1) (not_abort w.local row.0 t k row.1)
+    let row = out_there w k is in ap (λ b. cond {A = ℕ} b 0 1) (not_abort w.local row.0 t row.1)
 
 turn_places : (n d : ℕ) (h : List Event) (o : Option Row) → TiedAt n d (story h d) o → amount turns_of o ≡ count_out h d
 turn_places n d h None k = sym k.outs
@@ -112,28 +112,28 @@ pub places_are : {h : List Event} {s : Shelf} → Tied h s → Sound s → Lined
 places_are {h} {s} t k l =
     let fs : length (waiting h) ≡ length s.outbox.frames = sym (length-map (waiting h) (as_waiting h)) ∙ ap length l.frames in
     let o : place_of (out h) ≡ places_out s.outbox.out = ap place_of t.is_out ∙ out_place s.outbox.out t k refl in
-    omega (arith, fs, o, sum_is turns_of (count_out h) t k (λ d first last. turn_places (births h) d h (get s.rows (local_of h d)) (t.rows d)))
+    omega (arith, fs, o, sum_is turns_of (count_out h) t (λ d first last. turn_places (births h) d h (row_at h s d) (t.rows d)))
 
 -- TAKE
 
 pub longest_is : {h : List Event} {old new : Shelf} {turn : Turn} → Tied h old → Sound old → Lined h old → TakesTurn old turn new → IsLongestReady h turn.local turn.position (length turn.entries)
 longest_is {h} {old} {turn} t k l g =
     let lo = turn.local in let b = g.before.birth in
-    let held : Held h lo b g.before = held_of lo g.before t k g.was in
+    let held : Held h lo b g.before = held_of lo g.before t g.was in
     let waits : waiting_of g.before ≡ unserved h b =
     waiting_ready (is_closed g.before.ended) (is_over g.before.core) g.before.accepted g.before.served g.before.out g.takes.was_ready ∙ sym (unserved_tied h held.tied)
     in
     let order : Sorted (ByAge h) (lo ∷ g.rest) = subst (Sorted (ByAge h)) g.first l.order in
     record {
       dialogue = b;
-      local_is = held.place;
-      stands = ready_is _ _ b t ∙ ap (λ n. ready_at (get old.rows n)) (sym held.place) ∙ ap ready_at g.was ∙ g.takes.was_ready;
+      name = held.name;
+      stands = ready_is _ _ b t ∙ ap ready_at (row_named lo b t held.name ∙ g.was) ∙ g.takes.was_ready;
       longest = λ c r ne.
-          let n = local_of h c in
-          let there : count n old.ready ≡ 1 = in_queue c t k ∙ ap one_if r in
-          let q : InQueue h old n = queued_at n t k (omega (arith, there)) in
-          let none : one_if (eqb lo n) ≡ 0 = ap one_if (eqb_swap n lo (ap (eqb n) held.place ∙ apart old.link h c b t.opened held.first held.last ne)) in
-          all_at (ByAge h lo) g.rest n order.0 (omega (arith, there, ap (count n) g.first, count-cons n lo g.rest, none)) b c held.name (held_at c q.row t k q.was).name;
+          let n = local_of h c in let row = ready_held c t r in
+          let other : Held h n c row.0 = held_at c row.0 t row.1 in
+          let there : count n old.ready ≡ 1 = in_queue c t k r in
+          let none : one_if (eqb lo n) ≡ 0 = ap one_if (ne_eqb lo n (λ same. eqb-false c b ne (same_Some c b (sym other.name ∙ ap (named h) (sym same) ∙ held.name)))) in
+          all_at (ByAge h lo) g.rest n order.0 (omega (arith, there, ap (count n) g.first, count-cons n lo g.rest, none)) b c held.name other.name;
       next = sym (turn_place (known_turn g.after turn g.takes.turn_is)) ∙ g.takes.stay.served ∙ sym (count_tied held.tied);
       count_is = g.takes.count ∙ (λ i. min most_entries (min (length (waits i)) (8192 - sym (places_are t k l) i)));
     }
@@ -145,7 +145,7 @@ some_ready {h} {s} (x ∷ xs) t k is some =
     (q.row.birth, q.stands)
 
 pub none_ready : {h : List Event} {s : Shelf} → Tied h s → Sound s → s.ready ≡ [] → (d : ℕ) → is_ready h d ≡ false
-none_ready {h} {s} t k is d = stands_not (is_ready h d) (count (local_of h d) s.ready) (in_queue d t k) (ap (count (local_of h d)) is)
+none_ready {h} {s} t k is d = false_from_ne_true (is_ready h d) (λ r. omega (arith, in_queue d t k r, ap (count (local_of h d)) is))
 
 -- PICK
 
@@ -169,23 +169,24 @@ some_handed h (Some content) e = refl
 -- EACH STEP
 
 posted_answer : (link : ℕ) (h : List Event) (step : Step) (came : Option Prepared) (output : Output) → IsPost step → IsPosted link h came output → IsAnswer link h step came output
-posted_answer link h (Step.Post frame moment) came output posting is = is
+posted_answer link h (Step.Post table frame moment) came output posting is = is
 posted_answer link h (Step.Lost frame moment) came output posting is = is
 posted_answer link h step came output posting is = absurd posting
 
-answers : RowsKeepTheirOrder → {h : List Event} (came : Option Prepared) {old : Shelf} (new : Shelf) → Tied h old → Sound old → Lined h old → Decided came
+answers : RowsKeepTheirOrder → {h : List Event} (came : Option Prepared) {old : Shelf} (new : Shelf) → Tied h old → Sound old → Lined h old → Freed h old → Decided came
     → Cases (λ step output. IsAnswer old.link h step came output) came old new
-answers law {h} came {old} new t k l d = record {
+answers law {h} came {old} new t k l f d = record {
   posted = λ step posting p answer components is count g totals.
       posted_answer old.link h step came (Output.Posted answer components) posting
-      (subst (λ c. IsPosted old.link h c (Output.Posted answer components)) (sym is) (posted_is law new p answer components t k l (d old p is) count g));
-  ticked = λ moment added wanting none g. ticked_is t k none g;
+      (subst (λ c. IsPosted old.link h c (Output.Posted answer components)) (sym is) (posted_is law new p answer components t k l f (d old p is) count g));
+  none_posted = λ step posting none same. posted_answer old.link h step came Output.Nothing posting (subst (λ c. IsPosted old.link h c Output.Nothing) (sym none) refl);
+  ticked = λ moment added wanting none g. ticked_is t none g;
   took = λ turn g. (longest_is t k l g, (let room : places_held old < 8192 = g.room in omega (arith, room, places_are t k l)));
   no_room = λ some full same. (some_ready old.ready t k refl some, omega (arith, full, places_are t k l));
   none_taken = λ none same. none_ready t k none;
   gave = λ done given g. gave_done t k l g;
   none_given = λ local out same. gave_none law local t out;
-  went_back = λ turn g. back_done t k g;
+  went_back = λ turn g. back_done t g;
   none_back = λ local out same. back_none law local t out;
   picked = λ content frame is g. (t.is_out ∙ ap (option_map (handed h)) g.none_out, subst (IsNext h (aborts_waiting h) (waiting h) (parcel_local content)) is (next_is _ t k l g));
   busy = λ some same. ap is_some t.is_out ∙ some_handed h old.outbox.out some;
@@ -198,8 +199,8 @@ answers law {h} came {old} new t k l d = record {
   down = λ g. refl;
 }
 
-pub answer_made : RowsKeepTheirOrder → {h : List Event} (step : Step) (came : Option Prepared) (output : Output) {old : Shelf} (new : Shelf) → Tied h old → Sound old → Lined h old → Decided came → MakesOf step came output old new → IsAnswer old.link h step came output
-answer_made law {h} step came output {old} new t k l d g = by_made (λ step output. IsAnswer old.link h step came output) step output (answers law came new t k l d) g
+pub answer_made : RowsKeepTheirOrder → {h : List Event} (step : Step) (came : Option Prepared) (output : Output) {old : Shelf} (new : Shelf) → Tied h old → Sound old → Lined h old → Freed h old → Decided came → MakesOf step came output old new → IsAnswer old.link h step came output
+answer_made law {h} step came output {old} new t k l f d g = by_made (λ step output. IsAnswer old.link h step came output) step output (answers law came new t k l f d) g
 
 -- the link is the same
 

@@ -1,8 +1,8 @@
 -- Steps of parcels, and the end of a link, keep the tie between a book and its history.
-use Rattle.fp_steps.proofs.Names.{AbortFrame, AbortsTied, BookNext as IsNext, Bool, ClosesAt, Content, Ending, Ends, Event, GoesDown, IsGone, IsStraight, IsTied, List, LoggedStep, None, Option, Outbox, Output, Parcel, PicksParcel, Prepared, Row, RowsKeepTheirOrder, Sends, Shelf, Some, Sound, Step, Story, Tied, TiedAt, Unsends, Waiting, [], abort_out, aborts, aborts_sent, accepted, add-zero, and_right, ap, append-nil, append_assoc, arith, births, cases_Bool, cond, ended_by, ending, entry_count, false, for_one, frame_for, frame_octets, frame_out, frames_at, frames_for, get, handed, is_frame_of, kept_of, le-leb, local_of, lt-leb, map_list, named, nat_le, nat_lt, numbers, opened_in, option_map, out, parcel_local, parcel_octets as octets_of, positions, queued, refl, sent, sent_of, story, subst, sym, true, true≢false, ℕ, ⊎_elim, ◌&&◌, ◌++◌, ◌+◌, ◌∙◌, ◌∷◌, ◌≡◌, count_out}
+use Rattle.fp_steps.proofs.Names.{AbortFrame, AbortsTied, BookNext as IsNext, Bool, ClosesAt, Content, Ending, Ends, Event, GoesDown, IsGone, IsStraight, IsTied, List, LoggedStep, None, Option, Outbox, Output, Parcel, PicksParcel, Prepared, Row, RowsKeepTheirOrder, Sends, Shelf, Some, Sound, Step, Story, Tied, TiedAt, Unsends, Waiting, [], abort_out, aborts, aborts_sent, accepted, add-zero, and_right, ap, append-nil, append_assoc, arith, births, cases_Bool, cond, count_out, ended_by, ending, entry_count, false, for_one, frame_for, frame_octets, frame_out, frames_at, frames_for, get, handed, is_frame_of, is_held, kept_of, le-leb, left_by, lt-leb, map_list, named, nat_le, nat_lt, numbers, opened_in, option_map, out, parcel_local, parcel_octets as octets_of, positions, queued, refl, sent, sent_of, story, subst, sym, true, true≢false, ℕ, ⊎_elim, ◌&&◌, ◌++◌, ◌+◌, ◌∙◌, ◌∷◌, ◌≡◌}
 use Rattle.fp_book.proofs.Unsent.{first_own}
-use Rattle.fp_steps.proofs.HeldDialogues.{Held, becomes, event, for_other, for_own, held_at, held_of, left_tied, none_named, not_abort, same_beginning, stays, by_option}
-use Rattle.fp_steps.proofs.TieNext.{Next, Tied-next, Tied-quiet, Tied-left}
+use Rattle.fp_steps.proofs.HeldDialogues.{Held, becomes, event, for_other, for_own, held_of, left_tied, none_named, not_abort, same_beginning, stays, by_option}
+use Rattle.fp_steps.proofs.TieNext.{Next, Stay, Tied-left, Tied-next, Tied-quiet, rows_next}
 
 -- a frame that waits is of a dialogue that is held
 pub none_here : (xs ys : List (List ℕ)) (y : List ℕ) → xs ++ y ∷ ys ≡ [] → ⊥
@@ -47,7 +47,7 @@ aborts_picked {h} e {old} (Content.Frame w) rest t k none next all sent_all is n
     record {
       rest = a.rest;
       all = (λ i. (sent_all ∙ append-nil (aborts_sent h)) i ++ (abort_out (is i) ++ a.rest))
-          ∙ (λ i. aborts_sent h ++ (cond (not_abort w.local here.0 t k here.1 i) (w.frame ∷ []) [] ++ a.rest)) ∙ ap (λ o. aborts_sent h ++ (abort_out o ++ a.rest)) (sym was)
+          ∙ (λ i. aborts_sent h ++ (cond (not_abort w.local here.0 t here.1 i) (w.frame ∷ []) [] ++ a.rest)) ∙ ap (λ o. aborts_sent h ++ (abort_out o ++ a.rest)) (sym was)
           ∙ a.all ∙ sym (append-nil (aborts h)) ∙ sym all;
       waiting = λ up. a.waiting (sym down ∙ up) ∙ ap (map_list frame_octets) (next.0 ∙ sym next.1 ∙ sym waits);
     }
@@ -88,11 +88,11 @@ Tied-sends law {h} came {old} new (Content.Abort frame) t k g =
     let was : out h ≡ Some (handed h (Content.Abort frame)) = t.is_out ∙ ap (option_map (handed h)) g.was_out in
     subst (Tied (e ∷ h)) (sym g.new_is)
     (Tied-quiet _ t (sent_rest came _ t refl refl refl refl refl refl)
-    (λ d. stays e h d refl refl refl refl (ap (λ o. frame_for o d) was ∙ ap (λ o. for_one o d (frame_octets frame ∷ [])) (none_named old.link h t.opened)) refl refl) refl)
+    (λ d. stays e h d refl refl refl refl (ap (λ o. frame_for o d) was ∙ ap (λ o. for_one o d (frame_octets frame ∷ [])) (none_named h t.opened)) refl refl) refl)
 Tied-sends law {h} came {old} new (Content.Frame w) t k g =
     let e = event Step.Sent came Output.Sent in let l = w.local in let b = g.before.birth in
     let was : out h ≡ Some (handed h (Content.Frame w)) = t.is_out ∙ ap (option_map (handed h)) g.was_out in
-    let held : Held h l b g.before = held_of l g.before t k g.was in
+    let held : Held h l b g.before = held_of l g.before t g.was in
     let before : IsTied b (story h b) g.before = held.tied in
     let waits_for = frames_for l old.outbox.frames in
     let all : sent_of g.before ++ w.frame ∷ waits_for ≡ kept_of g.before =
@@ -109,7 +109,7 @@ Tied-sends law {h} came {old} new (Content.Frame w) t k g =
       ends = before.ends ∙ sym g.sends.ended;
       outs = before.outs ∙ sym g.sends.out;
     } in subst (Tied (e ∷ h)) (sym g.new_is)
-    (Tied-left law l g.before t k (sent_rest came _ t refl refl refl refl refl refl) g.was refl tied
+    (Tied-left law l g.before t (sent_rest came _ t refl refl refl refl refl refl) g.was refl tied
     (λ d ne. stays e h d refl refl refl refl (ap (λ o. frame_for o d) was ∙ for_other (named h l) d b (w.frame ∷ []) held.name ne) refl refl))
 
 -- THE END OF THE LINK
@@ -144,21 +144,27 @@ pub tied_ends : {d : ℕ} {t : Story} {ending : Ending} {sending : Bool} {before
     → x ≡ ended_by ending before.ended → IsTied d (record t { ended = x }) after
 tied_ends x k e is = let begins = k.begins ∙ ap Some (sym (same_beginning e.same)) in grind arith
 
--- all dialogues are closed
-closed_at : RowsKeepTheirOrder → (n d : ℕ) (t : Story) (sending : Bool) (o left : Option Row) (b : Bool) → TiedAt n d t o → ClosesAt sending o left → ((row : Row) → o ≡ Some row → b ≡ true)
+-- a dialogue is closed
+closed_at : RowsKeepTheirOrder → (n : ℕ) {d : ℕ} (t : Story) {sending : Bool} {row : Row} {left : Option Row} (b : Bool) → IsTied d t row → ClosesAt sending (Some row) left → b ≡ true
     → TiedAt n d (record t { ended = closed_if b t.ended }) left
-closed_at law n d t sending None left b k c is = subst (TiedAt n d (record t { ended = closed_if b t.ended })) (sym c) (gone_ended b k)
-closed_at law n d t sending (Some row) left b k c is =
+closed_at law n {d} t {row = row} b k c is =
     let x = closed_if b t.ended in
-    let closed : x ≡ ended_by Ending.Closed row.ended = ap (λ b. closed_if b t.ended) (is row refl) ∙ sym (closed_by row.ended) in
+    let closed : x ≡ ended_by Ending.Closed row.ended = ap (λ b. closed_if b t.ended) is ∙ sym (closed_by row.ended) in
     subst (TiedAt n d (record t { ended = x })) (sym c.left_is) (left_tied law n (tied_ends x k c.ends closed))
 
+-- and stays where something of it is left
+closed_stay : (sending : Bool) (o : Option Row) (after : Row) → ClosesAt sending o (Some after) → (before : Row) × (o ≡ Some before) × (after.birth ≡ before.birth)
+closed_stay sending None after c = absurd (cc)
+closed_stay sending (Some before) after c = (before, refl, ap (λ (r : Row). r.birth) (sym (left_by (is_held c.after) c.after after (sym c.left_is)).1) ∙ c.ends.same.birth)
+
 -- the link goes down: all dialogues that were opened are closed
-closes_all : RowsKeepTheirOrder → {h : List Event} (e : Event) {old new : Shelf} {out_then : Option Content} {step : LoggedStep} → Tied h old → Sound old → GoesDown out_then old step new
+closes_all : RowsKeepTheirOrder → {h : List Event} (e : Event) {old new : Shelf} {out_then : Option Content} {step : LoggedStep} → Tied h old → GoesDown out_then old step new
     → opened_in e.output ≡ None → entry_count (e ∷ h) ≡ entry_count h + 0 → out (e ∷ h) ≡ option_map (handed h) new.outbox.out
     → (rest : List (List ℕ)) → aborts_sent (e ∷ h) ++ (abort_out (out (e ∷ h)) ++ rest) ≡ aborts (e ∷ h)
     → ((d : ℕ) → story (e ∷ h) d ≡ record (story h d) { ended = closed_if (nat_le d (births h)) (ending h d) }) → Tied (e ∷ h) new
-closes_all law {h} e {old} {new} {out_then} t k g opens entries is_out rest all told = Tied-next t
+closes_all law {h} e {old} {new} {out_then} t g opens entries is_out rest all told =
+    let stay : Stay old.rows new.rows = λ l after is. closed_stay (is_frame_of l out_then) (get old.rows l) after (subst (ClosesAt (is_frame_of l out_then) (get old.rows l)) is (g.rows l)) in
+    Tied-next t
     (record {
       link_is = λ i. (g.new_is i).link;
       opens_none = opens;
@@ -167,26 +173,26 @@ closes_all law {h} e {old} {new} {out_then} t k g opens entries is_out rest all 
       is_out = is_out;
       aborts = record { rest = rest; all = all; waiting = λ up. absurd (true≢false (ap (λ (s : Shelf). s.is_down) (sym g.new_is) ∙ up)) };
     })
-    (λ d.
-    let l = local_of h d in
-    subst (λ t. TiedAt (births h) d t (get new.rows l)) (sym (told d))
-    (closed_at law (births h) d (story h d) (is_frame_of l out_then) (get old.rows l) (get new.rows l) (nat_le d (births h)) (t.rows d) (g.rows l)
-    (λ row was. le-leb d (births h) (held_at d row t k was).last)))
+    stay
+    (rows_next e new t stay (λ d none k. subst (IsGone (births h) d) (sym (told d)) (gone_ended (nat_le d (births h)) k))
+    (λ l row was held.
+    subst (λ t. TiedAt (births h) row.birth t (get new.rows l)) (sym (told row.birth))
+    (closed_at law (births h) (story h row.birth) (nat_le row.birth (births h)) held.tied (subst (λ o. ClosesAt (is_frame_of l out_then) o (get new.rows l)) was (g.rows l)) (le-leb row.birth (births h) held.last))))
     (λ d past. told d ∙ no_end (story h d) (nat_le d (births h)) (lt-leb d (births h) past))
 
-pub Tied-down : RowsKeepTheirOrder → {h : List Event} (came : Option Prepared) {old new : Shelf} → Tied h old → Sound old → GoesDown old.outbox.out old LoggedStep.Down new
+pub Tied-down : RowsKeepTheirOrder → {h : List Event} (came : Option Prepared) {old new : Shelf} → Tied h old → GoesDown old.outbox.out old LoggedStep.Down new
     → Tied (event Step.Down came Output.Down ∷ h) new
-Tied-down law {h} came {old} t k g =
+Tied-down law {h} came {old} t g =
     let e = event Step.Down came Output.Down in let a : AbortsTied h old = t.aborts_are in
-    closes_all law e t k g refl refl (t.is_out ∙ ap (λ (s : Shelf). option_map (handed h) s.outbox.out) (sym g.new_is)) a.rest
+    closes_all law e t g refl refl (t.is_out ∙ ap (λ (s : Shelf). option_map (handed h) s.outbox.out) (sym g.new_is)) a.rest
     (ap (λ xs. xs ++ (abort_out (out h) ++ a.rest)) (append-nil (aborts_sent h)) ∙ a.all ∙ sym (append-nil (aborts h)))
     (λ d. becomes e h d _ (count_out h d) refl refl refl refl refl refl refl)
 
 -- what was being sent wasn't
-pub Tied-unsends : RowsKeepTheirOrder → {h : List Event} (came : Option Prepared) {old new : Shelf} {parcel : Parcel} → Tied h old → Sound old → Unsends old parcel new
+pub Tied-unsends : RowsKeepTheirOrder → {h : List Event} (came : Option Prepared) {old new : Shelf} {parcel : Parcel} → Tied h old → Unsends old parcel new
     → Tied (event Step.Unsent came Output.Unsent ∷ h) new
-Tied-unsends law {h} came {old} t k u =
+Tied-unsends law {h} came {old} t u =
     let e = event Step.Unsent came Output.Unsent in let a : AbortsTied h old = t.aborts_are in
-    closes_all law e t k u.down refl refl (ap (λ (s : Shelf). option_map (handed h) s.outbox.out) (sym u.down.new_is)) (abort_out (out h) ++ a.rest)
+    closes_all law e t u.down refl refl (ap (λ (s : Shelf). option_map (handed h) s.outbox.out) (sym u.down.new_is)) (abort_out (out h) ++ a.rest)
     (ap (λ xs. xs ++ (abort_out (out h) ++ a.rest)) (append-nil (aborts_sent h)) ∙ a.all ∙ sym (append-nil (aborts h)))
     (λ d. becomes e h d _ (count_out h d) refl refl refl refl refl refl refl)

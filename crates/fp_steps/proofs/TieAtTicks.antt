@@ -1,9 +1,9 @@
 -- A tick keeps the tie between a book and its history: those that are given a Clock are all that are due.
-use Rattle.fp_steps.proofs.Names.{AllByRecursion, Bool, Clock, ClocksAt, Due, Entry, Event, IsDue, IsTied, List, None, OneChanges, Option, Output, Prepared, Row, Rows, Shelf, Some, Sound, Step, Ticks, Tied, TiedAt, [], accepted, admits_on, amount, ap, append-nil, arith, births, book_is_full, cases_Bool, cond, core_in, core_on, count_by, course, drop, due_at, ending, entry_at, eqb, eqb-true, false, get, has_clock, has_clock_on, is_admitted, is_clock, is_full, is_over, is_some, length, list_any, local_of, nat_le, nat_lt, nat_tests, next_due, not, option_map_or, or_parts, positions, queued, recursion_from_All, refl, remove, removed, row_is_due, same_Some, sent, slice_index_or, story, subst, sum_of, sym, true, ℕ, ⊎_elim, ◌&&◌, ◌++◌, ◌+◌, ◌<◌, ◌^◌, ◌||◌, ◌∙◌, ◌∷◌, ◌≡◌, ◌≤◌}
+use Rattle.fp_steps.proofs.Names.{AllByRecursion, Bool, Clock, ClocksAt, Due, Entry, Event, IsDue, IsGone, IsTied, List, None, OneChanges, Option, Output, Prepared, Row, Rows, Shelf, Some, Step, Ticks, Tied, TiedAt, [], accepted, admits_on, amount, ap, append-nil, arith, births, book_is_full, cases_Bool, cond, core_in, core_on, count_by, course, drop, due_at, ending, entry_at, eqb, eqb-true, false, get, has_clock, has_clock_on, is_admitted, is_clock, is_full, is_over, is_some, length, list_any, nat_le, nat_lt, nat_tests, next_due, not, option_map_or, or_parts, positions, queued, recursion_from_All, refl, remove, removed, row_at, row_is_due, same_Some, sent, slice_index_or, story, subst, sum_of, sym, true, ℕ, ⊎_elim, ◌&&◌, ◌++◌, ◌+◌, ◌<◌, ◌^◌, ◌||◌, ◌∙◌, ◌∷◌, ◌≡◌, ◌≤◌}
 use Rattle.fp_book.proofs.Clocks.{Apart, apart}
 use Rattle.fp_steps.proofs.HeldDialogues.{count_tied, Held, born_at, core_tied, event, held_at, live_tied, not_born, same_story, stays, eqb_swap}
 use Rattle.fp_steps.proofs.TieAtMessages.{tied_extends}
-use Rattle.fp_steps.proofs.TieNext.{Tied-next, quiet}
+use Rattle.fp_steps.proofs.TieNext.{Stay, Tied-next, quiet, rows_next}
 
 -- whether a dialogue is among those
 abbrev pub among : ℕ → List Due → Bool
@@ -98,9 +98,8 @@ abbrev pub clock_in : List Event → ℕ → ℕ → Bool
 clock_in h moment d = not (is_full h) && is_next h moment d
 
 -- that is so where the book gives it one
-clock_is : {h : List Event} {s : Shelf} (moment d : ℕ) (row : Row) → Tied h s → Sound s → get s.rows (local_of h d) ≡ Some row → clock_in h moment d ≡ due_at s moment row
-clock_is {h} {s} moment d row t k was =
-    let held : Held h (local_of h d) d row = held_at d row t k was in
+clock_is : {h : List Event} {s : Shelf} (moment : ℕ) {local d : ℕ} {row : Row} → Tied h s → Held h local d row → clock_in h moment d ≡ due_at s moment row
+clock_is {h} {s} moment {d = d} t held =
     ap (λ n. not (nat_le (2 ^ 63) n) && is_next h moment d) t.entries_are ∙ ap (λ b. not (book_is_full s) && b) (due_tied h moment held.first held.last held.tied)
 
 gone_due : (h : List Event) (moment d : ℕ) → admits_on h d (course h d) ≡ false → clock_in h moment d ≡ false
@@ -126,35 +125,29 @@ clocked_at h came moment added wanting {d} true (Some after) is k c =
     (append-nil (positions h d)) (append-nil (queued h d)) (append-nil (sent h d)) refl refl))
     (tied_extends k c)
 
-none_clocked : (x : Bool) (moment : ℕ) (left : Option Row) → ClocksAt x moment None left → left ≡ None
-none_clocked false moment left c = c
-none_clocked true moment None c = absurd c
-none_clocked true moment (Some after) c = absurd c
-
-ticked_at : {h : List Event} (came : Option Prepared) {old new : Shelf} {moment added wanting : ℕ} → wanting ≡ 0 → Tied h old → Sound old → (g : Ticks old moment added wanting new) → (d : ℕ) (o : Option Row)
-    → get old.rows (local_of h d) ≡ o → TiedAt (births h) d (story h d) o → TiedAt (births h) d (story (ticks came moment added wanting ∷ h) d) (get new.rows (local_of h d))
-ticked_at {h} came {new} {moment} {added} {wanting} nothing t k g d None was tied =
-    let l = local_of h d in
-    let left : get new.rows l ≡ None = none_clocked (among l g.due) moment (get new.rows l) (subst (λ o. ClocksAt (among l g.due) moment o (get new.rows l)) was (g.rows l)) in
-    subst (TiedAt (births h) d (story (ticks came moment added wanting ∷ h) d)) (sym left)
-    (subst (λ s. TiedAt (births h) d s None) (sym (tick_stays h came moment added wanting d (gone_due h moment d tied.admitted))) tied)
-ticked_at {h} came {new} {moment} {added} {wanting} nothing t k g d (Some row) was tied =
-    let l = local_of h d in
-    clocked_at h came moment added wanting (among l g.due) (get new.rows l) (clock_is moment d row t k was ∙ sym (all_due nothing g l row was)) tied
-    (subst (λ o. ClocksAt (among l g.due) moment o (get new.rows l)) was (g.rows l))
+-- none joins them
+clocked_stay : (x : Bool) (moment : ℕ) (o : Option Row) (after : Row) → ClocksAt x moment o (Some after) → (before : Row) × (o ≡ Some before) × (after.birth ≡ before.birth)
+clocked_stay false moment o after c = (after, sym c, refl)
+clocked_stay true moment None after c = absurd c
+clocked_stay true moment (Some before) after c = (before, refl, c.same.birth)
 
 -- each dialogue that is due is given a Clock
-pub Tied-ticks : {h : List Event} (came : Option Prepared) {old new : Shelf} {moment added wanting : ℕ} → Tied h old → Sound old → wanting ≡ 0
+pub Tied-ticks : {h : List Event} (came : Option Prepared) {old new : Shelf} {moment added wanting : ℕ} → Tied h old → wanting ≡ 0
     → Ticks old moment added wanting new → Tied (event (Step.Tick moment) came (Output.Ticked added wanting) ∷ h) new
-Tied-ticks {h} came {old} {moment} {added} {wanting} t k nothing g =
+Tied-ticks {h} came {old} {new} {moment} {added} {wanting} t nothing g =
     let e = ticks came moment added wanting in
+    let stay : Stay old.rows new.rows = λ l after is. clocked_stay (among l g.due) moment (get old.rows l) after (subst (ClocksAt (among l g.due) moment (get old.rows l)) is (g.rows l)) in
     subst (Tied (e ∷ h)) (sym g.new_is)
     (Tied-next t (quiet e _ t refl (ap (λ n. n + added) t.entries_are) refl refl refl refl refl refl refl refl)
-    (λ d. ticked_at came nothing t k g d (get old.rows (local_of h d)) refl (t.rows d))
+    stay
+    (rows_next e new t stay (λ d none gone. subst (IsGone (births h) d) (sym (tick_stays h came moment added wanting d (gone_due h moment d gone.admitted))) gone)
+    (λ l row was held.
+    clocked_at h came moment added wanting (among l g.due) (get new.rows l) (clock_is moment t held ∙ sym (all_due nothing g l row was)) held.tied
+    (subst (λ o. ClocksAt (among l g.due) moment o (get new.rows l)) was (g.rows l))))
     (λ d past. tick_stays h came moment added wanting d (gone_due h moment d (not_born h d past))))
 
 -- what a dialogue adds to the number of those that are due
-pub due_at_is : {h : List Event} {s : Shelf} (moment d : ℕ) (o : Option Row) → Tied h s → Sound s → get s.rows (local_of h d) ≡ o → TiedAt (births h) d (story h d) o
+pub due_at_is : {h : List Event} {s : Shelf} (moment d : ℕ) (o : Option Row) → Tied h s → row_at h s d ≡ o → TiedAt (births h) d (story h d) o
     → amount (λ row. cond {A = ℕ} (due_at s moment row) 1 0) o ≡ cond {A = ℕ} (clock_in h moment d) 1 0
-due_at_is {h} moment d None t k was tied = ap (λ b. cond {A = ℕ} b 1 0) (sym (gone_due h moment d tied.admitted))
-due_at_is moment d (Some row) t k was tied = ap (λ b. cond {A = ℕ} b 1 0) (sym (clock_is moment d row t k was))
+due_at_is {h} moment d None t was tied = ap (λ b. cond {A = ℕ} b 1 0) (sym (gone_due h moment d tied.admitted))
+due_at_is moment d (Some row) t was tied = ap (λ b. cond {A = ℕ} b 1 0) (sym (clock_is moment t (held_at d row t was)))

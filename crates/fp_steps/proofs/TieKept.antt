@@ -1,9 +1,10 @@
 -- Each step keeps the tie between a book and its history, and the tie gives the headline.
-use Rattle.fp_steps.proofs.Names.{AbortsTied, Arrival, Beginning, BeginsAnew, Contents, Event, Follows, Headline, IsArrival, IsCame, IsGone, IsLost, IsStraight, Kind, List, MakesOf, None, Option, Output, Posted, Prepared, Row, RowsKeepTheirOrder, Shelf, Some, Sound, Step, Story, Tells, Tid, Tied, TiedAt, Verdict, [], abort_out, aborts, aborts_sent, add-zero, ap, arith, arrival_of, began_with, beginning, births, empty_shelf, entry_count, false, get, get-empty, identifier, inl, inr, is_ending, local_of, nat_cmp, nat_le, nat_lt, nat_tests, octets_of, opened_in, option_map, out, refl, same_Some, story, subst, sym, true, untold, verdict, verdict_tells, ℕ, ⊎_elim, ◌&&◌, ◌++◌, ◌+◌, ◌<◌, ◌∙◌, ◌∷◌, ◌≡◌, ◌≤◌}
+use Rattle.fp_steps.proofs.Names.{AbortsTied, Arrival, BeginsAnew, Contents, Event, Follows, Headline, IsArrival, IsCame, IsGone, IsLost, IsStraight, Kind, Lined, List, MakesOf, None, Option, Output, Posted, Prepared, Row, RowsKeepTheirOrder, Shelf, Some, Sound, Step, Story, Tells, Tid, Tied, TiedAt, Verdict, [], abort_out, aborts, aborts_sent, add-zero, ap, arith, arrival_of, births, dialogue_held, empty_shelf, entry_count, false, false≢true, get, get-empty, inl, inr, is_ending, nat_cmp, nat_le, nat_lt, nat_tests, none-some, octets_of, opened_in, option_map, out, refl, row_at, row_of, same_Some, story, subst, sym, table_at, true, untold, verdict, verdict_tells, ℕ, ⊎_elim, ◌&&◌, ◌++◌, ◌+◌, ◌||◌, ◌∙◌, ◌∷◌, ◌≡◌}
 use Rattle.fp_q773.specs.Ids.{AreIds, AreIdsIn}
-use Rattle.fp_steps.proofs.Cases.{Cases, by_made, IsAnew}
+use Rattle.fp_steps.proofs.Cases.{Cases, by_made, IsAnew, read_by}
+use Rattle.fp_steps.proofs.FreeSerials.{held_apart}
 use Rattle.fp_steps.proofs.HeldDialogues.{event, stays, straight_tied}
-use Rattle.fp_steps.proofs.OpenedDialogues.{all_opened}
+use Rattle.fp_steps.proofs.OpenedDialogues.{opened_none}
 use Rattle.fp_steps.proofs.TieAtMessages.{Tied-discards, Tied-ends, Tied-extends, Tied-opens, Tied-refuses, posts}
 use Rattle.fp_steps.proofs.TieAtParcels.{Tied-down, Tied-picks, Tied-sends, Tied-unsends}
 use Rattle.fp_steps.proofs.TieAtTicks.{Tied-ticks}
@@ -22,11 +23,11 @@ still {h} e {old} new t same none entries all sent_all out_stays told =
 made_by : RowsKeepTheirOrder → {h : List Event} (step : Step) (came : Prepared) (answer : Posted) (components : ℕ) {old : Shelf} (new : Shelf) (v : Verdict) → Tied h old → Sound old → Tells old came v → Follows v old came answer new
     → Tied (posts step came answer components ∷ h) new
 made_by law step came answer components new Verdict.Discard t k told g = Tied-discards step components t g
-made_by law step came answer components new (Verdict.Refuse cause closes) t k told g = Tied-refuses law step components t k told g
+made_by law step came answer components new (Verdict.Refuse cause closes) t k told g = Tied-refuses law step components t told g
 made_by law step came answer components new (Verdict.Open sender) t k told g = Tied-opens step components t k told g
-made_by law step came answer components new (Verdict.Extend local false) t k told g = Tied-extends step components t k told.0 (ap is_ending told.1) g
+made_by law step came answer components new (Verdict.Extend local false) t k told g = Tied-extends step components t told.0 (ap is_ending told.1) g
 made_by law step came answer components new (Verdict.Extend local true) t k told g =
-    Tied-ends law step components t k told.0 (⊎_elim (λ kind. ap is_ending kind) (λ kind. ap is_ending kind) told.1) g
+    Tied-ends law step components t told.0 (⊎_elim (λ kind. ap is_ending kind) (λ kind. ap is_ending kind) told.1) g
 
 made : RowsKeepTheirOrder → {h : List Event} (came : Option Prepared) {old : Shelf} (new : Shelf) → Tied h old → Sound old → IsAnew came → Cases (λ step output. Tied (event step came output ∷ h) new) came old new
 made law {h} came {old} new t k anew =
@@ -40,22 +41,23 @@ made law {h} came {old} new t k anew =
       posted = λ step posting p answer components is count g totals.
           subst (λ c. Tied (event step c (Output.Posted answer components) ∷ h) new) (sym is)
           (made_by law step p answer components new (verdict old p) t k (verdict_tells old p (anew p is)) g);
-      ticked = λ moment added wanting none g. Tied-ticks came t k none g;
-      took = λ turn g. Tied-takes came t k g;
+      none_posted = λ step posting empty same. none step same;
+      ticked = λ moment added wanting none g. Tied-ticks came t none g;
+      took = λ turn g. Tied-takes came t g;
       no_room = λ some full same. still no_room new t same refl refl refl refl refl (λ d. stays no_room h d refl refl refl refl refl refl refl);
       none_taken = λ empty same. none Step.Take same;
-      gave = λ done given g. Tied-gives law came t k g;
+      gave = λ done given g. Tied-gives law came t g;
       none_given = λ local out same. none (Step.Give local) same;
-      went_back = λ turn g. Tied-puts_back law came t k g;
+      went_back = λ turn g. Tied-puts_back law came t g;
       none_back = λ local out same. none (Step.PutBack local) same;
       picked = λ content frame is g. Tied-picks came frame t k is g;
       busy = λ some same. still busy new t same refl refl refl refl refl (λ d. stays busy h d refl refl refl refl refl refl refl);
       none_picked = λ empty same. none Step.Pick same;
       sent = λ content g. Tied-sends law came new content t k g;
       none_sent = λ empty same. none Step.Sent same;
-      unsent = λ parcel g. Tied-unsends law came t k g;
+      unsent = λ parcel g. Tied-unsends law came t g;
       none_unsent = λ empty same. none Step.Unsent same;
-      down = λ g. Tied-down law came t k g;
+      down = λ g. Tied-down law came t g;
     }
 
 -- a Begin has no destination
@@ -76,14 +78,15 @@ pub anew : {octets : List ℕ} {moment : ℕ} {arrival : Arrival} → IsArrival 
 anew {octets} {arrival} is begin = no_octets arrival.ids.dest (anew_by octets arrival.ids.kind (option_map octets_of arrival.ids.orig) (option_map octets_of arrival.ids.dest) is.has_ids begin)
 
 lost_arrival : (octets : List ℕ) (moment : ℕ) (came : Prepared) → IsLost octets moment came → IsArrival octets moment (arrival_of came)
-lost_arrival octets moment (Prepared.Lost arrival) is = is
+lost_arrival octets moment (Prepared.Lost arrival) is = is.0
 lost_arrival octets moment came is = absurd is
 
-pub came_anew : (contents : Contents) (contexts : List (List ℕ)) (step : Step) (came : Option Prepared) → IsCame contents contexts step came → IsAnew came
-came_anew contents contexts step None is p same = absurd (cc)
-came_anew contents contexts (Step.Post frame moment) (Some came) is p same = subst (λ (q : Prepared). BeginsAnew (arrival_of q).ids) (same_Some came p same) (anew is.0.is_arrival)
-came_anew contents contexts (Step.Lost frame moment) (Some came) is p same = subst (λ (q : Prepared). BeginsAnew (arrival_of q).ids) (same_Some came p same) (anew (lost_arrival frame moment came is))
-came_anew contents contexts step (Some came) is p same = absurd is
+pub came_anew : (tables : List Contents) (contexts : List (List ℕ)) (step : Step) (came : Option Prepared) → IsCame tables contexts step came → IsAnew came
+came_anew tables contexts step None is p same = absurd (cc)
+came_anew tables contexts (Step.Post table frame moment) (Some came) is p same =
+    subst (λ (q : Prepared). BeginsAnew (arrival_of q).ids) (same_Some came p same) (anew (read_by (table_at tables table) contexts frame moment came is).read.0.is_arrival)
+came_anew tables contexts (Step.Lost frame moment) (Some came) is p same = subst (λ (q : Prepared). BeginsAnew (arrival_of q).ids) (same_Some came p same) (anew (lost_arrival frame moment came is))
+came_anew tables contexts step (Some came) is p same = absurd is
 
 -- each step keeps the tie
 pub Tied-makes : RowsKeepTheirOrder → {h : List Event} (e : Event) {old : Shelf} (new : Shelf) → IsAnew e.came → Tied h old → Sound old → MakesOf e.step e.came e.output old new → Tied (e ∷ h) new
@@ -110,8 +113,9 @@ pub Tied-none : (link : ℕ) → Tied [] (empty_shelf link)
 Tied-none link = record {
   births_are = refl;
   entries_are = refl;
-  opened = all_opened link [] tt;
-  rows = λ d. subst (TiedAt 0 d untold) (sym (none_there link 0)) (none_yet d);
+  opened = opened_none;
+  names = λ local row was. absurd (none-some row (sym (none_there link local) ∙ was));
+  rows = λ d. subst (TiedAt 0 d untold) (sym (ap (row_of d) (none_there link 0))) (none_yet d);
   later = λ d past. refl;
   is_out = refl;
   aborts_are = record { rest = []; all = refl; waiting = λ up. refl };
@@ -123,15 +127,26 @@ straight_at : RowsKeepTheirOrder → (n d : ℕ) (t : Story) (o : Option Row) �
 straight_at law n d t None k = k.straight
 straight_at law n d t (Some row) k = straight_tied law k
 
-pub headline : RowsKeepTheirOrder → (h : List Event) (s : Shelf) → Tied h s → Headline h
-headline law h s t =
-    let local : (d : ℕ) (b : Beginning) → beginning h d ≡ Some b → b.local ≡ identifier s.link d = λ d b at.
-    let there : (0 < d) × (d ≤ births h) = t.opened.begins d b at in
-    sym (ap began_with at) ∙ t.opened.locals d there.0 there.1 in record {
-      dialogues = λ d.
-          let k : IsStraight d (story h d) = straight_at law (births h) d (story h d) (get s.rows (local_of h d)) (t.rows d) in
-          record { served_first = k.served_first; sent_first = k.sent_first; each_once = k.each_once; sent_queued = k.sent_queued; queued_first = k.queued_first };
-      apart = λ c d b g at_c at_d same. omega (arith, same, local c b at_c, local d g at_d);
-      each_there = λ d. (straight_at law (births h) d (story h d) (get s.rows (local_of h d)) (t.rows d)).each_there;
-      aborts_first = let a : AbortsTied h s = t.aborts_are in (abort_out (out h) ++ a.rest, a.all);
-    }
+-- nothing is held yet
+none_held : (d : ℕ) → dialogue_held [] d ≡ false
+none_held d = ap (λ b. (b && true) || false) (none_born d)
+
+pub headline_none : Headline []
+headline_none = record {
+  dialogues = λ d.
+      let x : IsStraight d untold = (none_yet d).straight in
+      record { served_first = x.served_first; sent_first = x.sent_first; each_once = x.each_once; sent_queued = x.sent_queued; queued_first = x.queued_first };
+  apart = λ c d first second same. absurd (false≢true (sym (none_held c) ∙ first));
+  each_there = λ d. refl;
+  aborts_first = ([], refl);
+}
+
+pub headline : RowsKeepTheirOrder → (h : List Event) (s : Shelf) → Tied h s → Sound s → Lined h s → Headline h
+headline law h s t k l = record {
+  dialogues = λ d.
+      let x : IsStraight d (story h d) = straight_at law (births h) d (story h d) (row_at h s d) (t.rows d) in
+      record { served_first = x.served_first; sent_first = x.sent_first; each_once = x.each_once; sent_queued = x.sent_queued; queued_first = x.queued_first };
+  apart = λ c d first second same. held_apart law c d (record { tied = t; sound = k; lined = l }) first second same;
+  each_there = λ d. (straight_at law (births h) d (story h d) (row_at h s d) (t.rows d)).each_there;
+  aborts_first = let a : AbortsTied h s = t.aborts_are in (abort_out (out h) ++ a.rest, a.all);
+}

@@ -1,5 +1,5 @@
 -- The tokens that a run keeps are those that its book handed out.
-use Rattle.fp_steps.proofs.Names.{AbortCause, Answers, Bool, ClosesOne, Content, Done, EndsDialogue, ExtendsDialogue, FinMap, Follows, Given, GivesDone, Holds, IsOwn, List, LoggedStep, None, OneChanges, OpensDialogue, Option, Parcel, ParcelIs, Posted, Prepared, PutsTurnBack, Refuses, Row, Sends, Shelf, Some, Sound, TakesFirst, TakesOut, TakesTurn, Tid, Turn, Verdict, [], abort_for, add-one, and_parts, ap, append-nil, arith, arrival_of, by_held, by_local, common_remove as remove, cond, cond_some, drop, eq-eqb, eqb, eqb-true, false, filter, filter-append, find, get, identifier, inserted, kept, left_of, length, ltb-false, ltb-true, nat_cmp, nat_lt, nat_tests, not, not-true, not_held, option_map, option_to_list, passes_at_first, position, position_or_len, refl, row_turn as turn_out, row_waits as waits, rules, slice_index_or, split_at_first, subst, suc, sym, take, take_all, true, turn_of, turns_at, ℕ, ◌++◌, ◌+◌, ◌<◌, ◌∙◌, ◌∷◌, ◌≡◌, ◌≤◌}
+use Rattle.fp_steps.proofs.Names.{AbortCause, Answers, Bool, ClosesOne, Content, Done, EndsDialogue, ExtendsDialogue, FinMap, Follows, Given, GivesDone, Holds, IsOwn, List, LoggedStep, None, OneChanges, OpensDialogue, Option, Parcel, ParcelIs, Posted, Prepared, PutsTurnBack, Refuses, Row, Sends, Shelf, Some, Sound, TakesFirst, TakesOut, TakesTurn, Tid, Turn, Verdict, [], abort_for, add-one, and_parts, ap, append-nil, arith, arrival_of, by_held, by_local, common_remove as remove, cond, cond_some, drop, eq-eqb, eqb, eqb-true, false, false≢true, filter, filter-append, find, get, identifier, inserted, is_free, kept, left_of, length, ltb-false, ltb-true, nat_cmp, nat_lt, nat_tests, not, not-true, not_held, option_map, option_to_list, passes_at_first, position, position_or_len, refl, row_turn as turn_out, row_waits as waits, rules, slice_index_or, split_at_first, subst, suc, sym, take, take_all, true, turn_of, turns_at, ℕ, ◌++◌, ◌+◌, ◌<◌, ◌||◌, ◌∙◌, ◌∷◌, ◌≡◌, ◌≤◌}
 use Rattle.fp_row.specs.Row as row
 use Rattle.fp_row.specs.Row.{has_turn_out}
 use Rattle.fp_steps.proofs.HeldDialogues.{one_put, by_option, eqb_swap}
@@ -54,17 +54,23 @@ answers_untouched old closes None answer answered g = untouched_same old answere
 answers_untouched old closes (Some (peer, cause)) answer answered g =
     subst (Untouched old) (sym g.1.new_is) (record { turns_stay = λ local. refl; link_is = refl; out_is = refl })
 
--- a serial that wasn't given is no dialogue's
-pub fresh_at : {s : Shelf} → Sound s → get s.rows (identifier s.link (s.given + 1)) ≡ None
-fresh_at {s} k = by_option (λ o. o ≡ None) (get s.rows (identifier s.link (s.given + 1))) (λ was. refl) (λ row was.
-    let own : IsOwn s (identifier s.link (s.given + 1)) row = k.own (identifier s.link (s.given + 1)) row was in
-    let most : own.serial.0 ≤ s.given = own.serial.2 in
-    let is : identifier s.link (s.given + 1) ≡ identifier s.link own.serial.0 = own.serial.3 in
-    absurd (omega (arith, most, is)))
+-- the serial that is given next is one, and no dialogue's that is held
+pub first_serial : {s : Shelf} {serial : ℕ} {rest : List ℕ} → Sound s → s.free ≡ serial ∷ rest → (0 < serial) × (serial ≤ 131072)
+first_serial {s} {serial} {rest} k first = k.serials.within serial (ap (is_free serial) first ∙ ap (λ b. b || is_free serial rest) (eq-eqb serial serial refl))
+
+pub above_zero : (link serial : ℕ) → 0 < serial → 0 < identifier link serial
+above_zero link serial some = omega (arith, some)
+
+pub fresh_at : {s : Shelf} {serial : ℕ} {rest : List ℕ} → Sound s → s.free ≡ serial ∷ rest → get s.rows (identifier s.link serial) ≡ None
+fresh_at {s} {serial} {rest} k first = by_option (λ o. o ≡ None) (get s.rows (identifier s.link serial)) (λ was. refl) (λ row was.
+    let own : IsOwn s (identifier s.link serial) row = k.own (identifier s.link serial) row was in
+    let is : identifier s.link serial ≡ identifier s.link own.serial.0 = own.serial.3 in
+    let same : serial ≡ own.serial.0 = omega (arith, is) in
+    absurd (false≢true (sym own.serial.4 ∙ ap (λ n. is_free n s.free) (sym same) ∙ ap (is_free serial) first ∙ ap (λ b. b || is_free serial rest) (eq-eqb serial serial refl))))
 
 opens_untouched : {old new : Shelf} {peer : Tid} {came : Prepared} {answer : Posted} → Sound old → OpensDialogue old peer came answer new → Untouched old new
 opens_untouched {old} k g =
-    let l = identifier old.link (old.given + 1) in let none : get old.rows l ≡ None = fresh_at k in
+    let l = identifier old.link g.serial in let none : get old.rows l ≡ None = fresh_at k g.first in
     subst (Untouched old) (sym g.new_is)
     (let stays = one_turn (inserted old.rows l None g.after none) (g.extends.turn ∙ no_turn g.opened (ap (nat_lt 0) g.opens.out)) in search rules)
 

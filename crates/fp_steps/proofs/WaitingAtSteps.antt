@@ -1,10 +1,10 @@
 -- Steps of turns and parcels, and the end of a link, keep what waits in a book as its history tells.
-use Rattle.fp_steps.proofs.Names.{AbortsTied, ByAge, Content, Done, Ending, Event, Given, GivesDone, GoesDown, Lined, List, LoggedStep, None, Option, Output, PicksParcel, Prepared, PutsTurnBack, QueuedFrame, Sends, Shelf, Some, Sorted, Sound, Step, TakesTurn, Tied, Turn, Waiting, [], abort_out, aborts, aborts_sent, aborts_waiting, ap, append_assoc, arith, as_waiting, cond, cond_both, count, count-cons, drop, drop_at, ending, eq-eqb, eqb-true, false, false_from_ne_true, filter, filter-append, filter_agree, frame_octets, frames, frames_by, frames_in, is_down, is_ended, is_one, is_sending, is_some, is_waiting, le-leb, length, length-append, local_of, map-append, map_list, named, nat_le, nat_tests, none-some, not, out, parcel_local, picked, queued, refl, requested_of, row_is_ready, subst, suc, sym, true, true≢false, waiting, waiting_in, ℕ, ◌&&◌, ◌++◌, ◌+◌, ◌<◌, ◌||◌, ◌∙◌, ◌∷◌, ◌≡◌, ◌≤◌, known_turn, numbered, waiting_frames}
+use Rattle.fp_steps.proofs.Names.{AbortsTied, AllByRecursion, ByAge, Content, Done, Ending, Event, Given, GivesDone, GoesDown, Lined, List, LoggedStep, None, Option, Output, PicksParcel, Prepared, PutsTurnBack, QueuedFrame, Sends, Shelf, Some, Sorted, Sound, Step, TakesTurn, Tied, Turn, Waiting, [], abort_out, aborts, aborts_sent, aborts_waiting, ap, append_assoc, arith, as_waiting, cond, cond_both, count, count-cons, drop, drop_at, ending, false, false_from_ne_true, filter, filter-append, filter_agree, frame_octets, frames, frames_by, frames_in, is_down, is_ended, is_one, is_sending, is_some, is_waiting, known_turn, le-leb, length, length-append, local_of, map-append, map_list, named, nat_le, nat_tests, none-some, not, numbered, out, parcel_local, picked, queued, refl, requested_of, row_is_ready, subst, suc, sym, true, true≢false, waiting, waiting_frames, waiting_in, ℕ, ◌&&◌, ◌++◌, ◌+◌, ◌<◌, ◌||◌, ◌∙◌, ◌∷◌, ◌≡◌, ◌≤◌}
 use Rattle.fp_row.specs.declared.requested.Requested.{Requested}
 use Rattle.fp_steps.proofs.FramesInOrder.{Goes, all_numbered, bump, counted, first_goes, n_of, waits_by, zero_of}
-use Rattle.fp_steps.proofs.HeldDialogues.{Held, event, held_of, none_named, same_local}
+use Rattle.fp_steps.proofs.HeldDialogues.{Held, event, held_at, held_of, none_named}
+use Rattle.fp_steps.proofs.HeldFrames.{IsHeld, waiting_held}
 use Rattle.fp_steps.proofs.QueueInOrder.{Joins, Order-next, cores_closed, cores_same, joins_none, joins_one, joins_same, cores_left, cores_put}
-use Rattle.fp_steps.proofs.TieAtParcels.{held}
 use Rattle.fp_steps.proofs.TieAtTurns.{queued_asked}
 
 -- what a step owes
@@ -31,7 +31,7 @@ moves_to {h} {e} l down picks same frames joins =
 pub same_moves : {h : List Event} (e : Event) {old : Shelf} (new : Shelf) → Lined h old → new ≡ old → is_down (e ∷ h) ≡ is_down h
     → map_list (as_waiting (e ∷ h)) (waiting (e ∷ h)) ≡ map_list (as_waiting h) (waiting h) → ((d : ℕ) → picked (e ∷ h) d ≡ picked h d) → Moves h e old new
 same_moves {h} e {old} new l same down frames picks =
-    subst (Moves h e old) (sym same) (moves_to l down picks refl (frames ∙ l.frames) (joins_same refl refl l.order (cores_same old.rows)))
+    subst (Moves h e old) (sym same) (moves_to l down picks refl (frames ∙ l.frames) (joins_same refl l.order (cores_same old.rows)))
 
 -- a turn is handed out
 pub moves_took : {h : List Event} (step : Step) (came : Option Prepared) {old new : Shelf} {turn : Turn} → Lined h old → TakesTurn old turn new → Moves h (event step came (Output.Took turn.local turn.position (length turn.entries))) old new
@@ -39,15 +39,15 @@ moves_took {h} step came {old} {turn} l g =
     let e = event step came (Output.Took turn.local turn.position (length turn.entries)) in
     let order : Sorted (ByAge h) (turn.local ∷ g.rest) = subst (Sorted (ByAge h)) g.first l.order in
     subst (Moves h e old) (sym g.new_is) (moves_to l refl (λ d. refl) refl l.frames
-    (joins_none g.rest refl refl (λ y c. omega (arith, ap (count y) g.first, count-cons y turn.local g.rest, c)) order.1
-    (cores_put old.rows turn.local g.before g.after g.was g.takes.stay.core)))
+    (joins_none g.rest refl (λ y c. omega (arith, ap (count y) g.first, count-cons y turn.local g.rest, c)) order.1
+    (cores_put old.rows turn.local g.before g.after g.was (g.takes.same.birth, λ free. g.takes.stay.core))))
 
 -- a turn goes back
 pub moves_back : {h : List Event} (step : Step) (came : Option Prepared) {old new : Shelf} {turn : Turn} → Lined h old → Sound new → PutsTurnBack old turn new → Moves h (event step came Output.WentBack) old new
 moves_back {h} step came {old} {turn} l m g =
     subst (λ (s : Shelf). Sound s → Moves h (event step came Output.WentBack) old s) (sym g.new_is)
     (λ m. moves_to l refl (λ d. refl) refl l.frames
-    (joins_one turn.local (row_is_ready g.after) m refl refl (cores_left old.rows turn.local g.before g.after g.was (λ free. g.puts.stay.core)) l.order)) m
+    (joins_one turn.local (row_is_ready g.after) m refl (cores_left old.rows turn.local g.before g.after g.was (g.puts.same.birth, λ free. g.puts.stay.core)) l.order)) m
 
 -- a turn that was served comes back
 
@@ -58,17 +58,17 @@ asked_live (Some ending) (frame ∷ frames) fs e = absurd (cc)
 
 -- its frames wait where its dialogue's go out
 all_wait : (h : List Event) (l d place : ℕ) (frames : List (List ℕ)) → l ≡ local_of h d → is_sending h d ≡ true → picked h d ≤ place
-    → map_list (as_waiting h) (filter (is_waiting h) (numbered d place frames)) ≡ waiting_frames l frames
+    → map_list (as_waiting h) (filter (is_waiting h) (numbered d place frames)) ≡ waiting_frames l d frames
 all_wait h l d place [] own sends few = refl
 all_wait h l d place (frame ∷ frames) own sends few =
     let first : QueuedFrame = record { dialogue = d; place = place; frame = frame } in
     let rest = filter (is_waiting h) (numbered d (place + 1) frames) in
     let waits : is_waiting h first ≡ true = (λ i. sends i && nat_le (picked h d) place) ∙ le-leb (picked h d) place few in
-    let before : ℕ → List Waiting → List Waiting = λ n others. record { local = n; frame = frame } ∷ others in
+    let before : ℕ → List Waiting → List Waiting = λ n others. record { local = n; birth = d; frame = frame } ∷ others in
     ap (λ b. map_list (as_waiting h) (cond b (first ∷ rest) rest)) waits ∙ (λ i. before (sym own i) (all_wait h l d (place + 1) frames own sends (omega (arith, few)) i))
 
 more_wait : (h : List Event) (l d : ℕ) (asked : Requested) → l ≡ local_of h d → picked h d ≤ length (queued h d) → ((frames : List (List ℕ)) → asked ≡ Requested.Frames frames → is_sending h d ≡ true)
-    → map_list (as_waiting h) (filter (is_waiting h) (numbered d (length (queued h d)) (frames_in asked))) ≡ waiting_in l asked
+    → map_list (as_waiting h) (filter (is_waiting h) (numbered d (length (queued h d)) (frames_in asked))) ≡ waiting_in l d asked
 more_wait h l d Requested.Nothing own few sends = refl
 more_wait h l d (Requested.Dropped count) own few sends = refl
 more_wait h l d (Requested.Frames frames) own few sends = all_wait h l d (length (queued h d)) frames own (sends frames refl) few
@@ -78,31 +78,31 @@ pub moves_gave : {h : List Event} (step : Step) (came : Option Prepared) {old ne
 moves_gave {h} step came {old} {done} {given} l t k m g =
     let lo = done.turn.local in let b = g.before.birth in
     let output = Output.Gave lo done.turn.position done.served given in
-    let held : Held h lo b g.before = held_of lo g.before t k g.was in
+    let held : Held h lo b g.before = held_of lo g.before t g.was in
     let sends : (frames : List (List ℕ)) → g.asked ≡ Requested.Frames frames → is_sending h b ≡ true = λ frames is.
     let live : g.before.ended ≡ None = asked_live g.before.ended done.frames frames (sym g.gives.requested_is ∙ is) in
     let not_ended : is_ended h b ≡ false = ap is_some (held.tied.ends ∙ live) in
     let up : is_down h ≡ false = false_from_ne_true (is_down h) (λ down. none-some Ending.Closed (sym live ∙ (k.own lo g.before g.was).closed (sym l.down ∙ down))) in
     λ i. not (up i || not_ended i)
     in
-    let more : map_list (as_waiting h) (filter (is_waiting h) (frames_by (named h lo) output h)) ≡ waiting_in lo g.asked =
+    let more : map_list (as_waiting h) (filter (is_waiting h) (frames_by (named h lo) output h)) ≡ waiting_in lo b g.asked =
     ap (λ o. map_list (as_waiting h) (filter (is_waiting h) (frames_by o output h))) held.name
-    ∙ ap (λ xs. map_list (as_waiting h) (filter (is_waiting h) (numbered b (length (queued h b)) xs))) (queued_asked t k g)
+    ∙ ap (λ xs. map_list (as_waiting h) (filter (is_waiting h) (numbered b (length (queued h b)) xs))) (queued_asked t g)
     ∙ more_wait h lo b g.asked held.place (l.few b) sends in
     subst (λ (s : Shelf). Sound s → Moves h (event step came output) old s) (sym g.new_is)
     (λ m. moves_to l refl (λ d. refl) refl
     (ap (map_list (as_waiting h)) (filter-append (is_waiting h) (frames h) (frames_by (named h lo) output h))
     ∙ map-append (as_waiting h) (waiting h) (filter (is_waiting h) (frames_by (named h lo) output h))
-    ∙ (λ i. l.frames i ++ more i)) (joins_one lo (row_is_ready g.after) m refl refl
-    (cores_left old.rows lo g.before g.after g.was (λ free. absurd (true≢false (sym (known_turn g.before done.turn g.gives.was_out).is_out ∙ free)))) l.order)) m
+    ∙ (λ i. l.frames i ++ more i)) (joins_one lo (row_is_ready g.after) m refl
+    (cores_left old.rows lo g.before g.after g.was (g.gives.same.birth, λ free. absurd (true≢false (sym (known_turn g.before done.turn g.gives.was_out).is_out ∙ free)))) l.order)) m
 
 -- what was being sent was
 pub moves_sent : {h : List Event} (step : Step) (came : Option Prepared) {old : Shelf} (new : Shelf) (content : Content) → Lined h old → Sends old content new → Moves h (event step came Output.Sent) old new
 moves_sent {h} step came {old} new (Content.Abort frame) l g =
-    subst (Moves h (event step came Output.Sent) old) (sym g.new_is) (moves_to l refl (λ d. refl) refl l.frames (joins_same refl refl l.order (cores_same old.rows)))
+    subst (Moves h (event step came Output.Sent) old) (sym g.new_is) (moves_to l refl (λ d. refl) refl l.frames (joins_same refl l.order (cores_same old.rows)))
 moves_sent {h} step came {old} new (Content.Frame w) l g =
     subst (Moves h (event step came Output.Sent) old) (sym g.new_is)
-    (moves_to l refl (λ d. refl) refl l.frames (joins_same refl refl l.order (cores_left old.rows w.local g.before g.after g.was (λ free. g.sends.core))))
+    (moves_to l refl (λ d. refl) refl l.frames (joins_same refl l.order (cores_left old.rows w.local g.before g.after g.was (g.sends.same.birth, λ free. g.sends.core))))
 
 -- the link goes down
 pub moves_down : {h : List Event} (e : Event) {old new : Shelf} {out_then : Option Content} {logs : LoggedStep} → is_down (e ∷ h) ≡ true → waiting (e ∷ h) ≡ []
@@ -111,7 +111,7 @@ moves_down {h} e {old} {new} down none picks l g = record {
   down = down ∙ sym (ap (λ (s : Shelf). s.is_down) g.new_is);
   frames = ap (map_list (as_waiting (e ∷ h))) none ∙ sym (ap (λ (s : Shelf). s.outbox.frames) g.new_is);
   few = λ d. still_few h d (picked (e ∷ h) d) _ (l.few d) (picks d);
-  joins = joins_none [] (ap (λ (s : Shelf). s.link) g.new_is) (ap (λ (s : Shelf). s.ready) g.new_is) (λ y c. absurd (omega (arith, c))) tt (cores_closed g);
+  joins = joins_none [] (ap (λ (s : Shelf). s.ready) g.new_is) (λ y c. absurd (omega (arith, c))) tt (cores_closed g);
 }
 
 -- a parcel is handed out
@@ -131,14 +131,10 @@ first_of h (x ∷ xs) w rest e =
     record { first = x; others = xs; is = refl; first_is = (cc); others_are = (cc) }
 
 -- it is of a dialogue that is held
-pub first_named : {h : List Event} {s : Shelf} {w : Waiting} {rest : List Waiting} (f : First h (waiting h) w rest) → Tied h s → Sound s → s.outbox.frames ≡ w ∷ rest
-    → named h w.local ≡ Some f.first.dialogue
-first_named {h} {s} {w} {rest} f t k waits =
-    let row = held w rest k waits in
-    let b : Held h w.local row.0.birth row.0 = held_of w.local row.0 t k row.1 in
-    let same : local_of h f.first.dialogue ≡ local_of h row.0.birth = ap (λ (w : Waiting). w.local) f.first_is ∙ b.place in
-    b.name ∙ ap Some
-    (sym (eqb-true f.first.dialogue row.0.birth (sym (same_local s.link h f.first.dialogue row.0.birth t.opened b.first b.last) ∙ eq-eqb (local_of h f.first.dialogue) (local_of h row.0.birth) same)))
+pub first_named : {h : List Event} {s : Shelf} {w : Waiting} {rest : List Waiting} (f : First h (waiting h) w rest) → Tied h s → named h w.local ≡ Some f.first.dialogue
+first_named {h} {s} f t =
+    let all : AllByRecursion (λ (a : QueuedFrame). IsHeld h s a.dialogue) (f.first ∷ f.others) = subst (AllByRecursion (λ (a : QueuedFrame). IsHeld h s a.dialogue)) f.is (waiting_held t) in
+    ap (named h) (sym (ap (λ (w : Waiting). w.local) f.first_is)) ∙ (held_at f.first.dialogue all.0.0 t all.0.1).name
 
 -- one of a dialogue's frames is picked
 abbrev picks : List Event → Option ℕ → ℕ → ℕ
@@ -147,23 +143,23 @@ picks h o c = cond (is_one o c) (suc (picked h c)) (picked h c)
 few_after : (h : List Event) (d c : ℕ) → picked h c ≤ length (queued h c) → picked h d < zero_of d + n_of d (frames h) → bump d (picked h) c ≤ length (queued h c ++ [])
 few_after h d c le lt = grind (arith, nat_tests, counted h c, length-append (queued h c) [])
 
-pub moves_picked : {h : List Event} (step : Step) (came : Option Prepared) {old new : Shelf} (content : Content) (frame : List ℕ) → Lined h old → Tied h old → Sound old → PicksParcel old content new
+pub moves_picked : {h : List Event} (step : Step) (came : Option Prepared) {old new : Shelf} (content : Content) (frame : List ℕ) → Lined h old → Tied h old → PicksParcel old content new
     → Moves h (event step came (Output.Picked (parcel_local content) frame)) old new
-moves_picked {h} step came {old} (Content.Abort abort) frame l t k g =
+moves_picked {h} step came {old} (Content.Abort abort) frame l t g =
     let e = event step came (Output.Picked 0 frame) in
-    let none : (c : ℕ) → picked (e ∷ h) c ≡ picked h c = λ c. ap (λ o. picks h o c) (none_named old.link h t.opened) in
+    let none : (c : ℕ) → picked (e ∷ h) c ≡ picked h c = λ c. ap (λ o. picks h o c) (none_named h t.opened) in
     subst (Moves h e old) (sym g.new_is) (record {
       down = l.down;
       frames = ap (map_list (as_waiting h)) (filter_agree (is_waiting (e ∷ h)) (is_waiting h) (λ a. ap (λ n. is_sending h a.dialogue && nat_le n a.place) (none a.dialogue)) (frames h))
           ∙ l.frames ∙ sym g.next.1;
       few = λ d. still_few h d (picked (e ∷ h) d) [] (l.few d) (none d);
-      joins = joins_same refl refl l.order (cores_same old.rows);
+      joins = joins_same refl l.order (cores_same old.rows);
     })
-moves_picked {h} step came {old} (Content.Frame w) frame l t k g =
+moves_picked {h} step came {old} (Content.Frame w) frame l t g =
     let e = event step came (Output.Picked w.local frame) in
     let f : First h (waiting h) w g.rest.frames = first_of h (waiting h) w g.rest.frames (l.frames ∙ g.next.2) in
     let d = f.first.dialogue in
-    let one : (c : ℕ) → picked (e ∷ h) c ≡ bump d (picked h) c = λ c. ap (λ o. picks h o c) (first_named f t k g.next.2) in
+    let one : (c : ℕ) → picked (e ∷ h) c ≡ bump d (picked h) c = λ c. ap (λ o. picks h o c) (first_named f t) in
     let goes : Goes (is_sending h) (picked h) zero_of (frames h) f.first f.others = first_goes (is_sending h) (picked h) zero_of (frames h) f.first f.others (all_numbered h) (λ c alive. omega arith) f.is in
     subst (Moves h e old) (sym g.new_is) (record {
       down = l.down;
@@ -171,7 +167,7 @@ moves_picked {h} step came {old} (Content.Frame w) frame l t k g =
           (filter_agree (is_waiting (e ∷ h)) (waits_by (is_sending h) (bump d (picked h))) (λ a. ap (λ n. is_sending h a.dialogue && nat_le n a.place) (one a.dialogue)) (frames h) ∙ goes.left)
           ∙ f.others_are;
       few = λ c. subst (λ n. n ≤ length (queued h c ++ [])) (sym (one c)) (few_after h d c (l.few c) goes.within);
-      joins = joins_same refl refl l.order (cores_same old.rows);
+      joins = joins_same refl l.order (cores_same old.rows);
     })
 
 -- the Aborts of the provider that wait

@@ -18,6 +18,7 @@ moves {h} came {old} {new} anew t k l m =
       posted = λ step posting p answer components is count g totals u.
           subst (λ c. Moves h (event step c (Output.Posted answer components)) old new) (sym is)
           (moves_posted step p answer components (verdict old p) l t k m (verdict_tells old p (anew p is)) g);
+      none_posted = λ step posting empty same. none step same;
       ticked = λ moment added wanting zero g u. moves_ticked came t k u m l g;
       took = λ turn g u. moves_took _ came l g;
       no_room = λ some full same u. same_moves (event Step.Take came Output.NoRoom) new l same refl refl (λ d. refl);
@@ -26,7 +27,7 @@ moves {h} came {old} {new} anew t k l m =
       none_given = λ local out same. none (Step.Give local) same;
       went_back = λ turn g u. moves_back _ came l m g;
       none_back = λ local out same. none (Step.PutBack local) same;
-      picked = λ content frame is g u. moves_picked _ came _ frame l t k g;
+      picked = λ content frame is g u. moves_picked _ came _ frame l t g;
       busy = λ some same u. same_moves (event Step.Pick came Output.Busy) new l same refl refl (λ d. refl);
       none_picked = λ empty same. none Step.Pick same;
       sent = λ content g u. moves_sent _ came new content l g;

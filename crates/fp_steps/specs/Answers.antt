@@ -20,9 +20,10 @@ use Rattle.fp_steps.specs.Waiting.{QueuedFrame, aborts_waiting, is_sending, plac
 
 -- POST, LOST
 
--- the first line that fits says what is answered; the components are those of a message that is accepted
+-- the first line that fits says what is answered; the components are those of a message that is accepted; a message by
+-- a table that wasn't handed in doesn't come
 abbrev pub IsPosted : ℕ → List Event → Option Prepared → Output → Type 0
-IsPosted link h None output = ⊥
+IsPosted link h None output = output ≡ outputs.Nothing
 IsPosted link h (Some came) output = output ≡ outputs.Posted (answer_to link h came) (components_in (answer_to link h came) came)
 
 -- GIVE
@@ -66,7 +67,8 @@ ticked h moment = outputs.Ticked (how_many (births h) (is_due h moment)) 0
 -- the dialogue that has been ready longest
 pub record IsLongestReady (h : List Event) (local position count : ℕ) : Type 0 where
   pub dialogue : ℕ
-  pub local_is : local ≡ local_of h dialogue
+  -- its identifier is answered, which names it
+  pub name : named h local ≡ Some dialogue
   pub stands : is_ready h dialogue ≡ true
   pub longest : (other : ℕ) → is_ready h other ≡ true → (other == dialogue) ≡ false → IsReadyBefore h dialogue other
   -- its next entries, as many as wait and have a free place each, at most sixteen
@@ -98,7 +100,7 @@ IsPicked h _ = ⊥
 -- EACH STEP
 
 abbrev pub IsAnswer : ℕ → List Event → Step → Option Prepared → Output → Type 0
-IsAnswer link h (steps.Post frame moment) came output = IsPosted link h came output
+IsAnswer link h (steps.Post table frame moment) came output = IsPosted link h came output
 IsAnswer link h (steps.Lost frame moment) came output = IsPosted link h came output
 IsAnswer link h (steps.Tick moment) came output = output ≡ ticked h moment
 IsAnswer link h steps.Take came output = IsTaken h output

@@ -13,12 +13,12 @@ use Rattle.fp_steps.specs.History.{Event}
 
 -- how many entries a turn that was given back served
 abbrev pub entries_served : LoggedStep → ℕ
-entries_served (line.Give local position served given) = served
+entries_served (line.Give birth position served given) = served
 entries_served _ = 0
 
 -- a frame of a dialogue that was sent, and no Abort of the provider
 abbrev pub is_sent_frame : LoggedStep → Bool
-is_sent_frame (line.Sent local) = not (local == 0)
+is_sent_frame (line.Sent birth) = not (birth == 0)
 is_sent_frame _ = false
 
 -- the components of a message that was accepted
@@ -30,7 +30,7 @@ accepted_by Ended came = 0
 accepted_by Discarded came = 0
 
 abbrev pub accepted_in : LoggedStep → Option Prepared → ℕ
-accepted_in (line.Post moment message answer) came = accepted_by answer came
+accepted_in (line.Post table moment message answer) came = accepted_by answer came
 accepted_in _ came = 0
 
 -- of all messages of these lines, as a history has what each was prepared to

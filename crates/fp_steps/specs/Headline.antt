@@ -1,11 +1,11 @@
 -- What holds of each dialogue of a run, at each moment: the entries that were served are a front of those that it
 -- accepted, cut at its end, and the frames that were sent a front of those that its service logic requests on them.
-use Rattle.std.specs.Prelude.{◌≡◌, ℕ, List, [], ◌∷◌, ◌++◌, Some, length, zero, suc}
+use Rattle.std.specs.Prelude.{◌≡◌, ℕ, true, List, [], ◌∷◌, ◌++◌, length, zero, suc}
 use mathlib.Core.List.{IsPrefix}
 use Rattle.fp_service.specs.Fold.{cut}
 use Rattle.fp_steps.specs.Accepted.{accepted, positions, served, start}
 use Rattle.fp_steps.specs.Answers.{AllAnswered}
-use Rattle.fp_steps.specs.Births.{Beginning, beginning}
+use Rattle.fp_steps.specs.Births.{local_of}
 use Rattle.fp_steps.specs.History.{AtEachMoment, Event, Tells}
 use Rattle.fp_steps.specs.Idle.{IdleIsDone}
 use Rattle.fp_steps.specs.declared.output.Output.{Output}
@@ -13,9 +13,11 @@ use Rattle.fp_steps.specs.declared.step.Step.{Step}
 use Rattle.fp_records.specs.Table.{Contents}
 use Rattle.fp_steps.specs.Retold.{LogIsRetold}
 use Rattle.fp_steps.specs.Sending.{aborts, aborts_sent, asked, queued, sent}
+use Rattle.fp_steps.specs.Serials.{IdentifiersHold}
 use Rattle.fp_steps.specs.Totals.{AddUp}
+use Rattle.fp_steps.specs.Waiting.{is_held}
 
--- 0, 1, 2 and so on, so many
+-- 0, 1, 2 and so on, as many as a number says
 abbrev pub numbers : ℕ → List ℕ
 numbers zero = []
 numbers (suc n) = numbers n ++ n ∷ []
@@ -37,18 +39,20 @@ pub record Headline (h : List Event) : Type 0 where
   pub dialogues : (d : ℕ) → InOrder h d
   -- in each place that was served stands an entry that was accepted
   pub each_there : (d : ℕ) → length (served h d) ≡ length (positions h d)
-  -- no two have one local transaction identifier
-  pub apart : (c d : ℕ) (b g : Beginning) → beginning h c ≡ Some b → beginning h d ≡ Some g → b.local ≡ g.local → c ≡ d
+  -- no two that are held have one local transaction identifier
+  pub apart : (c d : ℕ) → is_held h c ≡ true → is_held h d ≡ true → local_of h c ≡ local_of h d → c ≡ d
   -- the Aborts of the provider that were sent are a front of those that were answered
   pub aborts_first : IsPrefix (aborts_sent h) (aborts h)
 
--- these are outputs of these steps on a link, by these records and names of application contexts
-pub record Runs (contents : Contents) (contexts : List (List ℕ)) (link : ℕ) (steps : List Step) (outputs : List Output) : Type 0 where
+-- these are outputs of these steps on a link, by these tables and names of application contexts
+pub record Runs (tables : List Contents) (contexts : List (List ℕ)) (link : ℕ) (steps : List Step) (outputs : List Output) : Type 0 where
   -- a history has these steps and outputs
   pub history : List Event
-  pub tells : Tells contents contexts steps outputs history
+  pub tells : Tells tables contexts steps outputs history
   -- at each of its moments all of this holds
   pub headline : AtEachMoment Headline history
+  -- at each the identifiers of the dialogues that are held name these, and there is one for a Begin
+  pub identifiers : AtEachMoment IdentifiersHold history
   -- each output is the answer at its moment
   pub answers : AllAnswered link history
   -- the totals of the outputs are sums over its dialogues
@@ -56,4 +60,4 @@ pub record Runs (contents : Contents) (contexts : List (List ℕ)) (link : ℕ) 
   -- at each moment at which the link is idle nothing is left to do
   pub idle : AtEachMoment IdleIsDone history
   -- the lines of its log are retold by a history with the same totals
-  pub retold : LogIsRetold contents contexts link history
+  pub retold : LogIsRetold tables contexts link history

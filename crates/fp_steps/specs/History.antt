@@ -1,10 +1,11 @@
 -- What a run tells: its steps, what their messages were prepared to, and what was answered. A history holds them, the
 -- newest first.
-use Rattle.std.specs.Prelude.{◌≡◌, ℕ, false, List, [], ◌∷◌, Option, Some, None, map, reverse, ⊤}
+use Rattle.std.specs.Prelude.{◌≡◌, ℕ, false, List, [], ◌∷◌, Option, Some, None, map, nat_le, reverse, slice_get, ⊤, if◌then◌else◌}
 use Rattle.std.specs.List.{AllByRecursion}
 use Rattle.fp_entry.specs.declared.prepared.Prepared.{Prepared}
 use Rattle.fp_entry.specs.Prepared.{IsLost, IsPrepared}
 use Rattle.fp_records.specs.Table.{Contents}
+use Rattle.fp_records.specs.declared.table.TheConstants.Table.{LAST_INDEX}
 use Rattle.fp_book.specs.Lines.{is_lost}
 use Rattle.fp_steps.specs.declared.output.Output.{Output}
 use Rattle.fp_steps.specs.declared.step.Step.{Step}
@@ -31,29 +32,38 @@ IsRead contents contexts octets moment None = ⊥
 IsRead contents contexts octets moment (Some came) =
     IsPrepared contents contexts octets moment came × (is_lost came ≡ false)
 
+-- the records in a place, 0 to 999, of the tables that are handed in
+abbrev pub table_at : List Contents → ℕ → Option Contents
+table_at tables place = if nat_le place LAST_INDEX then slice_get tables place else None
+
+-- so by the records of its table; no message comes, if that wasn't handed in
+abbrev pub IsReadBy : Option Contents → List (List ℕ) → List ℕ → ℕ → Option Prepared → Type 0
+IsReadBy None contexts octets moment came = IsNone came
+IsReadBy (Some contents) contexts octets moment came = IsRead contents contexts octets moment came
+
 -- a message that isn't read
 abbrev pub IsUnread : List ℕ → ℕ → Option Prepared → Type 0
 IsUnread octets moment None = ⊥
 IsUnread octets moment (Some came) = IsLost octets moment came
 
 -- this is what the message of a step is prepared to
-abbrev pub IsCame : Contents → List (List ℕ) → Step → Option Prepared → Type 0
-IsCame contents contexts (Post frame moment) came = IsRead contents contexts frame moment came
-IsCame contents contexts (Lost frame moment) came = IsUnread frame moment came
-IsCame contents contexts (Tick moment) came = IsNone came
-IsCame contents contexts Take came = IsNone came
-IsCame contents contexts (Give local) came = IsNone came
-IsCame contents contexts (PutBack local) came = IsNone came
-IsCame contents contexts Pick came = IsNone came
-IsCame contents contexts Sent came = IsNone came
-IsCame contents contexts Unsent came = IsNone came
-IsCame contents contexts Down came = IsNone came
+abbrev pub IsCame : List Contents → List (List ℕ) → Step → Option Prepared → Type 0
+IsCame tables contexts (Post table frame moment) came = IsReadBy (table_at tables table) contexts frame moment came
+IsCame tables contexts (Lost frame moment) came = IsUnread frame moment came
+IsCame tables contexts (Tick moment) came = IsNone came
+IsCame tables contexts Take came = IsNone came
+IsCame tables contexts (Give local) came = IsNone came
+IsCame tables contexts (PutBack local) came = IsNone came
+IsCame tables contexts Pick came = IsNone came
+IsCame tables contexts Sent came = IsNone came
+IsCame tables contexts Unsent came = IsNone came
+IsCame tables contexts Down came = IsNone came
 
--- the history tells of these steps, by these records and names, and of these outputs
-pub record Tells (contents : Contents) (contexts : List (List ℕ)) (steps : List Step) (outputs : List Output) (h : List Event) : Type 0 where
+-- the history tells of these steps, by these tables and names, and of these outputs
+pub record Tells (tables : List Contents) (contexts : List (List ℕ)) (steps : List Step) (outputs : List Output) (h : List Event) : Type 0 where
   pub steps_are : reverse (map (λ (e : Event). e.step) h) ≡ steps
   pub outputs_are : outputs_of h ≡ outputs
-  pub messages : AllByRecursion (λ (e : Event). IsCame contents contexts e.step e.came) h
+  pub messages : AllByRecursion (λ (e : Event). IsCame tables contexts e.step e.came) h
 
 -- at each moment of a run
 abbrev pub AtEachMoment : (List Event → Type 0) → List Event → Type 0

@@ -1,5 +1,5 @@
 -- What holds of all runs, and of all histories of runs.
-use Rattle.std.specs.Prelude.{◌≡◌, ℕ, List, Option, Some, None, ◌⊎◌}
+use Rattle.std.specs.Prelude.{◌≡◌, ℕ, List, Option, Some, None, slice_get, ◌⊎◌}
 use mathlib.Core.List.{IsPrefix}
 use Rattle.fp_book.specs.Log as book
 use Rattle.fp_book.specs.Shelf.{Shelf, Sound}
@@ -31,40 +31,45 @@ SentAlike =
 -- What holds at each moment of a run holds of its whole history.
 abbrev pub HeadlineHolds : Type 0
 HeadlineHolds =
-    (contents : Contents) (contexts : List (List ℕ)) (link : ℕ) (steps : List Step) (outputs : List Output)
-    → (run : Runs contents contexts link steps outputs) → Headline run.history
+    (tables : List Contents) (contexts : List (List ℕ)) (link : ℕ) (steps : List Step) (outputs : List Output)
+    → (run : Runs tables contexts link steps outputs) → Headline run.history
 
--- A step has one answer behind a history, by what its message is prepared to, which is one thing.
+-- A step has one answer after a history, by what its message is prepared to, which is one thing.
 abbrev pub AnswersAreOne : Type 0
 AnswersAreOne =
-    (contents : Contents) (contexts : List (List ℕ)) (link : ℕ) (h : List Event) (step : Step) (came other : Option Prepared) (x y : Output)
-    → IsCame contents contexts step came → IsCame contents contexts step other → IsAnswer link h step came x → IsAnswer link h step other y → x ≡ y
+    (tables : List Contents) (contexts : List (List ℕ)) (link : ℕ) (h : List Event) (step : Step) (came other : Option Prepared) (x y : Output)
+    → IsCame tables contexts step came → IsCame tables contexts step other → IsAnswer link h step came x → IsAnswer link h step other y → x ≡ y
 
 -- A list of steps has one list of outputs and one history, whatever makes the steps.
 abbrev pub RunsAreOne : Type 0
 RunsAreOne =
-    (contents : Contents) (contexts : List (List ℕ)) (link : ℕ) (steps : List Step) (outputs others : List Output)
-    → (run : Runs contents contexts link steps outputs) (other : Runs contents contexts link steps others) → (outputs ≡ others) × (run.history ≡ other.history)
+    (tables : List Contents) (contexts : List (List ℕ)) (link : ℕ) (steps : List Step) (outputs others : List Output)
+    → (run : Runs tables contexts link steps outputs) (other : Runs tables contexts link steps others) → (outputs ≡ others) × (run.history ≡ other.history)
 
 -- The lines of a log are retold by one history.
 abbrev pub LinesAreRetoldOnce : Type 0
 LinesAreRetoldOnce =
-    (contents : Contents) (contexts : List (List ℕ)) (link : ℕ) (lines : List LoggedStep) (g h : List Event)
-    → Retells contents contexts link lines g → Retells contents contexts link lines h → g ≡ h
+    (tables : List Contents) (contexts : List (List ℕ)) (link : ℕ) (lines : List LoggedStep) (g h : List Event)
+    → Retells tables contexts link lines g → Retells tables contexts link lines h → g ≡ h
 
 -- The totals of a history that retells lines are what can be counted in those.
 abbrev pub RetoldLinesAreCounted : Type 0
 RetoldLinesAreCounted =
-    (contents : Contents) (contexts : List (List ℕ)) (link : ℕ) (lines : List LoggedStep) (h : List Event)
-    → Retells contents contexts link lines h → totals_of (outputs_of h) ≡ totals_in lines h
+    (tables : List Contents) (contexts : List (List ℕ)) (link : ℕ) (lines : List LoggedStep) (h : List Event)
+    → Retells tables contexts link lines h → totals_of (outputs_of h) ≡ totals_in lines h
 
 -- a log with the line of one more step, if that has one
 abbrev pub log_with : List LoggedStep → Option LoggedStep → List LoggedStep
 log_with log None = log
 log_with log (Some line) = book.logged log line
 
--- A book to which a history leads logs of a step what the history tells of it, and nothing if that has no line.
+-- each table has the place in which it is handed in
+abbrev pub AreInPlace : List Contents → Type 0
+AreInPlace tables = (place : ℕ) (contents : Contents) → slice_get tables place ≡ Some contents → contents.index ≡ place
+
+-- A book to which a history leads logs of a step what the history tells of it, and nothing if that has no line; where
+-- each table has the place in which it is handed in.
 abbrev pub BooksLogWhatIsTold : Type 0
 BooksLogWhatIsTold =
-    (contents : Contents) (contexts : List (List ℕ)) (h : List Event) (step : Step) (came : Option Prepared) (output : Output) (s after : Shelf)
-    → Tied h s → Sound s → IsCame contents contexts step came → MakesOf step came output s after → after.log ≡ log_with s.log (logged h step output)
+    (tables : List Contents) (contexts : List (List ℕ)) (h : List Event) (step : Step) (came : Option Prepared) (output : Output) (s after : Shelf)
+    → AreInPlace tables → Tied h s → Sound s → IsCame tables contexts step came → MakesOf step came output s after → after.log ≡ log_with s.log (logged h step output)

@@ -7,6 +7,7 @@ pub mod Accepted
 pub mod Sending
 pub mod Turns
 pub mod Waiting
+pub mod Serials
 -- what each step is answered
 pub mod Lines
 pub mod Answers

@@ -1,6 +1,6 @@
--- What a message of a run is answered: the lines of the profile, one behind the other, of which the first that fits
+-- What a message of a run is answered: the lines of the profile, one after the other, of which the first that fits
 -- decides. A message names a dialogue only while that takes messages.
-use Rattle.std.specs.Prelude.{ℕ, ◌+◌, ◌^◌, ◌&&◌, ◌||◌, Bool, true, List, [], ◌∷◌, ◌++◌, Option, Some, None, is_none, length, nat_eq, nat_le, nat_lt, if◌then◌else◌}
+use Rattle.std.specs.Prelude.{ℕ, ◌^◌, ◌&&◌, ◌||◌, Bool, true, List, [], ◌∷◌, ◌++◌, Option, Some, None, is_none, length, nat_le, nat_lt, if◌then◌else◌}
 use Rattle.std.specs.Option.{option_and_then, option_map_or}
 use Rattle.fp_book.specs.declared.answers.Posted.{Posted}
 use Rattle.fp_book.specs.declared.answers.Posted.TheVariants as answers
@@ -16,10 +16,11 @@ use Rattle.fp_q773.specs.declared.kind.Kind.{Kind}
 use Rattle.fp_q773.specs.declared.provider_abort.AbortCause.{AbortCause}
 use Rattle.fp_q773.specs.declared.provider_abort.AbortCause.TheVariants as cause
 use Rattle.fp_q773.specs.Tid.{Tid}
-use Rattle.fp_tids.specs.Identifiers.{identifier}
+use Rattle.fp_tids.specs.Identifiers.{first_of}
 use Rattle.fp_steps.specs.Accepted.{admits, entry_count}
-use Rattle.fp_steps.specs.Births.{births, destination}
+use Rattle.fp_steps.specs.Births.{destination}
 use Rattle.fp_steps.specs.History.{Event}
+use Rattle.fp_steps.specs.Serials.{free}
 use Rattle.fp_steps.specs.Turns.{unserved}
 use Rattle.fp_steps.specs.Waiting.{aborts_waiting, held, is_down}
 
@@ -40,10 +41,10 @@ refused waiting came named closes_none = answer_by (abort_for waiting named (arr
 
 -- The lines for a message of a kind. What they ask for: whether the link is down, how many Aborts of the provider wait,
 -- whether the message names no dialogue, whether it goes on with none, which entries of the one that it goes on with
--- weren't served, how many entries the link accepted, how many dialogues it holds and how many it opened, and what a
--- Begin is answered that is taken.
-abbrev pub answers_by : Bool → ℕ → Bool → Bool → List Entry → ℕ → ℕ → ℕ → Posted → Prepared → Kind → List (Bool × Posted)
-answers_by down waiting names_none begins_anew unserved entries held opened begun came kind =
+-- weren't served, how many entries the link accepted, how many dialogues it holds, and what a Begin is answered that is
+-- taken.
+abbrev pub answers_by : Bool → ℕ → Bool → Bool → List Entry → ℕ → ℕ → Posted → Prepared → Kind → List (Bool × Posted)
+answers_by down waiting names_none begins_anew unserved entries held begun came kind =
     -- 1. The link is down: nothing.
     (down, answers.Discarded)
     -- 2. A Unidirectional: nothing.
@@ -66,14 +67,14 @@ answers_by down waiting names_none begins_anew unserved entries held opened begu
     ∷ ((is_end kind || is_abort kind) && names_none, answers.Discarded)
     -- 6. A Begin, a Continue or an End with more than 16 elements in its component portion; or with which more than 64
     -- entries of the dialogue would be accepted and not yet served, the peer's end, its abort and the clock not
-    -- counted; or on a link that has accepted 2^63 entries; or a Begin while 4,096 dialogues are held or no serial is
-    -- left: cause 4, and the dialogue of a Continue or an End is closed.
+    -- counted; or on a link that has accepted 2^63 entries; or a Begin while 4,096 dialogues are held: cause 4, and the
+    -- dialogue of a Continue or an End is closed.
     ∷ (
       grows_a_dialogue kind
           && (nat_lt 16 (elements_in came)
           || (nat_lt 64 (place_count (unserved ++ entries_in came))
           || (nat_le (2 ^ 63) entries
-          || (is_begin kind && (nat_le 4096 held || nat_eq (opened + 1) (2 ^ 29)))))),
+          || (is_begin kind && nat_le 4096 held)))),
       refused waiting came (Some cause.ResourceLimitation) begins_anew,
     )
     -- 7. Else it is taken: a Begin opens a dialogue, and a Continue, an End or an Abort is accepted with its entries.
@@ -95,13 +96,18 @@ abbrev pub unserved_of : List Event → Option ℕ → List Entry
 unserved_of h None = []
 unserved_of h (Some d) = unserved h d
 
--- a Begin that is taken opens a dialogue with the next identifier; one without its sender's identifier isn't a message
+-- a dialogue is opened with this identifier, if there is one
+abbrev pub opened_with : Option ℕ → Posted
+opened_with next = option_map_or (λ local. answers.Opened local) next answers.Discarded
+
+-- A Begin that is taken opens a dialogue with the identifier of the serial that is given next. There is always one (see
+-- IdentifiersHold): at most 4,096 of 131,072 are held. One without its sender's identifier isn't a message.
 abbrev pub begun : ℕ → List Event → Prepared → Posted
-begun link h came = option_map_or (λ (peer : Tid). answers.Opened (identifier link (births h + 1))) (arrival_of came).ids.orig answers.Discarded
+begun link h came = option_map_or (λ (peer : Tid). opened_with (first_of link (free h))) (arrival_of came).ids.orig answers.Discarded
 
 -- what a message is answered
 abbrev pub answer_to : ℕ → List Event → Prepared → Posted
 answer_to link h came =
     first_answer
     (answers_by (is_down h) (length (aborts_waiting h)) (is_none (addressee h came)) (is_none (going_on (arrival_of came).ids.kind (addressee h came)))
-    (unserved_of h (going_on (arrival_of came).ids.kind (addressee h came))) (entry_count h) (held h) (births h) (begun link h came) came (arrival_of came).ids.kind)
+    (unserved_of h (going_on (arrival_of came).ids.kind (addressee h came))) (entry_count h) (held h) (begun link h came) came (arrival_of came).ids.kind)

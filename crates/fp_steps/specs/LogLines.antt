@@ -12,6 +12,7 @@ use Rattle.fp_book.specs.declared.answers.Given.{Given}
 use Rattle.fp_book.specs.declared.answers.Given.TheVariants.{Dropped, Queued, Silent}
 use Rattle.fp_book.specs.declared.line.LoggedStep.TheVariants.{Down, Gap, Give, Lost, Pick, Post, PutBack, Sent, Take, Tick, Unsent}
 use Rattle.fp_records.specs.Table.{Contents}
+use Rattle.fp_records.specs.declared.table.TheConstants.Table.{LAST_INDEX}
 use Rattle.fp_steps.specs.declared.output.Output.{Output}
 use Rattle.fp_steps.specs.declared.step.Step.{Step}
 use Rattle.fp_steps.specs.Answers.{AllAnswered}
@@ -43,18 +44,23 @@ IsCounted Silent = ⊤
 IsCounted (Queued count) = count < 2 ^ 32
 IsCounted (Dropped count) = count < 2 ^ 32
 
--- what a step may hold: moments before the year 2100, identifiers and numbers of dialogues and of entries of at most 32
--- bits, positions and numbers of lost steps of at most 64
+-- the table by which a message was read has one of the places 0 to 999
+abbrev pub HasPlace : LoggedStep → Type 0
+HasPlace (Post table moment message answer) = table ≤ LAST_INDEX
+HasPlace _ = ⊤
+
+-- what a step may hold: moments before the year 2100, tables of the places 0 to 999, births, positions and numbers of
+-- lost steps of at most 64 bits, other numbers of at most 32
 abbrev pub IsStep : LoggedStep → Type 0
-IsStep (Post moment message answer) = IsPosting moment message answer
+IsStep (Post table moment message answer) = (table ≤ LAST_INDEX) × IsPosting moment message answer
 IsStep (Lost moment message answer) = IsPosting moment message answer
 IsStep (Tick moment added wanting) = (moment < END) × (added < 2 ^ 32) × (wanting < 2 ^ 32)
-IsStep (Take local position count) = (local < 2 ^ 32) × (position < 2 ^ 64) × (count < 2 ^ 32)
-IsStep (Give local position served given) = (local < 2 ^ 32) × (position < 2 ^ 64) × (served < 2 ^ 32) × IsCounted given
-IsStep (PutBack local position) = (local < 2 ^ 32) × (position < 2 ^ 64)
-IsStep (Pick local) = local < 2 ^ 32
-IsStep (Sent local) = local < 2 ^ 32
-IsStep (Unsent local) = local < 2 ^ 32
+IsStep (Take birth position count) = (birth < 2 ^ 64) × (position < 2 ^ 64) × (count < 2 ^ 32)
+IsStep (Give birth position served given) = (birth < 2 ^ 64) × (position < 2 ^ 64) × (served < 2 ^ 32) × IsCounted given
+IsStep (PutBack birth position) = (birth < 2 ^ 64) × (position < 2 ^ 64)
+IsStep (Pick birth) = birth < 2 ^ 64
+IsStep (Sent birth) = birth < 2 ^ 64
+IsStep (Unsent birth) = birth < 2 ^ 64
 IsStep Down = ⊤
 IsStep (Gap lost) = lost < 2 ^ 64
 
@@ -65,5 +71,5 @@ IsLine (lines.Step link step) = (link < 8) × IsStep step
 
 -- these lines are the log of a link, by its steps and outputs: whatever history these are of, they are its lines
 pub record IsLog (link : ℕ) (steps : List Step) (outputs : List Output) (log : List Line) : Type 0 where
-  pub lines_are : (contents : Contents) (contexts : List (List ℕ)) (h : List Event) → Tells contents contexts steps outputs h → AllAnswered link h → log ≡ log_of link h
+  pub lines_are : (tables : List Contents) (contexts : List (List ℕ)) (h : List Event) → Tells tables contexts steps outputs h → AllAnswered link h → log ≡ log_of link h
   pub in_range : AllByRecursion IsLine log

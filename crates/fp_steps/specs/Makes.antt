@@ -20,9 +20,10 @@ use Rattle.fp_steps.specs.History.{IsCame}
 use Rattle.fp_steps.specs.Lines.{components_in}
 use Rattle.fp_records.specs.Table.{Contents}
 
--- a message is posted by its verdict, and its components are told, if it is accepted
+-- a message is posted by its verdict, and its components are told, if it is accepted; nothing is done where none comes
 abbrev pub PostsTo : Output → Option Prepared → Shelf → Shelf → Type 0
 PostsTo (outputs.Posted answer components) (Some came) old new = (components ≡ components_in answer came) × Follows (verdict old came) old came answer new × (new.totals ≡ posted_totals old.totals came answer)
+PostsTo outputs.Nothing None old new = new ≡ old
 PostsTo _ _ old new = ⊥
 
 abbrev pub TicksTo : ℕ → Output → Shelf → Shelf → Type 0
@@ -71,7 +72,7 @@ GoesDownTo _ old new = ⊥
 
 -- a step is made
 abbrev pub MakesOf : Step → Option Prepared → Output → Shelf → Shelf → Type 0
-MakesOf (steps.Post frame moment) came output old new = PostsTo output came old new
+MakesOf (steps.Post table frame moment) came output old new = PostsTo output came old new
 MakesOf (steps.Lost frame moment) came output old new = PostsTo output came old new
 MakesOf (steps.Tick moment) came output old new = TicksTo moment output old new
 MakesOf steps.Take came output old new = TakesTo output old new
@@ -82,6 +83,6 @@ MakesOf steps.Sent came output old new = SendsTo output old new
 MakesOf steps.Unsent came output old new = UnsendsTo output old new
 MakesOf steps.Down came output old new = GoesDownTo output old new
 
--- a step is made by these records and names
-abbrev pub MakesStep : Contents → List (List ℕ) → Shelf → Step → Output → Shelf → Type 0
-MakesStep contents contexts old step output new = (came : Option Prepared) × IsCame contents contexts step came × MakesOf step came output old new
+-- a step is made by these tables and names
+abbrev pub MakesStep : List Contents → List (List ℕ) → Shelf → Step → Output → Shelf → Type 0
+MakesStep tables contexts old step output new = (came : Option Prepared) × IsCame tables contexts step came × MakesOf step came output old new

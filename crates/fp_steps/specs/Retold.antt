@@ -1,5 +1,5 @@
 -- Which histories retell the lines of a log.
-use Rattle.std.specs.Prelude.{◌≡◌, ℕ, List, [], ◌∷◌, Option, Some, None, ⊤}
+use Rattle.std.specs.Prelude.{◌≡◌, ℕ, List, [], ◌∷◌, Option, Some, None, option_map, ⊤}
 use Rattle.fp_book.specs.declared.line.LoggedStep.{LoggedStep}
 use Rattle.fp_book.specs.declared.line.LoggedStep.TheVariants as line
 use Rattle.fp_records.specs.Table.{Contents}
@@ -9,38 +9,40 @@ use Rattle.fp_steps.specs.Answers.{IsAnswer}
 use Rattle.fp_steps.specs.History.{Event, IsCame, outputs_of}
 use Rattle.fp_steps.specs.Told.{lines_told, told}
 use Rattle.fp_steps.specs.Totals.{totals_of}
+use Rattle.fp_steps.specs.Turns.{local_if_out}
 
--- the step that a line tells of; a gap tells of none
-abbrev pub step_of : LoggedStep → Option Step
-step_of (line.Post moment message answer) = Some (steps.Post message moment)
-step_of (line.Lost moment message answer) = Some (steps.Lost message moment)
-step_of (line.Tick moment added wanting) = Some (steps.Tick moment)
-step_of (line.Take local position count) = Some steps.Take
-step_of (line.Give local position served given) = Some (steps.Give local)
-step_of (line.PutBack local position) = Some (steps.PutBack local)
-step_of (line.Pick local) = Some steps.Pick
-step_of (line.Sent local) = Some steps.Sent
-step_of (line.Unsent local) = Some steps.Unsent
-step_of line.Down = Some steps.Down
-step_of (line.Gap lost) = None
+-- the step that a line tells of, after this history; a gap tells of none, nor does a line by which a turn comes back that
+-- isn't out
+abbrev pub step_of : List Event → LoggedStep → Option Step
+step_of h (line.Post table moment message answer) = Some (steps.Post table message moment)
+step_of h (line.Lost moment message answer) = Some (steps.Lost message moment)
+step_of h (line.Tick moment added wanting) = Some (steps.Tick moment)
+step_of h (line.Take birth position count) = Some steps.Take
+step_of h (line.Give birth position served given) = option_map (λ local. steps.Give local) (local_if_out h birth)
+step_of h (line.PutBack birth position) = option_map (λ local. steps.PutBack local) (local_if_out h birth)
+step_of h (line.Pick birth) = Some steps.Pick
+step_of h (line.Sent birth) = Some steps.Sent
+step_of h (line.Unsent birth) = Some steps.Unsent
+step_of h line.Down = Some steps.Down
+step_of h (line.Gap lost) = None
 
--- an event retells a line behind this history: its step is the line's, by these records and names its message is what
+-- an event retells a line after this history: its step is the line's, by these tables and names its message is what
 -- that brings, its output is the answer there, and what a log tells of it is that line
-pub record RetellsOne (contents : Contents) (contexts : List (List ℕ)) (link : ℕ) (line : LoggedStep) (h : List Event) (e : Event) : Type 0 where
-  pub step : step_of line ≡ Some e.step
-  pub came : IsCame contents contexts e.step e.came
+pub record RetellsOne (tables : List Contents) (contexts : List (List ℕ)) (link : ℕ) (line : LoggedStep) (h : List Event) (e : Event) : Type 0 where
+  pub step : step_of h line ≡ Some e.step
+  pub came : IsCame tables contexts e.step e.came
   pub answer : IsAnswer link h e.step e.came e.output
   pub tells : told h e.step e.output ≡ Some line
 
--- the events of a history retell these lines, each behind those before it; both have the newest first
-abbrev pub Retells : Contents → List (List ℕ) → ℕ → List LoggedStep → List Event → Type 0
-Retells contents contexts link [] [] = ⊤
-Retells contents contexts link [] (e ∷ h) = ⊥
-Retells contents contexts link (line ∷ lines) [] = ⊥
-Retells contents contexts link (line ∷ lines) (e ∷ h) = RetellsOne contents contexts link line h e × Retells contents contexts link lines h
+-- the events of a history retell these lines, each after those before it; both have the newest first
+abbrev pub Retells : List Contents → List (List ℕ) → ℕ → List LoggedStep → List Event → Type 0
+Retells tables contexts link [] [] = ⊤
+Retells tables contexts link [] (e ∷ h) = ⊥
+Retells tables contexts link (line ∷ lines) [] = ⊥
+Retells tables contexts link (line ∷ lines) (e ∷ h) = RetellsOne tables contexts link line h e × Retells tables contexts link lines h
 
 -- the lines of the log of a run are retold by a history, and that has the same totals
-pub record LogIsRetold (contents : Contents) (contexts : List (List ℕ)) (link : ℕ) (h : List Event) : Type 0 where
+pub record LogIsRetold (tables : List Contents) (contexts : List (List ℕ)) (link : ℕ) (h : List Event) : Type 0 where
   pub history : List Event
-  pub retells : Retells contents contexts link (lines_told h) history
+  pub retells : Retells tables contexts link (lines_told h) history
   pub totals : totals_of (outputs_of history) ≡ totals_of (outputs_of h)

@@ -1,5 +1,5 @@
 -- How a book stands to the history of its run.
-use Rattle.std.specs.Prelude.{◌≡◌, ℕ, ◌<◌, ◌≤◌, ◌&&◌, Bool, false, not, List, [], ◌++◌, Option, Some, None, map, is_some, length, nat_le, nat_lt, option_map}
+use Rattle.std.specs.Prelude.{◌≡◌, ℕ, ◌<◌, ◌≤◌, ◌==◌, ◌&&◌, Bool, false, not, List, [], ◌++◌, Option, Some, None, map, is_some, length, nat_le, nat_lt, option_map, if◌then◌else◌}
 use Rattle.std.specs.Option.{option_map_or}
 use Rattle.std.specs.FinMap.{get}
 use mathlib.Core.List.{IsPrefix}
@@ -15,7 +15,6 @@ use Rattle.fp_row.specs.Row.{is_closed, queued_of, sent_of}
 use Rattle.fp_service.specs.declared.dialogue.Core.{Core}
 use Rattle.fp_service.specs.Dialogue.{fresh, is_over}
 use Rattle.fp_service.specs.Fold.{core_after, cut, requests}
-use Rattle.fp_tids.specs.Identifiers.{identifier}
 use Rattle.fp_steps.specs.Accepted.{accepted, ending, entry_count, in_places, positions}
 use Rattle.fp_steps.specs.Births.{Beginning, beginning, births, local_of, named}
 use Rattle.fp_steps.specs.Headline.{numbers}
@@ -110,15 +109,15 @@ untold = record { began = None; accepts = []; places = []; queues = []; sends = 
 abbrev pub began_with : Option Beginning → ℕ
 began_with began = option_map_or (λ (b : Beginning). b.local) began 0
 
--- The dialogues with the births 1 to n were opened, each with the identifier of its birth, which names it.
-pub record OpenedTo (link n : ℕ) (naming : ℕ → Option ℕ) (began : ℕ → Option Beginning) : Type 0 where
+-- The dialogues with the births 1 to n were opened. An identifier names none but one that was opened with it.
+pub record OpenedTo (n : ℕ) (naming : ℕ → Option ℕ) (began : ℕ → Option Beginning) : Type 0 where
   pub begins : (d : ℕ) (b : Beginning) → began d ≡ Some b → (0 < d) × (d ≤ n)
-  pub locals : (d : ℕ) → 0 < d → d ≤ n → began_with (began d) ≡ identifier link d
+  -- none has the identifier of an Abort of the provider
+  pub not_zero : (d : ℕ) → 0 < d → d ≤ n → 0 < began_with (began d)
   pub names : (local d : ℕ) → naming local ≡ Some d → (local ≡ began_with (began d)) × (0 < d) × (d ≤ n)
-  pub are_named : (d : ℕ) → 0 < d → d ≤ n → naming (began_with (began d)) ≡ Some d
 
-abbrev pub Opened : ℕ → List Event → Type 0
-Opened link h = OpenedTo link (births h) (named h) (beginning h)
+abbrev pub Opened : List Event → Type 0
+Opened h = OpenedTo (births h) (named h) (beginning h)
 
 -- what is out to be sent
 abbrev pub handed : List Event → Content → Handed
@@ -130,12 +129,23 @@ pub record AbortsTied (h : List Event) (s : Shelf) : Type 0 where
   pub all : aborts_sent h ++ (abort_out (out h) ++ rest) ≡ aborts h
   pub waiting : s.is_down ≡ false → rest ≡ map frame_octets s.outbox.aborts
 
+-- a row, if it is that of the dialogue with this birth
+abbrev pub row_of : ℕ → Option Row → Option Row
+row_of d None = None
+row_of d (Some row) = if row.birth == d then Some row else None
+
+-- the row of a dialogue: the one under its identifier, if it has its birth, too
+abbrev pub row_at : List Event → Shelf → ℕ → Option Row
+row_at h s d = row_of d (get s.rows (local_of h d))
+
 pub record Tied (h : List Event) (s : Shelf) : Type 0 where
   pub births_are : births h ≡ s.births
   pub entries_are : entry_count h ≡ s.entries
-  pub opened : Opened s.link h
-  -- each dialogue is the one that the book holds under its identifier, if it holds one
-  pub rows : (d : ℕ) → TiedAt (births h) d (story h d) (get s.rows (local_of h d))
+  pub opened : Opened h
+  -- each dialogue that the book holds is the one that its identifier names
+  pub names : (local : ℕ) (row : Row) → get s.rows local ≡ Some row → named h local ≡ Some row.birth
+  -- each dialogue is the one that the book holds under its identifier and with its birth, if it holds one
+  pub rows : (d : ℕ) → TiedAt (births h) d (story h d) (row_at h s d)
   pub later : (d : ℕ) → births h < d → story h d ≡ untold
   pub is_out : out h ≡ option_map (handed h) s.outbox.out
   pub aborts_are : AbortsTied h s

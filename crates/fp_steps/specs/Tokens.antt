@@ -1,11 +1,12 @@
 -- How the tokens that a run keeps stand to its book.
-use Rattle.std.specs.Prelude.{◌≡◌, ℕ, ◌==◌, List, [], ◌∷◌, Option, Some, None, filter, option_to_list, vec_capacity}
+use Rattle.std.specs.Prelude.{◌≡◌, ℕ, ◌==◌, List, [], ◌∷◌, Option, Some, None, filter, find, option_map, option_to_list, vec_capacity}
 use Rattle.std.specs.Global.{Vec}
 use Rattle.std.specs.FinMap.{get}
 use Rattle.fp_book.specs.declared.line.Line.{Line}
 use Rattle.fp_book.specs.declared.parcel.Parcel.{Parcel}
 use Rattle.fp_book.specs.Calls.{IsOut, turn_of}
 use Rattle.fp_book.specs.Shelf.{Shelf, Sound}
+use Rattle.fp_row.specs.Turn.{birth_of}
 use Rattle.fp_row.specs.declared.turn.Turn.{Turn}
 
 -- the turns of one dialogue
@@ -20,6 +21,10 @@ pub record TakesFirst (local : ℕ) (old : List Turn) (turn : Turn) (new : List 
 abbrev pub TakesOut : ℕ → List Turn → Option Turn → List Turn → Type 0
 TakesOut local old None new = (turns_at local old ≡ []) × (new ≡ old)
 TakesOut local old (Some turn) new = TakesFirst local old turn new
+
+-- the local transaction identifier of the dialogue with this birth, if its turn is there
+abbrev pub local_in : List Turn → ℕ → Option ℕ
+local_in turns birth = option_map (λ (t : Turn). t.local) (find (λ (t : Turn). birth_of t == birth) turns)
 
 -- the parcel is the one that is out, and there is none where none is
 abbrev pub ParcelIs : Option Parcel → Shelf → Type 0

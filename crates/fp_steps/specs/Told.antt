@@ -1,11 +1,12 @@
--- What the log of a run tells of each step, from what its history tells before it.
-use Rattle.std.specs.Prelude.{ℕ, ◌+◌, Bool, true, not, List, [], ◌∷◌, ◌++◌, Option, Some, None, length, map, nat_eq, option_map, option_to_list, reverse, if◌then◌else◌}
-use Rattle.std.specs.Option.{option_and_then}
+-- What the log of a run tells of each step, from what its history tells before it: dialogues by their births.
+use Rattle.std.specs.Prelude.{ℕ, ◌+◌, ◌==◌, Bool, true, not, List, [], ◌∷◌, ◌++◌, Option, Some, None, length, map, nat_eq, nat_le, option_map, option_to_list, reverse, if◌then◌else◌}
+use Rattle.std.specs.Option.{option_and_then, option_map_or}
 use Rattle.fp_book.specs.declared.answers.Posted.{Posted}
 use Rattle.fp_book.specs.declared.line.Line.{Line}
 use Rattle.fp_book.specs.declared.line.Line.TheVariants as lines
 use Rattle.fp_book.specs.declared.line.LoggedStep.{LoggedStep}
 use Rattle.fp_book.specs.declared.line.LoggedStep.TheVariants as line
+use Rattle.fp_records.specs.declared.table.TheConstants.Table.{LAST_INDEX}
 use Rattle.fp_steps.specs.declared.output.Output.{Output}
 use Rattle.fp_steps.specs.declared.output.Output.TheVariants as outputs
 use Rattle.fp_steps.specs.declared.step.Step.{Step}
@@ -15,9 +16,9 @@ use Rattle.fp_steps.specs.Births.{named}
 use Rattle.fp_steps.specs.History.{Event}
 use Rattle.fp_steps.specs.Sending.{Handed, out}
 
--- of a message its moment, its octets and its answer
+-- of a message the place of its table, its moment, its octets and its answer; nothing of a table after the last place
 abbrev pub told_message : Step → Posted → Option LoggedStep
-told_message (steps.Post frame moment) answer = Some (line.Post moment frame answer)
+told_message (steps.Post table frame moment) answer = if nat_le table LAST_INDEX then Some (line.Post table moment frame answer) else None
 told_message (steps.Lost frame moment) answer = Some (line.Lost moment frame answer)
 told_message _ answer = None
 
@@ -28,21 +29,33 @@ told_tick _ added wanting = None
 
 -- of a turn that went back its dialogue, and the place of its first entry, which is the next one of that to be served
 abbrev pub told_back : List Event → Step → Option LoggedStep
-told_back h (steps.PutBack local) = option_map (λ d. line.PutBack local (length (positions h d))) (named h local)
+told_back h (steps.PutBack local) = option_map (λ d. line.PutBack d (length (positions h d))) (named h local)
 told_back h _ = None
+
+-- the birth of the dialogue whose parcel this is, by its identifier and what that named; 0 for an Abort of the provider
+abbrev pub birth_under : ℕ → Option ℕ → ℕ
+birth_under local dialogue = if local == 0 then 0 else option_map_or (λ d. d) dialogue 0
+
+-- of a parcel that is picked
+abbrev pub birth_picked : List Event → ℕ → ℕ
+birth_picked h local = birth_under local (named h local)
+
+-- of what is out to be sent
+abbrev pub birth_out : List Event → Option ℕ
+birth_out h = option_map (λ (handed : Handed). birth_under handed.local handed.dialogue) (out h)
 
 -- what is told of a step by its answer; nothing for the answers NoRoom, Busy and Nothing
 abbrev pub told : List Event → Step → Output → Option LoggedStep
 told h step (outputs.Posted answer components) = told_message step answer
 told h step (outputs.Ticked added wanting) = told_tick step added wanting
-told h step (outputs.Took local position count) = Some (line.Take local position count)
+told h step (outputs.Took local position count) = option_map (λ d. line.Take d position count) (named h local)
 told h step outputs.NoRoom = None
-told h step (outputs.Gave local position served given) = Some (line.Give local position served given)
+told h step (outputs.Gave local position served given) = option_map (λ d. line.Give d position served given) (named h local)
 told h step outputs.WentBack = told_back h step
-told h step (outputs.Picked local frame) = Some (line.Pick local)
+told h step (outputs.Picked local frame) = Some (line.Pick (birth_picked h local))
 told h step outputs.Busy = None
-told h step outputs.Sent = option_map (λ (handed : Handed). line.Sent handed.local) (out h)
-told h step outputs.Unsent = option_map (λ (handed : Handed). line.Unsent handed.local) (out h)
+told h step outputs.Sent = option_map (λ d. line.Sent d) (birth_out h)
+told h step outputs.Unsent = option_map (λ d. line.Unsent d) (birth_out h)
 told h step outputs.Down = Some line.Down
 told h step outputs.Nothing = None
 

@@ -1,5 +1,5 @@
 -- Which dialogues of a run have a turn out, of how many entries, which are ready for one, and for how long.
-use Rattle.std.specs.Prelude.{◌≡◌, ℕ, ◌<◌, ◌&&◌, Bool, not, List, [], ◌∷◌, drop, length, take, nat_lt, suc, ◌⊎◌, if◌then◌else◌}
+use Rattle.std.specs.Prelude.{◌≡◌, ℕ, ◌<◌, ◌&&◌, Bool, not, List, [], ◌∷◌, Option, Some, None, drop, length, take, nat_lt, suc, ◌⊎◌, if◌then◌else◌}
 use Rattle.fp_book.specs.Calls.{ComesFirst}
 use Rattle.fp_entry.specs.declared.entry.Entry.{Entry}
 use Rattle.fp_row.specs.Row.{is_closed}
@@ -34,6 +34,10 @@ count_out (e ∷ h) d = count_after e.output e.step h d (count_out h d)
 -- whether a turn of a dialogue is out
 abbrev pub turn_out : List Event → ℕ → Bool
 turn_out h d = nat_lt 0 (count_out h d)
+
+-- the local transaction identifier of a dialogue, if a turn of it is out
+abbrev pub local_if_out : List Event → ℕ → Option ℕ
+local_if_out h d = if turn_out h d then Some (local_of h d) else None
 
 -- the entries of a dialogue that weren't served
 abbrev pub unserved : List Event → ℕ → List Entry

@@ -43,7 +43,7 @@ fn is_sent(output: &Output, out: Option<u32>) -> bool
 }
 
 /// What is out to be sent after an output, by the identifier of its dialogue, where this was before it.
-pub(crate) fn local_after(output: &Output, before: Option<u32>) -> Option<u32>
+fn local_after(output: &Output, before: Option<u32>) -> Option<u32>
     ensures { result ≡ local_after output.now before }
 {
     match output {
@@ -79,8 +79,8 @@ fn with_output(totals: Totals, output: &Output, out: Option<u32>) -> Totals
 /// The totals of these outputs: the components that were accepted, the entries that were served, and the frames of
 /// dialogues that were sent. A number above the greatest one is given as that; no run has one. Takes no memory.
 pub fn totals(outputs: &[Output]) -> Totals
-    ensures of_runs { (contents : Contents) (contexts : List (List ℕ)) (link : ℕ) (steps : List Step)
-        → Runs contents contexts link steps outputs.now → result ≡ totals_of outputs.now }
+    ensures of_runs { (tables : List Contents) (contexts : List (List ℕ)) (link : ℕ) (steps : List Step)
+        → Runs tables contexts link steps outputs.now → result ≡ totals_of outputs.now }
     ensures of_all { result ≡ capped_totals (totals_of outputs.now) }
 {
     let mut totals = Totals {

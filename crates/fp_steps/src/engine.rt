@@ -1,10 +1,10 @@
 //! A book, and the tokens that are out of it.
 
-ghost use Rattle.std.specs.Prelude.{◌≡◌, ◌<◌, IfOk, Some};
+ghost use Rattle.std.specs.Prelude.{◌≡◌, ◌<◌, IfOk, Some, is_some};
 ghost use Rattle.std.specs.FinMap.{get};
 ghost use Rattle.fp_book.specs.Calls.{PutsTurnBack, turn_of};
 ghost use Rattle.fp_book.specs.Shelf.{Sound, empty_shelf};
-ghost use Rattle.fp_steps.specs.Log.{sending_of};
+ghost use Rattle.fp_steps.specs.History.{table_at};
 ghost use Rattle.fp_steps.specs.Makes.{GivesTo, MakesStep, PicksTo, PostsTo, PutsBackTo, SendsTo, TakesTo, TicksTo, UnsendsTo};
 ghost use Rattle.fp_steps.specs.Tokens.{Holds};
 
@@ -36,6 +36,13 @@ fn give_up(book: &mut Book, turn: Turn)
     if let Err(strange) = book.put_back(turn) {
         strange.abandon();
     }
+}
+
+/// Whether there is a table in this place, 0 to 999.
+fn is_handed_in(tables: &[Table], place: usize) -> bool
+    ensures { result ≡ is_some (table_at tables.now place) }
+{
+    place <= usize::from(Table::LAST_INDEX) && place < tables.len()
 }
 
 impl Engine {
@@ -240,18 +247,26 @@ impl Engine {
     pub(crate) fn make(
         &mut self,
         alloc: Global,
-        table: &Table,
+        tables: &[Table],
         contexts: &[Name],
         step: &Step,
     ) -> Result<Output, AllocError>
         requires sound { Sound self.old.book }
         requires holds { Holds self.old.turns.items self.old.parcel self.old.book }
-        ensures makes { IfOk result (λ o. MakesStep table.now contexts.now self.old.book step.now o self.new.book) }
+        ensures makes { IfOk result (λ o. MakesStep tables.now contexts.now self.old.book step.now o self.new.book) }
         ensures sound { Sound self.new.book }
         ensures holds { Holds self.new.turns.items self.new.parcel self.new.book }
     {
         match step {
-            Step::Post(frame, moment) => {
+            Step::Post {
+                table,
+                frame,
+                moment,
+            } => {
+                if !is_handed_in(tables, *table) {
+                    return Ok(Output::Nothing);
+                }
+                let table = &tables[*table];
                 let came = Prepared::read(alloc, table, contexts, frame.try_clone()?, *moment);
                 if is_lost(&came) {
                     return Err(AllocError);
@@ -273,16 +288,6 @@ impl Engine {
                 self.book.down();
                 Ok(Output::Down)
             }
-        }
-    }
-
-    /// The dialogue whose frame is out to be sent, 0 for an Abort of the provider.
-    pub(crate) fn sending(&self) -> Option<u32>
-        ensures { result ≡ sending_of self.now.parcel }
-    {
-        match &self.parcel {
-            Some(parcel) => Some(parcel.local()),
-            None => None,
         }
     }
 

@@ -26,7 +26,7 @@ pub fn answers_are_one()
     prepared_is_one();
 }
 
-/// A list of steps has one list of outputs and one history, by the same records and names, on the same link: the event
+/// A list of steps has one list of outputs and one history, by the same tables and names, on the same link: the event
 /// of each step has the same message and the same output, whatever makes the steps.
 pub fn runs_are_one()
     ensures { RunsAreOne }
@@ -34,7 +34,7 @@ pub fn runs_are_one()
     prepared_is_one();
 }
 
-/// Histories that retell the same lines of a log, by the same records and names, are one.
+/// Histories that retell the same lines of a log, by the same tables and names, are one.
 #[tactic(auto, using(crate::proofs::OneAnswer::retold_once))]
 pub fn lines_are_retold_once()
     ensures { LinesAreRetoldOnce }
@@ -49,8 +49,8 @@ pub fn retold_lines_are_counted()
     ensures { RetoldLinesAreCounted }
 {}
 
-/// A book to which a history leads logs of a step what the history tells of it, and nothing if that
-/// has no line; where the log is full it counts the step in a gap.
+/// A book to which a history leads logs of a step what the history tells of it, and nothing if that has no line, if each
+/// table has the index of its place in the list; where the log is full it counts the step in a gap.
 #[tactic(auto, using(crate::proofs::BookLog::log_tells))]
 pub fn books_log_what_is_told()
     ensures { BooksLogWhatIsTold }

@@ -1,20 +1,22 @@
 //! Whole runs of a link: every list of steps, in whatever order they come.
 //!
-//! The layer is handed the records, the names of the application contexts, the link and the steps, and asks the system
-//! for nothing but memory. [`run`] makes the steps on a new [`Book`](fp_book::Book), and keeps the turns and the parcel
+//! The layer is handed tables of records, the names of the application contexts, the link and the steps, and asks the
+//! system for nothing but memory. [`run`] makes the steps on a new [`Book`](fp_book::Book), and keeps the turns and the parcel
 //! that are out. Its contract speaks of the steps and their outputs alone: of their history, the newest first
 //! (`specs/History.antt`), of the dialogues by their births (`specs/Births.antt`), and of what each of them accepted,
 //! served (`specs/Accepted.antt`), requested and sent (`specs/Sending.antt`). What holds at each moment is said by
 //! `specs/Headline.antt`.
 //!
 //! Each output is the answer that the history before its step tells (`specs/Answers.antt`): by the lines for messages
-//! (`specs/Lines.antt`), by the turns that are out and the dialogues that are ready (`specs/Turns.antt`), and by what
-//! waits to be sent and how much is held (`specs/Waiting.antt`). There is no queue, no token and no row in these.
+//! (`specs/Lines.antt`), by the turns that are out and the dialogues that are ready (`specs/Turns.antt`), by what waits
+//! to be sent and how much is held (`specs/Waiting.antt`), and by the serials that may be given (`specs/Serials.antt`).
+//! There is no token and no row in these. A dialogue is named by its birth, in log lines too; steps and outputs name it
+//! by its local transaction identifier, which names the dialogue that was opened with it last.
 //! Where a link is idle nothing is left to do (`specs/Idle.antt`).
-//! A [`LinkRun`] is such a run made step by step, for who doesn't know all steps at once; each of its clauses speaks of
+//! A [`LinkRun`] is such a run made step by step, for a caller that doesn't know all steps at once; each of its clauses speaks of
 //! every history that leads to it (`specs/After.antt`). [`lines_of`] gives the log of a run, whose lines tell its steps
 //! (`specs/Told.antt`) and are in range (`specs/LogLines.antt`), and a history retells them (`specs/Retold.antt`).
-//! A book logs of a step what these tell of it ([`books_log_what_is_told`]).
+//! A book logs of a step what these tell of it, if each table has the index of its place ([`books_log_what_is_told`]).
 //!
 //! [`totals`] counts outputs alone, and a run's are sums over the dialogues of its history (`specs/Totals.antt`).
 //!

@@ -1,20 +1,22 @@
 //! A run of a link, step by step.
 
-ghost use Rattle.std.specs.Prelude.{◌≡◌, ◌<◌, ℕ, List, [], None, IfOk, drop};
+ghost use Rattle.std.specs.Prelude.{◌≡◌, ◌<◌, ℕ, List, [], None, IfOk, drop, option_to_list};
 ghost use Rattle.fp_book.specs.Shelf.{Sound};
 ghost use Rattle.fp_records.specs.Table.{Contents};
 ghost use Rattle.fp_steps.specs.After.{Follows, IsAfter};
 ghost use Rattle.fp_steps.specs.History.{Event, outputs_of};
+ghost use Rattle.fp_steps.specs.Log.{first_of, place_or, placed, step_in, tick_in, told_from};
 ghost use Rattle.fp_steps.specs.Told.{written};
 ghost use Rattle.fp_steps.specs.Tokens.{IsPlace};
 ghost use Rattle.fp_steps.specs.Totals.{totals_of};
+ghost use Rattle.fp_steps.specs.Turns.{local_if_out};
 
 use crate::engine::Engine;
-use crate::log::told_by;
-use crate::parts::back_of;
-use crate::{Step, Stepped};
+use crate::log::{place_of, told_tick};
+use crate::parts::local_in;
+use crate::{Output, Step, Stepped};
 use fp_apdu::Name;
-use fp_book::{Book, Line, Totals, read_messages_have_few_entries};
+use fp_book::{Book, Line, LoggedStep, Totals, read_messages_have_few_entries};
 use fp_records::Table;
 use fp_row::rows_keep_their_order;
 use fp_tids::LocalIds;
@@ -48,17 +50,29 @@ impl Model for LinkRun {
     ghost invariant = { λ run. IsKept run.engine.turns.items run.engine.parcel run.engine.book run.lines };
 }
 
-/// Drops the oldest line of the log, if there is one. `lines` has room for one line, and is empty
-/// again. Takes no memory.
-fn drop_line(book: &mut Book, lines: &mut Vec<Line>)
+/// The step of a line.
+fn step_in(line: Line) -> Option<LoggedStep>
+    ensures { result ≡ step_in line }
+{
+    match line {
+        Line::Head { links: _ } => None,
+        Line::Step { link: _, step } => Some(step),
+    }
+}
+
+/// Takes the oldest line out of the log, if there is one. `lines` has room for one line, and is
+/// empty again. Takes no memory.
+fn take_line(book: &mut Book, lines: &mut Vec<Line>) -> Option<LoggedStep>
     requires { IsPlace lines.old }
+    ensures first { result ≡ first_of book.old.log }
     ensures log { book.new.log ≡ drop 1 book.old.log }
     ensures rest { book.new ≡ record book.old { log = book.new.log } }
     ensures sound { Sound book.new }
     ensures place { IsPlace lines.new }
 {
     book.drain(lines);
-    lines.clear();
+    let line = lines.pop()?;
+    step_in(line)
 }
 
 /// Drops all lines of the log, so that it neither fills nor keeps frames. `lines` has room for one
@@ -72,7 +86,57 @@ fn empty_log(book: &mut Book, lines: &mut Vec<Line>)
     ensures place { IsPlace lines.new }
 {
     while book.line_count() > 0 {
-        drop_line(book, lines);
+        drop(take_line(book, lines));
+    }
+}
+
+/// What a log tells of a step of which a book has no line: of a tick at which no dialogue was due.
+fn tick_in(step: &Step, output: &Output) -> Option<LoggedStep>
+    ensures { result ≡ tick_in step.now output.now }
+{
+    match output {
+        Output::Ticked { added, wanting } => told_tick(step, *added, *wanting),
+        _ => None,
+    }
+}
+
+/// The place in which the table of a step is handed in, 0 to 999; this one, if it isn't.
+fn place_or(step: &Step, index: u16) -> u16
+    ensures { result ≡ place_or step.now index }
+{
+    match step {
+        Step::Post { table, .. } => place_of(*table).unwrap_or(index),
+        _ => index,
+    }
+}
+
+/// The line that a book has of a step, with the place in which its table is handed in.
+fn placed(step: &Step, line: LoggedStep) -> LoggedStep
+    ensures { result ≡ placed step.now line }
+{
+    match line {
+        LoggedStep::Post {
+            table,
+            moment,
+            message,
+            answer,
+        } => LoggedStep::Post {
+            table: place_or(step, table),
+            moment,
+            message,
+            answer,
+        },
+        other => other,
+    }
+}
+
+/// What a log tells of a step, where this is the line that its book has of it.
+fn told_from(line: Option<LoggedStep>, step: &Step, output: &Output) -> Option<LoggedStep>
+    ensures { result ≡ told_from (option_to_list line) step.now output.now }
+{
+    match line {
+        Some(line) => Some(placed(step, line)),
+        None => tick_in(step, output),
     }
 }
 
@@ -81,7 +145,7 @@ impl LinkRun {
     pub fn new(alloc: Global, link: u8) -> Result<LinkRun, AllocError>
         requires { link < LocalIds.LINKS }
         ensures link { IfOk result (λ run. run.link ≡ link) }
-        ensures after { IfOk result (λ run. (contents : Contents) (contexts : List (List ℕ)) → IsAfter contents contexts [] run) }
+        ensures after { IfOk result (λ run. (tables : List Contents) (contexts : List (List ℕ)) → IsAfter tables contexts [] run) }
     {
         rows_keep_their_order();
         let lines = Vec::with_capacity(alloc, 1)?;
@@ -89,35 +153,42 @@ impl LinkRun {
         Ok(LinkRun { engine, lines })
     }
 
-    /// Makes a step, by these records and names of application contexts: its answer, and the line that the log of the
+    /// Makes a step, by these tables and names of application contexts: its answer, and the line that the log of the
     /// link has of it. If a step is impossible, the answer is `Nothing`. What a log has no line for changes nothing.
     /// `Err`: memory ran out, and what the run is then isn't said: it is to be abandoned.
     pub fn step(
         &mut self,
         alloc: Global,
-        table: &Table,
+        tables: &[Table],
         contexts: &[Name],
         step: &Step,
     ) -> Result<Stepped, AllocError>
         ensures link { IfOk result (λ made. self.new.link ≡ self.old.link) }
-        ensures follows { IfOk result (λ made. (h : List Event) → IsAfter table.now contexts.now h self.old → Follows table.now contexts.now h step.now made self.new) }
+        ensures follows { IfOk result (λ made. (h : List Event) → IsAfter tables.now contexts.now h self.old → Follows tables.now contexts.now h step.now made self.new) }
         ensures unwritten { IfOk result (λ made. written made.line ≡ None → self.new ≡ record self.old { log = self.new.log }) }
     {
         rows_keep_their_order();
         read_messages_have_few_entries();
-        let back = back_of(&self.engine.turns, step);
-        let sending = self.engine.sending();
-        let made = self.engine.make(alloc, table, contexts, step);
+        let made = self.engine.make(alloc, tables, contexts, step);
+        let first = take_line(&mut self.engine.book, &mut self.lines);
         empty_log(&mut self.engine.book, &mut self.lines);
         let output = made?;
-        let line = told_by(back, sending, step, &output)?;
+        let line = told_from(first, step, &output);
         Ok(Stepped { output, line })
+    }
+
+    /// The local transaction identifier of the dialogue with this birth, if a turn of it is out. Takes no memory.
+    pub fn local_of(&self, birth: u64) -> Option<u32>
+        ensures { (tables : List Contents) (contexts : List (List ℕ)) (h : List Event) → IsAfter tables contexts h self.now → result ≡ local_if_out h birth }
+    {
+        rows_keep_their_order();
+        local_in(&self.engine.turns, birth)
     }
 
     /// What was counted so far: the components that were accepted, the entries that were served, and the frames of
     /// dialogues that were sent. Takes no memory.
     pub fn totals(&self) -> Totals
-        ensures { (contents : Contents) (contexts : List (List ℕ)) (h : List Event) → IsAfter contents contexts h self.now → result ≡ totals_of (outputs_of h) }
+        ensures { (tables : List Contents) (contexts : List (List ℕ)) (h : List Event) → IsAfter tables contexts h self.now → result ≡ totals_of (outputs_of h) }
     {
         self.engine.book.totals()
     }

@@ -1,39 +1,51 @@
 //! The log of a run.
 
-ghost use Rattle.std.specs.Prelude.{◌≡◌, ◌<◌, ◌++◌, IfOk, map, option_to_list};
+ghost use Rattle.std.specs.Prelude.{◌≡◌, ◌<◌, ◌+◌, ◌^◌, ◌++◌, ℕ, IfOk, IfSome, None, Some, map, option_to_list};
 ghost use Rattle.std.specs.List.{AllByRecursion};
+ghost use Rattle.std.specs.Option.{option_and_then};
 ghost use Rattle.fp_book.specs.declared.line.Line.TheVariants as line;
-ghost use Rattle.fp_steps.specs.Log.{back_by, back_in, moves, others, others_if, place_in, told_by, told_where, turns_after};
-ghost use Rattle.fp_steps.specs.LogLines.{IsLine, IsLog};
-ghost use Rattle.fp_steps.specs.Told.{is_written, told_message, told_tick, written};
-ghost use Rattle.fp_steps.specs.Totals.{local_after};
+ghost use Rattle.fp_steps.specs.Births.{opened_in};
+ghost use Rattle.fp_steps.specs.Log.{NamesThen, back_by, back_in, moves, name_in, name_of, names_in, others, others_if, place_if, place_in, place_of, sending_after, taken_in, told_by, told_where, turns_after};
+ghost use Rattle.fp_steps.specs.LogLines.{HasPlace, IsLine, IsLog};
+ghost use Rattle.fp_steps.specs.Told.{birth_under, is_written, told_message, told_tick, written};
 
-use crate::counting::local_after;
 use crate::ranges::step_is_in_range;
 use crate::{Output, Step};
 use fp_book::{Line, LoggedStep, Posted};
+use fp_records::Table;
 use fp_tids::LocalIds;
 use std::alloc::{AllocError, Global};
+use std::collections::BTreeMap;
 
 /// A turn that is out.
 #[derive(Clone, Copy)]
 pub(crate) struct TurnOut {
-    /// The local transaction identifier of its dialogue.
-    pub(crate) local: u32,
+    /// The birth of its dialogue.
+    pub(crate) birth: u64,
     /// The place of its first entry.
     pub(crate) position: u64,
 }
 
 /// The place of the turn of a dialogue.
-fn place_in(turns: &[TurnOut], local: u32) -> Option<u64>
-    ensures { result ≡ place_in turns.now local }
+fn place_in(turns: &[TurnOut], birth: u64) -> Option<u64>
+    ensures { result ≡ place_in turns.now birth }
 {
-    let turn = turns.iter().find(|turn| turn.local == local)?;
+    let turn = turns.iter().find(|turn| turn.birth == birth)?;
     Some(turn.position)
 }
 
-/// The dialogue whose turn a step puts back.
-pub(crate) fn back_in(step: &Step) -> Option<u32>
+/// The place of the turn of a dialogue, if one is given.
+fn place_if(turns: &[TurnOut], birth: Option<u64>) -> Option<u64>
+    ensures { result ≡ place_if birth turns.now }
+{
+    match birth {
+        Some(birth) => place_in(turns, birth),
+        None => None,
+    }
+}
+
+/// The identifier of the dialogue whose turn a step puts back.
+fn back_in(step: &Step) -> Option<u32>
     ensures { result ≡ back_in step.now }
 {
     match step {
@@ -42,50 +54,146 @@ pub(crate) fn back_in(step: &Step) -> Option<u32>
     }
 }
 
-/// The dialogue whose turn goes out at a step, or comes back.
-fn moves(step: &Step, output: &Output) -> Option<u32>
-    ensures { result ≡ moves step.now output.now }
+/// The identifier of the dialogue that an answer is of.
+fn names_in(step: &Step, output: &Output) -> Option<u32>
+    ensures { result ≡ names_in step.now output.now }
 {
     match output {
-        Output::Took { local, .. } | Output::Gave { local, .. } => Some(*local),
+        Output::Took { local, .. } | Output::Gave { local, .. } | Output::Picked { local, .. } => {
+            Some(*local)
+        }
         Output::WentBack => back_in(step),
         _ => None,
     }
 }
 
-/// Forgets the turn of a dialogue.
-fn forget(turns: &mut Vec<TurnOut>, local: u32)
-    ensures { turns.new.items ≡ others local turns.old.items }
+/// The dialogue whose turn goes out or comes back, where an answer is of this one.
+fn moves(birth: Option<u64>, output: &Output) -> Option<u64>
+    ensures { result ≡ moves birth output.now }
 {
-    turns.retain(|turn| turn.local != local);
+    match output {
+        Output::Took { .. } | Output::Gave { .. } | Output::WentBack => birth,
+        _ => None,
+    }
+}
+
+/// The turn that goes out.
+fn taken_in(birth: Option<u64>, output: &Output) -> Option<TurnOut>
+    ensures { result ≡ taken_in birth output.now }
+{
+    match output {
+        Output::Took { position, .. } => birth.map(|birth| TurnOut {
+            birth,
+            position: *position,
+        }),
+        _ => None,
+    }
+}
+
+/// Forgets the turn of a dialogue.
+fn forget(turns: &mut Vec<TurnOut>, birth: u64)
+    ensures { turns.new.items ≡ others birth turns.old.items }
+{
+    turns.retain(|turn| turn.birth != birth);
 }
 
 /// Forgets the turn of a dialogue, if one is given.
-fn forget_if(turns: &mut Vec<TurnOut>, dialogue: Option<u32>)
+fn forget_if(turns: &mut Vec<TurnOut>, dialogue: Option<u64>)
     ensures { turns.new.items ≡ others_if dialogue turns.old.items }
 {
-    if let Some(local) = dialogue {
-        forget(turns, local);
+    if let Some(birth) = dialogue {
+        forget(turns, birth);
     }
 }
 
-/// Keeps which turns are out after a step. `Err`: memory ran out.
-fn follow_turns(turns: &mut Vec<TurnOut>, step: &Step, output: &Output) -> Result<(), AllocError>
-    ensures { IfOk result (λ _. turns.new.items ≡ turns_after step.now output.now turns.old.items) }
+/// Keeps which turns are out after an answer, which is of this dialogue. `Err`: memory ran out.
+fn follow_turns(
+    turns: &mut Vec<TurnOut>,
+    birth: Option<u64>,
+    output: &Output,
+) -> Result<(), AllocError>
+    ensures { IfOk result (λ _. turns.new.items ≡ turns_after birth output.now turns.old.items) }
 {
-    forget_if(turns, moves(step, output));
-    if let Output::Took {
-        local,
-        position,
-        ..
-    } = output
-    {
-        turns.push(TurnOut {
-            local: *local,
-            position: *position,
-        })?;
+    forget_if(turns, moves(birth, output));
+    if let Some(turn) = taken_in(birth, output) {
+        turns.push(turn)?;
     }
     Ok(())
+}
+
+/// Which dialogues the local transaction identifiers name.
+#[derive(Drop)]
+struct Named {
+    // By identifier: the birth of the dialogue that was opened with it last.
+    births: BTreeMap<u32, u64>,
+    // How many dialogues were opened.
+    count: u64,
+}
+
+impl Named {
+    /// None was opened. Takes no memory.
+    fn new(alloc: Global) -> Named
+        ensures names { (local : ℕ) → name_of result local ≡ None }
+        ensures count { result.count ≡ 0 }
+    {
+        Named {
+            births: BTreeMap::new(alloc),
+            count: 0,
+        }
+    }
+
+    /// The birth of the dialogue that an identifier names.
+    fn name_of(&self, local: u32) -> Option<u64>
+        ensures { result ≡ name_of self.now local }
+    {
+        self.births.get(&local).copied()
+    }
+
+    /// So if an identifier is given.
+    fn name_if(&self, local: Option<u32>) -> Option<u64>
+        ensures { result ≡ option_and_then (name_of self.now) local }
+    {
+        match local {
+            Some(local) => self.name_of(local),
+            None => None,
+        }
+    }
+
+    /// A dialogue is opened with this identifier. `Err`: memory ran out.
+    fn open(&mut self, local: u32) -> Result<(), AllocError>
+        requires { self.old.count + 1 < 2 ^ 64 }
+        ensures { IfOk result (λ _. NamesThen self.old (Some local) self.new) }
+    {
+        let count = self.count + 1;
+        self.births.insert(local, count)?;
+        self.count = count;
+        Ok(())
+    }
+
+    /// A dialogue is opened, or none, by an answer. `Err`: memory ran out.
+    fn follow(&mut self, output: &Output) -> Result<(), AllocError>
+        requires { self.old.count + 1 < 2 ^ 64 }
+        ensures { IfOk result (λ _. NamesThen self.old (opened_in output.now) self.new) }
+    {
+        match output {
+            Output::Posted { answer, .. } => match answer {
+                Posted::Opened(local) => self.open(*local),
+                _ => Ok(()),
+            },
+            _ => Ok(()),
+        }
+    }
+}
+
+/// The place of a table, as a log has it: 0 to 999.
+pub(crate) fn place_of(table: usize) -> Option<u16>
+    ensures { result ≡ place_of table }
+{
+    if table <= usize::from(Table::LAST_INDEX) {
+        Some(table as u16)
+    } else {
+        None
+    }
 }
 
 /// What a log tells of a message, by its answer. `Err`: its octets have as many shares as can be counted.
@@ -93,11 +201,21 @@ fn told_message(step: &Step, answer: Posted) -> Result<Option<LoggedStep>, Alloc
     ensures { IfOk result (λ told. told ≡ told_message step.now answer) }
 {
     match step {
-        Step::Post(frame, moment) => Ok(Some(LoggedStep::Post {
-            moment: *moment,
-            message: frame.try_clone()?,
-            answer,
-        })),
+        Step::Post {
+            table,
+            frame,
+            moment,
+        } => {
+            let Some(table) = place_of(*table) else {
+                return Ok(None);
+            };
+            Ok(Some(LoggedStep::Post {
+                table,
+                moment: *moment,
+                message: frame.try_clone()?,
+                answer,
+            }))
+        }
         Step::Lost(frame, moment) => Ok(Some(LoggedStep::Lost {
             moment: *moment,
             message: frame.try_clone()?,
@@ -108,7 +226,7 @@ fn told_message(step: &Step, answer: Posted) -> Result<Option<LoggedStep>, Alloc
 }
 
 /// What a log tells of a tick.
-fn told_tick(step: &Step, added: u32, wanting: u32) -> Option<LoggedStep>
+pub(crate) fn told_tick(step: &Step, added: u32, wanting: u32) -> Option<LoggedStep>
     ensures { result ≡ told_tick step.now added wanting }
 {
     match step {
@@ -121,52 +239,74 @@ fn told_tick(step: &Step, added: u32, wanting: u32) -> Option<LoggedStep>
     }
 }
 
-/// What a log tells of a turn that went back, where these are out.
-fn back_by(turns: &[TurnOut], step: &Step) -> Option<LoggedStep>
-    ensures { result ≡ back_by turns.now step.now }
+/// What a log tells of the turn of a dialogue that went back, from this place.
+fn back_by(birth: Option<u64>, place: Option<u64>) -> Option<LoggedStep>
+    ensures { result ≡ back_by birth place }
 {
-    let local = back_in(step)?;
-    let position = place_in(turns, local)?;
-    Some(LoggedStep::PutBack { local, position })
+    let birth = birth?;
+    let position = place?;
+    Some(LoggedStep::PutBack { birth, position })
 }
 
-/// What a log tells of a step, given the log line of a turn that is put back, and the dialogue whose
-/// parcel is out. `Err`: a frame's reference count is at its maximum.
-pub(crate) fn told_by(
-    back: Option<LoggedStep>,
-    sending: Option<u32>,
+/// The birth of the dialogue with this identifier, where it names this one; 0 for an Abort of the provider.
+fn birth_under(local: u32, dialogue: Option<u64>) -> u64
+    ensures { result ≡ birth_under local dialogue }
+{
+    if local == 0 { 0 } else { dialogue.unwrap_or(0) }
+}
+
+/// What is out to be sent after an answer, by the birth of its dialogue, where the answer is of this dialogue, and that
+/// was out before.
+fn sending_after(birth: Option<u64>, output: &Output, before: Option<u64>) -> Option<u64>
+    ensures { result ≡ sending_after birth output.now before }
+{
+    match output {
+        Output::Picked { local, .. } => Some(birth_under(*local, birth)),
+        Output::Sent | Output::Unsent => None,
+        _ => before,
+    }
+}
+
+/// What a log tells of a step, where its answer is of this dialogue, whose turn has this place, and that is out to be
+/// sent. `Err`: a frame's reference count is at its maximum.
+fn told_by(
+    birth: Option<u64>,
+    place: Option<u64>,
+    sending: Option<u64>,
     step: &Step,
     output: &Output,
 ) -> Result<Option<LoggedStep>, AllocError>
-    ensures { IfOk result (λ told. told ≡ told_by back sending step.now output.now) }
+    ensures { IfOk result (λ told. told ≡ told_by birth place sending step.now output.now) }
 {
     Ok(match output {
         Output::Posted { answer, .. } => told_message(step, *answer)?,
         Output::Ticked { added, wanting } => told_tick(step, *added, *wanting),
         Output::Took {
-            local,
             position,
             count,
-        } => Some(LoggedStep::Take {
-            local: *local,
+            ..
+        } => birth.map(|birth| LoggedStep::Take {
+            birth,
             position: *position,
             count: *count,
         }),
         Output::Gave {
-            local,
             position,
             served,
             given,
-        } => Some(LoggedStep::Give {
-            local: *local,
+            ..
+        } => birth.map(|birth| LoggedStep::Give {
+            birth,
             position: *position,
             served: *served,
             given: *given,
         }),
-        Output::WentBack => back,
-        Output::Picked { local, .. } => Some(LoggedStep::Pick { local: *local }),
-        Output::Sent => sending.map(|local| LoggedStep::Sent { local }),
-        Output::Unsent => sending.map(|local| LoggedStep::Unsent { local }),
+        Output::WentBack => back_by(birth, place),
+        Output::Picked { local, .. } => Some(LoggedStep::Pick {
+            birth: birth_under(*local, birth),
+        }),
+        Output::Sent => sending.map(|birth| LoggedStep::Sent { birth }),
+        Output::Unsent => sending.map(|birth| LoggedStep::Unsent { birth }),
         Output::Down => Some(LoggedStep::Down),
         Output::NoRoom | Output::Busy | Output::Nothing => None,
     })
@@ -192,7 +332,8 @@ fn written(told: Option<LoggedStep>) -> Option<LoggedStep>
 
 /// Puts a line after the others, if there is one. `Err`: memory ran out.
 fn add(lines: &mut Vec<Line>, link: u8, told: Option<LoggedStep>) -> Result<(), AllocError>
-    requires { link < LocalIds.LINKS }
+    requires link { link < LocalIds.LINKS }
+    requires place { IfSome told HasPlace }
     ensures lines { IfOk result (λ _. lines.new.items ≡ lines.old.items ++ map (line.Step link) (option_to_list told)) }
     ensures ranges { IfOk result (λ _. AllByRecursion IsLine lines.old.items → AllByRecursion IsLine lines.new.items) }
 {
@@ -208,26 +349,31 @@ fn add(lines: &mut Vec<Line>, link: u8, told: Option<LoggedStep>) -> Result<(), 
 #[derive(Drop)]
 struct LogSoFar {
     lines: Vec<Line>,
+    named: Named,
     turns: Vec<TurnOut>,
-    sending: Option<u32>,
+    // The birth of the dialogue whose frame is out, 0 for an Abort of the provider.
+    sending: Option<u64>,
 }
 
 impl LogSoFar {
     /// One more step of a link. `Err`: memory ran out.
     fn tell(&mut self, link: u8, step: &Step, output: &Output) -> Result<(), AllocError>
-        requires { link < LocalIds.LINKS }
-        ensures lines { IfOk result (λ _. self.new.lines.items ≡ self.old.lines.items
-            ++ map (line.Step link) (option_to_list (written (told_where self.old.turns.items self.old.sending step.now output.now)))) }
+        requires link { link < LocalIds.LINKS }
+        requires count { self.old.named.count + 1 < 2 ^ 64 }
+        ensures lines { IfOk result (λ _. let birth = name_in self.old.named step.now output.now in self.new.lines.items ≡ self.old.lines.items
+            ++ map (line.Step link) (option_to_list (written (told_where birth self.old.turns.items self.old.sending step.now output.now)))) }
         ensures ranges { IfOk result (λ _. AllByRecursion IsLine self.old.lines.items → AllByRecursion IsLine self.new.lines.items) }
-        ensures turns { IfOk result (λ _. self.new.turns.items ≡ turns_after step.now output.now self.old.turns.items) }
-        ensures sending { IfOk result (λ _. self.new.sending ≡ local_after output.now self.old.sending) }
+        ensures named { IfOk result (λ _. NamesThen self.old.named (opened_in output.now) self.new.named) }
+        ensures turns { IfOk result (λ _. self.new.turns.items ≡ turns_after (name_in self.old.named step.now output.now) output.now self.old.turns.items) }
+        ensures sending { IfOk result (λ _. self.new.sending ≡ sending_after (name_in self.old.named step.now output.now) output.now self.old.sending) }
     {
-        let back = back_by(&self.turns, step);
-        let told = told_by(back, self.sending, step, output)?;
+        let birth = self.named.name_if(names_in(step, output));
+        let place = place_if(&self.turns, birth);
+        let told = told_by(birth, place, self.sending, step, output)?;
         add(&mut self.lines, link, written(told))?;
-        follow_turns(&mut self.turns, step, output)?;
-        self.sending = local_after(output, self.sending);
-        Ok(())
+        follow_turns(&mut self.turns, birth, output)?;
+        self.sending = sending_after(birth, output, self.sending);
+        self.named.follow(output)
     }
 }
 
@@ -245,6 +391,7 @@ pub fn lines_of(
 {
     let mut log = LogSoFar {
         lines: Vec::new(alloc),
+        named: Named::new(alloc),
         turns: Vec::new(alloc),
         sending: None,
     };

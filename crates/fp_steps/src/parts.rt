@@ -1,15 +1,11 @@
-//! Small parts of steps: where a turn is, what a log tells of it, and what a message was prepared to.
+//! Small parts of steps: where a turn is, and what a message was prepared to.
 
 ghost use Rattle.std.specs.Prelude.{◌≡◌, ◌==◌};
 ghost use Rattle.std.specs.List.{position};
 ghost use Rattle.fp_row.specs.declared.turn.Turn.{Turn};
 ghost use Rattle.fp_book.specs.Lines.{is_lost};
-ghost use Rattle.fp_steps.specs.Log.{back_of, place_of};
-ghost use Rattle.fp_steps.specs.Tokens.{TakesOut};
+ghost use Rattle.fp_steps.specs.Tokens.{TakesOut, local_in};
 
-use crate::Step;
-use crate::log::back_in;
-use fp_book::LoggedStep;
 use fp_entry::Prepared;
 use fp_row::Turn;
 
@@ -30,21 +26,12 @@ pub(crate) fn take_turn(turns: &mut Vec<Turn>, local: u32) -> Option<Turn>
     Some(turns.remove(index))
 }
 
-/// The place of the turn of a dialogue.
-fn place_of(turns: &[Turn], local: u32) -> Option<u64>
-    ensures { result ≡ place_of turns.now local }
+/// The local transaction identifier of the dialogue with this birth, if its turn is among these.
+pub(crate) fn local_in(turns: &[Turn], birth: u64) -> Option<u32>
+    ensures { result ≡ local_in turns.now birth }
 {
-    let turn = turns.iter().find(|turn| turn.local() == local)?;
-    Some(turn.position())
-}
-
-/// What a log tells of a turn that goes back, where these are out.
-pub(crate) fn back_of(turns: &[Turn], step: &Step) -> Option<LoggedStep>
-    ensures { result ≡ back_of turns.now step.now }
-{
-    let local = back_in(step)?;
-    let position = place_of(turns, local)?;
-    Some(LoggedStep::PutBack { local, position })
+    let turn = turns.iter().find(|turn| turn.birth() == birth)?;
+    Some(turn.local())
 }
 
 /// Whether memory ran out while a message was read.

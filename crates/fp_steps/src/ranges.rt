@@ -2,7 +2,7 @@
 
 ghost use Rattle.std.specs.Prelude.{◌<◌, ◌^◌, length};
 ghost use Rattle.fp_frames.specs.Frame.{IsMessageLength};
-ghost use Rattle.fp_steps.specs.LogLines.{AreOctets, IsCounted, IsInRange, IsPosting, IsStep};
+ghost use Rattle.fp_steps.specs.LogLines.{AreOctets, HasPlace, IsCounted, IsInRange, IsPosting, IsStep};
 
 use fp_book::{Given, LoggedStep, Posted};
 use fp_digits::Moment;
@@ -63,26 +63,28 @@ fn given_is_in_range(given: Given)
     }
 }
 
-/// The numbers of a dialogue, of due dialogues and of the entries of a turn have at most 32 bits.
+/// The numbers of due dialogues and of the entries of a turn have at most 32 bits.
 fn is_number(number: u32)
     ensures { number < 2 ^ 32 }
 {
     let _number = number;
 }
 
-/// Positions and numbers of lost steps have at most 64 bits.
+/// Births, positions and numbers of lost steps have at most 64 bits.
 fn is_long_number(number: u64)
     ensures { number < 2 ^ 64 }
 {
     let _number = number;
 }
 
-/// A step of a log is in range.
+/// A step of a log is in range, if its table has one of the places 0 to 999.
 pub(crate) fn step_is_in_range(step: &LoggedStep)
+    requires { HasPlace step.now }
     ensures { IsStep step.now }
 {
     match step {
         LoggedStep::Post {
+            table: _,
             moment,
             message,
             answer,
@@ -102,32 +104,32 @@ pub(crate) fn step_is_in_range(step: &LoggedStep)
             is_number(*wanting);
         }
         LoggedStep::Take {
-            local,
+            birth,
             position,
             count,
         } => {
-            is_number(*local);
+            is_long_number(*birth);
             is_long_number(*position);
             is_number(*count);
         }
         LoggedStep::Give {
-            local,
+            birth,
             position,
             served,
             given,
         } => {
-            is_number(*local);
+            is_long_number(*birth);
             is_long_number(*position);
             is_number(*served);
             given_is_in_range(*given);
         }
-        LoggedStep::PutBack { local, position } => {
-            is_number(*local);
+        LoggedStep::PutBack { birth, position } => {
+            is_long_number(*birth);
             is_long_number(*position);
         }
-        LoggedStep::Pick { local } => is_number(*local),
-        LoggedStep::Sent { local } => is_number(*local),
-        LoggedStep::Unsent { local } => is_number(*local),
+        LoggedStep::Pick { birth } => is_long_number(*birth),
+        LoggedStep::Sent { birth } => is_long_number(*birth),
+        LoggedStep::Unsent { birth } => is_long_number(*birth),
         LoggedStep::Down => {}
         LoggedStep::Gap { lost } => is_long_number(*lost),
     }

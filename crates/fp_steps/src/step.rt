@@ -7,7 +7,15 @@ use fp_frames::Frame;
 #[derive(Debug, Drop)]
 pub enum Step {
     /// A message came at this moment.
-    Post(Frame, Moment),
+    Post {
+        /// The place of the table by whose records it is read, 0 to 999, among those that are handed in. Without a table
+        /// there the step is impossible.
+        table: usize,
+        /// The message, without its head.
+        frame: Frame,
+        /// When it came.
+        moment: Moment,
+    },
     /// A message came at this moment, and memory ran out while it was read.
     Lost(Frame, Moment),
     /// It is this moment.

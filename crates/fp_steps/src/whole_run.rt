@@ -13,36 +13,38 @@ use std::alloc::{AllocError, Global};
 /// The outputs of these steps on a link on which nothing came yet. `Err`: memory ran out.
 fn make_all(
     alloc: Global,
-    table: &Table,
+    tables: &[Table],
     contexts: &[Name],
     run: &mut LinkRun,
     steps: &[Step],
 ) -> Result<Vec<Output>, AllocError>
-    requires { IsAfter table.now contexts.now [] run.old }
-    ensures { IfOk result (λ outputs. Runs table.now contexts.now run.old.link steps.now outputs.items) }
+    requires { IsAfter tables.now contexts.now [] run.old }
+    ensures { IfOk result (λ outputs. Runs tables.now contexts.now run.old.link steps.now outputs.items) }
 {
     let mut outputs = Vec::new(alloc);
     for step in steps {
-        let made = run.step(alloc, table, contexts, step)?;
+        let made = run.step(alloc, tables, contexts, step)?;
         outputs.push(made.output)?;
     }
     Ok(outputs)
 }
 
-/// The outputs of these steps on a link, 0 to 7, on which nothing came yet, by these records and names of application
+/// The outputs of these steps on a link, 0 to 7, on which nothing came yet, by these tables and names of application
 /// contexts. If a step is impossible, its output is `Nothing`, and it changes nothing. `Err`: memory ran out.
 ///
 /// At each moment of the run, and for each dialogue, the entries that were served are a prefix of those that it
 /// accepted, cut at its end, in their order and each once; and the frames that were sent for it are a prefix of those
 /// that its service logic requests on them, in their order and each once, under its own identifiers. No two dialogues
-/// have the same local transaction identifier, and the Aborts of the provider that were sent are a prefix of those that
-/// were answered.
+/// that are held have the same local transaction identifier, and the Aborts of the provider that were sent are a prefix
+/// of those that were answered. The identifier of a dialogue that is held names it; and while the link is up each of
+/// the 131,072 serials may be given or is that of a dialogue that is held, so that a Begin never lacks one.
 ///
 /// Each output is the answer at its moment, which the steps and outputs before it determine. A message gets the answer
-/// of the first matching rule of receipt. A tick counts the dialogues that are due. A turn is handed out for the
-/// dialogue that has been ready longest, unless none is ready or all places are held; it is given or put back while it
-/// is out. The oldest Abort of the provider is sent next, or, where none waits, the oldest frame, while nothing else is
-/// out to be sent.
+/// of the first matching rule of receipt; a dialogue is opened with the identifier at the front of a queue: that of
+/// serial 1, 2 and so on at first, and then those of dialogues that are no longer held, in the order in which they went.
+/// A tick counts the dialogues that are due. A turn is handed out for the dialogue that has been ready longest, unless
+/// none is ready or all places are held; it is given or put back while it is out. The oldest Abort of the provider is
+/// sent next, or, where none waits, the oldest frame, while nothing else is out to be sent.
 ///
 /// The totals of the outputs are sums over the dialogues: of the entries that each accepted and that come from
 /// components, of those that were served, and of the frames that were sent for it.
@@ -55,16 +57,16 @@ fn make_all(
 /// What the log of the run has of its steps ([`lines_of`](crate::lines_of)) fits a history with the same totals.
 pub fn run(
     alloc: Global,
-    table: &Table,
+    tables: &[Table],
     contexts: &[Name],
     link: u8,
     steps: &[Step],
 ) -> Result<Vec<Output>, AllocError>
     requires { link < LocalIds.LINKS }
-    ensures headline { IfOk result (λ outputs. Runs table.now contexts.now link steps.now outputs.items) }
+    ensures headline { IfOk result (λ outputs. Runs tables.now contexts.now link steps.now outputs.items) }
 {
     let mut made = LinkRun::new(alloc, link)?;
-    let outputs = make_all(alloc, table, contexts, &mut made, steps);
+    let outputs = make_all(alloc, tables, contexts, &mut made, steps);
     made.abandon();
     outputs
 }

@@ -1,16 +1,34 @@
--- The local transaction identifiers of a link: numbers of 32 bits, the first three bits for the link, 0 to 7, and the
--- others for the serial, which rises from 1.
-use Rattle.std.specs.Prelude.{◌≡◌, ℕ, ◌+◌, ◌*◌, ◌/◌, ◌^◌, ◌<◌, Option, Some, None, nat_eq, if◌then◌else◌}
+-- The local transaction identifiers of a link (ITU-T Q.773, 4.2.1.3): numbers of 32 bits, the first three bits for the
+-- link, 0 to 7, and the others for a serial, 1 to 131,072. The serials wait in a queue: the front one is given, and one
+-- that comes back goes to the back.
+use Rattle.std.specs.Prelude.{◌≡◌, ℕ, ◌+◌, ◌-◌, ◌*◌, ◌/◌, ◌%◌, ◌^◌, ◌<◌, ◌≤◌, Bool, false, true, List, [], ◌∷◌, ◌++◌, Option, Some, None, drop, nat_eq}
+use Rattle.std.specs.List.{IsDistinct, list_any, range_with_len}
 
--- a link, and how many of its serials were given
+-- a link, and the serials that may be given, the next one first
 pub record LocalIds : Type 0 where
   pub link : ℕ
-  pub given : ℕ
+  pub queue : List ℕ
 
--- what each value keeps
-pub record IsWithin (ids : LocalIds) : Type 0 where
-  pub links : ids.link < 8
-  pub serials : ids.given < 2 ^ 29
+-- the last serial
+abbrev pub last_serial : ℕ
+last_serial = 131072
+
+-- the serials above one, up to the last, in their order
+unfoldable pub serials_above : ℕ → List ℕ
+serials_above serial = range_with_len (serial + 1) (last_serial - serial)
+
+-- all serials, 1 to 131,072, in their order; never computed, since the list is long
+abbrev pub all_serials : List ℕ
+all_serials = serials_above 0
+
+-- whether a serial is among these
+abbrev pub is_free : ℕ → List ℕ → Bool
+is_free serial serials = list_any (nat_eq serial) serials
+
+-- serials, none of them twice
+pub record AreSerials (serials : List ℕ) : Type 0 where
+  pub distinct : IsDistinct nat_eq serials
+  pub within : (serial : ℕ) → is_free serial serials ≡ true → (0 < serial) × (serial ≤ last_serial)
 
 -- the identifier of a serial
 abbrev pub identifier : ℕ → ℕ → ℕ
@@ -20,12 +38,40 @@ identifier link serial = link * 2 ^ 29 + serial
 abbrev pub link_of : ℕ → ℕ
 link_of local = local / 2 ^ 29
 
+-- its serial
+abbrev pub serial_of : ℕ → ℕ
+serial_of local = local % 2 ^ 29
+
+-- the identifier of the front one of these serials, and none if there is none
+abbrev pub first_of : ℕ → List ℕ → Option ℕ
+first_of link [] = None
+first_of link (serial ∷ serials) = Some (identifier link serial)
+
 -- the identifier that is given next
 abbrev pub next_of : LocalIds → Option ℕ
-next_of ids = if nat_eq (ids.given + 1) (2 ^ 29) then None else Some (identifier ids.link (ids.given + 1))
+next_of ids = first_of ids.link ids.queue
 
--- the next serial's identifier is given, or none, where the last serial was given
-abbrev pub Gives : LocalIds → Option ℕ → LocalIds → Type 0
-Gives old None new = (old.given + 1 ≡ 2 ^ 29) × (new ≡ old)
-Gives old (Some local) new =
-    (old.given + 1 < 2 ^ 29) × (local ≡ identifier old.link (old.given + 1)) × (new ≡ record { link = old.link; given = old.given + 1 })
+-- what is left once that was given: all but the front serial
+abbrev pub without_next : LocalIds → LocalIds
+without_next ids = record ids { queue = drop 1 ids.queue }
+
+-- the identifier is one of the link, and it was given and didn't come back: its serial isn't in the queue
+abbrev pub IsGiven : LocalIds → ℕ → Type 0
+IsGiven ids local =
+    (serial : ℕ) × (0 < serial) × (serial ≤ last_serial)
+    × (local ≡ identifier ids.link serial) × (is_free serial ids.queue ≡ false)
+
+-- the serial of an identifier comes back, after all others
+abbrev pub with_returned : LocalIds → ℕ → LocalIds
+with_returned ids local = record ids { queue = ids.queue ++ serial_of local ∷ [] }
+
+-- what the type of local identifiers keeps, of the link, of how many serials were given for the first time, and of
+-- those that came back and may be given again
+pub record IsKept (link fresh : ℕ) (returned : List ℕ) (capacity : ℕ) : Type 0 where
+  pub links : link < 8
+  pub most : fresh ≤ last_serial
+  -- those are serials that were given, none of them twice
+  pub distinct : IsDistinct nat_eq returned
+  pub given : (serial : ℕ) → is_free serial returned ≡ true → (0 < serial) × (serial ≤ fresh)
+  -- there is memory for all serials
+  pub places : last_serial ≤ capacity

@@ -1,13 +1,22 @@
-//! Local transaction identifiers: by which this end knows its dialogues (ITU-T Q.773, 4.2.1.3), four octets each.
+//! Local transaction identifiers: the four octets by which this end of a link knows a dialogue (ITU-T Q.773, 4.2.1.3).
 //!
-//! An identifier has the number of its link in its first three bits, and in the others a serial, which rises from 1. So
-//! one [`LocalIds`] gives no identifier twice, and those of two links give none in common. The layer above may rely on
-//! this: each call of [`LocalIds::give`] gives the identifier of the next serial, the first one that of serial 1, and
-//! nothing exactly where the last serial was given.
+//! An identifier has the number of its link in its first three bits, and in the others a serial, 1 to 131,072. The
+//! serials of a link wait in a queue, at first all of them in their order. [`LocalIds::give`] gives the front one, and
+//! [`LocalIds::end`] puts one at the back once its dialogue is held no longer. So no identifier that is in use is given
+//! again, those of two links have none in common, and one that ends is given again only after all others that were in
+//! the queue then. For the dialogues of a link, of which at most 4,096 are held, these are 126,976 others at least (the
+//! law `serials_of_dialogues_come_back_late` of `fp_book`).
+//!
+//! The layer above may rely on this: contracts see a [`LocalIds`] as its link and that queue. `give` answers the
+//! identifier of the front serial, and nothing exactly if the queue is empty. Only [`LocalIds::new`] takes memory.
+//!
+//! * [`identifiers_are_distinct`]: different links or serials have different identifiers, and each shows both.
+//! * [`serials_are_distinct`]: no serial is in the queue twice, as long as only those are put there that were given.
+//! * [`serials_come_back_last`]: one that ends is given again after all others that were in the queue then.
 #![tactic(auto)]
 
 mod laws;
 mod local_ids;
 
-pub use laws::identifiers_are_distinct;
+pub use laws::{identifiers_are_distinct, serials_are_distinct, serials_come_back_last};
 pub use local_ids::{LocalIds, link_of};

@@ -1,74 +1,113 @@
 //! The local identifiers of one link.
 
-ghost use Rattle.std.specs.Prelude.{◌≡◌, ◌<◌};
-ghost use Rattle.fp_tids.specs.Identifiers.{Gives, link_of, next_of};
+ghost use Rattle.std.specs.Prelude.{◌≡◌, ◌<◌, [], ◌∷◌, ◌++◌, IfOk};
+ghost use Rattle.std.specs.VecDeque.{deque_capacity, deque_len};
+ghost use Rattle.std.specs.List.{slice_get};
+ghost use Rattle.fp_tids.specs.Identifiers.{IsGiven, all_serials, link_of, next_of, with_returned, without_next};
 
+use std::alloc::{AllocError, Global};
+use std::collections::VecDeque;
 use std::marker::Model;
 
-/// The local identifiers of one link. Contracts see the link, and how many serials were given.
+/// 2^29: one more than the largest serial that fits an identifier.
+const LINK_STEP: u32 = 0x2000_0000;
+
+/// The local identifiers of one link. Contracts see the link, and the queue of the serials that may be given, the next
+/// one first.
 #[derive(Debug, Drop)]
 pub struct LocalIds {
     link: u8,
-    given: u32,
+    // How many serials were given for the first time: those from 1 on. The others are the front of the queue.
+    fresh: u32,
+    // The serials that came back, the oldest first: the rest of the queue.
+    returned: VecDeque<u32>,
 }
 
 impl Model for LocalIds {
-    ghost use Rattle.fp_tids.specs.Identifiers.{IsWithin};
+    ghost use Rattle.std.specs.Prelude.{◌++◌};
+    ghost use Rattle.std.specs.VecDeque.{deque_capacity};
+    ghost use Rattle.fp_tids.specs.Identifiers.{IsKept, serials_above};
     ghost use Rattle.fp_tids.specs.Identifiers as ids;
 
     ghost Value = { ids.LocalIds };
 
-    ghost view = { λ own. record { link = own.link; given = own.given } };
+    ghost view = { λ own. record { link = own.link; queue = serials_above own.fresh ++ own.returned.items } };
 
-    ghost invariant = { λ own. IsWithin (record { link = own.link; given = own.given }) };
+    ghost invariant = { λ own. IsKept own.link own.fresh own.returned.items (deque_capacity own.returned) };
+}
 
-    ghost inverse = { λ value. record { link = value.link; given = value.given } };
+/// The serial that came back first, if one did.
+fn first(returned: &VecDeque<u32>) -> Option<u32>
+    ensures { result ≡ slice_get returned.now.items 0 }
+{
+    returned.front().copied()
+}
 
-    ghost inverse_ok = { λ own within i. record { link = own.link; given = own.given } };
+/// Puts a serial after those that came back. There is a place for it. Takes no memory.
+fn put_last(returned: &mut VecDeque<u32>, serial: u32)
+    requires { deque_len returned.old < deque_capacity returned.old }
+    ensures items { returned.new.items ≡ returned.old.items ++ serial ∷ [] }
+    ensures capacity { deque_capacity returned.new ≡ deque_capacity returned.old }
+{
+    returned.push_back_reserved(serial);
 }
 
 impl LocalIds {
     /// How many links there may be.
     pub const LINKS: u8 = 8;
 
-    /// The last serial, 2^29 - 1.
-    pub const LAST_SERIAL: u32 = 0x1FFF_FFFF;
+    /// How many serials a link has: 1 to 131,072.
+    pub const SERIALS: u32 = 131_072;
 
-    /// Those of a link, 0 to 7, of which none was given yet.
-    pub fn new(link: u8) -> LocalIds
+    /// Those of a link, 0 to 7, of which none was given yet, with memory for all that may come back.
+    pub fn new(alloc: Global, link: u8) -> Result<LocalIds, AllocError>
         requires { link < Self.LINKS }
-        ensures { result ≡ record { link = link; given = 0 } }
+        ensures { IfOk result (λ ids. ids ≡ record { link = link; queue = all_serials }) }
     {
-        LocalIds { link, given: 0 }
+        Ok(LocalIds {
+            link,
+            fresh: 0,
+            returned: VecDeque::with_capacity(alloc, Self::SERIALS as usize)?,
+        })
     }
 
-    /// What [`LocalIds::give`] gives next: the identifier of the next serial, `None` where the last one was given.
+    /// What [`LocalIds::give`] gives next: the identifier of the front serial, `None` if there is none. Takes no
+    /// memory.
     pub fn next(&self) -> Option<u32>
         ensures { result ≡ next_of self.now }
     {
-        if self.given == Self::LAST_SERIAL {
-            return None;
+        if self.fresh < Self::SERIALS {
+            return Some(u32::from(self.link) * LINK_STEP + (self.fresh + 1));
         }
-        Some(u32::from(self.link) * (Self::LAST_SERIAL + 1) + (self.given + 1))
+        let Some(serial) = first(&self.returned) else {
+            return None;
+        };
+        Some(u32::from(self.link) * LINK_STEP + serial)
     }
 
-    /// The identifier of the next serial, `None` where the last one was given.
+    /// Gives the identifier of the front serial, `None` if there is none. Takes no memory.
     pub fn give(&mut self) -> Option<u32>
-        ensures gives { Gives self.old result self.new }
         ensures next { result ≡ next_of self.old }
+        ensures left { self.new ≡ without_next self.old }
     {
-        if self.given == Self::LAST_SERIAL {
-            return None;
+        if self.fresh < Self::SERIALS {
+            self.fresh += 1;
+            return Some(u32::from(self.link) * LINK_STEP + self.fresh);
         }
-        self.given += 1;
-        Some(u32::from(self.link) * (Self::LAST_SERIAL + 1) + self.given)
+        let Some(serial) = self.returned.pop_front() else {
+            return None;
+        };
+        Some(u32::from(self.link) * LINK_STEP + serial)
     }
 
-    /// Tells that the dialogue of this identifier is held no longer. No identifier is given twice, so nothing changes.
+    /// The dialogue of this identifier is held no longer: its serial comes back, after all others. The identifier is
+    /// one of this very link, it was given, and its serial didn't come back yet: the caller knows that, and nothing
+    /// tests it here. Takes no memory.
     pub fn end(&mut self, local: u32)
-        ensures { self.new ≡ self.old }
+        requires { IsGiven self.old local }
+        ensures { self.new ≡ with_returned self.old local }
     {
-        let _ = local;
+        put_last(&mut self.returned, local % LINK_STEP);
     }
 }
 
@@ -76,5 +115,5 @@ impl LocalIds {
 pub fn link_of(local: u32) -> u8
     ensures { result ≡ link_of local }
 {
-    (local / (LocalIds::LAST_SERIAL + 1)) as u8
+    (local / LINK_STEP) as u8
 }

@@ -28,12 +28,14 @@ pub enum Asked<'a> {
         /// The text of the list of application contexts, which has not been read, if there is one.
         contexts: Option<&'a str>,
     },
-    /// A replay of the steps of a log, from the records of a file.
+    /// A replay of the steps of a log, from the records of one file or several.
     Replay {
-        /// The path of the file.
+        /// The path of the file with which the run began.
         records: &'a str,
         /// The path of the log.
         log: &'a str,
+        /// The paths of the files that were loaded later, in that order.
+        later: Vec<&'a str>,
         /// The text of the list of application contexts, which has not been read, if there is one.
         contexts: Option<&'a str>,
     },
@@ -93,9 +95,11 @@ pub fn asked_by<'a>(alloc: Global, words: &'a [String]) -> Result<Asked<'a>, All
     let contexts = chosen.get_str("contexts");
     if name == REPLAY {
         let log = chosen.get_str("LOG").unwrap_or("");
+        let later = chosen.get_strs("LATER").unwrap_or_default();
         return Ok(Asked::Replay {
             records,
             log,
+            later: later.to_vec(alloc)?,
             contexts,
         });
     }
@@ -175,7 +179,8 @@ const REPLAY_EXAMPLE: &str = "Example:
   scp replay examples/freephone.csv examples/calls.log
 
 Replays each step of the log, and prints for each link how many components it accepted, how many
-entries it served and how many frames it sent. The first line that can't be replayed is reported.";
+entries it served and how many frames it sent. The first line that can't be replayed is reported.
+A message with the table 0 is read by RECORDS, one with 1 by the first of LATER, and so on.";
 
 const SERVE_EXAMPLE: &str = "Example:
   scp serve examples/freephone.csv --listen 127.0.0.1:14700 --log run.log
@@ -231,11 +236,15 @@ fn replay_command<'a>(alloc: Global) -> Result<Command<'a>, AllocError> {
     let log = Arg::new(alloc, "LOG")
         .required(true)
         .help("The log of a run");
+    let later = Arg::new(alloc, "LATER").num_args(0..).help(
+        "The files of records that were loaded later, in that order",
+    );
     Command::new(alloc, REPLAY)
         .about("Replays the steps of a log, and prints what each link did")
         .after_help(REPLAY_EXAMPLE)
         .arg(records(alloc))?
         .arg(log)?
+        .arg(later)?
         .arg(contexts(alloc))
 }
 

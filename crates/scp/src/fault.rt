@@ -6,7 +6,7 @@ use fp_ask::AskFault;
 use fp_records::RecordsFault;
 use fp_replay::ReplayFault;
 use fp_serve::ServeFault;
-use std::alloc::AllocError;
+use std::alloc::{AllocError, AllocFailed};
 use thiserror::Error;
 
 /// Why a run ends with status 1.
@@ -85,6 +85,17 @@ impl From<AllocError> for RunFault {
     ghost from_gives = { λ _ fault. fault ≡ Ask Memory };
 
     fn from(_error: AllocError) -> RunFault {
+        RunFault::Ask(AskFault::Memory)
+    }
+}
+
+impl<T: Drop> From<AllocFailed<T>> for RunFault {
+    ghost use Rattle.scp.specs.declared.fault.RunFault.TheVariants.{Ask};
+    ghost use Rattle.fp_ask.specs.declared.fault.AskFault.TheVariants.{Memory};
+
+    ghost from_gives = { λ _ fault. fault ≡ Ask Memory };
+
+    fn from(_error: AllocFailed<T>) -> RunFault {
         RunFault::Ask(AskFault::Memory)
     }
 }

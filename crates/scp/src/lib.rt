@@ -4,9 +4,10 @@
 //! `scp check RECORDS` prints how many numbers and rules a file of records has. `scp ask RECORDS MOMENT` reads messages
 //! and waits from standard input, one a line, and holds the dialogues that they open: each message that is sent is one
 //! line of standard output. `scp serve RECORDS --listen A --log FILE` answers connections, each as one link, and writes
-//! a log. `scp replay RECORDS LOG` replays the steps of a log, and prints what each link did. Standard error
-//! has at most one line, which says why the run ended, and before it the events of a run that was asked for them. The
-//! status is 0 if all went well, 1 after such a line, and 2 if the command line was refused.
+//! a log. `scp replay RECORDS LOG LATER..` replays the steps of a log, whose later records are in the files LATER, and
+//! prints what each link did. Standard error has at most one line, which says why the run ended, and before it the
+//! events of a run that was asked for them. The status is 0 if all went well, 1 after such a line, and 2 if the command
+//! line was refused.
 //!
 //! The layer is handed the words of the command line, a reader, three writers and what opens files and awaits
 //! connections; `scp_main` gives it those of the system.

@@ -75,9 +75,10 @@ where
             Asked::Replay {
                 records,
                 log,
+                later,
                 contexts,
             },
-        ) => replay_file(rt, records, log, contexts, output),
+        ) => replay_file(rt, records, log, later.as_slice(), contexts, output),
         Ok(Asked::Serve { .. }) => Err(RunFault::Serve(ServeFault::NoConnection)),
         Ok(Asked::Help(text)) => show(text.as_str(), output),
         Ok(Asked::Refused(text)) => {
@@ -165,11 +166,12 @@ where
     Ok(())
 }
 
-/// Replays the log in a file from the records of another.
+/// Replays the log in a file from the records of others.
 fn replay_file<H, W>(
     rt: &H,
     records: &str,
     log: &str,
+    later: &[&str],
     contexts: Option<&str>,
     output: &mut W,
 ) -> Result<(), RunFault>
@@ -180,7 +182,7 @@ where
     let Some(contexts) = accepted(rt.alloc(), contexts)? else {
         return Err(RunFault::NoContexts);
     };
-    let table = table_in(rt, records)?;
+    let tables = tables_in(rt, records, later)?;
     let file = match fs::open(rt, log) {
         Ok(file) => file,
         Err(error) if error.kind() == ErrorKind::OutOfMemory => {
@@ -192,7 +194,7 @@ where
     let mut writer = Counted::new(output);
     replay_lines(
         rt.alloc(),
-        &table,
+        tables.as_slice(),
         contexts.as_slice(),
         &mut reader,
         &mut writer,
@@ -216,6 +218,22 @@ pub(crate) fn accepted(
 fn table_in<H: Files + AllocGlobal>(rt: &H, path: &str) -> Result<Table, RunFault> {
     let text = records_in(rt, path)?;
     Ok(Table::read(rt.alloc(), text.as_slice())?)
+}
+
+/// The tables in the file with which a run began and in those that were loaded later, in that order. Each is numbered by
+/// its place, as far as there are indexes.
+fn tables_in<H: Files + AllocGlobal>(
+    rt: &H,
+    records: &str,
+    later: &[&str],
+) -> Result<Vec<Table>, RunFault> {
+    let mut tables = Vec::new(rt.alloc());
+    tables.push(table_in(rt, records)?)?;
+    for path in later {
+        let index = tables.len().min(usize::from(Table::LAST_INDEX)) as u16;
+        tables.push(table_in(rt, path)?.numbered(index))?;
+    }
+    Ok(tables)
 }
 
 /// The octets of a file of records.
@@ -254,15 +272,15 @@ fn answer_lines<R: Read, W: Write>(
 /// Replays a log, and says of readers and writers whose octets are known what [`replay`] says.
 fn replay_lines<R: Read, W: Write>(
     alloc: Global,
-    table: &Table,
+    tables: &[Table],
     contexts: &[Name],
     reader: &mut Counted<R>,
     writer: &mut Counted<W>,
 ) -> Result<(), ReplayFault>
     ensures end { OnOk result (IsAtEnd (R.remaining reader.new.device)) }
     ensures replayed { OnOk result (IfSome (R.remaining reader.old.device)
-        (Replays table.now contexts.now (W.contents writer.old.device) (W.contents writer.new.device))) }
-    ensures stopped { IfErr result (stopped.Stops table.now contexts.now
+        (Replays tables.now contexts.now (W.contents writer.old.device) (W.contents writer.new.device))) }
+    ensures stopped { IfErr result (stopped.Stops tables.now contexts.now
         (R.remaining reader.old.device) (R.remaining reader.new.device)
         (W.contents writer.old.device) (W.contents writer.new.device)) }
     ensures unwritten { IfErr result (IsUnwritten (W.contents writer.old.device) (W.contents writer.new.device)) }
@@ -270,5 +288,5 @@ fn replay_lines<R: Read, W: Write>(
     ensures reads { stopped.CountsReads result reader.old.failed reader.new.failed }
     ensures writes { stopped.CountsWrites result writer.old.failed writer.new.failed }
 {
-    replay(alloc, table, contexts, TURNS, reader, writer)
+    replay(alloc, tables, contexts, TURNS, reader, writer)
 }

@@ -1,13 +1,17 @@
 //! Links over memory, whose threads share a hub: messages go in, and their answers come out.
 
 mod link;
+mod plan;
+mod posting;
+mod senders;
 
 use crate::messages::{RECORDS, STRANGE_ANSWER, answer};
 use crate::{EACH_ONCE, SecondFirst};
 use fp_book::Totals;
 use fp_hub::{Gate, Looks, OpenGate};
 use fp_records::Table;
-use link::{Marks, Plan, Relayed, Sending, relay};
+use link::{Relayed, relay};
+use plan::{Marks, Plan, Sending};
 use std::alloc::Global;
 use std::process::Abort;
 use std::sync::atomic::{AtomicU64, Ordering};

@@ -4,7 +4,10 @@ ghost use Rattle.fp_hub.specs.Shares.{AreBlanks};
 
 mod caller;
 mod each_call;
+mod foreign;
+mod helping;
 mod holding;
+mod sending;
 mod several;
 
 use crate::messages::{RECORDS, REJECT};
@@ -35,6 +38,8 @@ enum Walk {
     Hints,
     /// Calls of several steps.
     Several,
+    /// The same with foreign turns and parcels among the others, or without.
+    Foreign(bool),
     /// Help with some of the turns that are ready.
     Helps,
     /// A worker whose hub is closed while it has turns.
@@ -161,6 +166,29 @@ fn holds_make_several_steps(rt: HostRuntime) -> Result<(), Fail> {
         sent: 4,
     };
     assert_walk(&rt, rt.alloc(), Looks::FEW, Walk::Several, words, totals)
+}
+
+/// Turns and parcels that aren't out change nothing, are neither counted nor logged, and don't keep the others from
+/// going through: two turns of another link, one that was given before and one of a dialogue whose turn is out, served
+/// or not, which are dropped if they come back with others, and come back if each comes alone; and parcels of another
+/// link, of a dialogue whose parcel is out, and one that was sent before, while another one is out, none is, or the
+/// link is down. All else is as without them.
+#[test]
+fn foreign_ones_change_nothing(rt: HostRuntime) -> Result<(), Fail> {
+    let alloc = rt.alloc();
+    let words =
+        "opened silent opened accepted opened opened opened five none silent enough none none queued enough sent sent sent up sent down P T1 G1 P P P P P T2 T1 T3 T4 T5 G2 G1 G3 G4 G5 Q2 Y2 Q3 Y3 Q4 Y4 Q5 N Y5 ";
+    let answers =
+        "none none silent enough eight thirteen none none silent enough eight foreign nothing foreign foreign foreign nothing foreign foreign foreign nothing foreign foreign foreign foreign down foreign foreign ";
+    let totals = Totals {
+        accepted: 5,
+        served: 10,
+        sent: 4,
+    };
+    assert_walk(&rt, alloc, Looks::FEW, Walk::Foreign(false), words, totals)?;
+    let all_words = format!(in alloc; "{words}{answers}")?;
+    let walk = Walk::Foreign(true);
+    assert_walk(&rt, alloc, Looks::FEW, walk, all_words.as_str(), totals)
 }
 
 /// Who helps serves at most as many turns as it may, and hints to as many workers as it leaves turns, and not else.

@@ -1,6 +1,6 @@
 //! Clients of a server.
 
-use libc::net::{SO_SNDBUF, SOL_SOCKET, setsockopt};
+use libc::net::{IPPROTO_TCP, SO_SNDBUF, SOL_SOCKET, TCP_USER_TIMEOUT, getsockopt, setsockopt};
 use std::alloc::Global;
 use std::io::{Read, Write};
 use std::net::{Net, Shutdown, SocketAddr, TcpListener, TcpStream};
@@ -20,23 +20,62 @@ const LOOKS: u32 = 100;
 /// them.
 const SMALL_BUFFER: i32 = 32_768;
 
+/// For how many milliseconds a client may have no room for them, if that limit was shortened.
+const SHORT_LIMIT: i32 = 500;
+
 /// How many octets the value of an option has.
 const OCTETS_OF_A_NUMBER: u32 = 4;
+
+/// Connections are among this number of descriptors.
+const MOST_DESCRIPTORS: i32 = 64;
+
+/// A number as the system takes the value of an option: in the first octets of a room for the longest.
+fn value(number: i32) -> [u8; 16] {
+    let mut octets = [0u8; 16];
+    octets[..4].copy_from_slice(&number.to_ne_bytes());
+    octets
+}
 
 /// Gives the connections that a listener accepts from now on a small buffer for what is written, so that some 4,500
 /// answers that aren't read block it: without that it is 80,000 to 120,000.
 pub(crate) fn shrink_buffers(listener: &TcpListener) {
-    let mut size = [0u8; 16];
-    size[..4].copy_from_slice(&SMALL_BUFFER.to_ne_bytes());
     // SAFETY: it is an option of its level whose value is a number.
     unsafe {
         setsockopt(
             listener.as_raw_fd(),
             SOL_SOCKET,
             SO_SNDBUF,
-            &size,
+            &value(SMALL_BUFFER),
             OCTETS_OF_A_NUMBER,
         );
+    }
+}
+
+/// Whether a descriptor is that of a connection with a small buffer, or of its listener. The system keeps as many
+/// octets again for itself, and says so.
+fn has_small_buffer(fd: i32) -> bool {
+    let mut octets = [0u8; 16];
+    let mut length = OCTETS_OF_A_NUMBER;
+    // SAFETY: it is an option of its level whose value is a number.
+    let status = unsafe { getsockopt(fd, SOL_SOCKET, SO_SNDBUF, &mut octets, &mut length) };
+    status == 0 && octets == value(2 * SMALL_BUFFER)
+}
+
+/// The system gives up each connection with a small buffer once its client had no room for half a second.
+pub(crate) fn shorten_limits() {
+    for fd in 0..MOST_DESCRIPTORS {
+        if has_small_buffer(fd) {
+            // SAFETY: it is an option of its level whose value is a number.
+            unsafe {
+                setsockopt(
+                    fd,
+                    IPPROTO_TCP,
+                    TCP_USER_TIMEOUT,
+                    &value(SHORT_LIMIT),
+                    OCTETS_OF_A_NUMBER,
+                );
+            }
+        }
     }
 }
 

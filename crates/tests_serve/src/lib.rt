@@ -5,8 +5,9 @@
 //! each call is answered on its own link, what ends a link and what ends a run, and that the log of a run replays to
 //! what its links counted. They are in a crate of their own so that `fp_serve` and `scp` are proved once.
 //!
-//! * `links`: runs of `fp_serve`; clients connect, write and read. `links/ends` has what ends a link, and
-//!   `links/devices` logs whose device hangs, fails or is slow.
+//! * `links`: runs of `fp_serve`; clients connect, write and read. `links/gates` has turns that wait, `links/ends` what
+//!   ends a link, `links/connections` clients that break off or come late, and `links/devices` logs whose device hangs,
+//!   fails or is slow.
 //! * `program`: runs of `scp serve` from the words of a command line, over the files of a folder of their own: the
 //!   order of the faults, and the links and the log that the words ask for.
 //! * `client`, `memory` and `talk` serve both: connections, the outputs of a run, and what clients say.

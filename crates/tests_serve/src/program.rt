@@ -141,7 +141,7 @@ fn a_log_is_of_one_run(rt: HostRuntime) -> Result<(), Fail> {
     let (_, after) = given.as_str().split_once('\n').ok_or("no address")?;
     want(after, "link 0 accepted 0 served 0 sent 0\n, ")?;
     let log = fs::read(&rt, "old.log")?;
-    assert_eq!(rt; str::from_utf8(log.as_slice())?, "fplog 2 1\n0 N\n");
+    assert_eq!(rt; str::from_utf8(log.as_slice())?, "fplog 4 1\n0 N\n");
     fs::remove_dir_all(&rt, folder.as_str())?;
     Ok(())
 }
@@ -384,7 +384,7 @@ where
     let (head, _) = str::from_utf8(log.as_slice())?
         .split_once('\n')
         .ok_or("no log")?;
-    want(head, format!(in alloc; "fplog 2 {}", plan.links)?.as_str())?;
+    want(head, format!(in alloc; "fplog 4 {}", plan.links)?.as_str())?;
     let again = ran(rt, plan.replay, "")?;
     want(again.as_str(), format!(in alloc; "0, {told}, ")?.as_str())
 }

@@ -3,19 +3,12 @@
 use super::texts::{push_given, push_posted};
 use cases::push_octets;
 use fp_book::{Book, Line, LoggedStep, Posted};
-use fp_digits::Moment;
 use fp_frames::Frame;
 use std::alloc::Global;
 use std::fmt::Write;
 
-/// Writes the line of a message after its letter.
-fn push_message(
-    out: &mut String,
-    moment: Moment,
-    message: &Frame,
-    answer: Posted,
-) -> anyhow::Result<()> {
-    write!(out, "{} ", moment.milliseconds())?;
+/// Writes the message of a line, and what became of it.
+fn push_message(out: &mut String, message: &Frame, answer: Posted) -> anyhow::Result<()> {
     push_octets(out, message.octets())?;
     out.push(' ')?;
     push_posted(out, answer)
@@ -43,37 +36,44 @@ fn push_step(out: &mut String, step: &LoggedStep) -> anyhow::Result<()> {
     out.push_str(letter_of(step))?;
     match step {
         LoggedStep::Post {
+            table,
             moment,
             message,
             answer,
+        } => {
+            write!(out, "{} {table} ", moment.milliseconds())?;
+            push_message(out, message, *answer)?;
         }
-        | LoggedStep::Lost {
+        LoggedStep::Lost {
             moment,
             message,
             answer,
-        } => push_message(out, *moment, message, *answer)?,
+        } => {
+            write!(out, "{} ", moment.milliseconds())?;
+            push_message(out, message, *answer)?;
+        }
         LoggedStep::Tick {
             moment,
             added,
             wanting,
         } => write!(out, "{} {added} {wanting}", moment.milliseconds())?,
         LoggedStep::Take {
-            local,
+            birth,
             position,
             count,
-        } => write!(out, "{local:08X} {position} {count}")?,
-        LoggedStep::PutBack { local, position } => write!(out, "{local:08X} {position}")?,
+        } => write!(out, "{birth} {position} {count}")?,
+        LoggedStep::PutBack { birth, position } => write!(out, "{birth} {position}")?,
         LoggedStep::Give {
-            local,
+            birth,
             position,
             served,
             given,
         } => {
-            write!(out, "{local:08X} {position} {served} ")?;
+            write!(out, "{birth} {position} {served} ")?;
             push_given(out, *given)?;
         }
-        LoggedStep::Pick { local } | LoggedStep::Sent { local } | LoggedStep::Unsent { local } =>
-            write!(out, "{local:08X}")?,
+        LoggedStep::Pick { birth } | LoggedStep::Sent { birth } | LoggedStep::Unsent { birth } =>
+            write!(out, "{birth}")?,
         LoggedStep::Gap { lost } => write!(out, "{lost}")?,
         LoggedStep::Down => {}
     }
@@ -84,7 +84,7 @@ fn push_step(out: &mut String, step: &LoggedStep) -> anyhow::Result<()> {
 fn push_line(out: &mut String, line: &Line) -> anyhow::Result<()> {
     match line {
         Line::Head { links } => {
-            write!(out, "fplog 2 {links}")?;
+            write!(out, "fplog 4 {links}")?;
             Ok(())
         }
         Line::Step { link, step } => {

@@ -33,22 +33,16 @@ fn push_posted(out: &mut String, answer: Posted) -> anyhow::Result<()> {
     }
 }
 
-/// Writes a message that came, and what became of it.
-fn push_message(
-    out: &mut String,
-    moment: Moment,
-    message: &Frame,
-    answer: Posted,
-) -> anyhow::Result<()> {
+/// Writes a message that came, and when.
+fn push_message(out: &mut String, moment: Moment, message: &Frame) -> anyhow::Result<()> {
     push_octets(out, message.octets())?;
-    push_number(out, " at ", moment.milliseconds())?;
-    push_posted(out, answer)
+    push_number(out, " at ", moment.milliseconds())
 }
 
-/// Writes a turn: the place of its first entry, and its dialogue.
-fn push_turn(out: &mut String, local: u32, position: u64) -> anyhow::Result<()> {
+/// Writes a turn: the place of its first entry, and the birth of its dialogue.
+fn push_turn(out: &mut String, birth: u64, position: u64) -> anyhow::Result<()> {
     push_number(out, "", position)?;
-    push_number(out, " of ", u64::from(local))
+    push_number(out, " of ", birth)
 }
 
 /// Writes a tick.
@@ -89,41 +83,49 @@ fn push_step(out: &mut String, step: &LoggedStep) -> anyhow::Result<()> {
     out.push_str(verb_of(step))?;
     match step {
         LoggedStep::Post {
+            table,
             moment,
             message,
             answer,
+        } => {
+            push_message(out, *moment, message)?;
+            push_number(out, " by table ", u64::from(*table))?;
+            push_posted(out, *answer)
         }
-        | LoggedStep::Lost {
+        LoggedStep::Lost {
             moment,
             message,
             answer,
-        } => push_message(out, *moment, message, *answer),
+        } => {
+            push_message(out, *moment, message)?;
+            push_posted(out, *answer)
+        }
         LoggedStep::Tick {
             moment,
             added,
             wanting,
         } => push_tick(out, *moment, *added, *wanting),
         LoggedStep::Take {
-            local,
+            birth,
             position,
             count,
         } => {
-            push_turn(out, *local, *position)?;
+            push_turn(out, *birth, *position)?;
             push_number(out, ", count ", u64::from(*count))
         }
-        LoggedStep::PutBack { local, position } => push_turn(out, *local, *position),
+        LoggedStep::PutBack { birth, position } => push_turn(out, *birth, *position),
         LoggedStep::Give {
-            local,
+            birth,
             position,
             served,
             given,
         } => {
-            push_turn(out, *local, *position)?;
+            push_turn(out, *birth, *position)?;
             push_number(out, ", served ", u64::from(*served))?;
             push_given(out, *given)
         }
-        LoggedStep::Pick { local } | LoggedStep::Sent { local } | LoggedStep::Unsent { local } => {
-            push_number(out, "", u64::from(*local))
+        LoggedStep::Pick { birth } | LoggedStep::Sent { birth } | LoggedStep::Unsent { birth } => {
+            push_number(out, "", *birth)
         }
         LoggedStep::Gap { lost } => push_number(out, "", *lost),
         LoggedStep::Down => Ok(()),

@@ -1,13 +1,14 @@
 //! Runs of mixed steps, drawn from a seed: the steps, and what is known of each message from its making.
 //!
 //! Begins come from different peers, and every other message is aimed at one of the first five dialogues of the link,
-//! now and then at one of another link, or at a serial that is far off. The components of a run that a dialogue may
+//! or of those after calls that come before all else and are over, now and then at one of another link, or at a serial
+//! that is far off. The components of a run that a dialogue may
 //! reject have rising invoke identifiers, from 32 on, which no invocation of a dialogue reaches. Beside single steps a
 //! turn is drawn, which is a take and a give for each of the first five dialogues, and five parcels, each picked and
 //! sent: so dialogues get on, and several frames of one wait.
 
 use super::draws::Draws;
-use super::making::first_of;
+use super::making::{first_of, serial_after};
 use super::templates::{Aimed, Known, NOTHING, push_bad, push_begin, push_continue, push_ending};
 use crate::messages::frame_of;
 use crate::texts::moment_after;
@@ -19,11 +20,15 @@ use std::alloc::Global;
 pub(super) struct Drawn {
     /// Its steps.
     pub(super) steps: Vec<Step>,
-    /// What is known of the message of each step; nothing of a step without one.
+    /// What is known of the message of each step; nothing of a step without one, and of those of the calls before.
     pub(super) known: Vec<Known>,
+    /// How many steps the calls before all else have.
+    pub(super) lead: usize,
     alloc: Global,
     // The local identifier of the link that would have the serial 0.
     first: u32,
+    // How many calls come before all else.
+    calls: u32,
     // The time, in milliseconds after noon.
     now: u32,
     // How many messages came, and how many Begins among them.
@@ -72,10 +77,15 @@ fn pause_of(draw: u32) -> u32 {
 }
 
 impl Drawn {
+    /// The local identifier of the dialogue this number of places after the first one after the calls before.
+    fn local_after(&self, places: u32) -> u32 {
+        let serial = serial_after(1, self.calls.saturating_add(places));
+        self.first.saturating_add(serial)
+    }
+
     /// The local identifier of one of the first five dialogues, of as many as there were Begins.
     fn local(&self, draws: &mut Draws) -> u32 {
-        let drawn = draws.below(self.begins.clamp(1, 5));
-        self.first.saturating_add(drawn).saturating_add(1)
+        self.local_after(draws.below(self.begins.clamp(1, 5)))
     }
 
     /// A message aimed at a dialogue.
@@ -118,17 +128,51 @@ impl Drawn {
         self.add(step, NOTHING)
     }
 
+    /// A message that comes now.
+    fn post(&mut self, text: &str, known: Known) -> anyhow::Result<()> {
+        let moment = moment_after(self.now)?;
+        let frame = frame_of(self.alloc, text)?;
+        self.add(
+            Step::Post {
+                table: 0,
+                frame,
+                moment,
+            },
+            known,
+        )
+    }
+
+    /// A call from its Begin to its frame, the one of this number.
+    fn add_call(&mut self, number: u32) -> anyhow::Result<()> {
+        let mut text = String::new(self.alloc);
+        push_begin(&mut text, number, 6)?;
+        self.post(text.as_str(), NOTHING)?;
+        self.add_plain(Step::Take)?;
+        let serial = serial_after(1, number);
+        self.add_plain(Step::Give(self.first.saturating_add(serial)))?;
+        self.add_plain(Step::Pick)?;
+        self.add_plain(Step::Sent)
+    }
+
+    /// The calls before all else.
+    fn add_calls(&mut self) -> anyhow::Result<()> {
+        for number in 0..self.calls {
+            self.add_call(number)?;
+        }
+        self.lead = self.steps.len();
+        Ok(())
+    }
+
     /// One step more, which has a message.
     fn add_message(&mut self, draws: &mut Draws, is_lost: bool) -> anyhow::Result<()> {
         let mut text = String::new(self.alloc);
         let known = self.push_message(draws, &mut text)?;
+        if !is_lost {
+            return self.post(text.as_str(), known);
+        }
         let moment = moment_after(self.now)?;
         let frame = frame_of(self.alloc, text.as_str())?;
-        if is_lost {
-            self.add(Step::Lost(frame, moment), known)
-        } else {
-            self.add(Step::Post(frame, moment), known)
-        }
+        self.add(Step::Lost(frame, moment), known)
     }
 
     /// One tick more.
@@ -141,8 +185,8 @@ impl Drawn {
     /// A turn of one of the first five dialogues, whichever comes.
     fn add_turn(&mut self) -> anyhow::Result<()> {
         self.add_plain(Step::Take)?;
-        for serial in 1..=5 {
-            self.add_plain(Step::Give(self.first.saturating_add(serial)))?;
+        for places in 0..5 {
+            self.add_plain(Step::Give(self.local_after(places)))?;
         }
         Ok(())
     }
@@ -197,24 +241,28 @@ impl Drawn {
     }
 }
 
-/// Steps on a link: `count` of them, or a few more.
+/// Steps on a link: those of `calls` calls, and then `count` that are drawn, or a few more.
 pub(super) fn draw_steps(
     alloc: Global,
     draws: &mut Draws,
     link: u8,
+    calls: u32,
     count: u32,
 ) -> anyhow::Result<Drawn> {
     let mut drawn = Drawn {
         steps: Vec::new(alloc),
         known: Vec::new(alloc),
+        lead: 0,
         alloc,
         first: first_of(link),
+        calls,
         now: 0,
         messages: 0,
         begins: 0,
         number: 32,
     };
-    let most = usize::try_from(count)?;
+    drawn.add_calls()?;
+    let most = drawn.lead.saturating_add(usize::try_from(count)?);
     for _ in 0..count {
         if drawn.known.len() < most {
             drawn.add_drawn(draws)?;

@@ -24,7 +24,7 @@ pub(super) struct Tally {
 /// The kind of a step.
 fn step_kind(step: &Step) -> usize {
     match step {
-        Step::Post(..) => 0,
+        Step::Post { .. } => 0,
         Step::Lost(..) => 1,
         Step::Tick(_) => 2,
         Step::Take => 3,

@@ -7,6 +7,9 @@ use cases::first_word;
 use fp_steps::Step;
 use std::alloc::Global;
 
+/// How many serials a link has.
+const SERIALS: u32 = 131_072;
+
 /// How many steps a call of `calls` has.
 pub(super) const STEPS_OF_A_CALL: usize = 5;
 
@@ -47,6 +50,12 @@ pub(super) fn first_of(link: u8) -> u32 {
     u32::from(link % 8) * 0x2000_0000
 }
 
+/// The serial this number of places after another one, where 1 comes after the last.
+pub(super) fn serial_after(serial: u32, places: u32) -> u32 {
+    let before = serial.saturating_sub(1).saturating_add(places);
+    (before % SERIALS).saturating_add(1)
+}
+
 /// A step without a message or a moment.
 fn plain_step(verb: &str, rest: &str) -> anyhow::Result<Step> {
     match verb {
@@ -79,11 +88,21 @@ impl Making {
         Ok(())
     }
 
-    /// A message that comes now.
-    fn post(&mut self, text: &str) -> anyhow::Result<()> {
+    /// A message that comes now, and is read by the records of this place.
+    fn post(&mut self, table: usize, text: &str) -> anyhow::Result<()> {
         let frame = frame_of(self.alloc, text)?;
         let moment = moment_after(self.now)?;
-        self.add(Step::Post(frame, moment))
+        self.add(Step::Post {
+            table,
+            frame,
+            moment,
+        })
+    }
+
+    /// A message that comes now, after the place of the records by which it is read.
+    fn post_by(&mut self, text: &str) -> anyhow::Result<()> {
+        let (table, message) = first_word(text);
+        self.post(table.parse()?, message)
     }
 
     /// A message that comes now, and can't be read since memory runs out.
@@ -116,7 +135,7 @@ impl Making {
         let (count, message) = first_word(text);
         let count: u32 = count.parse()?;
         for _ in 0..count {
-            self.post(message)?;
+            self.post(0, message)?;
         }
         Ok(Asked::Ends)
     }
@@ -139,7 +158,7 @@ impl Making {
         let turns: u32 = turns.parse()?;
         let local = local_of(local)?;
         for _ in 0..count {
-            self.post(message)?;
+            self.post(0, message)?;
             self.turns(turns, local)?;
         }
         Ok(Asked::Last(1))
@@ -147,7 +166,7 @@ impl Making {
 
     /// A Begin, its turn and its frame.
     fn call(&mut self, local: u32, message: &str) -> anyhow::Result<()> {
-        self.post(message)?;
+        self.post(0, message)?;
         self.turns(1, local)?;
         self.add(Step::Pick)?;
         self.add(Step::Sent)
@@ -160,8 +179,8 @@ impl Making {
         let count: u32 = count.parse()?;
         let serial: u32 = serial.parse()?;
         for index in 0..count {
-            let local = self.first.saturating_add(serial).saturating_add(index);
-            self.call(local, message)?;
+            let serial = serial_after(serial, index);
+            self.call(self.first.saturating_add(serial), message)?;
         }
         Ok(Asked::Last(STEPS_OF_A_CALL))
     }
@@ -169,7 +188,8 @@ impl Making {
     /// Adds one step, and says what it must answer.
     fn add_one(&mut self, verb: &str, rest: &str) -> anyhow::Result<Asked> {
         let added = match verb {
-            "post" => self.post(rest),
+            "post" => self.post(0, rest),
+            "post-by" => self.post_by(rest),
             "lost" => self.lose(rest),
             "tick" => self.tick(),
             _ => self.plain(verb, rest),

@@ -3,14 +3,17 @@
 use super::drawn::{Drawn, draw_steps};
 use super::draws::Draws;
 use super::kinds::Tally;
+use super::log::check_births;
 use super::making::first_of;
 use super::outputs_of;
 use super::texts::{push_output, totals_of};
 use super::watch::Watch;
+use crate::logged_runs::{log_of, push_report, text_of};
 use anyhow::bail;
 use cases::first_word;
+use fp_book::Line;
 use fp_records::Table;
-use fp_steps::Output;
+use fp_steps::{Output, totals};
 use std::alloc::Global;
 use std::fmt::Write;
 
@@ -21,7 +24,7 @@ fn fail(alloc: Global, place: usize, output: &Output) -> anyhow::Result<()> {
     bail!("output {place}, {text}, is wrong")
 }
 
-/// Checks each output, and counts it and its step.
+/// Checks each output after the calls before, and counts it and its step.
 fn check_each(
     alloc: Global,
     watch: &mut Watch,
@@ -33,6 +36,9 @@ fn check_each(
         let (Some(step), Some(known)) = (drawn.steps.get(place), drawn.known.get(place)) else {
             bail!("too many outputs");
         };
+        if place < drawn.lead {
+            continue;
+        }
         tally.add(step, output);
         if !watch.is_right(step, *known, output)? {
             return fail(alloc, place, output);
@@ -41,38 +47,88 @@ fn check_each(
     Ok(())
 }
 
-/// Checks the outputs of a run.
+/// Checks the outputs of a run after this number of calls.
 fn check(
     alloc: Global,
     tally: &mut Tally,
     link: u8,
+    calls: u32,
     drawn: &Drawn,
     outputs: &[Output],
 ) -> anyhow::Result<()> {
-    let mut watch = Watch::new(alloc, first_of(link));
+    let mut watch = Watch::new(alloc, first_of(link), calls);
     check_each(alloc, &mut watch, tally, drawn, outputs)?;
     tally.add_compared(watch.compared());
     if outputs.len() != drawn.steps.len() {
         bail!("too few outputs");
     }
-    if totals_of(outputs) != watch.totals() {
+    let count = outputs.len().saturating_sub(drawn.lead);
+    let (_, own) = outputs.split_at(outputs.len().saturating_sub(count));
+    if totals_of(own) != watch.totals() {
         bail!("other totals");
     }
     Ok(())
 }
 
+/// Replays the log of these lines, which has to have the totals of the run.
+fn replay_log(
+    alloc: Global,
+    tables: &[Table],
+    link: u8,
+    outputs: &[Output],
+    lines: &[Line],
+) -> anyhow::Result<()> {
+    let text = text_of(alloc, lines)?;
+    let mut report = String::new(alloc);
+    push_report(
+        alloc,
+        tables,
+        link,
+        totals(outputs),
+        text.as_slice(),
+        &mut report,
+    )
+}
+
+/// Checks the log of a run: the births in its lines, and, if no calls come before, that it replays to the totals of the
+/// run.
+fn check_log(
+    alloc: Global,
+    tables: &[Table],
+    link: u8,
+    drawn: &Drawn,
+    outputs: &[Output],
+) -> anyhow::Result<()> {
+    let steps = drawn.steps.as_slice();
+    let lines = log_of(alloc, link, steps, outputs)?;
+    check_births(alloc, steps, outputs, lines.as_slice())?;
+    if drawn.lead > 0 {
+        return Ok(());
+    }
+    replay_log(alloc, tables, link, outputs, lines.as_slice())
+}
+
+/// How many calls a run has before all else, and how many steps are drawn after them.
+#[derive(Clone, Copy)]
+struct Size {
+    calls: u32,
+    steps: u32,
+}
+
 /// Makes a run, and checks it.
 fn one(
     alloc: Global,
-    table: &Table,
+    tables: &[Table],
     draws: &mut Draws,
     tally: &mut Tally,
     link: u8,
-    steps: u32,
+    size: Size,
 ) -> anyhow::Result<()> {
-    let drawn = draw_steps(alloc, draws, link, steps)?;
-    let outputs = outputs_of(alloc, table, link, drawn.steps.as_slice())?;
-    check(alloc, tally, link, &drawn, outputs.as_slice())
+    let Size { calls, steps } = size;
+    let drawn = draw_steps(alloc, draws, link, calls, steps)?;
+    let outputs = outputs_of(alloc, tables, link, drawn.steps.as_slice())?;
+    check(alloc, tally, link, calls, &drawn, outputs.as_slice())?;
+    check_log(alloc, tables, link, &drawn, outputs.as_slice())
 }
 
 /// The link of a run.
@@ -83,24 +139,26 @@ fn link_of(run: u32) -> u8 {
 /// Makes runs that are drawn, and checks them; of the first one that is wrong, its number and what is wrong with it.
 fn each(
     alloc: Global,
-    table: &Table,
+    tables: &[Table],
     draws: &mut Draws,
     tally: &mut Tally,
     runs: u32,
-    steps: u32,
+    size: Size,
 ) -> anyhow::Result<()> {
     for run in 0..runs {
-        if let Err(error) = one(alloc, table, draws, tally, link_of(run), steps) {
+        if let Err(error) = one(alloc, tables, draws, tally, link_of(run), size) {
             bail!("run {run}: {error}");
         }
     }
     Ok(())
 }
 
-/// Makes runs that are drawn, checks them, and writes how many steps and outputs there were.
-pub(crate) fn answer(
+/// Makes runs that are drawn, each after this number of calls, checks them, and writes how many steps and outputs there
+/// were.
+fn answer_with(
     alloc: Global,
-    table: &Table,
+    tables: &[Table],
+    calls: u32,
     numbers: &str,
     out: &mut String,
 ) -> anyhow::Result<()> {
@@ -109,7 +167,30 @@ pub(crate) fn answer(
     let mut draws = Draws::new(seed.parse()?);
     let runs: u32 = runs.parse()?;
     let mut tally = Tally::new();
-    each(alloc, table, &mut draws, &mut tally, runs, steps.parse()?)?;
+    let steps = steps.parse()?;
+    let size = Size { calls, steps };
+    each(alloc, tables, &mut draws, &mut tally, runs, size)?;
     write!(out, "{runs} runs; ")?;
     tally.push_to(out)
+}
+
+/// Makes runs that are drawn, checks them, and writes how many steps and outputs there were.
+pub(crate) fn answer(
+    alloc: Global,
+    tables: &[Table],
+    numbers: &str,
+    out: &mut String,
+) -> anyhow::Result<()> {
+    answer_with(alloc, tables, 0, numbers, out)
+}
+
+/// So with calls before, whose number precedes the others.
+pub(crate) fn answer_after(
+    alloc: Global,
+    tables: &[Table],
+    numbers: &str,
+    out: &mut String,
+) -> anyhow::Result<()> {
+    let (calls, numbers) = first_word(numbers);
+    answer_with(alloc, tables, calls.parse()?, numbers, out)
 }

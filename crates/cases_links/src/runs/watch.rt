@@ -1,7 +1,9 @@
 //! What each output of a run must be after those before it, as far as the steps and the outputs alone say.
 //!
-//! * Each Begin that is accepted gets the next local identifier of the link. A message is accepted, or ends a dialogue,
-//!   only if it is aimed at one that was opened. As many components are accepted as it has.
+//! * Each Begin that is accepted gets the next local identifier of the link: serials come in the order of their queue,
+//!   and 1 after the last. No run opens so many dialogues that one comes again which it saw, so no identifier of a
+//!   dialogue that is held is given again. A message is accepted, or ends a dialogue, only if it is aimed at one that was
+//!   opened. As many components are accepted as it has.
 //! * The turns of a dialogue are given one after the other: each begins where what the ones before it served ends. It
 //!   has one turn out at a time, of 1 to 16 entries, of which at least one is served, and no more are served than it
 //!   has.
@@ -15,6 +17,7 @@
 //! * After the end of the link nothing is accepted, taken, queued and picked.
 //! * What the outputs come to is what was counted here.
 
+use super::making::serial_after;
 use super::octets::is_refusal;
 use super::seen::Seen;
 use super::templates::Known;
@@ -34,6 +37,8 @@ struct Refusal {
 pub(super) struct Watch {
     // The local identifier of the link that would have the serial 0.
     first: u32,
+    // How many calls came before what was seen. They are over.
+    calls: u32,
     dialogues: Vec<Seen>,
     refusals: Vec<Refusal>,
     // How many of them were picked.
@@ -47,10 +52,11 @@ pub(super) struct Watch {
 }
 
 impl Watch {
-    /// A run that begins, on the link where this local identifier would have the serial 0.
-    pub(super) fn new(alloc: Global, first: u32) -> Watch {
+    /// A run that begins after some calls, on the link where this local identifier would have the serial 0.
+    pub(super) fn new(alloc: Global, first: u32, calls: u32) -> Watch {
         Watch {
             first,
+            calls,
             dialogues: Vec::new(alloc),
             refusals: Vec::new(alloc),
             refusals_picked: 0,
@@ -106,10 +112,12 @@ impl Watch {
     /// A dialogue was opened.
     fn open(&mut self, known: Known, local: u32, components: u32) -> anyhow::Result<bool> {
         let count = u32::try_from(self.dialogues.len())?;
-        let next = self.first.saturating_add(count).saturating_add(1);
+        let serial = serial_after(1, self.calls.saturating_add(count));
+        let is_next = local == self.first.saturating_add(serial);
+        let is_new = self.seen(local).is_none();
         self.dialogues
             .push(Seen::opened(local, known.peer, self.moment))?;
-        Ok(known.is_begin && local == next && self.accept(known, components))
+        Ok(known.is_begin && is_next && is_new && self.accept(known, components))
     }
 
     /// A message was refused.
@@ -305,11 +313,11 @@ impl Watch {
         known: Known,
         output: &Output,
     ) -> anyhow::Result<bool> {
-        if let Step::Post(_, moment) | Step::Lost(_, moment) | Step::Tick(moment) = step {
+        if let Step::Post { moment, .. } | Step::Lost(_, moment) | Step::Tick(moment) = step {
             self.moment = moment.milliseconds();
         }
         match step {
-            Step::Post(..) => self.read(known, output, false),
+            Step::Post { .. } => self.read(known, output, false),
             Step::Lost(..) => self.read(known, output, true),
             Step::Tick(_) => Ok(self.tick(output)),
             Step::Take => Ok(self.take(output)),

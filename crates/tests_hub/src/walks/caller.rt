@@ -27,10 +27,22 @@ pub(super) struct Words {
 }
 
 impl Words {
+    /// No words.
+    pub(super) fn new(alloc: Global) -> Words {
+        Words {
+            text: String::new(alloc),
+        }
+    }
+
     /// Puts a word after the others.
     pub(super) fn say(&mut self, word: &str) {
         let _ = self.text.push_str(word);
         let _ = self.text.push_str(" ");
+    }
+
+    /// Puts the words of another one after the others.
+    pub(super) fn add(&mut self, words: Words) {
+        let _ = self.text.push_str(words.text.as_str());
     }
 }
 
@@ -223,7 +235,7 @@ impl<R: Wait + Clock, A: Ledger, B: Ledger, C: Ledger> Caller<'_, R, A, B, C> {
     }
 
     /// Reports that a parcel couldn't be sent.
-    fn report_unsent(&mut self, parcel: Parcel) -> &'static str {
+    pub(super) fn report_unsent(&mut self, parcel: Parcel) -> &'static str {
         match self.hub.unsent(self.rt, parcel) {
             Ok(()) => "unsent",
             Err(foreign) => {
@@ -339,9 +351,7 @@ pub(crate) fn make_walk<
     table: &'x Table,
     walk: Walk,
 ) -> (String, Seat<A, B, C>) {
-    let mut words = Words {
-        text: String::new(alloc),
-    };
+    let mut words = Words::new(alloc);
     let mut caller = Caller {
         rt,
         alloc,
@@ -359,6 +369,7 @@ pub(crate) fn make_walk<
         Walk::AllPlacesInShares => caller.fill_places(true, &mut words),
         Walk::Hints => caller.hint_workers(&mut words),
         Walk::Several => caller.make_several(&mut words),
+        Walk::Foreign(are_brought) => caller.make_among_foreign(are_brought, &mut words),
         Walk::Helps => caller.help_with_some(&mut words),
         Walk::Closes => caller = caller.serve_and_close(&mut words),
         Walk::SendsAbort => caller = caller.wake_sender(true, &mut words),

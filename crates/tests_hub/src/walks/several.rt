@@ -1,34 +1,34 @@
-//! Calls of several steps, each made in one hold of the lock.
+//! Calls of several steps, each made in one hold of the lock: messages that are posted, turns that are given and taken.
 
 use super::caller::{Caller, NOON, Words};
-use super::holding::await_quiet;
 use crate::messages::{REJECT, STRANGE, UNIDIRECTIONAL, begin, frame_of};
-use fp_book::{Line, Log, LoggedStep, Picked};
+use fp_book::{Line, Log, LoggedStep};
 use fp_digits::Moment;
 use fp_entry::Prepared;
 use fp_frames::Frame;
-use fp_hub::{Gate, Hub, Next, OpenGate, SentAndNext, Stopped, Work, abandon_all, help, worker};
+use fp_hub::{Stopped, Work, abandon_all};
 use std::alloc::Global;
 use std::collections::VecDeque;
 use std::rt::Clock;
 use std::sync::Wait;
 use std::sync::ledger::Ledger;
-use std::thread;
 use std::thread::Threads;
-use std::time::Duration;
 
 /// How many turns a list has room for.
-const MOST_TURNS: usize = 32;
+pub(super) const MOST_TURNS: usize = 32;
 
 /// The word for a number.
-fn number_word(number: usize) -> &'static str {
+pub(super) fn number_word(number: usize) -> &'static str {
     match number {
         0 => "none",
         1 => "one",
         2 => "two",
         3 => "three",
         4 => "four",
+        5 => "five",
         6 => "six",
+        8 => "eight",
+        13 => "thirteen",
         _ => "else",
     }
 }
@@ -43,27 +43,14 @@ fn stop_word(stopped: Stopped) -> &'static str {
     }
 }
 
-/// A gate that closes its hub.
-#[derive(Drop)]
-struct ClosingGate<'x, R, A: Ledger, B: Ledger, C: Ledger> {
-    rt: &'x R,
-    hub: &'x Hub<A, B, C>,
-}
-
-impl<R: Wait, A: Ledger, B: Ledger, C: Ledger> Gate for ClosingGate<'_, R, A, B, C> {
-    fn pass(&self, _link: u8, _birth: u64, _position: u64) {
-        self.hub.close(self.rt);
-    }
-}
-
-/// Says the letter of a step, and the number of its dialogue if it names one.
+/// Says the letter of a step, and the birth of its dialogue if it names one.
 fn say_step(alloc: Global, step: &LoggedStep, words: &mut Words) {
-    let (letter, local) = match step {
-        LoggedStep::Take { local, .. } => ("T", *local),
-        LoggedStep::Give { local, .. } => ("G", *local),
-        LoggedStep::PutBack { local, .. } => ("B", *local),
-        LoggedStep::Pick { local } => ("Q", *local),
-        LoggedStep::Sent { local } => ("Y", *local),
+    let (letter, birth) = match step {
+        LoggedStep::Take { birth, .. } => ("T", *birth),
+        LoggedStep::Give { birth, .. } => ("G", *birth),
+        LoggedStep::PutBack { birth, .. } => ("B", *birth),
+        LoggedStep::Pick { birth } => ("Q", *birth),
+        LoggedStep::Sent { birth } => ("Y", *birth),
         LoggedStep::Post { .. } => {
             words.say("P");
             return;
@@ -77,7 +64,7 @@ fn say_step(alloc: Global, step: &LoggedStep, words: &mut Words) {
             return;
         }
     };
-    match format!(in alloc; "{letter}{local}") {
+    match format!(in alloc; "{letter}{birth}") {
         Ok(word) => words.say(word.as_str()),
         Err(_) => words.say("no memory"),
     }
@@ -91,7 +78,7 @@ impl<
     C: Ledger + Send + Sync,
 > Caller<'a, R, A, B, C> {
     /// Puts what a frame is prepared to at the end of a list.
-    fn add(&self, came: &mut VecDeque<Prepared>, frame: Option<Frame>) {
+    pub(super) fn add(&self, came: &mut VecDeque<Prepared>, frame: Option<Frame>) {
         let (Some(frame), Some(moment)) = (frame, Moment::new(NOON)) else {
             return;
         };
@@ -112,7 +99,7 @@ impl<
 
     /// Posts messages from the front of a list: whether an Abort of the provider answers one of them, and how many are
     /// left.
-    fn post_front(&mut self, came: &mut VecDeque<Prepared>, words: &mut Words) {
+    pub(super) fn post_front(&mut self, came: &mut VecDeque<Prepared>, words: &mut Words) {
         if self.post_and_tell(came) {
             words.say("aborted");
         }
@@ -121,7 +108,7 @@ impl<
 
     /// Gives back the turns of a list, and takes at most so many as one of so many workers: how many it took, how many
     /// are still ready, whether a frame was queued, and why it took no more.
-    fn give_and_take(
+    pub(super) fn give_and_take(
         &mut self,
         work: &mut VecDeque<Work>,
         workers: usize,
@@ -139,7 +126,7 @@ impl<
 
     /// Says which lines the log has, in their order, and drains it: the letter of each step, and the number of its
     /// dialogue if it names one.
-    fn say_lines(&self, words: &mut Words) {
+    pub(super) fn say_lines(&self, words: &mut Words) {
         let Ok(mut lines) = Vec::<Line>::with_capacity(self.alloc, Log::MOST) else {
             return;
         };
@@ -152,7 +139,7 @@ impl<
     }
 
     /// Serves the turns of a list.
-    fn serve_each(&self, work: &mut VecDeque<Work>) {
+    pub(super) fn serve_each(&self, work: &mut VecDeque<Work>) {
         for _ in 0..work.len() {
             let served = match work.pop_front() {
                 Some(Work::Unserved(turn)) => match turn.serve(self.alloc) {
@@ -232,181 +219,6 @@ impl<
             self.add(&mut came, frame_of(self.alloc, text));
         }
         self.post_and_tell(&mut came);
-    }
-
-    /// Picks a parcel, and posts a message that gets an Abort of the provider; a while later reports the parcel sent in
-    /// the hold that picks the next one, and another while later reports that one sent.
-    pub(super) fn send_two_of_several(&mut self, first: u64, second: u64) -> &'static str {
-        let parcel = match self.pick() {
-            Ok(parcel) => parcel,
-            Err(word) => return word,
-        };
-        let posted = self.post(frame_of(self.alloc, STRANGE));
-        thread::sleep(self.rt, Duration::from_millis(first));
-        let SentAndNext { sent, next } = self.hub.sent_and_next(self.rt, &mut self.seat, parcel);
-        thread::sleep(self.rt, Duration::from_millis(second));
-        let word = match next {
-            Next::Parcel(next) => self.report_sent(next),
-            Next::Down | Next::Nothing => "no next",
-        };
-        match sent {
-            Ok(()) if posted == "aborted" => word,
-            Ok(()) => posted,
-            Err(foreign) => {
-                foreign.abandon();
-                "foreign"
-            }
-        }
-    }
-
-    /// Picks a parcel, and reports it sent in the hold that picks the next one, of which there is none.
-    pub(super) fn send_one_of_several(&mut self) -> &'static str {
-        let parcel = match self.pick() {
-            Ok(parcel) => parcel,
-            Err(word) => return word,
-        };
-        let SentAndNext { sent, next } = self.hub.sent_and_next(self.rt, &mut self.seat, parcel);
-        match next {
-            Next::Parcel(next) => next.abandon(),
-            Next::Down | Next::Nothing => {}
-        }
-        match sent {
-            Ok(()) => "sent",
-            Err(foreign) => {
-                foreign.abandon();
-                "foreign"
-            }
-        }
-    }
-
-    /// Sends the parcels that wait, each in the hold that picks the next one; or takes the link down before the first
-    /// one is reported.
-    fn send_each(&mut self, goes_down: bool, words: &mut Words) {
-        let mut parcel = match self.hub.pick(self.rt) {
-            Picked::Parcel(parcel) => parcel,
-            Picked::Busy | Picked::Nothing => {
-                words.say("no parcel");
-                return;
-            }
-        };
-        for _ in 0..10 {
-            if goes_down {
-                self.hub.down(self.rt);
-            }
-            let SentAndNext { sent, next } = self
-                .hub
-                .sent_and_next(self.rt, &mut self.seat, parcel);
-            match sent {
-                Ok(()) => words.say("sent"),
-                Err(foreign) => {
-                    foreign.abandon();
-                    words.say("foreign");
-                }
-            }
-            match next {
-                Next::Parcel(next) => parcel = next,
-                Next::Nothing => {
-                    words.say("nothing");
-                    return;
-                }
-                Next::Down => {
-                    words.say("down");
-                    return;
-                }
-            }
-        }
-        parcel.abandon();
-    }
-
-    /// Posts this number of calls in one hold, and helps with at most so many turns: whether a frame was queued.
-    fn post_and_help(&mut self, count: u32, most: usize, words: &mut Words) {
-        let (rt, alloc) = (self.rt, self.alloc);
-        let mut came = VecDeque::new(alloc);
-        for identifier in 0..count {
-            self.add(&mut came, begin(alloc, identifier));
-        }
-        self.post_front(&mut came, words);
-        let mut work = VecDeque::new(alloc);
-        let is_queued = help(
-            rt,
-            alloc,
-            self.hub,
-            &OpenGate,
-            &mut self.seat,
-            &mut work,
-            most,
-        );
-        words.say(if is_queued { "queued" } else { "silent" });
-        words.say(number_word(work.len()));
-        abandon_all(work);
-    }
-
-    /// Helps with fewer turns than are ready, with none, and with all of them: a worker is hinted if some are left, and
-    /// two of three workers if two are.
-    pub(super) fn help_with_some(&mut self, words: &mut Words) {
-        let Ok(hints) = self.hub.hints() else {
-            return;
-        };
-        self.post_and_help(3, 2, words);
-        words.say(self.await_hint(&hints));
-        words.say(self.turn(0, true));
-        words.say(self.turn(0, true));
-        self.post_and_help(1, 0, words);
-        words.say(self.await_hint(&hints));
-        words.say(self.turn(0, true));
-        self.post_and_help(3, 3, words);
-        words.say(self.turn(0, true));
-        let (Ok(_second), Ok(_third)) = (self.hub.hints(), self.hub.hints()) else {
-            return;
-        };
-        self.post_and_help(2, 0, words);
-        self.hub.close(self.rt);
-        for _ in 0..3 {
-            words.say(self.await_hint(&hints));
-        }
-        words.say(self.turn(0, true));
-        words.say(self.turn(0, true));
-        // Of each call the message, and its turn that goes out and comes back.
-        words.say(self.drain(27));
-    }
-
-    /// Serves 40 calls as a worker, whose hub is closed when the first turn passes its gate: it takes, serves and gives
-    /// back all turns, as the log says.
-    pub(super) fn serve_and_close(self, words: &mut Words) -> Self {
-        let mut caller = self;
-        let alloc = caller.alloc;
-        let mut came = VecDeque::new(alloc);
-        for identifier in 0..40 {
-            caller.add(&mut came, begin(alloc, identifier));
-        }
-        caller.post_front(&mut came, words);
-        let Ok(hints) = caller.hub.hints() else {
-            return caller;
-        };
-        words.say(caller.hint());
-        let Caller {
-            rt,
-            alloc,
-            hub,
-            seat,
-            table,
-            last_word,
-        } = caller;
-        let seat = worker(rt, alloc, hub, hints, &ClosingGate { rt, hub }, seat);
-        let mut caller = Caller {
-            rt,
-            alloc,
-            hub,
-            seat,
-            table,
-            last_word,
-        };
-        words.say(caller.hint());
-        words.say(caller.send_all(40));
-        words.say(await_quiet(rt, hub, 0));
-        // Of each call the message, its turn that goes out and comes back, and the frame that is picked and sent.
-        words.say(caller.drain(200));
-        caller
     }
 
     /// Posts lists of messages, one of which has a message that is held back; takes and gives turns in the holds of one

@@ -2,8 +2,8 @@
 
 use super::crowd::{make_calls, read_answers, write_begins};
 use super::device::Mood;
-use super::trial::{Trial, await_text};
-use crate::client::{Client, shrink_buffers};
+use super::trial::{Trial, await_text, lacks_text};
+use crate::client::{Client, shorten_limits, shrink_buffers};
 use crate::talk::{REJECT, UNKNOWN, continues, long_begin};
 use fp_hub::OpenGate;
 use fp_serve::{ServeFault, Settings, Wanted};
@@ -13,7 +13,7 @@ use std::rt::Clock;
 use std::sync::Wait;
 use std::test::Fail;
 use std::thread::Threads;
-use std::time::Instant;
+use std::time::{Duration, Instant};
 use std::{str, thread};
 
 /// What ends link 0, whose client has made calls and read no answer.
@@ -23,6 +23,10 @@ enum Cause {
     EndOfInput,
     /// It closes its sending side, and reads nothing.
     UnreadAnswers,
+    /// It closes its sending side, and reads the answers half a second later.
+    LateReader,
+    /// It closes its sending side, and reads nothing: the system gives it up, for which it needs half a second here.
+    GivenUp,
     /// It goes.
     ClientGone,
     /// The log can't be written any more.
@@ -53,14 +57,21 @@ struct Row {
 
 /// The line of the log that says that the last of 7,000 calls is served. So many answers block the sending thread. Of
 /// 10,000 calls some are held back then: 4,096 dialogues wait for their answers to be sent.
-const SERVED_7000: &str = "\n0 T 00001B58 0 2\n";
+const SERVED_7000: &str = "\n0 T 7000 0 2\n";
 
 /// The line of the log that says that the last of 4,000 calls is served. The answers of some more block the receiving
 /// thread, if it serves and sends.
-const SERVED_4000: &str = "\n0 T 00000FA0 0 2\n";
+const SERVED_4000: &str = "\n0 T 4000 0 2\n";
 
-/// The ways in which link 0 ends.
-const ROWS: [Row; 7] = [
+/// The end of the line of the log that says that the last of 9,000 calls was posted.
+const POSTED_9000: &str = " O00002328\n";
+
+/// After how many milliseconds a late client reads.
+const LATE: u64 = 500;
+
+/// The ways in which link 0 ends. Where a client reads nothing while its link serves and sends in the receiving thread,
+/// that one is blocked, and sees the end of the input only once the client reads.
+const ROWS: [Row; 9] = [
     Row {
         calls: 500,
         most_helped: Settings::MOST_HELPED,
@@ -128,6 +139,28 @@ const ROWS: [Row; 7] = [
         fault: Some(ServeFault::UnwrittenLog),
     },
     Row {
+        calls: 10_000,
+        most_helped: Settings::MOST_HELPED,
+        log: SERVED_4000,
+        cause: Cause::LateReader,
+        least_seconds: 0,
+        event: " link 0 down peer closed\n",
+        other_event: " link 0 down peer closed\n",
+        told: "link 0 accepted 10000 served 20000 sent 10000\n",
+        fault: None,
+    },
+    Row {
+        calls: 10_000,
+        most_helped: Settings::MOST_HELPED,
+        log: SERVED_4000,
+        cause: Cause::GivenUp,
+        least_seconds: 0,
+        event: " link 0 down peer gone\n",
+        other_event: " link 0 down peer gone\n",
+        told: "link 0 accepted ",
+        fault: None,
+    },
+    Row {
         calls: 0,
         most_helped: Settings::MOST_HELPED,
         log: "",
@@ -144,7 +177,7 @@ const ROWS: [Row; 7] = [
 const MOST_SECONDS: u64 = 30;
 
 /// Brings a cause about, except that the client goes.
-fn bring_about<R: Wait>(
+fn bring_about<R: Wait + Clock>(
     rt: &R,
     alloc: Global,
     trial: &Trial,
@@ -158,6 +191,17 @@ fn bring_about<R: Wait>(
             read_answers(alloc, client, 0, row.calls)
         }
         Cause::UnreadAnswers => client.end_input(),
+        Cause::LateReader => {
+            client.end_input()?;
+            thread::sleep(rt, Duration::from_millis(LATE));
+            // So the end of the input wasn't seen either.
+            lacks_text(rt, &trial.log, POSTED_9000)?;
+            read_answers(alloc, client, 0, row.calls)
+        }
+        Cause::GivenUp => {
+            shorten_limits();
+            client.end_input()
+        }
         Cause::ClientGone => Some(()),
         Cause::LogFault => {
             trial.set_mood(rt, Mood::Fails(0));
@@ -198,7 +242,8 @@ fn end_link<R: Net<Stream = TcpStream> + Wait + Clock>(
     Some(start.elapsed(rt).ok()?.as_secs())
 }
 
-/// Runs two links, of which link 0 ends as a row says, and compares what comes of it.
+/// Runs two links, of which link 0 ends as a row says, and compares what comes of it. If there is no fault, the log
+/// replays to what was counted.
 fn run_row<R>(rt: &R, alloc: Global, row: Row) -> Result<(), Fail>
 where
     R: Threads + Wait + Clock + Net<Listener = TcpListener, Stream = TcpStream>,
@@ -231,7 +276,9 @@ where
         return Err(Fail::new(events));
     }
     let told = str::from_utf8(outcome.told.as_slice())?;
+    let is_replayed = outcome.fault.is_some() || outcome.replayed == outcome.told;
     if outcome.fault != row.fault
+        || !is_replayed
         || !told.starts_with(row.told)
         || !told.ends_with("\nlink 1 accepted 1 served 2 sent 1\n")
     {
@@ -241,7 +288,9 @@ where
 }
 
 /// Each link ends by its cause, in time and for its reason, also one whose sending thread is blocked, since its client
-/// reads nothing, and whose receiving thread holds a message back. The client of another link is answered meanwhile.
+/// reads nothing, and whose receiving thread holds a message back, and one whose receiving thread is blocked, since it
+/// sends: if its client closes its sending side then and reads later, it gets all answers. The client of another link
+/// is answered meanwhile.
 #[test]
 fn a_link_ends_for_its_reason(rt: HostRuntime) -> Result<(), Fail> {
     let alloc = rt.alloc();

@@ -45,6 +45,16 @@ pub(crate) fn await_text<R: Wait + Clock>(rt: &R, text: &Text, wanted: &str) -> 
     None
 }
 
+/// `None`: a text has this in it.
+pub(crate) fn lacks_text<R: Wait>(rt: &R, text: &Text, unwanted: &str) -> Option<()> {
+    let octets = text.lock(rt);
+    if has_text(octets.as_slice(), 0, unwanted) {
+        None
+    } else {
+        Some(())
+    }
+}
+
 /// What a run shares with its clients and its test.
 #[derive(Drop)]
 pub(crate) struct Trial {
@@ -123,11 +133,11 @@ impl Trial {
         R: Threads + Wait + Clock + Copy + Send + Sync + 'static,
         G: Gate + Sync,
     {
-        let table = Table::read(alloc, RECORDS.as_bytes()).ok()?;
+        let tables = [Table::read(alloc, RECORDS.as_bytes()).ok()?];
         let contexts = [Name::new(&[0x2A, 3, 4])?];
         let service = Service {
             alloc,
-            table: &table,
+            table: &tables[0],
             contexts: &contexts,
         };
         let device = Device::new(rt, &self.log, &self.mood).ok()?;
@@ -150,12 +160,13 @@ impl Trial {
         let mut lines = Counted::new(log.as_slice());
         let replay_fault = replay(
             alloc,
-            &table,
+            &tables,
             &contexts,
             1 << 40,
             &mut lines,
             &mut replayed,
-        ).err();
+        )
+        .err();
         if replay_fault.is_some() {
             replayed.device.clear();
         }

@@ -22,7 +22,7 @@ const BAD_RECORDS: &str = "key,100,60
 pub(crate) fn old_log(alloc: Global) -> Result<String, AllocError> {
     let mut text = String::new(alloc);
     for _ in 0..1_000 {
-        text.push_str("fplog 2 8\n")?;
+        text.push_str("fplog 4 8\n")?;
     }
     Ok(text)
 }

@@ -17,6 +17,10 @@ loop-parcel-preserved c =
           births = one.keeps.counts.births ∙ was.keeps.counts.births;
           entries = one.keeps.counts.entries ∙ was.keeps.counts.entries;
         };
+        free = λ who concerned.
+            let before = was.keeps.free who concerned in
+            let now = one.keeps.free who before.0 in
+            (now.0, now.1 ∙ before.1);
       };
       frames =
           one_more c.push_copy.new.frames.items c.loop-parcel.frames.items _ s new

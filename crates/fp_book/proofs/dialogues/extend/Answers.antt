@@ -24,8 +24,8 @@ returns-clause-ok c = record {
   before = c.in-Some.row.now;
   after = c.if-ends.row;
   was = sym c.in-Some.ensures.value;
-  does = (grows c, rw (c.has_become_ready.ensures, c.is_ready-was_ready.ensures, c.deadline.ensures) refl);
-  rows = keep_after _ _ _ _ _ c.is_held-is_held.ensures c.keep.ensures;
+  does = (grows c, rw (c.birth.ensures, c.is_held.ensures, c.has_become_ready.ensures, c.is_ready-was_ready.ensures, c.deadline.ensures) refl);
+  rows = keep_after _ _ _ _ _ c.is_held.ensures c.keep.ensures;
 }
 
 -- whether frames of it are dropped

@@ -1,4 +1,4 @@
-use Rattle.fp_book.proofs.Names.{Turn, ap, keep, sym, ◌∙◌, ◌≡◌}
+use Rattle.fp_book.proofs.Names.{Left, Turn, ap, keep, sym, ◌∙◌, ◌≡◌}
 use Rattle.std.specs.FinMap as map
 use Rattle.fp_book.proofs.Sums.{keep_after}
 use Rattle.fp_book.proofs.dialogues.give.Goals as goal
@@ -11,5 +11,5 @@ returns-clause-ok c =
       after = c.give.new.self;
       was = ap (map.get c.args.rows.now) (sym here) ∙ sym c.in-Some.ensures.value;
       does = (c.in-Ok.ensures.ok, c.of-left.ensures);
-      rows = keep_after _ _ _ _ _ c.is_held-is_held.ensures c.keep.ensures ∙ ap (λ l. keep c.args.rows.now l c.give.new.self) here;
+      rows = keep_after _ _ _ _ _ (ap (λ (x : Left). x.is_held) c.of-left.ensures) c.keep.ensures ∙ ap (λ l. keep c.args.rows.now l c.give.new.self) here;
     }

@@ -1,5 +1,8 @@
+use Rattle.fp_book.proofs.LowerLaws.{LowerLaws}
 use Rattle.fp_book.proofs.Downs.{Sound-goes_down, Sound-unsends}
 use Rattle.fp_book.proofs.laws.going_down_keeps_a_book_sound.Goals as goal
 
 pub returns : goal.returns
-returns c = record { down = Sound-goes_down c.entries_ask_once_at_most.ensures; unsent = Sound-unsends c.entries_ask_once_at_most.ensures }
+returns c =
+    let law : LowerLaws = record { asks = c.entries_ask_once_at_most.ensures; gives = c.serials_are_distinct.ensures.gives; ends = c.serials_are_distinct.ensures.ends; shown = c.identifiers_are_distinct.ensures.serials } in
+    record { down = Sound-goes_down law; unsent = Sound-unsends law }

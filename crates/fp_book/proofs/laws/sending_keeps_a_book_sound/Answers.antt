@@ -1,5 +1,8 @@
+use Rattle.fp_book.proofs.LowerLaws.{LowerLaws}
 use Rattle.fp_book.proofs.Sends.{Sound-picks, Sound-sends}
 use Rattle.fp_book.proofs.laws.sending_keeps_a_book_sound.Goals as goal
 
 pub returns : goal.returns
-returns c = record { picks = Sound-picks; sends = Sound-sends c.entries_ask_once_at_most.ensures }
+returns c =
+    let law : LowerLaws = record { asks = c.entries_ask_once_at_most.ensures; gives = c.serials_are_distinct.ensures.gives; ends = c.serials_are_distinct.ensures.ends; shown = c.identifiers_are_distinct.ensures.serials } in
+    record { picks = Sound-picks; sends = Sound-sends law }

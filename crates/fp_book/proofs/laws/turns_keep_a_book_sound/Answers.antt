@@ -1,7 +1,8 @@
+use Rattle.fp_book.proofs.LowerLaws.{LowerLaws}
 use Rattle.fp_book.proofs.Turns.{Sound-gives, Sound-puts_back, Sound-takes_one}
 use Rattle.fp_book.proofs.laws.turns_keep_a_book_sound.Goals as goal
 
 pub returns : goal.returns
 returns c =
-    let law = c.entries_ask_once_at_most.ensures in
+    let law : LowerLaws = record { asks = c.entries_ask_once_at_most.ensures; gives = c.serials_are_distinct.ensures.gives; ends = c.serials_are_distinct.ensures.ends; shown = c.identifiers_are_distinct.ensures.serials } in
     record { takes = Sound-takes_one law; gives = Sound-gives law; puts_back = Sound-puts_back law }

@@ -13,8 +13,8 @@ push_back_reserved-requires c =
     let gives = c.into_iter-frame-iterator.ensures.into_iter_gives in
     let turn = YieldsList-turn (YieldsList-from_vec {s = c.into_iter-frame-iterator.result} c.args.frames.items gives.0 (omega (arith, gives.1, c.args.frames.ok)))
     c.loop-frame.yielded c.loop-frame.frame-iterator c.loop-frame.yielded_by c.next.result c.next.new.self c.in-Some.frame c.in-Some.is c.next.ensures.steps in
-    let count = ap length c.loop-frame.invariant.items ∙ length-append c.args.waiting.now.items (waiting_frames c.args.local c.loop-frame.yielded) in
-    let more = length-map c.loop-frame.yielded (waiting_as c.args.local) in
+    let count = ap length c.loop-frame.invariant.items ∙ length-append c.args.waiting.now.items (waiting_frames c.args.local c.args.birth c.loop-frame.yielded) in
+    let more = length-map c.loop-frame.yielded (waiting_as c.args.local c.args.birth) in
     omega (arith, turn.0, count, more, c.requires, c.loop-frame.invariant.capacity, c.loop-frame.waiting.ok)
 
 pub returns-clause-items : goal.returns-clause-items
@@ -23,4 +23,4 @@ returns-clause-items c =
     let end = YieldsList-end (YieldsList-from_vec {s = c.into_iter-frame-iterator.result} c.args.frames.items gives.0 (omega (arith, gives.1, c.args.frames.ok)))
     c.loop-frame.yielded c.loop-frame.frame-iterator c.loop-frame.yielded_by c.next.result c.next.new.self c.in-None.is c.next.ensures.steps in
     let all : c.loop-frame.yielded ≡ c.args.frames.items = sym (same c.loop-frame.yielded) ∙ end.0 in
-    c.loop-frame.invariant.items ∙ ap (λ frames. c.args.waiting.now.items ++ waiting_frames c.args.local frames) all
+    c.loop-frame.invariant.items ∙ ap (λ frames. c.args.waiting.now.items ++ waiting_frames c.args.local c.args.birth frames) all

@@ -4,6 +4,6 @@ use Rattle.fp_book.proofs.outbox.push_all.Given as goal
 
 abbrev pub invariant-loop-frame : goal.invariant-loop-frame
 invariant-loop-frame l = record {
-  items : l.waiting.items ≡ l.fn.waiting.items ++ waiting_frames l.local l.yielded;
+  items : l.waiting.items ≡ l.fn.waiting.items ++ waiting_frames l.local l.birth l.yielded;
   capacity : deque_capacity l.waiting ≡ deque_capacity l.fn.waiting;
 }

@@ -16,7 +16,7 @@ loop-next-smaller c = rw c.in-Some.is (less_ahead c.end.new.rows c.in-Some.local
 
 pub loop-next-preserved : goal.loop-next-preserved
 loop-next-preserved c =
-    one_closed c.args.outbox.now.out c.args.rows.now c.loop-next.rows c.end.new.rows c.is_sending-is_sending.result c.in-Some.local c.after-next-in-Some.result
+    one_closed c.args.outbox.now.out c.args.rows.now c.loop-next.rows c.end.new.rows c.is_sending-is_sending.result c.end.result.is_held c.in-Some.local c.after-next-in-Some.result
     (so_far c) c.is_sending-is_sending.ensures c.end.ensures.ends c.after-next-in-Some.ensures
 
 -- none is next, so each was closed

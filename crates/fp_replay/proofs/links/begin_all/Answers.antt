@@ -4,5 +4,5 @@ use Rattle.fp_replay.proofs.links.begin_all.Goals as goal
 pub loop-link-preserved : goal.loop-link-preserved
 loop-link-preserved c =
     new_more _ _ _ c.in_ok-run.run' c.loop-link.invariant
-    (λ contents contexts. record { link_is = c.in_ok-run.ensures.link; after = c.in_ok-run.ensures.after contents contexts })
+    (λ tables contexts. record { link_is = c.in_ok-run.ensures.link; after = c.in_ok-run.ensures.after tables contexts })
     c.in_default.ensures.items

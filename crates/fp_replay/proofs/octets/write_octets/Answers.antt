@@ -1,13 +1,14 @@
+use Rattle.std.proofs.Common.{arith}
 use Rattle.fp_replay.proofs.Hexadecimal.{octet_more, octets_end}
-use Rattle.fp_replay.proofs.Keeping.{kept_by}
 use Rattle.fp_replay.proofs.octets.write_octets.Goals as goal
 
 pub loop-octet-preserved : goal.loop-octet-preserved
 loop-octet-preserved c =
-    let items = c.in_ok-extend_from_slice.ensures.items in
+    let high = c.push_reserved.ensures in
+    let low = c.push_reserved-in-loop-octet.ensures in
     let so_far = c.loop-octet.invariant in (
-      octet_more c.args.octets.now c.loop-octet.text.items _ _ c.loop-octet.octet-index _ _ c.loop-octet-test.true c.from.ensures c.from-in-loop-octet.ensures items so_far.0,
-      kept_by _ _ _ _ so_far.1 items,
+      octet_more c.args.octets.now _ _ _ _ c.loop-octet.octet-index _ _ c.loop-octet-test.true c.from.ensures c.from-in-loop-octet.ensures high.items low.items so_far.0,
+      omega (arith, so_far.1, high.len, low.len, high.capacity, low.capacity),
     )
 
 pub returns-clause-written : goal.returns-clause-written

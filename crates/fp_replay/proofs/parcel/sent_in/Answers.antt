@@ -3,10 +3,10 @@ use Rattle.fp_replay.proofs.Letters.{sent_only}
 use Rattle.fp_replay.proofs.parcel.sent_in.Goals as goal
 
 pub returns-in_default : goal.returns-in_default
-returns-in_default c = record { found = tt; only = sent_only _ _ (λ local fits e. absurd (cc (c.in_default.ensures.only local fits e))) }
+returns-in_default c = record { found = tt; only = sent_only _ _ (λ birth fits e. absurd (cc (c.in_default.ensures.only birth fits e))) }
 
 pub returns : goal.returns
 returns c = record {
   found = let found = c.in-Some.ensures.found in (found.0, ap (λ fields. 89 ∷ fields) found.1);
-  only = sent_only _ _ (λ local fits e. let same = c.in-Some.ensures.only local fits e in cc same);
+  only = sent_only _ _ (λ birth fits e. let same = c.in-Some.ensures.only birth fits e in cc same);
 }

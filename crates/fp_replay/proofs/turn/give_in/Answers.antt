@@ -1,47 +1,47 @@
-use Rattle.std.proofs.Common.{◌∷◌, ap, arith}
+use Rattle.std.proofs.Common.{◌∷◌, ap}
 use Rattle.fp_replay.proofs.Cutting.{four_joined}
 use Rattle.fp_replay.proofs.Letters.{give_only}
 use Rattle.fp_replay.proofs.turn.give_in.Goals as goal
 
 pub returns-in_default : goal.returns-in_default
-returns-in_default c = record { found = tt; only = give_only _ _ c.in_default.ensures.only (λ l p n g i j k m none. absurd none) }
+returns-in_default c = record { found = tt; only = give_only _ _ c.in_default.ensures.only (λ b p n g i j k m none. absurd none) }
 
-pub returns-in_default-identifier_in : goal.returns-in_default-identifier_in
-returns-in_default-identifier_in c = record {
+pub returns-in_default-long_number_in : goal.returns-in_default-long_number_in
+returns-in_default-long_number_in c = record {
   found = tt;
-  only = give_only _ _ c.in-Some.ensures.only (λ l p n g i j k m parts. absurd (cc (c.in_default-identifier_in.ensures.only l i parts.0)));
+  only = give_only _ _ c.in-Some.ensures.only (λ b p n g i j k m parts. absurd (cc (c.in_default-long_number_in.ensures.only b i parts.0)));
 }
 
-pub returns-in_default-number_in : goal.returns-in_default-number_in
-returns-in_default-number_in c = record {
+pub returns-in_default-long_number_in-2 : goal.returns-in_default-long_number_in-2
+returns-in_default-long_number_in-2 c = record {
   found = tt;
-  only = give_only _ _ c.in-Some.ensures.only (λ l p n g i j k m parts. absurd (cc (c.in_default-number_in.ensures.only p (omega (arith, j)) parts.1)));
+  only = give_only _ _ c.in-Some.ensures.only (λ b p n g i j k m parts. absurd (cc (c.in_default-long_number_in-2.ensures.only p j parts.1)));
 }
 
 pub returns-in_default-short_number_in : goal.returns-in_default-short_number_in
 returns-in_default-short_number_in c = record {
   found = tt;
-  only = give_only _ _ c.in-Some.ensures.only (λ l p n g i j k m parts. absurd (cc (c.in_default-short_number_in.ensures.only n (omega (arith, k)) parts.2)));
+  only = give_only _ _ c.in-Some.ensures.only (λ b p n g i j k m parts. absurd (cc (c.in_default-short_number_in.ensures.only n k parts.2)));
 }
 
 pub returns-in_default-given_in : goal.returns-in_default-given_in
 returns-in_default-given_in c = record {
   found = tt;
-  only = give_only _ _ c.in-Some.ensures.only (λ l p n g i j k m parts. absurd (cc (c.in_default-given_in.ensures.only g m parts.3)));
+  only = give_only _ _ c.in-Some.ensures.only (λ b p n g i j k m parts. absurd (cc (c.in_default-given_in.ensures.only g m parts.3)));
 }
 
 pub returns : goal.returns
 returns c = record {
   found =
-      let local = c.in-Some-identifier_in.ensures.found in
-      let position = c.in-Some-number_in.ensures.found in
+      let birth = c.in-Some-long_number_in.ensures.found in
+      let position = c.in-Some-long_number_in-2.ensures.found in
       let served = c.in-Some-short_number_in.ensures.found in
       let given = c.in-Some-given_in.ensures.found in
-      let text = four_joined c.args.fields.now _ _ _ _ _ _ _ _ c.in-Some.ensures.found local.1 position.1 served.1 given.1 in
-      ((local.0, omega (arith, position.0), omega (arith, served.0), given.0), ap (λ fields. 71 ∷ fields) text);
-  only = give_only _ _ c.in-Some.ensures.only (λ l p n g i j k m parts.
-      let local = c.in-Some-identifier_in.ensures.only l i parts.0 in
-      let position = c.in-Some-number_in.ensures.only p (omega (arith, j)) parts.1 in
-      let served = c.in-Some-short_number_in.ensures.only n (omega (arith, k)) parts.2 in
-      cc (local, position, served, c.in-Some-given_in.ensures.only g m parts.3));
+      let text = four_joined c.args.fields.now _ _ _ _ _ _ _ _ c.in-Some.ensures.found birth.1 position.1 served.1 given.1 in
+      ((birth.0, position.0, served.0, given.0), ap (λ fields. 71 ∷ fields) text);
+  only = give_only _ _ c.in-Some.ensures.only (λ b p n g i j k m parts.
+      let birth = c.in-Some-long_number_in.ensures.only b i parts.0 in
+      let position = c.in-Some-long_number_in-2.ensures.only p j parts.1 in
+      let served = c.in-Some-short_number_in.ensures.only n k parts.2 in
+      cc (birth, position, served, c.in-Some-given_in.ensures.only g m parts.3));
 }

@@ -1,24 +1,22 @@
-use Rattle.std.proofs.Common.{decimal, arith}
-use Rattle.std.specs.Int.{w32, to_be_bytes}
-use Rattle.fp_replay.specs.Format.{identifier_text}
-use Rattle.fp_replay.proofs.Cutting.{octets_are_field}
+use Rattle.std.proofs.Common.{decimal}
+use Rattle.fp_replay.proofs.Cutting.{decimal_is_field}
 use Rattle.fp_replay.proofs.turn.turn_in.Goals as goal
 
 pub returns-in_default-clause-only : goal.returns-in_default-clause-only
-returns-in_default-clause-only c = λ local position l p e.
-    c.in_default.ensures.only (identifier_text local) (decimal position) (octets_are_field (to_be_bytes w32 local)) e
+returns-in_default-clause-only c = λ birth position b p e.
+    c.in_default.ensures.only (decimal birth) (decimal position) (decimal_is_field birth b) e
 
-pub returns-in_default-identifier_in-clause-only : goal.returns-in_default-identifier_in-clause-only
-returns-in_default-identifier_in-clause-only c = λ local position l p e.
-    let parts = c.in-Some.ensures.only (identifier_text local) (decimal position) (octets_are_field (to_be_bytes w32 local)) e in
-    cc (c.in_default-identifier_in.ensures.only local l parts.0)
+pub returns-in_default-long_number_in-clause-only : goal.returns-in_default-long_number_in-clause-only
+returns-in_default-long_number_in-clause-only c = λ birth position b p e.
+    let parts = c.in-Some.ensures.only (decimal birth) (decimal position) (decimal_is_field birth b) e in
+    cc (c.in_default-long_number_in.ensures.only birth b parts.0)
 
-pub returns-in_default-number_in-clause-only : goal.returns-in_default-number_in-clause-only
-returns-in_default-number_in-clause-only c = λ local position l p e.
-    let parts = c.in-Some.ensures.only (identifier_text local) (decimal position) (octets_are_field (to_be_bytes w32 local)) e in
-    cc (c.in_default-number_in.ensures.only position (omega arith) parts.1)
+pub returns-in_default-long_number_in-2-clause-only : goal.returns-in_default-long_number_in-2-clause-only
+returns-in_default-long_number_in-2-clause-only c = λ birth position b p e.
+    let parts = c.in-Some.ensures.only (decimal birth) (decimal position) (decimal_is_field birth b) e in
+    cc (c.in_default-long_number_in-2.ensures.only position p parts.1)
 
 pub returns-clause-only : goal.returns-clause-only
-returns-clause-only c = λ local position l p e.
-    let parts = c.in-Some.ensures.only (identifier_text local) (decimal position) (octets_are_field (to_be_bytes w32 local)) e in
-    (cc (c.in-Some-identifier_in.ensures.only local l parts.0), cc (c.in-Some-number_in.ensures.only position (omega arith) parts.1))
+returns-clause-only c = λ birth position b p e.
+    let parts = c.in-Some.ensures.only (decimal birth) (decimal position) (decimal_is_field birth b) e in
+    (cc (c.in-Some-long_number_in.ensures.only birth b parts.0), cc (c.in-Some-long_number_in-2.ensures.only position p parts.1))

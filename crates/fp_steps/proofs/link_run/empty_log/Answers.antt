@@ -6,7 +6,7 @@ loop-book-init c = (refl, c.requires.sound, c.requires.place)
 
 pub loop-book-preserved : goal.loop-book-preserved
 loop-book-preserved c = (
-  c.drop_line.ensures.rest ∙ ap (λ (s : Shelf). record s { log = c.drop_line.new.book.log }) c.loop-book.invariant.0,
-  c.drop_line.ensures.sound,
-  c.drop_line.ensures.place,
+  c.take_line.ensures.rest ∙ ap (λ (s : Shelf). record s { log = c.take_line.new.book.log }) c.loop-book.invariant.0,
+  c.take_line.ensures.sound,
+  c.take_line.ensures.place,
 )

@@ -25,4 +25,4 @@ returns-clause-rest c = subst (λ s. Sound s → Rest s) (sym c.in_ok-new.ensure
 
 pub returns-clause-matches : goal.returns-clause-matches
 returns-clause-matches c = subst (Matches at_first) (sym c.in_ok-new.ensures.value)
-    (record { births = refl; entries = refl; same = λ k. sym (ap live (fin.get-empty nat_cmp k)); once = λ k. omega arith })
+    (record { births = refl; entries = refl; free = refl; same = λ k. sym (ap live (fin.get-empty nat_cmp k)); once = λ k. omega arith })

@@ -5,12 +5,17 @@ use Rattle.fp_book.proofs.Fits.{can_extend}
 use Rattle.fp_book.proofs.Grows.{grown_out, grown_shelf, was_idle}
 use Rattle.fp_book.proofs.Kept.{Leaves, leaves, place_to_join, room_for, same_parts, timed_by, turns_by}
 use Rattle.fp_book.proofs.Counts.{receipt_lost, receipt_of, some_of}
+use Rattle.fp_book.proofs.Serials.{freed, given_of, linked}
 use Rattle.fp_book.proofs.Turns.{components_few, frames_at}
 use Rattle.fp_book.proofs.book.Book.extend.Goals as goal
 
 -- the dialogue takes messages
 pub extend-requires : goal.extend-requires
 extend-requires c = (can_extend (shelf_of c.self.inside) c.args.self.now c.args.came c.args.local c.args.ends c.self.view_is c.requires).0
+
+-- if nothing of it is left its serial ends
+pub end_serial_unless_held-requires : goal.end_serial_unless_held-requires
+end_serial_unless_held-requires c _ = let h = c.in-Ok.ensures.ok in given_of c.self.inside c.args.local h.before c.self.invariant h.was
 
 -- its deadline is that which it had, and there is a place for it
 pub change_deadline-requires-clause-before : goal.change_deadline-requires-clause-before
@@ -38,6 +43,7 @@ overflow_cast-result c =
 -- the parts of the book then
 abbrev after : goal.After-add → Inside
 after c = record c.self.inside {
+  ids = c.end_serial_unless_held.new.ids;
   entries = c.self.inside.entries + c.len-count.result;
   rows = c.extend.new.rows;
   deadlines = c.change_deadline.new.deadlines;
@@ -69,10 +75,10 @@ extended c =
       entries = b.entries + length c.in-Message.incoming.entries;
       totals = more_accepted b.totals c.in-Message.incoming.entries;
       gone = gone_with s.gone h.after;
-    }) h.rows (c.join.ensures ∙ ap (λ (x : Left). b.ready ++ joins local x.is_ready) h.does.1)
+    }) (freed b.ids c.end_serial_unless_held.new.ids local left.is_held h.after c.end_serial_unless_held.ensures (ap (λ (x : Left). x.is_held) h.does.1)) h.rows (c.join.ensures ∙ ap (λ (x : Left). b.ready ++ joins local x.is_ready) h.does.1)
     (c.drop_frames_if.ensures ∙ drops_as s local h.before ends c.in-Ok.extended.drops_frames (frames_at s local _ k.sound h.was) (rw (← c.is_sending-is_sending.ensures) drops))
-    (c.add.ensures ∙ ap (λ n. logged b.log (line.Post c.in-Message.arrival.moment c.in-Message.arrival.frame (Accepted n))) c.len-count.ensures))))
-    k.links
+    (c.add.ensures ∙ ap (λ n. logged b.log (line.Post c.in-Message.arrival.table c.in-Message.arrival.moment c.in-Message.arrival.frame (Accepted n))) c.len-count.ensures))))
+    (linked b.ids c.end_serial_unless_held.new.ids local left.is_held c.end_serial_unless_held.ensures ∙ k.links)
     (turns_by b.turns b.turns h k.turns (omega (arith, grown_out c.in-Message.incoming.entries ends (is_frame_of local b.outbox.out) h.before h.after h.does.0)))
     (timed_by b.deadlines c.change_deadline.new.deadlines h k.timed (c.change_deadline.ensures ∙ ap (λ (x : Left). with_deadline b.deadlines local x.deadline) h.does.1))
 

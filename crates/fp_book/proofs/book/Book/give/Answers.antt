@@ -1,6 +1,7 @@
-use Rattle.fp_book.proofs.Names.{Done, GivesAt, GivesDone, HasRoom, Inside, Left, Turn, ap, arith, frames_in, gone_with, is_ready, joins, length, logged, more_served, refl, shelf_of, subst, sym, waiting_in, with_deadline, with_dialogue, ◌++◌, ◌-◌, ◌∙◌, ◌≡◌}
+use Rattle.fp_book.proofs.Names.{GivesAt, GivesDone, HasRoom, Inside, IsGiven, Left, Turn, ap, arith, frames_in, free_with, gone_with, is_ready, joins, length, logged, more_served, shelf_of, subst, sym, waiting_in, with_deadline, with_dialogue, ◌++◌, ◌-◌, ◌∙◌, ◌≡◌}
 use Rattle.fp_book.specs.declared.line.LoggedStep.TheVariants as line
 use Rattle.fp_book.proofs.Kept.{Leaves, few_entries, few_served, leaves, out_few, place_to_join, place_to_queue, room_for, same_parts, timed_by}
+use Rattle.fp_book.proofs.Serials.{freed, given_of, linked}
 use Rattle.fp_book.proofs.Turns.{few_requests, fewer_turns, is_out, not_ready_out, turn_there}
 use Rattle.fp_book.proofs.book.Book.give.Goals as goal
 
@@ -19,6 +20,13 @@ pub overflow_cast-served_count : goal.overflow_cast-served_count
 overflow_cast-served_count c =
     let h = c.in-Ok.ensures.ok in
     omega (arith, c.served-served_count.ensures, h.does.0.few_served, out_few (shelf_of c.self.inside) c.args.done.turn.local h.before c.self.invariant.sound h.was)
+
+-- its serial ends, if nothing of it is left
+pub end_serial_unless_held-requires : goal.end_serial_unless_held-requires
+end_serial_unless_held-requires c _ =
+    let h = c.in-Ok.ensures.ok in
+    let here : c.local-local.result ≡ c.args.done.turn.local = c.local-local.ensures ∙ ap (λ (turn : Turn). turn.local) c.turn.ensures in
+    subst (IsGiven c.self.inside.ids) (sym here) (given_of c.self.inside c.args.done.turn.local h.before c.self.invariant h.was)
 
 pub set_deadline-requires : goal.set_deadline-requires
 set_deadline-requires c =
@@ -48,6 +56,7 @@ queue-given-requires-clause-few c =
 -- the parts of the book then
 abbrev after : goal.After-add → Inside
 after c = record c.self.inside {
+  ids = c.end_serial_unless_held.new.ids;
   rows = c.give.new.rows;
   deadlines = c.set_deadline.new.deadlines;
   ready = c.join.new.ready;
@@ -67,6 +76,7 @@ given c =
     let h : GivesAt b.rows done asked left c.give.new.rows = c.in-Ok.ensures.ok in
     let here : c.local-local.result ≡ l = c.local-local.ensures ∙ ap (λ (turn : Turn). turn.local) c.turn.ensures in
     let place : c.position-position.result ≡ done.turn.position = c.position-position.ensures ∙ ap (λ (turn : Turn). turn.position) c.turn-2.ensures in
+    let birth : left.birth ≡ h.before.birth = ap (λ (x : Left). x.birth) h.does.1 ∙ h.does.0.same.birth in
     let count = c.count-count.ensures ∙ ap (λ (turn : Turn). length turn.entries) c.turn-3.ensures in
     leaves (after c) (gone_with (shelf_of b).gone h.after) (GivesDone (shelf_of b) done c.queue-given.result)
     (λ s does. c.turns_keep_a_book_sound.ensures.gives (shelf_of b) s done c.queue-given.result c.self.invariant.sound does)
@@ -77,19 +87,19 @@ given c =
       was = h.was;
       gives = h.does.0;
       given_is = c.queue-given.ensures.given;
-      new_is = same_parts (record (shelf_of b) { totals = more_served b.totals c.served-served_count.result; gone = gone_with (shelf_of b).gone h.after }) h.rows
+      new_is = same_parts (record (shelf_of b) { totals = more_served b.totals c.served-served_count.result; gone = gone_with (shelf_of b).gone h.after })
+          (freed b.ids c.end_serial_unless_held.new.ids c.local-local.result left.is_held h.after c.end_serial_unless_held.ensures (ap (λ (x : Left). x.is_held) h.does.1) ∙ ap (λ l. free_with b.ids.queue l h.after) here) h.rows
           (c.join.ensures ∙ ap (λ l. b.ready ++ joins l left.is_ready) here ∙ ap (λ (x : Left). b.ready ++ joins l x.is_ready) h.does.1)
-          (c.queue-given.ensures.value ∙ ap (λ l. record b.outbox { frames = b.outbox.frames ++ waiting_in l asked }) here)
-          (c.add.ensures ∙ ap (λ l. logged b.log (line.Give l c.position-position.result c.served-served_count.result c.queue-given.result)) here
-          ∙ (λ i. logged b.log (line.Give l (place i) (c.served-served_count.ensures i) c.queue-given.result)))
+          (c.queue-given.ensures.value ∙ (λ i. record b.outbox { frames = b.outbox.frames ++ waiting_in (here i) (birth i) asked }))
+          (c.add.ensures ∙ (λ i. logged b.log (line.Give (birth i) (place i) (c.served-served_count.ensures i) c.queue-given.result)))
           ∙ ap (λ n. record (with_dialogue (shelf_of b) l h.after) {
             ready = b.ready ++ joins l (is_ready h.after);
-            outbox = record b.outbox { frames = b.outbox.frames ++ waiting_in l asked };
+            outbox = record b.outbox { frames = b.outbox.frames ++ waiting_in l h.before.birth asked };
             totals = more_served b.totals n;
-            log = logged b.log (line.Give l done.turn.position done.served c.queue-given.result);
+            log = logged b.log (line.Give h.before.birth done.turn.position done.served c.queue-given.result);
           }) c.served-served_count.ensures;
     })
-    c.self.invariant.links
+    (linked b.ids c.end_serial_unless_held.new.ids c.local-local.result left.is_held c.end_serial_unless_held.ensures ∙ c.self.invariant.links)
     (fewer_turns b c.count-count.result h c.self.invariant (count ∙ h.does.0.count) h.does.0.out)
     (timed_by b.deadlines c.set_deadline.new.deadlines h c.self.invariant.timed
     (c.set_deadline.ensures ∙ ap (λ l. with_deadline b.deadlines l left.deadline) here ∙ ap (λ (x : Left). with_deadline b.deadlines l x.deadline) h.does.1))

@@ -1,9 +1,9 @@
-use Rattle.fp_book.proofs.Names.{Follows, Gives, Inside, Left, LocalIds, Message, Open, Opened, Opens, OpensAt, OpensDialogue, Prepared, Some, ap, arith, arrival_of, entries_in, identifier, inl, is_ready, joins, length, more_accepted, refl, shelf_of, subst, sum_of, sym, turns_of, verdict, ◌++◌, ◌+◌, ◌∙◌, ◌≡◌, ◌≤◌}
+use Rattle.fp_book.proofs.Names.{Follows, Inside, Left, LocalIds, Message, Open, Opened, Opens, OpensAt, OpensDialogue, Prepared, Some, ap, arith, arrival_of, entries_in, identifier, inl, is_ready, joins, length, more_accepted, refl, shelf_of, subst, sum_of, sym, turns_of, verdict, ◌++◌, ◌+◌, ◌∙◌, ◌≡◌, ◌≤◌}
 use Rattle.std.specs.FinMap as map
-use Rattle.fp_book.proofs.Extends.{is_fresh}
 use Rattle.fp_book.proofs.Fits.{can_open}
 use Rattle.fp_book.proofs.Kept.{Leaves, leaves, place_for_new, room_for_new, same_parts, timed_inserted}
 use Rattle.fp_book.proofs.Counts.{receipt_lost, receipt_of}
+use Rattle.fp_book.proofs.Serials.{given_first, is_fresh}
 use Rattle.fp_book.proofs.Sums.{inserted}
 use Rattle.fp_book.proofs.Turns.{components_few}
 use Rattle.fp_book.proofs.book.Book.open.Goals as goal
@@ -44,29 +44,33 @@ opened c =
     let arrival = c.in-Message.arrival in
     let came = Message arrival c.in-Message.incoming in
     let local = c.in-Some.local in
-    let l = identifier b.link (b.ids.given + 1) in
-    let gives : Gives b.ids (Some local) c.give.new.self = subst (λ o. Gives b.ids o c.give.new.self) (c.give.ensures.next ∙ sym c.in-Some.ensures) c.give.ensures.gives in
-    let same : local ≡ l = gives.1 ∙ ap (λ link. identifier link (b.ids.given + 1)) k.links in
+    let gives = given_first b.ids.link b.ids.queue c.give.new.self.queue local c.in-Some.ensures (ap (λ (i : LocalIds). i.queue) c.give.ensures.left) in
+    let serial = gives.0 in
+    let rest = c.give.new.self.queue in
+    let l = identifier b.link serial in
+    let same : local ≡ l = gives.1 ∙ ap (λ link. identifier link serial) k.links in
     let h : OpensAt b.rows local c.args.peer (b.births + 1) arrival.moment c.in-Message.incoming.entries c.in-Ok.left c.open.new.rows = c.in-Ok.ensures.ok in
     let rows : c.open.new.rows ≡ map.insert b.rows l h.after = h.rows ∙ ap (λ x. map.insert b.rows x h.after) same in
     let is : verdict s came ≡ Open c.args.peer = subst (λ (m : Prepared). verdict s m ≡ Open c.args.peer) c.in-Message.is (subst (λ t. verdict t c.args.came ≡ Open c.args.peer) (sym c.self.view_is) c.requires) in
     leaves (after c) s.gone (OpensDialogue s c.args.peer came (Opened local))
     (λ then does. c.messages_keep_a_book_sound.ensures s then came (Opened local) k.sound (inl (subst (λ v. Follows v s came (Opened local) then) (sym is) does)))
     (record {
+      serial = serial;
+      rest = rest;
+      first = gives.2;
       opened = h.opened;
       after = h.after;
       opens = subst (λ x. Opens x c.args.peer (b.births + 1) arrival.moment h.opened) same h.opens;
       extends = h.extends;
       answer_is = ap Opened same;
-      new_is = rw (c.len-count.ensures, c.component_count-components.ensures, gives.2) (same_parts (record s {
-        given = b.ids.given + 1;
+      new_is = rw (c.len-count.ensures, c.component_count-components.ensures) (same_parts (record s {
         births = b.births + 1;
         entries = b.entries + length c.in-Message.incoming.entries;
         totals = more_accepted b.totals c.in-Message.incoming.entries;
-      }) rows (c.join.ensures ∙ ap (λ (x : Left). b.ready ++ joins local x.is_ready) h.left_is ∙ ap (λ x. b.ready ++ joins x (is_ready h.after)) same) refl c.add.ensures);
+      }) refl rows (c.join.ensures ∙ ap (λ (x : Left). b.ready ++ joins local x.is_ready) h.left_is ∙ ap (λ x. b.ready ++ joins x (is_ready h.after)) same) refl c.add.ensures);
     })
-    (ap (λ (i : LocalIds). i.link) gives.2 ∙ k.links)
-    (omega (arith, k.turns, ap (sum_of turns_of) rows, (inserted b.rows l _ h.after (is_fresh s k.sound)).sums turns_of, h.extends.out, h.opens.out))
+    (ap (λ (i : LocalIds). i.link) c.give.ensures.left ∙ k.links)
+    (omega (arith, k.turns, ap (sum_of turns_of) rows, (inserted b.rows l _ h.after (is_fresh s serial rest k.sound gives.2)).sums turns_of, h.extends.out, h.opens.out))
     (rw (h.rows, c.set_deadline.ensures, h.left_is) (timed_inserted b.deadlines b.rows local (map.get b.rows local) h.after refl k.timed))
 
 pub invariant_of-self-2 : goal.invariant_of-self-2

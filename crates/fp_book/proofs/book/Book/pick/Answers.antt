@@ -20,7 +20,7 @@ picked c =
         rest = rest;
         none_out = picks.0;
         next = picks.1;
-        new_is = same_parts (shelf_of b) refl refl (ap (λ out. record { aborts = rest.aborts; frames = rest.frames; out = out }) picks.2) (c.add.ensures ∙ ap (λ l. logged b.log (line.Pick l)) c.local-local.ensures);
+        new_is = same_parts (shelf_of b) refl refl refl (ap (λ out. record { aborts = rest.aborts; frames = rest.frames; out = out }) picks.2) (c.add.ensures ∙ ap (λ l. logged b.log (line.Pick l)) c.birth-birth.ensures);
       },
     )
     c.self.invariant.links c.self.invariant.turns c.self.invariant.timed

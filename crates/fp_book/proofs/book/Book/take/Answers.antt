@@ -1,4 +1,4 @@
-use Rattle.fp_book.proofs.Names.{HandsOutAt, Inside, TakesTurn, ap, arith, false, length, logged, nat_lt, places_held, refl, shelf_of, subst, sym, ◌+◌, ◌-◌, ◌<◌, ◌∙◌, ◌∷◌, ◌≡◌}
+use Rattle.fp_book.proofs.Names.{HandsOutAt, Inside, TakesTurn, ap, arith, logged, places_held, refl, shelf_of, subst, sym, ◌+◌, ◌-◌, ◌<◌, ◌∙◌, ◌∷◌, ◌≡◌}
 use Rattle.fp_book.specs.declared.line.LoggedStep.TheVariants as line
 use Rattle.fp_book.specs.declared.taken.Taken.TheVariants.{Turn as ATurn}
 use Rattle.fp_book.proofs.Changes.{turns_none}
@@ -39,8 +39,8 @@ taken c =
       takes = h.does;
       first = first_is b.ready c.next.new.self c.in-Some.local c.next.result (sym c.first.ensures ∙ c.in-Some.is) c.next.ensures.taken c.next.ensures.none ∙ ap (λ l. l ∷ c.next.new.self) (sym here);
       room = subst (λ n. n < 8192) (held_is c) c.if-held-ge-MOST_FRAMES.false;
-      new_is = same_parts (shelf_of b) (h.rows ∙ sym (put_held b.rows turn.local h.after (held_out h.after (taken_out free h.before turn h.after h.does)))) refl refl
-          (c.add.ensures ∙ ap (λ l. logged b.log (line.Take l c.position-position.result c.count-count.result)) (sym here) ∙ (λ i. logged b.log (line.Take turn.local (c.position-position.ensures i) (c.count-count.ensures i))));
+      new_is = same_parts (shelf_of b) refl (h.rows ∙ sym (put_held b.rows turn.local h.after (held_out h.after (taken_out free h.before turn h.after h.does)))) refl refl
+          (c.add.ensures ∙ (λ i. logged b.log (line.Take ((c.birth.ensures ∙ h.does.birth) i) (c.position-position.ensures i) (c.count-count.ensures i))));
     })
     c.self.invariant.links
     (turns_by b.turns (b.turns + c.count-count.result) h c.self.invariant.turns (omega (arith, turns_none h.before (idle h.before h.does.was_ready), h.does.out, c.count-count.ensures)))

@@ -1,9 +1,10 @@
 -- What the frame that came is prepared to, and nothing else.
+use Rattle.std.proofs.Common.{◌∙◌}
 use Rattle.fp_entry.proofs.prepared.Prepared.read.Goals as goal
 
 pub returns-clause-is : goal.returns-clause-is
-returns-clause-is c = c.prepare.ensures c.args.frame c.args.moment c.new.ensures
+returns-clause-is c = c.prepare.ensures c.args.frame c.args.moment c.new.ensures.arrival (c.new.ensures.table ∙ c.index.ensures.value)
 
 pub returns-clause-only : goal.returns-clause-only
 returns-clause-only c = λ other given.
-    c.prepared_is_one.ensures _ _ _ _ c.prepare.result other (c.prepare.ensures c.args.frame c.args.moment c.new.ensures) given
+    c.prepared_is_one.ensures _ _ _ _ c.prepare.result other (c.prepare.ensures c.args.frame c.args.moment c.new.ensures.arrival (c.new.ensures.table ∙ c.index.ensures.value)) given

@@ -14,5 +14,5 @@ returns c =
     let next = rw (c.in-Some.is, c.new-records.ensures) at c.in_ok-read.ensures.next in
     rw next.2
     (reads (fields_of c.read.new.row) c.read.new.self.rows c.in-Some-head_of.head rules c.in_ok-groups.groups
-    (record { key = c.in-Some-head_of.head.key; rule_count = c.count.result; records = seen (λ a. arc_value a) c.in_ok-into_records.field-0.entries })
-    (sym c.in-Some-head_of.ensures.value) are holds refl c.count.ensures.value made)
+    (record { index = 0; key = c.in-Some-head_of.head.key; rule_count = c.count.result; records = seen (λ a. arc_value a) c.in_ok-into_records.field-0.entries })
+    (sym c.in-Some-head_of.ensures.value) are holds refl refl c.count.ensures.value made)

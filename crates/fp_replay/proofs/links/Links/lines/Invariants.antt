@@ -7,5 +7,5 @@ use Rattle.fp_replay.proofs.links.Links.lines.Given as goal
 
 abbrev pub invariant-loop-link : goal.invariant-loop-link
 invariant-loop-link l =
-    (contents : Contents) (contexts : List (List ℕ)) (history : ℕ → List Event) → AreAfter contents contexts history l.self.runs.items
+    (tables : List Contents) (contexts : List (List ℕ)) (history : ℕ → List Event) → AreAfter tables contexts history l.self.runs.items
     → string_bytes l.lines ≡ report_of l.link (totals_along history)

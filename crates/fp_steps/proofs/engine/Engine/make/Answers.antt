@@ -1,11 +1,14 @@
-use Rattle.fp_steps.proofs.Names.{IsLost, IsPrepared, None, Some, subst, sym, ◌∙◌}
+use Rattle.fp_steps.proofs.Names.{IsLost, IsPrepared, IsReadBy, None, Some, subst, sym, ◌∙◌}
+use Rattle.fp_steps.proofs.BookLog.{table_there}
 use Rattle.fp_steps.proofs.LoggedLines.{if_ok}
 use Rattle.fp_steps.proofs.engine.Engine.make.Goals as goal
 
 pub returns-else-is_lost-clause-makes : goal.returns-else-is_lost-clause-makes
 returns-else-is_lost-clause-makes c =
-    let read = subst (λ frame. IsPrepared c.args.table.now c.args.contexts.now frame c.in-Post.moment c.read-came.result) c.in_ok-try_clone-in-Post.ensures c.read-came.ensures.is in
-    rw c.in-Post.is (if_ok _ _ c.post.result (λ output g. (Some c.read-came.result, (read, sym c.is_lost.ensures ∙ c.if-is_lost.false), g)) c.post.ensures.makes)
+    let there = table_there c.args.tables.now c.in-Post.table c.index-tables-table.result (sym c.is_handed_in.ensures ∙ c.if-not-is_handed_in.false) c.index-tables-table.is in
+    let read = subst (λ frame. IsPrepared c.index-tables-table.result c.args.contexts.now frame c.in-Post.moment c.read-came.result) c.in_ok-try_clone-in-Post.ensures c.read-came.ensures.is in
+    let came = subst (λ o. IsReadBy o c.args.contexts.now c.in-Post.frame c.in-Post.moment (Some c.read-came.result)) (sym there) (read, sym c.is_lost.ensures ∙ c.if-is_lost.false) in
+    rw c.in-Post.is (if_ok _ _ c.post.result (λ output g. (Some c.read-came.result, came, g)) c.post.ensures.makes)
 
 pub returns-in_ok-try_clone-in-Lost-clause-makes : goal.returns-in_ok-try_clone-in-Lost-clause-makes
 returns-in_ok-try_clone-in-Lost-clause-makes c =

@@ -1,7 +1,7 @@
-use Rattle.fp_steps.proofs.Names.{IsAfter, Shelf, [], subst, sym}
+use Rattle.fp_steps.proofs.Names.{IsAfter, Shelf, Sound, [], subst, sym}
 use Rattle.fp_steps.proofs.RunsSoFar.{after_none}
 use Rattle.fp_steps.proofs.link_run.LinkRun.new.Goals as goal
 
 pub returns-clause-after : goal.returns-clause-after
-returns-clause-after c = λ contents contexts.
-    subst (λ (s : Shelf). IsAfter contents contexts [] s) (sym c.in_ok-engine.ensures.value) (after_none c.rows_keep_their_order.ensures contents contexts c.args.link)
+returns-clause-after c = λ tables contexts.
+    subst (λ (s : Shelf). IsAfter tables contexts [] s) (sym c.in_ok-engine.ensures.value) (after_none c.rows_keep_their_order.ensures tables contexts c.args.link (subst Sound c.in_ok-engine.ensures.value c.in_ok-engine.ensures.sound))
