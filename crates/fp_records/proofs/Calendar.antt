@@ -7,7 +7,7 @@ use Rattle.jiff_core.specs.Calendar.{weekday_number}
 use Rattle.jiff_core.specs.Date.{epoch_day}
 use Rattle.jiff_core.specs.DateTime.{civil_nanos}
 use Rattle.jiff_core.specs.declared.civil.datetime.DateTime.{DateTime}
-use Rattle.fp_records.specs.Calendar.{local_minutes, minute_of_day, weekday_of}
+use Rattle.fp_records.specs.Calendar.{day_of, local_minutes, minute_of_day, weekday_of}
 
 -- the local minutes are the minutes of whole days and those of the day
 minutes-parts : (moment hour minute second nanosecond : ℕ) (offset day : ℤ) → hour < 24 → minute < 60 → second < 60 → nanosecond < 1000000000
@@ -21,7 +21,7 @@ minute-parts minutes day minute below same = omega (arith, signed_arith)
 day-parts : (minutes day : ℤ) (minute : ℕ) → minute < 1440 → minutes ≡ day *ℤ pos 1440 +ℤ pos minute → int_div_euclid minutes (pos 1440) ≡ day
 day-parts minutes day minute below same = omega (arith, signed_arith)
 
--- what a clock shows at a moment, of whose nanoseconds and offset it is told
+-- what a clock shows at a moment, by its nanoseconds and its offset
 pub record Shows (moment : ℕ) (offset : ℤ) (dt : DateTime) : Type 0 where
   pub nanos : civil_nanos dt ≡ pos (moment * 1000000) +ℤ (pos 60 *ℤ offset) *ℤ pos 1000000000
 
@@ -33,8 +33,10 @@ pub shown-minute : (moment : ℕ) (offset : ℤ) (dt : DateTime) → Shows momen
 shown-minute moment offset dt shows =
     minute-parts (local_minutes moment offset) (epoch_day dt.date) (60 * dt.time.hour + dt.time.minute) (omega (arith, dt.time.hour_in, dt.time.minute_in)) (shown-minutes moment offset dt shows)
 
+pub shown-day : (moment : ℕ) (offset : ℤ) (dt : DateTime) → Shows moment offset dt → day_of (local_minutes moment offset) ≡ epoch_day dt.date
+shown-day moment offset dt shows =
+    day-parts (local_minutes moment offset) (epoch_day dt.date) (60 * dt.time.hour + dt.time.minute) (omega (arith, dt.time.hour_in, dt.time.minute_in)) (shown-minutes moment offset dt shows)
+
 pub shown-weekday : (moment : ℕ) (offset : ℤ) (dt : DateTime) → Shows moment offset dt → weekday_of (local_minutes moment offset) ≡ weekday_number (epoch_day dt.date) + 1
 unfolding weekday_number
-shown-weekday moment offset dt shows =
-    let day = day-parts (local_minutes moment offset) (epoch_day dt.date) (60 * dt.time.hour + dt.time.minute) (omega (arith, dt.time.hour_in, dt.time.minute_in)) (shown-minutes moment offset dt shows) in
-    rw day refl
+shown-weekday moment offset dt shows = rw (shown-day moment offset dt shows) refl

@@ -9,11 +9,11 @@ use Rattle.std.proofs.lemmas.List.{length-map}
 use Rattle.fp_records.specs.Digits.{digits_of, is_decimal}
 use Rattle.fp_records.specs.Number.{number_after, number_up_to}
 
--- the number that a text makes behind the digits of n, up to a limit
+-- the number that a text makes after the digits of n, up to a limit
 unfoldable pub up_to : ℕ → ℕ → List ℕ → Option ℕ
 up_to most n text = if list_all is_ascii_digit text && nat_le (number_after n text) most then Some (number_after n text) else None
 
--- digits behind a number make no less of it
+-- digits after a number make no less of it
 pub grows-number_after : (n : ℕ) (text : List ℕ) → n ≤ number_after n text
 grows-number_after n [] = omega arith
 grows-number_after n (octet ∷ octets) = omega (arith, grows-number_after (10 * n + (octet - 48)) octets)
@@ -48,7 +48,7 @@ up_to-end most n i text low past =
     let accepted : nat_le n most ≡ true = grind (arith, nat_tests) in
     rw (drop_all i text past, accepted) refl
 
--- the number of a text is what it makes behind no digit
+-- the number of a text is what it makes after no digit
 pub up_to-whole : (most : ℕ) (text : List ℕ) → 0 < length text → number_up_to most text ≡ up_to most 0 text
 unfolding up_to
 up_to-whole most [] some = absurd (omega arith)

@@ -32,7 +32,7 @@ outcome-is (check ∷ tests) fields written = by (check.passes fields) (outcome-
     by true more = more
     by false more = refl
 
--- the tests behind each field
+-- the tests after each field
 abbrev after_6 : List Check
 after_6 = whole has_count FieldCount ∷ whole are_destinations BadDestination ∷ []
 
@@ -57,7 +57,7 @@ after_1 = field 2 days_of BadDays ∷ after_2
 abbrev after_0 : List Check
 after_0 = field 1 digits_of BadPrefix ∷ after_1
 
--- behind a field that is not there is none
+-- after a field that is not there is none
 none_later : (fields : List (List ℕ)) (place : ℕ) → field_at fields place ≡ None → field_at fields (suc place) ≡ None
 unfolding field_at
 none_later [] place none = refl
@@ -110,7 +110,7 @@ lacks_0 fields written none =
     let later = none_later fields 0 none in
     passed_over 1 digits_of BadPrefix after_1 fields written later ∙ lacks_1 fields written later
 
--- one field is read, and then what is behind it
+-- one field is read, and then what is after it
 step : {A : Type 0} (place : ℕ) (form : List ℕ → Option A) (fault : Reason) (tests : List Check) (fields : List (List ℕ)) (written : NumberedRule) (next : A → Result NumberedRule Reason)
     → (field_at fields place ≡ None → outcome tests fields written ≡ Err FieldCount)
     → ((value : A) → read_at place form fields ≡ Some value → next value ≡ outcome tests fields written)
@@ -133,7 +133,7 @@ and_then-and_then : {A B C : Type 0} (first : Result A Reason) (second : A → R
 and_then-and_then (Ok value) second third = refl
 and_then-and_then (Err reason) second third = refl
 
--- a field behind the first ones
+-- a field after the first ones
 field_at-drop : (n : ℕ) (fields : List (List ℕ)) (place : ℕ) → field_at (drop n fields) place ≡ field_at fields (n + place)
 unfolding field_at
 field_at-drop zero fields place = ap (field_at fields) (let same : place ≡ 0 + place = omega arith in same)
@@ -191,7 +191,7 @@ four (Some x) (Some y) None d next written is = refl
 four (Some x) (Some y) (Some z) None next written is = refl
 four (Some x) (Some y) (Some z) (Some u) next written is = is
 
--- the destinations behind the action `route`
+-- the destinations after the action `route`
 route-step : (fields rest : List (List ℕ)) (next : Action → Result NumberedRule Reason) (written : NumberedRule) → drop 7 fields ≡ rest → read_at 6 verb_of fields ≡ Some verb.Route
     → next (action_with (Some verb.Route) rest) ≡ Ok written → and_then (action_by verb.Route fields) next ≡ outcome after_6 fields written
 unfolding field_at
@@ -254,7 +254,7 @@ alone-step fields action next written is = by (nat_eq (length fields) 7) refl
     by true seven = rw (none_behind fields seven) is
     by false seven = refl
 
--- the action, behind the other fields
+-- the action, after the other fields
 action-step : (fields : List (List ℕ)) (word : Verb) (next : Action → Result NumberedRule Reason) (written : NumberedRule) → read_at 6 verb_of fields ≡ Some word
     → next (action_with (Some word) (drop 7 fields)) ≡ Ok written → and_then (action_by word fields) next ≡ outcome after_6 fields written
 action-step fields verb.Route next written at_6 is = route-step fields (drop 7 fields) next written refl at_6 is

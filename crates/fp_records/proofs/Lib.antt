@@ -1,11 +1,15 @@
 pub mod Calendar
+pub mod Dates
 pub mod Digits
 pub mod Entries
 pub mod FieldTable
+pub mod Gathered
 pub mod Grouping
 pub mod Lookups
+pub mod Migrating
 pub mod Numbers
 pub mod Orders
+pub mod OwnDays
 pub mod Places
 pub mod Running
 pub mod Shares

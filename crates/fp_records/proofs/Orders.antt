@@ -17,7 +17,7 @@ above_last : (key last : List ℕ) (keys rest : List (List ℕ)) → AllByRecurs
 above_last key last [] rest above = above.0
 above_last key last (other ∷ keys) rest above = above_last key last keys rest above.1
 
--- a key above the others goes behind them
+-- a key above the others goes after them
 pub insert_entry-last : {X : Type 0} (entries : List (List ℕ × X)) (key : List ℕ) (value : X) (rest : List (List ℕ)) → IsStrictlySortedBy (slice_cmp nat_cmp) (keys_of entries ++ key ∷ rest)
     → insert_entry (slice_cmp nat_cmp) entries key value ≡ entries ++ (key, value) ∷ []
 unfolding IsStrictlySortedBy

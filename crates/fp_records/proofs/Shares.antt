@@ -9,7 +9,7 @@ use Rattle.fp_records.specs.Choice.{by_share, longest_prefix, most_exact, of_len
 use Rattle.fp_records.specs.Share.{total_with}
 use Rattle.fp_records.specs.declared.rule.Rule.{Rule}
 
-fold-append : {A B : Type 0} (f : B → A → B) (start : B) (xs ys : List A) → fold f start (xs ++ ys) ≡ fold f (fold f start xs) ys
+pub fold-append : {A B : Type 0} (f : B → A → B) (start : B) (xs ys : List A) → fold f start (xs ++ ys) ≡ fold f (fold f start xs) ys
 fold-append f start [] ys = refl
 fold-append f start (x ∷ xs) ys = fold-append f (f start x) xs ys
 

@@ -101,14 +101,14 @@ records-enough cfg (suc n) (suc m) s xs out some more =
         let less = one.less out in
         ap (λ rows. p.0 ∷ rows) (enough p.1 p.2 one.outside (omega (arith, less)) (omega (arith, less)))
 
-rows_from-next : (s : State) (xs : List ℕ) (p : Read) → ends_at_end s ≡ false → next_record default_config s [] [] xs ≡ Some p → rows_from s xs ≡ p.0 ∷ rows_from p.1 p.2
+pub rows_from-next : (s : State) (xs : List ℕ) (p : Read) → ends_at_end s ≡ false → next_record default_config s [] [] xs ≡ Some p → rows_from s xs ≡ p.0 ∷ rows_from p.1 p.2
 unfolding records_from
 rows_from-next s xs p out is =
     let one = shrinks-next_record default_config s [] [] xs p is in
     let less = one.less out in
     rw (add-one (length xs), is) (ap (λ rows. p.0 ∷ rows) (records-enough default_config (length xs) (length p.2 + 1) p.1 p.2 one.outside less (omega arith)))
 
-rows_from-end : (s : State) (xs : List ℕ) → next_record default_config s [] [] xs ≡ None → rows_from s xs ≡ []
+pub rows_from-end : (s : State) (xs : List ℕ) → next_record default_config s [] [] xs ≡ None → rows_from s xs ≡ []
 unfolding records_from
 rows_from-end s xs is = rw (add-one (length xs), is) refl
 

@@ -17,7 +17,7 @@ first_of (Two places) = get_or places 0 []
 first_of (Three places) = get_or places 0 []
 first_of (Four places) = get_or places 0 []
 
--- the destinations behind the first, in the same order
+-- the destinations after the first, in the same order
 abbrev pub rest_of : Destinations → Option Destinations
 rest_of (One places) = None
 rest_of (Two places) = Some (One (drop 1 places))

@@ -1,17 +1,20 @@
--- Which rule of a number a call gets. Of the rules that fit the call those of the longest prefix are kept, in the
--- file's order, and the call's draw falls into the share of one of them.
-use Rattle.std.specs.Prelude.{ℕ, ◌+◌, ◌-◌, ◌%◌, ℤ, max, List, [], Bool, false, ◌&&◌, ◌==◌, Option, Some, None, filter, find, fold, get_or, length, nat_lt, option_map, sum_by, nat_eq, take, pos, neg_ℤ, ◌≤ℤ◌, ◌≤◌}
-use Rattle.std.specs.List.{enumerate_from, starts_with}
+-- Which rule of a number a call gets. On a day on which the number is closed no rule fits. Of the rules that fit the
+-- call those of the longest prefix are kept, in the file's order, and the call's draw falls into the share of one.
+use Rattle.std.specs.Prelude.{ℕ, ◌+◌, ◌-◌, ◌%◌, ℤ, max, List, [], Bool, false, ◌&&◌, ◌==◌, Option, Some, None, filter, find, fold, get_or, length, nat_lt, option_map, sum_by, nat_eq, take, pos, neg_ℤ, ◌≤ℤ◌, ◌≤◌, if◌then◌else◌}
+use Rattle.std.specs.List.{enumerate_from, list_any, starts_with}
+use Rattle.std.specs.Ordering.{int_eq}
 use Rattle.std.specs.Borrow.{Bor}
 use Rattle.fp_digits.specs.declared.number.Number.{Number}
-use Rattle.fp_records.specs.Calendar.{local_minutes, minute_of_day, weekday_of}
+use Rattle.fp_records.specs.Calendar.{day_of, local_minutes, minute_of_day, weekday_of}
 use Rattle.fp_records.specs.Window.{holds_minute}
 use Rattle.fp_records.specs.declared.rule.Rule.{Rule}
 
--- what a record says of its number: the minutes that local time is east of UTC, and the rules in the file's order
+-- what a record says of its number: the minutes that local time is east of UTC, the rules in the file's order, and the
+-- numbers of the days on which it is closed
 pub record Rules : Type 0 where
   pub offset : ℤ
   pub rules : List Rule
+  pub closed : List ℤ
 
 -- what each record keeps: an offset from 720 minutes west to 840 east, and 1 to 1,000 rules
 pub record IsRules (record_of : Rules) : Type 0 where
@@ -60,12 +63,18 @@ rule_at_draw draw rules =
 abbrev pub by_share : ℕ → List Rule → Option Rule
 by_share birth rules = rule_at_draw (birth % total_weight rules) rules
 
+-- whether the number is closed on a day
+abbrev pub is_closed_on : ℤ → List ℤ → Bool
+is_closed_on day closed = list_any (int_eq day) closed
+
 -- the rules that fit a call at these local minutes
-abbrev pub fitting : List ℕ → ℤ → List Rule → List Rule
-fitting calling minutes rules = filter (fits calling (weekday_of minutes) (minute_of_day minutes)) rules
+abbrev pub fitting : List ℕ → ℤ → Rules → List Rule
+fitting calling minutes record_of =
+    if is_closed_on (day_of minutes) record_of.closed then []
+    else filter (fits calling (weekday_of minutes) (minute_of_day minutes)) record_of.rules
 
 -- the rule of a record for a call: the calling digits, none where there is no calling number, the moment in
 -- milliseconds and the birth
 abbrev pub choice : Rules → List ℕ → ℕ → ℕ → Option Rule
 choice record_of calling moment birth =
-    by_share birth (most_exact (fitting calling (local_minutes moment record_of.offset) record_of.rules))
+    by_share birth (most_exact (fitting calling (local_minutes moment record_of.offset) record_of))

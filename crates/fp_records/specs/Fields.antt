@@ -1,4 +1,4 @@
--- The rule that the fields of a record are, or what is first wrong with them. A record has these fields, and behind
+-- The rule that the fields of a record are, or what is first wrong with them. A record has these fields, and after
 -- them its destinations:
 --
 --     0 number   1 prefix   2 days   3 from   4 to   5 weight   6 action   7.. destinations
@@ -75,7 +75,7 @@ takes (Some verb.Pass) count = count == 7
 abbrev pub has_count : List (List ℕ) → Bool
 has_count fields = takes (read_at 6 verb_of fields) (length fields)
 
--- the fields behind the action are destinations
+-- the fields after the action are destinations
 abbrev pub are_destinations : List (List ℕ) → Bool
 are_destinations fields = list_all (λ text. is_some (some_digits_of text)) (drop 7 fields)
 

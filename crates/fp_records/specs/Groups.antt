@@ -1,5 +1,5 @@
 -- The rules of a file by their numbers, while it is read.
-use Rattle.std.specs.Prelude.{◌≡◌, ℕ, ℤ, ◌+◌, ◌≤◌, List, [], ◌∷◌, ◌++◌, Bool, true, ◌&&◌, Option, Some, None, Result, Ok, Err, bytes_eq, length, nat_lt, nat_le, if◌then◌else◌}
+use Rattle.std.specs.Prelude.{◌≡◌, ℕ, ℤ, ◌+◌, ◌≤◌, List, [], ◌∷◌, ◌++◌, Bool, true, ◌&&◌, Option, Some, None, bytes_eq, length, nat_lt, nat_le, if◌then◌else◌}
 use Rattle.std.specs.List.{list_all}
 use Rattle.std.specs.Option.{unwrap_or}
 use Rattle.std.specs.List.Sorted.{IsStrictlySortedBy}
@@ -8,13 +8,8 @@ use Rattle.std.specs.Ordering.{nat_cmp}
 use Rattle.std.specs.Map.{keys_of, lookup}
 use Rattle.fp_records.specs.Choice.{Rules}
 use Rattle.fp_records.specs.Digits.{is_decimal}
-use Rattle.fp_records.specs.Fields.{numbered_in}
-use Rattle.fp_records.specs.Steps.{and_then}
-use Rattle.fp_records.specs.File.{AreRules, FirstRefused, rules_of}
-use Rattle.fp_records.specs.declared.fault.Reason.{Reason}
-use Rattle.fp_records.specs.declared.fault.Reason.TheVariants.{TooMany}
-use Rattle.fp_records.specs.declared.fault.RecordsFault.{RecordsFault}
-use Rattle.fp_records.specs.declared.fault.RecordsFault.TheVariants.{Record, Memory}
+use Rattle.fp_records.specs.Closings.{at_number}
+use Rattle.fp_records.specs.File.{rules_of}
 use Rattle.fp_records.specs.declared.fields.NumberedRule.{NumberedRule}
 use Rattle.fp_records.specs.declared.rule.Rule.{Rule}
 
@@ -53,13 +48,6 @@ group_of digits grouped = unwrap_or (lookup (bytes_eq digits) grouped.groups) []
 abbrev pub has_room : Grouped → List ℕ → Bool
 has_room grouped digits = nat_lt grouped.count 100000 && nat_lt (length (group_of digits grouped)) 1000
 
--- the rule that a record is, where there is room for it
-abbrev pub with_room : Grouped → NumberedRule → Result NumberedRule Reason
-with_room grouped numbered = if has_room grouped numbered.number then Ok numbered else Err TooMany
-
-abbrev pub accepted : Grouped → List (List ℕ) → Result NumberedRule Reason
-accepted grouped fields = and_then (numbered_in fields) (with_room grouped)
-
 -- the old groups with one more rule
 pub record Adds (old : Grouped) (numbered : NumberedRule) (new : Grouped) : Type 0 where
   pub count : new.count ≡ old.count + 1
@@ -67,13 +55,6 @@ pub record Adds (old : Grouped) (numbered : NumberedRule) (new : Grouped) : Type
       ≡ (if bytes_eq digits numbered.number then Some (group_of numbered.number old ++ numbered.rule ∷ []) else lookup (bytes_eq digits) old.groups)
   pub once : IsStrictlySortedBy (slice_cmp nat_cmp) (keys_of new.groups)
 
--- the record of a number, with local time so many minutes east of UTC
-abbrev pub record_of_group : ℤ → List ℕ × List Rule → List ℕ × Rules
-record_of_group offset group = (group.0, record { offset = offset; rules = group.1 })
-
--- an answer to records that stand behind so many others of the text: their rules by their numbers, or the first that
--- is refused, want of memory aside
-abbrev pub Gathers : ℕ → List (List (List ℕ)) → Result Grouped RecordsFault → Type 0
-Gathers others rows (Ok grouped) = (rules : List NumberedRule) × AreRules rows rules × Groups rules grouped
-Gathers others rows (Err (Record at reason)) = FirstRefused others rows at reason
-Gathers others rows (Err Memory) = Unit {0}
+-- the record of a number, with local time this number of minutes east of UTC and the closed days of each number
+abbrev pub record_of_group : ℤ → List (List ℕ × List ℤ) → List ℕ × List Rule → List ℕ × Rules
+record_of_group offset closed group = (group.0, record { offset = offset; rules = group.1; closed = at_number group.0 closed })

@@ -1,9 +1,9 @@
--- The first record: `key`, the service key, and the minutes that local time is east of UTC.
+-- The head of a file: `key`, the service key, and the minutes that local time is east of UTC.
 use Rattle.std.specs.Prelude.{ℕ, ℤ, pos, neg_ℤ, List, [], ◌∷◌, Option, Some, None, drop, codes, option_map, slice_index, ◌==◌, if◌then◌else◌, bytes_eq}
 use Rattle.fp_records.specs.Number.{number_up_to}
 use Rattle.fp_records.specs.declared.head.Head.{Head}
 
--- minutes east of UTC: digits behind a `-` are minutes west
+-- minutes east of UTC: digits after a `-` are minutes west
 abbrev pub offset_of : List ℕ → Option ℤ
 offset_of text =
     if slice_index text 0 == 45 then option_map (λ west. neg_ℤ (pos west)) (number_up_to 720 (drop 1 text))

@@ -11,7 +11,7 @@ use Rattle.std.specs.declared.vec.Vec.{Vec}
 abbrev pub listed : {T A : Type 0} → List (List ℕ × Vec T A) → List (List ℕ × List T)
 listed entries = map (λ entry. (entry.0, entry.1.items)) entries
 
--- the entries with a value behind those at a number
+-- the entries with a value after those at a number
 abbrev pub with_value : {T : Type 0} → List (List ℕ × List T) → List ℕ → T → List (List ℕ × List T)
 with_value entries number value =
     insert_entry (slice_cmp nat_cmp) entries number (unwrap_or (lookup (bytes_eq number) entries) [] ++ value ∷ [])

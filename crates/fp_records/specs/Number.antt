@@ -3,7 +3,7 @@ use Rattle.std.specs.Prelude.{ℕ, ◌+◌, ◌-◌, ◌*◌, List, ◌&&◌, Op
 use Rattle.std.specs.Char.{is_ascii_digit}
 use Rattle.std.specs.List.{list_all}
 
--- the number that digits write behind those of n
+-- the number that digits write after those of n
 abbrev pub number_after : ℕ → List ℕ → ℕ
 number_after n text = fold (λ m octet. 10 * m + (octet - 48)) n text
 
@@ -11,7 +11,7 @@ number_after n text = fold (λ m octet. 10 * m + (octet - 48)) n text
 abbrev pub number_of : List ℕ → ℕ
 number_of text = number_after 0 text
 
--- the number of a text, where it is one or more digits and writes no more than `most`
+-- the number of a text, where it is one or more digits and writes at most `most`
 abbrev pub number_up_to : ℕ → List ℕ → Option ℕ
 number_up_to most text =
     if nat_lt 0 (length text) && (list_all is_ascii_digit text && nat_le (number_of text) most) then Some (number_of text) else None

@@ -1,4 +1,4 @@
--- That `==` tells exactly where two rules, or two records, say the same.
+-- That `==` says exactly whether two rules, or two records, say the same.
 use Rattle.std.specs.Prelude.{Bool, ◌&&◌, refl}
 use Rattle.std.specs.Cmp.{IsEquivalence, IsPartialEquivalence, decided, partial_equiv_from_equiv}
 use Rattle.std.specs.Cmp.Lexicographic.{pointwise}
@@ -48,14 +48,17 @@ exact_rule =
     (λ rule. refl)
     (of_both (of_list of_natural) (of_both (of_list of_bool) (of_both exact_window (of_both of_natural exact_action))))
 
--- the same offset, and the same rules in the same order
+-- the same offset, the same closed days, and the same rules in the same order
 abbrev pub same_record : Rules → Rules → Bool
-same_record a b = int_eq a.offset b.offset && pointwise same_rule a.rules b.rules
+same_record a b = int_eq a.offset b.offset && (pointwise int_eq a.closed b.closed && pointwise same_rule a.rules b.rules)
 
 pub exact_record : IsExact same_record
 exact_record =
-    of_struct (λ rules. (rules.offset, rules.rules)) (λ fields. record { offset = fields.0; rules = fields.1 }) (λ rules. refl)
-    (of_both of_integer (of_list exact_rule))
+    of_struct
+    (λ rules. (rules.offset, (rules.closed, rules.rules)))
+    (λ fields. record { offset = fields.0; closed = fields.1.0; rules = fields.1.1 })
+    (λ rules. refl)
+    (of_both of_integer (of_both (of_list of_integer) (of_list exact_rule)))
 
 pub same_record_equiv : IsEquivalence same_record
 same_record_equiv = decided same_record exact_record

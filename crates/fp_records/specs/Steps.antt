@@ -55,7 +55,7 @@ verb_in fields = field_by verb_of BadAction (field_at fields 6)
 abbrev pub destination_in : List (List ℕ) → ℕ → Result (List ℕ) Reason
 destination_in fields place = field_by some_digits_of BadDestination (field_at fields place)
 
--- one to four destinations, behind seven fields
+-- one to four destinations, after seven fields
 abbrev pub one_in : List (List ℕ) → Result Destinations Reason
 one_in fields = and_then (destination_in fields 7) (λ a. Ok (One (a ∷ [])))
 

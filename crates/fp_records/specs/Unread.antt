@@ -26,7 +26,7 @@ abbrev pub rows_left : Bool → Reader (Bor (List ℕ)) → List (List (List ℕ
 rows_left true reader = []
 rows_left false reader = rows_from reader.state (octets_left reader)
 
--- a reader stands between records, and the records before it with the octets that are left fit a size
+-- a reader is between records, and the records before it with the octets that are left fit a size
 pub record IsBetween (reader : Reader (Bor (List ℕ))) (place : ℕ) : Type 0 where
   pub trim : reader.trim ≡ trim.None
   pub ready : Ready reader

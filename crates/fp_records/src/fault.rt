@@ -9,7 +9,10 @@ use thiserror::Error;
 /// What is wrong with a record.
 #[derive(Clone, Copy, Debug, PartialEq, Eq, Error)]
 pub enum Reason {
-    /// The first record is not `key,SERVICEKEY,OFFSET`, or there is none.
+    /// The first record begins with `fprecords` and is not `fprecords,2`.
+    #[error("BadVersion")]
+    BadVersion,
+    /// The first record, or in version 2 the second, is not `key,SERVICEKEY,OFFSET`, or there is none.
     #[error("BadHead")]
     BadHead,
     /// A rule has fewer than seven fields, or as many destinations as its action does not take.
@@ -36,7 +39,12 @@ pub enum Reason {
     /// A destination is not 1 to 15 decimal digits.
     #[error("BadDestination")]
     BadDestination,
-    /// There are 100,000 rules, or 1,000 of this number, before it.
+    /// A closed day is not `closed,NUMBER,YYYY-MM-DD` with a number of 1 to 15 decimal digits and a date
+    /// of the calendar from 1969-12-31 to 2100-01-01.
+    #[error("BadClosed")]
+    BadClosed,
+    /// For a rule: there are 100,000 rules, or 1,000 of its number, before it. For a closed day: there are
+    /// 10,000 closed days before it.
     #[error("TooMany")]
     TooMany,
 }

@@ -8,16 +8,14 @@ ghost use Rattle.std.specs.Ordering.{nat_cmp};
 ghost use Rattle.fp_records.specs.Digits.{is_decimal};
 ghost use Rattle.fp_records.specs.Listed.{listed, with_value};
 ghost use Rattle.std.specs.Arc.{arc_value};
-ghost use Rattle.csv.specs.Records.{fields_of};
 ghost use Rattle.fp_records.specs.declared.fault.RecordsFault.TheVariants.{Memory};
 
+use crate::closed_days::ClosedDays;
 use crate::decimal_digits::DecimalDigits;
-use crate::fault::{Reason, RecordsFault};
-use crate::fields::{NumberedRule, numbered_in};
-use crate::reading::RecordReader;
+use crate::fault::RecordsFault;
+use crate::fields::NumberedRule;
 use crate::record::Record;
 use crate::rule::KeptRule;
-use csv::ByteRecord;
 use std::alloc::Global;
 use std::collections::BTreeMap;
 use std::marker::Model;
@@ -48,31 +46,11 @@ impl Model for Groups {
 }
 
 impl Groups {
-    ghost use Rattle.fp_records.specs.Groups.{Adds, Gathers, Groups as Holds, accepted, group_of, has_room, record_of_group};
+    ghost use Rattle.fp_records.specs.Groups.{Adds, Groups as Holds, group_of, has_room, record_of_group};
     ghost use Rattle.fp_records.specs.Table.{IsKept};
 
-    /// The rules of the records that are left, or the first of their faults. Each record is read
-    /// into the same row.
-    pub(crate) fn read(
-        alloc: Global,
-        records: &mut RecordReader<'_>,
-        row: &mut ByteRecord,
-    ) -> Result<Groups, RecordsFault>
-        ensures { Gathers records.old.place records.old.rows result }
-    {
-        let mut groups = Groups::new(alloc);
-        while let Some(at) = records.read(row)? {
-            let numbered = match groups.accepted(row) {
-                Ok(numbered) => numbered,
-                Err(reason) => return Err(RecordsFault::Record { at, reason }),
-            };
-            groups.add(alloc, &numbered)?;
-        }
-        Ok(groups)
-    }
-
     /// No rules.
-    fn new(alloc: Global) -> Groups
+    pub(crate) fn new(alloc: Global) -> Groups
         ensures { Holds [] result }
     {
         Groups {
@@ -89,22 +67,8 @@ impl Groups {
         self.count
     }
 
-    /// The rule that a record is, where there is room for it.
-    fn accepted(&self, row: &ByteRecord) -> Result<NumberedRule, Reason>
-        ensures value { result ≡ accepted self.now (fields_of row.now) }
-        ensures room { IfOk result (λ numbered. IsTrue (has_room self.now numbered.number)) }
-        ensures decimal { IfOk result (λ numbered. IsTrue (is_decimal numbered.number)) }
-    {
-        let numbered = numbered_in(row)?;
-        if self.has_room(&numbered.number) {
-            Ok(numbered)
-        } else {
-            Err(Reason::TooMany)
-        }
-    }
-
     /// Whether a rule of this number is within the limits.
-    fn has_room(&self, number: &DecimalDigits) -> bool
+    pub(crate) fn has_room(&self, number: &DecimalDigits) -> bool
         ensures { result ≡ has_room self.now number.now }
     {
         self.count < MOST_RULES && self.count_of(number) < MOST_OF_NUMBER
@@ -121,7 +85,7 @@ impl Groups {
     }
 
     /// Puts a rule after those of its number, for which there is room.
-    fn add(&mut self, alloc: Global, numbered: &NumberedRule) -> Result<(), RecordsFault>
+    pub(crate) fn add(&mut self, alloc: Global, numbered: &NumberedRule) -> Result<(), RecordsFault>
         requires room { IsTrue (has_room self.old numbered.now.number) }
         requires decimal { IsTrue (is_decimal numbered.now.number) }
         ensures added { OnOk result (Adds self.old numbered.now self.new) }
@@ -137,21 +101,23 @@ impl Groups {
         Ok(())
     }
 
-    /// The record of each number, with local time this number of minutes east of UTC.
+    /// The record of each number, with its closed days, and local time this number of minutes east of UTC.
     pub(crate) fn into_records(
         self,
         alloc: Global,
         offset: i16,
+        closed: &ClosedDays,
     ) -> Result<BTreeMap<DecimalDigits, Arc<Record>>, RecordsFault>
         requires west { neg_ℤ (pos 720) ≤ℤ offset }
         requires east { offset ≤ℤ pos 840 }
-        ensures records { IfOk result (λ records. map (λ e. (e.0, arc_value e.1)) records.entries ≡ map (record_of_group offset) self.groups) }
+        ensures records { IfOk result (λ records. map (λ e. (e.0, arc_value e.1)) records.entries ≡ map (record_of_group offset closed.now.days) self.groups) }
         ensures kept { IfOk result (λ records. IsKept (map (λ e. (e.0, arc_value e.1)) records.entries)) }
         ensures fault { IfErr result (λ fault. fault ≡ Memory) }
     {
         let mut records = BTreeMap::new(alloc);
         for (number, rules) in self.groups {
-            let record = Arc::new(alloc, Record::new(offset, rules))?;
+            let days = closed.of(alloc, &number)?;
+            let record = Arc::new(alloc, Record::new(offset, rules, days))?;
             // A number is in the groups once, so no record is replaced.
             drop(records.insert(number, record)?);
         }

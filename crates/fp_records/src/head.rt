@@ -1,10 +1,11 @@
-//! The first record, `key,SERVICEKEY,OFFSET`.
+//! The head of a file, `key,SERVICEKEY,OFFSET`.
 
-ghost use Rattle.std.specs.Prelude.{◌≡◌, ◌≢◌, ◌≤ℤ◌, pos, neg_ℤ, [], ◌∷◌, IfSome, MatchOption, length};
+ghost use Rattle.std.specs.Prelude.{◌≡◌, ◌≤ℤ◌, pos, neg_ℤ, IfSome};
 ghost use Rattle.csv.specs.Records.{fields_of};
 ghost use Rattle.fp_records.specs.Head.{head_of, offset_of};
 
 use crate::number::number_up_to;
+use crate::row::three_fields;
 use csv::ByteRecord;
 
 /// The highest service key.
@@ -16,7 +17,7 @@ const MOST_WEST: u64 = 720;
 /// The most minutes that local time is east of UTC.
 const MOST_EAST: u64 = 840;
 
-/// What the first record says.
+/// What the head says.
 #[derive(Clone, Copy, PartialEq, Eq)]
 pub(crate) struct Head {
     /// The service key.
@@ -41,26 +42,6 @@ fn offset_of(text: &[u8]) -> Option<i16>
             Some(east as i16)
         }
     }
-}
-
-/// The fields of a record that has three.
-#[tactic(auto, using(crate::proofs::Places::field_within, crate::proofs::Places::three))]
-fn three_fields(row: &ByteRecord) -> Option<(&[u8], &[u8], &[u8])>
-    ensures { MatchOption result (length (fields_of row.now) ≢ 3) (λ fields. fields_of row.now ≡ fields.0.now ∷ fields.1.now ∷ fields.2.now ∷ []) }
-{
-    if row.len() != 3 {
-        return None;
-    }
-    let Some(first) = row.get(0) else {
-        return None;
-    };
-    let Some(second) = row.get(1) else {
-        return None;
-    };
-    let Some(third) = row.get(2) else {
-        return None;
-    };
-    Some((first, second, third))
 }
 
 /// The head that a record is, if it is one.

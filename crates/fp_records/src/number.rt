@@ -3,7 +3,7 @@
 ghost use Rattle.std.specs.Prelude.{◌≡◌, ◌<◌, ◌≤◌, IfSome};
 ghost use Rattle.fp_records.specs.Number.{number_up_to};
 
-/// The number that a text of decimal digits writes, if it is such a text and writes no more than
+/// The number that a text of decimal digits writes, if it is such a text and writes at most
 /// `most`. Leading zeros are fine, however many.
 #[tactic(auto, using(crate::proofs::Digits::up_to_steps))]
 pub(crate) fn number_up_to(most: u64, text: &[u8]) -> Option<u64>

@@ -47,6 +47,13 @@ impl<'a> RecordReader<'a> {
         }
     }
 
+    /// How many records were read.
+    pub(crate) fn place(&self) -> usize
+        ensures { result ≡ self.now.place }
+    {
+        self.place
+    }
+
     /// Reads the next record into a row, and gives its place in the text, or `None` where no record
     /// is left. The first record is 1, and empty lines are no records.
     pub(crate) fn read(&mut self, row: &mut ByteRecord) -> Result<Option<usize>, RecordsFault>

@@ -9,14 +9,16 @@ use crate::call::Call;
 use crate::local_time::local_time;
 use crate::rule::{KeptRule, Rule};
 use fp_digits::{Moment, Number};
+use std::collections::BTreeSet;
 use std::marker::Model;
 
-/// The rules of one number, at least one and at most 1,000, in the order of the file. Contracts see
-/// it as its `Rules`.
+/// The rules of one number, at least one and at most 1,000, in the order of the file, and the days on which
+/// it is closed. Contracts see it as its `Rules`.
 #[derive(Debug, Drop)]
 pub struct Record {
     offset: i16,
     rules: Vec<KeptRule>,
+    closed: BTreeSet<i32>,
 }
 
 impl Model for Record {
@@ -24,14 +26,14 @@ impl Model for Record {
 
     ghost Value = { Rules };
 
-    ghost view = { λ record_of. record { offset = record_of.offset; rules = record_of.rules.items } };
+    ghost view = { λ record_of. record { offset = record_of.offset; rules = record_of.rules.items; closed = record_of.closed.keys } };
 
-    ghost invariant = { λ record_of. IsRules (record { offset = record_of.offset; rules = record_of.rules.items }) };
+    ghost invariant = { λ record_of. IsRules (record { offset = record_of.offset; rules = record_of.rules.items; closed = record_of.closed.keys }) };
 }
 
-/// Two are equal exactly where they say the same: the same offset, and the same rules in the same order
-/// (`exact_record` of `specs/Same.antt`). Comparing takes no memory, and at most as many steps as
-/// there are rules.
+/// Two are equal exactly if they say the same: the same offset, the same closed days, and the same rules in
+/// the same order (`exact_record` of `specs/Same.antt`). Comparing takes no memory, and at most as many steps
+/// as there are closed days and rules.
 impl PartialEq for Record {
     ghost use Rattle.fp_records.specs.Same.{same_record, same_record_per};
 
@@ -40,7 +42,9 @@ impl PartialEq for Record {
     ghost laws = { same_record_per };
 
     fn eq(&self, other: &Self) -> bool {
-        self.offset == other.offset && self.rules.as_slice() == other.rules.as_slice()
+        self.offset == other.offset
+            && self.closed == other.closed
+            && self.rules.as_slice() == other.rules.as_slice()
     }
 }
 
@@ -58,12 +62,17 @@ struct Share {
 }
 
 impl Record {
-    /// The record of these rules, at most 1,000, with local time this number of minutes east of UTC.
-    pub(crate) fn new(offset: i16, rules: Vec<KeptRule>) -> Record
-        requires { IsRules (record { offset = offset; rules = rules.items }) }
-        ensures { result ≡ record { offset = offset; rules = rules.items } }
+    /// The record of these rules, at most 1,000, with local time this number of minutes east of UTC, and
+    /// closed on these days.
+    pub(crate) fn new(offset: i16, rules: Vec<KeptRule>, closed: BTreeSet<i32>) -> Record
+        requires { IsRules (record { offset = offset; rules = rules.items; closed = closed.keys }) }
+        ensures { result ≡ record { offset = offset; rules = rules.items; closed = closed.keys } }
     {
-        Record { offset, rules }
+        Record {
+            offset,
+            rules,
+            closed,
+        }
     }
 
     /// The rule of a number that has just one, and `None` where it has more.
@@ -83,17 +92,21 @@ impl Record {
 
     /// The rule that a call gets, `None` where no rule fits.
     ///
-    /// A rule fits when its prefix begins the calling digits (where there is no calling number, only
-    /// the empty prefix does), its days have the weekday and its window holds the minute of the
-    /// moment, both in local time. Of the rules that fit those of the longest prefix are kept, in the
-    /// file's order. With weights `w1..wk` of sum `W`, the first of them with
-    /// `w1 + .. + wi > birth mod W` is the choice.
+    /// On a day on which the number is closed, by local time, no rule fits. Otherwise a rule fits when its
+    /// prefix begins the calling digits (if there is no calling number, only the empty prefix does), its
+    /// days have the weekday and its window holds the minute of the moment, both in local time. Of the
+    /// rules that fit those of the longest prefix are kept, in the file's order. With weights `w1..wk` of sum
+    /// `W`, the first of them with `w1 + .. + wi > birth mod W` is the choice.
     pub fn choose(&self, calling: Option<&Number>, moment: Moment, birth: u64) -> Option<&Rule>
         ensures { option_map (λ rule. rule.now) result ≡ choice self.now (calling_digits calling.entry) moment birth }
     {
+        let time = local_time(moment, self.offset);
+        if self.closed.contains(&time.day) {
+            return None;
+        }
         let call = Call {
             calling: calling_digits(calling),
-            time: local_time(moment, self.offset),
+            time,
         };
         chosen(self.rules.as_slice(), &call, birth)
     }

@@ -6,10 +6,11 @@ ghost use Rattle.fp_records.specs.declared.fault.Reason.{Reason};
 
 use crate::decimal_digits::DecimalDigits;
 use crate::fault::{Reason, RecordsFault};
-use crate::groups::Groups;
+use crate::gathering::Gathering;
 use crate::head::head_of;
 use crate::reading::RecordReader;
 use crate::record::Record;
+use crate::version::read_start;
 use csv::ByteRecord;
 use fp_digits::Number;
 use std::alloc::Global;
@@ -23,6 +24,7 @@ pub struct Table {
     index: u16,
     key: u32,
     rule_count: u32,
+    closed_count: u32,
     records: BTreeMap<DecimalDigits, Arc<Record>>,
 }
 
@@ -37,6 +39,7 @@ impl Model for Table {
       index = table.index;
       key = table.key;
       rule_count = table.rule_count;
+      closed_count = table.closed_count;
       records = map (λ e. (e.0, arc_value e.1)) table.records.entries;
     } };
 
@@ -53,12 +56,24 @@ impl Table {
 
     /// Reads the text of a records file, as the first table of a run, whose index is 0.
     ///
+    /// A text whose first field is `fprecords` is of version 2: record 1 is `fprecords,2`, record 2 its head,
+    /// and each other record a rule or, if it begins with `closed`, a closed day. Another text is of version
+    /// 1: record 1 is its head, and each other record a rule.
+    ///
     /// The fault is the first one from the top, by the number of its record (the first is 1, and empty
-    /// lines are no records) and the first reason that fits it: `BadHead` where record 1 is not
-    /// `key,SERVICEKEY,OFFSET` (0 to 2147483647, and -720 to 840) or the text has no record, and for
-    /// each other record what is wrong with its fields from left to right as far as they are there,
-    /// `FieldCount` after the action, `BadDestination`, and `TooMany` where 100,000 rules or 1,000 of
-    /// its number come before it. Out of memory is `Memory`. No table is left then.
+    /// lines are no records) and the first reason that fits it:
+    ///
+    /// - `BadVersion`: record 1 begins with `fprecords` and is not `fprecords,2`.
+    /// - `BadHead`: the head is not `key,SERVICEKEY,OFFSET` (0 to 2147483647, and -720 to 840), or there is
+    ///   none.
+    /// - For a rule, what is wrong with its fields from left to right as far as they are there, `FieldCount`
+    ///   after the action, `BadDestination`, and `TooMany` if 100,000 rules or 1,000 of its number come
+    ///   before it.
+    /// - For a closed day, `BadClosed` if it has not three fields, its number is not 1 to 15 decimal digits,
+    ///   or its date is none of the calendar from 1969-12-31 to 2100-01-01, and `TooMany` if 10,000 closed
+    ///   days come before it.
+    ///
+    /// Out of memory is `Memory`. No table is left after a fault.
     pub fn read(alloc: Global, text: &[u8]) -> Result<Table, RecordsFault>
         ensures answer { Reads result (records_of text.now) }
         ensures file { (file : File) → IsFile (records_of text.now) file → MatchResult result (λ table. IsTable file table) (λ fault. fault ≡ RecordsFault.Memory) }
@@ -73,24 +88,21 @@ impl Table {
     {
         let mut records = RecordReader::new(alloc, text);
         let mut row = ByteRecord::new(alloc);
-        let Some(_) = records.read(&mut row)? else {
-            return Err(RecordsFault::Record {
-                at: 1,
-                reason: Reason::BadHead,
-            });
-        };
+        let version = read_start(&mut records, &mut row)?;
         let Some(head) = head_of(&row) else {
             return Err(RecordsFault::Record {
-                at: 1,
+                at: records.place(),
                 reason: Reason::BadHead,
             });
         };
-        let groups = Groups::read(alloc, &mut records, &mut row)?;
+        let gathering = Gathering::read(alloc, version, &mut records, &mut row)?;
+        let Gathering { rules, closed } = gathering;
         Ok(Table {
             index: 0,
             key: head.key,
-            rule_count: groups.count() as u32,
-            records: groups.into_records(alloc, head.offset)?,
+            rule_count: rules.count() as u32,
+            closed_count: closed.count() as u32,
+            records: rules.into_records(alloc, head.offset, &closed)?,
         })
     }
 
@@ -116,6 +128,14 @@ impl Table {
         ensures rules { result.1 ≡ self.now.rule_count }
     {
         (self.records.len() as u32, self.rule_count)
+    }
+
+    /// How many records of closed days there are: also those of numbers without rules, and each of several
+    /// that name the same day. Takes no memory.
+    pub fn closed(&self) -> u32
+        ensures { result ≡ self.now.closed_count }
+    {
+        self.closed_count
     }
 
     /// The service key that the records are for.

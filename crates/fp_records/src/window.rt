@@ -1,6 +1,6 @@
 //! The window of the day in which a rule holds.
 
-ghost use Rattle.std.specs.Prelude.{◌≡◌, ◌<◌, ◌≤◌};
+ghost use Rattle.std.specs.Prelude.{◌≡◌, ◌<◌, ◌≤◌, IfSome};
 ghost use Rattle.fp_records.specs.Window.{holds_minute, minute_at, period_between, time_of, two_digits};
 
 use std::marker::Model;
@@ -74,8 +74,9 @@ impl Window {
 }
 
 /// The number that two decimal digits write.
-fn two_digits(tens: u8, ones: u8) -> Option<u16>
-    ensures { result ≡ two_digits tens ones }
+pub(crate) fn two_digits(tens: u8, ones: u8) -> Option<u16>
+    ensures value { result ≡ two_digits tens ones }
+    ensures below { IfSome result (λ number. number < 100) }
 {
     if tens.is_ascii_digit() && ones.is_ascii_digit() {
         Some(10 * u16::from(tens - b'0') + u16::from(ones - b'0'))

@@ -158,7 +158,7 @@ decided_as p all s q same = subst (λ q. verdict s q ≡ first_that_fits (seven_
 
 -- one that wasn't read is prepared so by the first table, whatever its records are
 abbrev pub no_records : Contents
-no_records = record { index = 0; key = 0; rule_count = 0; records = [] }
+no_records = record { index = 0; key = 0; rule_count = 0; closed_count = 0; records = [] }
 
 pub lost_prepared : (contexts : List (List ℕ)) (octets : List ℕ) (moment : ℕ) (p : Prepared) → IsLost octets moment p → IsPrepared no_records contexts octets moment p
 lost_prepared contexts octets moment (Prepared.Lost arrival) is = record { is_arrival = is.0; by_table = is.1; is_reading = tt }

@@ -18,7 +18,7 @@ pub use Rattle.fp_book.proofs.Queue.{count-append, count-cons, count_without_oth
 pub use Rattle.fp_book.proofs.Sums.{OneChanges, Rows, amount, get-removed, inserted, kept, left_of, len-sum, removed, sum-le, sum-none, sum-remove}
 pub use Rattle.fp_book.proofs.Tells.{BeginsAnew, Tells, followed_log, names_by, unnamed_by, verdict_tells}
 pub use Rattle.fp_book.proofs.Turns.{frames_at}
-pub use Rattle.fp_book.specs.Calls.{Answers, ClocksAt, ClosesAt, ClosesOne, ComesFirst, Discards, Due, EndsDialogue, ExtendsDialogue, Follows, GivesDone, GoesDown, IsDue, OpensDialogue, PicksParcel, PutsTurnBack, Refuses, Sends, TakesTurn, Ticks, Unsends, abort_for, due_at, entries_in, given_of, is_idle, joins, more_accepted, posted_line, posted_totals, turn_of, waiting_in, without}
+pub use Rattle.fp_book.specs.Calls.{Answers, ClocksAt, ClosesOne, ComesFirst, Discards, Due, EndsDialogue, ExtendsDialogue, Follows, GivesDone, GoesDown, IsDue, OpensDialogue, PicksParcel, PutsTurnBack, Refuses, Sends, TakesTurn, Ticks, Unsends, abort_for, due_at, entries_in, given_of, is_idle, joins, more_accepted, posted_line, posted_totals, turn_of, waiting_in, without}
 pub use Rattle.fp_book.specs.Lines.{SevenLinesDecide, admitted, first_lines, first_that_fits, going_on, is_begin, is_full as book_is_full, is_lost, last_lines, named as named_in, number_of, seven_lines, unserved_in, verdict}
 pub use Rattle.fp_book.specs.Log.{logged as book_logged}
 pub use Rattle.fp_book.specs.Outbox.{IsNext as BookNext, Outbox, being_sent, is_of_other, nothing, places_out, unsent_frames, waiting_frames}
@@ -53,6 +53,7 @@ pub use Rattle.fp_row.proofs.Keeping.{IsOut, known_turn}
 pub use Rattle.fp_row.proofs.Waiting.{waiting_ready}
 pub use Rattle.fp_row.specs.Calls.{Ends, Extends, IsSame, ended_by, frames_in, requested_of}
 pub use Rattle.fp_row.specs.Laws.{KeepsOrder, RowsKeepTheirOrder}
+pub use Rattle.fp_row.specs.Rows.{ClosesAt}
 pub use Rattle.fp_row.specs.Row.{entries_out as row_entries_out, frames_of, has_clock, is_admitted, is_closed, is_due as row_is_due, is_held, is_ready as row_is_ready, kept_of, queued_of, requests_of, sent_of, served_of, start_of, turn_of as row_turn_of, turn_out as row_turn, unserved as row_unserved, waits as row_waits}
 pub use Rattle.fp_row.specs.Turn.{birth_of as turn_birth, frames_for as turn_frames, frames_under, most_entries, served_in as turn_served}
 pub use Rattle.fp_row.specs.declared.done.Done.{Done}

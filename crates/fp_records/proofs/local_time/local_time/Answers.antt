@@ -1,7 +1,7 @@
-use Rattle.std.proofs.Common.{◌≡◌, ◌+◌, ◌*◌, pos, ◌*ℤ◌, arith, sym, ap, ◌∙◌}
-use Rattle.std.proofs.lemmas.Int.{ints}
+use Rattle.std.proofs.Common.{◌≡◌, ◌+◌, ◌*◌, FitsSigned, w32, pos, ◌*ℤ◌, arith, rules, sym, ap, ◌∙◌}
+use Rattle.std.proofs.lemmas.Int.{ints, to_z-of_z}
 use Rattle.std.proofs.lemmas.Result.{IfOk-at_ok}
-use Rattle.fp_records.proofs.Calendar.{Shows, shown-minute, shown-weekday}
+use Rattle.fp_records.proofs.Calendar.{Shows, shown-day, shown-minute, shown-weekday}
 use Rattle.fp_records.proofs.local_time.local_time.Goals as goal
 
 shows : (c : goal.After-from-3) → Shows c.args.moment c.args.offset c.to_datetime-local.result
@@ -21,3 +21,9 @@ returns-clause-minute c =
 pub returns-clause-weekday : goal.returns-clause-weekday
 returns-clause-weekday c =
     ap (λ n. n + 1) c.weekday.ensures ∙ sym (shown-weekday c.args.moment c.args.offset c.to_datetime-local.result (shows c))
+
+pub returns-clause-day : goal.returns-clause-day
+returns-clause-day c =
+    let plain = rw (c.to_plain.ensures, c.date.ensures) at c.to_unix_epoch_day.ensures.value in
+    let fits : FitsSigned w32 c.to_unix_epoch_day.result = search rules in
+    to_z-of_z w32 c.to_unix_epoch_day.result fits ∙ plain ∙ sym (shown-day c.args.moment c.args.offset c.to_datetime-local.result (shows c))

@@ -41,7 +41,7 @@ loop-number-preserved c =
     record {
       west = inv.west;
       east = inv.east;
-      so_far = rw (c.in_ok-insert.ensures.entries, entries, last, append_assoc, shared) so_far;
+      so_far = rw (c.in_ok-insert.ensures.entries, entries, last, append_assoc, shared, c.in_ok-days.ensures.days) so_far;
       once = rw (c.in_ok-insert.ensures.entries, entries, last, map-append (λ e. e.0) (seen (λ a. arc_value a) c.loop-number.records.entries) ((c.in-Some.number, arc_value c.in_ok-record.record) ∷ []), append_assoc) once;
       short = (few-parts (c.in-Some.number, c.in-Some.rules.items) (listed c.next.new.self) (rw rest at inv.short)).2;
       decimal = second_so _ _ (rw rest at inv.decimal);

@@ -15,7 +15,7 @@ abbrev pub invariant-loop-number : goal.invariant-loop-number
 invariant-loop-number l = record {
   west : neg_ℤ (pos 720) ≤ℤ l.offset;
   east : l.offset ≤ℤ pos 840;
-  so_far : seen (λ shared. arc_value shared) l.records.entries ++ map (record_of_group l.offset) (listed l.number-iterator) ≡ map (record_of_group l.offset) l.fn.self.groups;
+  so_far : seen (λ shared. arc_value shared) l.records.entries ++ map (record_of_group l.offset l.closed.days) (listed l.number-iterator) ≡ map (record_of_group l.offset l.closed.days) l.fn.self.groups;
   once : IsStrictlySortedBy (slice_cmp nat_cmp) (keys_of (seen (λ shared. arc_value shared) l.records.entries) ++ keys_of (listed l.number-iterator));
   short : list_all (λ group. few group.1) (listed l.number-iterator) ≡ true;
   decimal : list_all (λ group. is_decimal group.0) (listed l.number-iterator) ≡ true;
