@@ -1,7 +1,7 @@
 //! Files of records: what they hold, what is wrong with them, and the rule that a call gets.
 //!
-//! A FILE is parts that stand one after the other, none or more of them: `TEXT`, `COUNT*TEXT`, which is the text so
-//! many times, or `FIRST..LAST*COUNT*TEXT`, which is the same for each number from the first to the last one, with the
+//! A FILE is parts one after the other, none or more of them: `TEXT`, `COUNT*TEXT`, which is the text that number
+//! of times, or `FIRST..LAST*COUNT*TEXT`, which is the same for each number from the first to the last one, with the
 //! number before each text. In a text `\n`, `\r`, `\s` (a blank) and `\xHH` stand for an octet.
 //!
 //! DIGITS are hexadecimal, or `empty`. CALLING is the digits of a calling number, or `none` if there is none. A
@@ -9,7 +9,8 @@
 //!
 //! | Case | What it gives |
 //! |---|---|
-//! | `file FILE` | the service key, and how many numbers and rules there are, or the fault; the next cases are about this file |
+//! | `file FILE` | the key, and the numbers of numbers, rules and, if there are any, closed days, or the fault; the next cases use it |
+//! | `migrate FILE` | what a vector with the octet `>` has after the migration, as the text of a part, and then the fault if any |
 //! | `other-file FILE` | the same for a second file, for `same-record` |
 //! | `find NATURE DIGITS` | the record of a called number, `national` or `international`: its rule if it has just one, else `several rules`; or `no record` |
 //! | `choose CALLED CALLING MOMENT BIRTH` | the rule that a call gets, or `no rule`, or `no record` |
@@ -23,14 +24,14 @@ mod files;
 mod only;
 mod rules;
 
-use crate::records::files::file_of;
+use crate::records::files::{file_of, push_part_text};
 use crate::records::rules::push_rule;
 use crate::texts::{push_digits, push_text};
 use crate::values::{national_number_of, number_of};
 use anyhow::bail;
 use cases::first_word;
 use fp_digits::{Moment, NatureOfAddress, Number};
-use fp_records::{Action, Destinations, Record, RecordsFault, Table};
+use fp_records::{Action, Destinations, Record, RecordsFault, Table, migrate};
 use jiff::Timestamp;
 pub(crate) use only::{only_rule, routed_to};
 pub(crate) use rules::push_destinations;
@@ -63,6 +64,7 @@ impl Scene {
         let written = match kind {
             "file" => read(alloc, &mut self.file, rest, out),
             "other-file" => read(alloc, &mut self.other_file, rest, out),
+            "migrate" => migrate_file(alloc, rest, out),
             "find" => find(&self.file, rest, out),
             "choose" => choose(&self.file, rest, out),
             "holds" => holds(&self.file, rest, out),
@@ -95,6 +97,22 @@ fn read(
     }
 }
 
+/// Writes what a file is migrated to, after an octet that was there before.
+fn migrate_file(alloc: Global, text: &str, out: &mut String) -> anyhow::Result<()> {
+    let file = file_of(alloc, text)?;
+    let mut migrated = Vec::new(alloc);
+    migrated.push(b'>')?;
+    let result = migrate(alloc, file.as_slice(), &mut migrated);
+    push_part_text(out, migrated.as_slice())?;
+    match result {
+        Ok(()) => Ok(()),
+        Err(fault) => {
+            out.push(' ')?;
+            push_fault(fault, out)
+        }
+    }
+}
+
 /// Writes what is wrong with a file.
 fn push_fault(fault: RecordsFault, out: &mut String) -> anyhow::Result<()> {
     write!(out, "{fault}")?;
@@ -106,7 +124,10 @@ fn push_counts(place: &Option<Table>, out: &mut String) -> anyhow::Result<()> {
     let table = table_in(place)?;
     let (numbers, rules) = table.counts();
     write!(out, "key {}, numbers {numbers}, rules {rules}", table.key())?;
-    Ok(())
+    match table.closed() {
+        0 => Ok(()),
+        closed => Ok(write!(out, ", closed {closed}")?),
+    }
 }
 
 /// The table of the file that was read.

@@ -8,11 +8,11 @@
 //! | `get LOCAL` | the birth of the dialogue under this identifier, or `none` |
 //! | `remove LOCAL` | it is removed: its birth, or `none` |
 //! | `count` | how many there are |
-//! | `after LOCAL`, `first` | the least identifier above this one, or of all, or `none` |
-//! | `walk` | from the first to the last by `after`: how many, and whether each was one more than the one before |
+//! | `found COUNT` | under how many of the identifiers of `fill COUNT` the dialogue of that birth is |
+//! | `close` | all are closed, while no frame is being sent: how many are left |
 
 use crate::script::{Steps, play};
-use crate::texts::{local_of, moment_after, push_local, push_text};
+use crate::texts::{local_of, moment_after, push_text};
 use anyhow::bail;
 use cases::first_word;
 use fp_q773::Tid;
@@ -87,24 +87,24 @@ impl Register {
         self.push_count(out)
     }
 
-    /// Walks from the first to the last, and writes what it comes by.
-    fn walk(&self, out: &mut String) -> anyhow::Result<()> {
-        let mut last = None;
-        let mut count: u32 = 0;
-        let mut rises = true;
-        for _ in 0..=self.rows.len() {
-            let Some(local) = self.rows.after(last) else {
-                break;
-            };
-            if let Some(before) = last {
-                rises = rises && local.checked_sub(before) == Some(1);
+    /// Writes under how many identifiers the dialogue is that was put there.
+    fn push_found(&self, count: &str, out: &mut String) -> anyhow::Result<()> {
+        let count: u16 = count.parse()?;
+        let mut found: u32 = 0;
+        for index in 0..count {
+            let birth = self.rows.get(FIRST + u32::from(index)).map(Row::birth);
+            if birth == Some(u64::from(index) + 1) {
+                found = found.saturating_add(1);
             }
-            count = count.saturating_add(1);
-            last = Some(local);
         }
-        let order = if rises { "one by one" } else { "with gaps" };
-        write!(out, "{count} {order}")?;
+        write!(out, "{found}")?;
         Ok(())
+    }
+
+    /// Closes all.
+    fn close(&mut self, out: &mut String) -> anyhow::Result<()> {
+        self.rows.close_all(None);
+        self.push_count(out)
     }
 
     /// A step about one dialogue.
@@ -113,7 +113,6 @@ impl Register {
         match verb {
             "get" => push_birth(out, self.rows.get(local).map(Row::birth)),
             "remove" => push_birth(out, self.rows.remove(local).map(|row| row.birth())),
-            "after" => push_local(out, self.rows.after(Some(local))),
             _ => bail!("no step: {verb}"),
         }
     }
@@ -124,8 +123,8 @@ impl Steps for Register {
         let (verb, rest) = first_word(step);
         match verb {
             "put" => self.put_of(rest, out),
-            "walk" => self.walk(out),
-            "first" => push_local(out, self.rows.after(None)),
+            "found" => self.push_found(rest, out),
+            "close" => self.close(out),
             "count" => self.push_count(out),
             "fill" => self.fill(rest, out),
             "empty" => self.empty(rest, out),

@@ -1,10 +1,11 @@
 -- Where dialogues are ended: what of one of them is dropped, and how all of them are closed.
-use Rattle.fp_book.proofs.Names.{AreTimed, Bool, Closed, Closes, ClosesAt, Content, Dropped, Drops, Ending, Ends, EndsAt, Entry, Extends, IsAbove, IsAfter, List, None, Option, Outbox, Row, SendsOne, Shelf, Some, Sound, Waiting, [], ap, arith, cases_Bool, cond, deadline_at, drops_frames, eqb, false, false≢true, frame_out, frames_for, is_frame_of, is_ready, is_some, is_unsent, kept_of, length, length-append, ltb-false, min, nat_cmp, nat_lt, nat_tests, nil_from_length, one_if, refl, sending, sent_of, subst, sym, true, unsent_for, without, without_frames_of, ℕ, ⊎_elim, ⊤, ◌&&◌, ◌++◌, ◌+◌, ◌-◌, ◌<◌, ◌^◌, ◌∙◌, ◌∷◌, ◌≡◌, ◌≤◌}
+use Rattle.fp_book.proofs.Names.{AreTimed, Bool, ClosesAt, Content, Dropped, Drops, Ending, Ends, Entry, Extends, List, None, Option, Outbox, Row, SendsOne, Shelf, Some, Sound, Waiting, [], ap, arith, cond, deadline_at, drops_frames, eqb, false, false≢true, frame_out, frames_for, is_frame_of, is_sent, dialogue_out, is_ready, is_unsent, kept_of, length, length-append, ltb-false, min, nat_cmp, nat_lt, nil_from_length, one_if, refl, sending, sent_of, subst, sym, true, unsent_for, without, without_frames_of, ℕ, ◌&&◌, ◌++◌, ◌+◌, ◌∙◌, ◌∷◌, ◌≡◌, ◌≤◌}
 use Rattle.std.specs.FinMap as map
-use Rattle.fp_book.proofs.Changes.{by_local, count}
-use Rattle.fp_book.proofs.Kept.{changed, deadline_left}
-use Rattle.fp_book.proofs.Sums.{OneChanges, Rows, left_of}
+use Rattle.fp_book.proofs.Changes.{count}
+use Rattle.fp_book.proofs.Kept.{deadline_left}
+use Rattle.fp_book.proofs.Sums.{Rows}
 use Rattle.fp_row.specs.Calls as calls
+use Rattle.fp_book.specs.declared.parcel.Content.TheVariants as content
 use Rattle.fp_book.proofs.Extends.{kept_count, sending_count, sent_count}
 use Rattle.fp_book.proofs.Queue.{count-cons, without_by}
 use Rattle.fp_book.proofs.Turns.{frames_at, ready_at}
@@ -15,82 +16,11 @@ pub one_sent : (answer : Bool) (before after : Row) (there : Option Row) → the
 one_sent true before after there was unsent sends = sends
 one_sent false before after there was unsent sends = absurd (false≢true (sym sends.0 ∙ ap is_unsent (sym was) ∙ unsent))
 
--- an identifier below the next one, as each is if there is none
-abbrev pub IsBelow : ℕ → Option ℕ → Type 0
-IsBelow q None = ⊤
-IsBelow q (Some next) = q < next
-
--- how many identifiers are not below the next one; none if there is none
-abbrev pub ahead : Option ℕ → ℕ
-ahead None = 0
-ahead (Some next) = 2 ^ 32 - next
-
--- the dialogues below the next one were closed, and the others are as they were
-pub record ClosedBelow (out : Option Content) (old new : Rows) (next : Option ℕ) : Type 0 where
-  pub done : (q : ℕ) → IsBelow q next → ClosesAt (is_frame_of q out) (map.get old q) (map.get new q)
-  pub others : (n : ℕ) → next ≡ Some n → (q : ℕ) → n ≤ q → map.get new q ≡ map.get old q
-  pub there : (n : ℕ) → next ≡ Some n → map.contains_key new n ≡ true
-
-absent_by : (o : Option Row) → (is_some o ≡ true → ⊥) → o ≡ None
-absent_by None absent = refl
-absent_by (Some row) absent = absurd (absent refl)
-
--- there is no dialogue between an identifier and the next one
-none_between : (rows : Rows) (from next : Option ℕ) → IsAfter rows from next → (q : ℕ) → IsAbove from q → IsBelow q next → map.get rows q ≡ None
-none_between rows from None after q above below = absent_by (map.get rows q) (λ there. after q there above)
-none_between rows from (Some n) after q above below = absent_by (map.get rows q) (λ there. let least : n ≤ q = after.2 q there above in omega (arith, least, below))
-
-next_there : (rows : Rows) (from next : Option ℕ) → IsAfter rows from next → (n : ℕ) → next ≡ Some n → map.contains_key rows n ≡ true
-next_there rows from None after n is = absurd (let clash : None ≡ Some n = is in cc)
-next_there rows from (Some m) after n is = let same : m ≡ n = let e : Some m ≡ Some n = is in cc in subst (λ k. map.contains_key rows k ≡ true) same after.0
-
-next_above : (rows : Rows) (local : ℕ) (next : Option ℕ) → IsAfter rows (Some local) next → (n : ℕ) → next ≡ Some n → local < n
-next_above rows local None after n is = absurd (let clash : None ≡ Some n = is in cc)
-next_above rows local (Some m) after n is = let same : m ≡ n = let e : Some m ≡ Some n = is in cc in subst (λ k. local < k) same after.1
-
-none_closes : (sends : Bool) (o left : Option Row) → o ≡ None → left ≡ None → ClosesAt sends o left
-none_closes sends o left none gone = subst (λ r. ClosesAt sends r left) (sym none) gone
-
--- before the first is closed
-pub none_closed : (out : Option Content) (old : Rows) (next : Option ℕ) → IsAfter old None next → ClosedBelow out old old next
-none_closed out old next after = record {
-  done = λ q below. let gone = none_between old None next after q tt below in none_closes (is_frame_of q out) (map.get old q) (map.get old q) gone gone;
-  others = λ n is q le. refl;
-  there = next_there old None next after;
-}
-
--- an identifier is below another, is that one, or is above it
-by_order : (q local : ℕ) (P : ℕ → Type 0) → (q < local → P q) → P local → (local < q → P q) → P q
-by_order q local P below here above =
-    by_local q local P here (λ ne. ⊎_elim
-    (λ less. below (grind (arith, nat_tests)))
-    (λ not_less. above (grind (arith, nat_tests)))
-    (cases_Bool (nat_lt q local)))
-
--- the next one is closed
-pub one_closed : (out : Option Content) (old rows new : Rows) (sends held : Bool) (local : ℕ) (next : Option ℕ) → ClosedBelow out old rows (Some local)
-    → sends ≡ is_frame_of local out → EndsAt rows local Closed sends held new → IsAfter new (Some local) next → ClosedBelow out old new next
-one_closed out old rows new sends held local next so_far sends_is ends after =
-    let one : OneChanges rows new local (Some ends.before) (left_of ends.after) = changed ends in
-    let was : map.get old local ≡ Some ends.before = sym (so_far.others local refl local (omega arith)) ∙ ends.was in
-    let closes : Closes (is_frame_of local out) ends.before (map.get new local) =
-    record { after = ends.after; ends = subst (λ b. Ends Closed b ends.before ends.after) sends_is ends.does.0; left_is = one.there }
-    in
-    let other : (q : ℕ) → (q ≡ local → ⊥) → map.get new q ≡ map.get rows q = λ q ne. one.others q (grind (arith, nat_tests)) in
-    record {
-      done = λ q below.
-          by_order q local (λ q. IsBelow q next → ClosesAt (is_frame_of q out) (map.get old q) (map.get new q))
-          (λ less _. subst (ClosesAt (is_frame_of q out) (map.get old q)) (sym (other q (λ e. omega (arith, e, less)))) (so_far.done q less))
-          (λ _. subst (λ o. ClosesAt (is_frame_of local out) o (map.get new local)) (sym was) closes)
-          (λ more below.
-          let gone = none_between new (Some local) next after q more below in
-          none_closes (is_frame_of q out) (map.get old q) (map.get new q)
-          (sym (so_far.others local refl q (omega (arith, more))) ∙ sym (other q (λ e. omega (arith, e, more))) ∙ gone) gone) below;
-      others = λ n is q le.
-          let more : local < q = omega (arith, next_above new local next after n is, le) in
-          other q (λ e. omega (arith, e, more)) ∙ so_far.others local refl q (omega (arith, more));
-      there = next_there new (Some local) next after;
-    }
+-- a frame of the dialogue of which one is being sent is being sent
+pub sent_is : (out : Option Content) (local : ℕ) → is_sent (dialogue_out out) local ≡ is_frame_of local out
+sent_is None local = refl
+sent_is (Some (content.Abort frame)) local = refl
+sent_is (Some (content.Frame waiting)) local = refl
 
 -- a dialogue that was closed has no deadline
 untimed : (sends : Bool) (o left : Option Row) → ClosesAt sends o left → deadline_at left ≡ None
@@ -100,11 +30,6 @@ untimed sends (Some row) left closes = ap deadline_at closes.left_is ∙ deadlin
 -- so where all were closed there is none
 pub all_untimed : (out : Option Content) (old new : Rows) → ((q : ℕ) → ClosesAt (is_frame_of q out) (map.get old q) (map.get new q)) → AreTimed map.empty new
 all_untimed out old new closes q = map.get-empty nat_cmp q ∙ sym (untimed (is_frame_of q out) (map.get old q) (map.get new q) (closes q))
-
--- less is left then
-pub less_ahead : (rows : Rows) (local : ℕ) (next : Option ℕ) → local < 2 ^ 32 → IsAfter rows (Some local) next → ahead next < ahead (Some local)
-less_ahead rows local None within after = omega (arith, within)
-less_ahead rows local (Some n) within after = omega (arith, within, after.1)
 
 dropped_by : (l : ℕ) (w : Waiting) (ws : List Waiting) (b : Bool) → eqb w.local l ≡ b → (frames_for l ws ≡ [] → others l ws ≡ ws) → frames_for l (w ∷ ws) ≡ []
     → cond b (others l ws) (w ∷ others l ws) ≡ w ∷ ws
@@ -169,10 +94,10 @@ pub drops_of : (o : Option Row) (before : Row) (is_ended sends drops : Bool) →
     → drops ≡ (is_ended && drops_frames row sends)
 drops_of o before is_ended sends drops was is row there = subst (λ r. drops ≡ (is_ended && drops_frames r sends)) (same_row o before row was there) is
 
-pub dropped_at : (o : Option Row) (ending : Ending) (sends : Bool) (before after : Row) (held was_ready frames : Bool) → o ≡ Some before → Ends ending sends before after
-    → was_ready ≡ is_ready before → frames ≡ nat_lt after.kept before.kept → (row : Row) → o ≡ Some row → Drops row sends (record { is_held = held; was_ready = was_ready; frames = frames })
-dropped_at o ending sends before after held was_ready frames was ends ready is row there =
-    subst (λ r. Drops r sends (record { is_held = held; was_ready = was_ready; frames = frames })) (same_row o before row was there)
+pub dropped_at : (o : Option Row) (ending : Ending) (sends : Bool) (before after : Row) (dropped : Dropped) → o ≡ Some before → Ends ending sends before after
+    → dropped.was_ready ≡ is_ready before → dropped.frames ≡ nat_lt after.kept before.kept → (row : Row) → o ≡ Some row → Drops row sends dropped
+dropped_at o ending sends before after dropped was ends ready is row there =
+    subst (λ r. Drops r sends dropped) (same_row o before row was there)
     (record { was_ready = ready; frames = is ∙ ap (λ n. nat_lt n before.kept) ends.kept })
 
 -- a dialogue that is closed has left the queue

@@ -1,5 +1,5 @@
 -- What a book keeps if one of its dialogues changes, and what a call may rely on.
-use Rattle.fp_book.proofs.Names.{AreTimed, Bool, Changes, HasRoom, Inside, IsKept, List, LoggedStep, None, Option, Outbox, Row, Shelf, Some, Sound, Totals, accepted_by, ap, arith, cond, deadline_at, deadline_of, eq-eqb, eqb, eqb-true, false, gone_of, has_clock, inl, inr, is_admitted, is_ready, is_some, length, nat_cmp, nat_cmp_total, next_due, not, one_if, refl, sent_by, served_by, shelf_of, subst, sum_of, sym, true, turns_of, with_deadline, ℕ, ◌&&◌, ◌+◌, ◌-◌, ◌<◌, ◌^◌, ◌∙◌, ◌≡◌, ◌≤◌}
+use Rattle.fp_book.proofs.Names.{AreTimed, Changes, HasRoom, Inside, IsKept, List, LoggedStep, None, Option, Outbox, Row, Shelf, Some, Sound, Totals, accepted_by, ap, arith, cond, deadline_at, deadline_of, eq-eqb, eqb, false, gone_of, has_clock, inl, inr, is_admitted, is_ready, is_some, length, nat_cmp, next_due, not, one_if, refl, sent_by, served_by, shelf_of, subst, sum_of, sym, turns_of, with_deadline, ℕ, ◌&&◌, ◌+◌, ◌-◌, ◌<◌, ◌^◌, ◌∙◌, ◌≡◌, ◌≤◌}
 use Rattle.std.specs.FinMap as map
 use Rattle.fp_book.proofs.Changes.{by_held, by_local, not_held, one_if_most, ready, turns_left}
 use Rattle.fp_book.proofs.Sums.{OneChanges, Rows, amount, get-inserted, get-removed, inserted, kept, left_of, len-sum, removed, sum-le, sum-zero, sums-le, zero_of}
@@ -50,14 +50,6 @@ deadline-here m local o = deadline-set m local o local ∙ ap (λ b. cond b o (m
 
 pub deadline-other : (m : Deadlines) (local : ℕ) (o : Option ℕ) (d : ℕ) → eqb d local ≡ false → map.get (with_deadline m local o) d ≡ map.get m d
 deadline-other m local o d ne = deadline-set m local o d ∙ ap (λ b. cond b o (map.get m d)) ne
-
--- to set the one that it has changes nothing
-deadline_again : (m : Deadlines) (local : ℕ) (o : Option ℕ) → map.get m local ≡ o → (q : ℕ) (b : Bool) → eqb q local ≡ b → map.get m q ≡ cond b o (map.get m q)
-deadline_again m local o is q true same = ap (map.get m) (eqb-true q local same) ∙ is
-deadline_again m local o is q false other = refl
-
-pub deadline_stays : (m : Deadlines) (local : ℕ) (o : Option ℕ) → map.get m local ≡ o → m ≡ with_deadline m local o
-deadline_stays m local o is = map.same_map nat_cmp_total map.nat_cmp-IsAntisymmetric _ _ (λ q. deadline_again m local o is q (eqb q local) refl ∙ sym (deadline-set m local o q))
 
 -- a dialogue of which nothing is left isn't admitted, and has none
 pub no_deadline : (row : Row) → is_admitted row ≡ false → deadline_of row ≡ None

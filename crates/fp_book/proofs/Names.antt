@@ -45,10 +45,9 @@ pub use Rattle.fp_reply.specs.ProviderAbort.{AbortFrame}
 pub use Rattle.fp_reply.specs.Reply.{frame_of}
 pub use Rattle.fp_row.proofs.Keeping.{ready_stays}
 pub use Rattle.fp_row.specs.Calls.{Accepts, Clocks, Ends, Extends, FramesStay, HandsOut, IsSame, Opens, SendsOne, ended_by, frames_in, requested_of, sending}
-pub use Rattle.fp_row.specs.Keys.{IsAbove}
 pub use Rattle.fp_row.specs.Laws.{IsServed, KeepsOrder, RowsKeepTheirOrder}
 pub use Rattle.fp_row.specs.Row.{deadline_of, entries_out, frames_of, has_clock, has_turn_out, is_admitted, is_closed, is_due, is_held, is_ready, kept_of, places_taken, requests_of, sent_of, served_of, start_of, turn_of, turn_out, unserved, waiting_of, waits}
-pub use Rattle.fp_row.specs.Rows.{IsAfter}
+pub use Rattle.fp_row.specs.Rows.{Closes, ClosesAt, is_sent}
 pub use Rattle.fp_row.specs.declared.done.Done.{Done}
 pub use Rattle.fp_row.specs.declared.ending.Ending.{Ending}
 pub use Rattle.fp_row.specs.declared.ending.Ending.TheVariants.{ByPeer, Closed}
@@ -62,7 +61,7 @@ pub use Rattle.fp_service.specs.declared.request.Request.{Request}
 pub use Rattle.fp_tids.specs.Identifiers.{AreSerials, IsGiven, LocalIds, all_serials, first_of, identifier, is_free, serial_of, with_returned}
 pub use Rattle.fp_tids.specs.Laws.{AllAreSerials, GivingLeavesSerials, ReturningKeepsSerials, SerialsAreShown, SerialsComeBackLast}
 pub use Rattle.fp_timers.specs.Deadlines.{HasRoom, IsEarliestDue}
-pub use Rattle.fp_book.specs.Calls.{Answers, ClocksAt, Closes, ClosesAt, ClosesDialogue, ClosesOne, ComesFirst, Discards, Due, EndsDialogue, ExtendsDialogue, Follows, GivesDone, GoesDown, Hands, IsDue, OpensDialogue, PicksParcel, Posts, PutsTurnBack, Queues, Refuses, Sends, SendsAbort, SendsFrame, Takes, TakesTurn, Ticks, Unsends, abort_for, are_some, asks_for_memory, closed_answer, due_at, entries_in, is_idle, joins, more_accepted, one_sent, more_served, posted_line, posted_totals, waiting_in, without}
+pub use Rattle.fp_book.specs.Calls.{Answers, ClocksAt, ClosesDialogue, ClosesOne, ComesFirst, Discards, Due, EndsDialogue, ExtendsDialogue, Follows, GivesDone, GoesDown, Hands, IsDue, OpensDialogue, PicksParcel, Posts, PutsTurnBack, Queues, Refuses, Sends, SendsAbort, SendsFrame, Takes, TakesTurn, Ticks, Unsends, abort_for, are_some, asks_for_memory, closed_answer, due_at, entries_in, is_idle, joins, more_accepted, one_sent, more_served, posted_line, posted_totals, waiting_in, without}
 pub use Rattle.fp_book.specs.Clocking.{AreAgreed, Clocking, ClocksFirst, Deadlines, IsDueIn, due_now, idle_among, is_among}
 pub use Rattle.fp_book.specs.Dialogues.{AnsweredBy, Changes, EndsAt, ExtendsAt, GivesAt, Grows, HandsOutAt, OpensAt, PutsBackAt, SendsAt, Drops, drops_frames, is_due_at, is_unsent, left_as, request_count, takes_more, with_deadline}
 pub use Rattle.fp_book.specs.Holding.{IsQuiet, busy_count, is_busy}
@@ -73,7 +72,7 @@ pub use Rattle.fp_book.specs.Outbox.{IsNext, Outbox, Picks, frames_held, is_of_o
 pub use Rattle.fp_book.specs.Parcel.{birth_of, dialogue_of}
 pub use Rattle.fp_book.specs.ReadyQueue.{IsEmptyIfNone, is_other}
 pub use Rattle.fp_book.specs.Receipt.{IsReceipt, accepted_components, treated_as}
-pub use Rattle.fp_book.specs.Sending.{is_frame_of}
+pub use Rattle.fp_book.specs.Sending.{dialogue_out, is_frame_of}
 pub use Rattle.fp_book.specs.Shelf.{AreBorn, IsOwn, Shelf, Sound, empty_shelf, frame_out, frames_for, free_with, gone_with, keep, no_totals, of_row, one_if, places_held, ready_count, turns_of, unsent_for, with_dialogue}
 pub use Rattle.fp_book.specs.Totals.{accepted_by, sent_by, served_by, sum_of, with_row}
 pub use Rattle.fp_book.specs.Verdict.{abort_of, arrived, begin_of, judged, lost_of, message_of, more_of, no_dialogue_left, no_place_left, refused_of, too_many}

@@ -42,12 +42,13 @@ use Rattle.fp_frames.specs.Frame.{framed}
 use Rattle.fp_reply.specs.ProviderAbort.{AbortFrame, frame_octets}
 use Rattle.fp_row.specs.declared.done.Done.{Done}
 use Rattle.fp_row.specs.declared.ending.Ending.TheVariants.{ByPeer, Closed}
+use Rattle.fp_row.specs.Rows.{ClosesAt}
 use Rattle.fp_row.specs.declared.requested.Requested.{Requested}
 use Rattle.fp_row.specs.declared.requested.Requested.TheVariants as requested
 use Rattle.fp_row.specs.declared.row.Row.{Row}
 use Rattle.fp_row.specs.declared.turn.Turn.{Turn}
 use Rattle.fp_row.specs.Calls.{Ends, Extends, Gives, HandsOut, Opens, PutsBack, SendsOne}
-use Rattle.fp_row.specs.Row.{deadline_of, is_due, is_held, is_ready, turn_out, has_turn_out}
+use Rattle.fp_row.specs.Row.{deadline_of, is_due, is_ready, turn_out, has_turn_out}
 use Rattle.fp_tids.specs.Identifiers.{identifier}
 
 -- a dialogue that has become ready comes after the others
@@ -193,19 +194,9 @@ abbrev pub Sends : Shelf → Content → Shelf → Type 0
 Sends old (content.Frame w) new = SendsFrame old w new
 Sends old (content.Abort frame) new = SendsAbort old frame new
 
--- DOWN: all dialogues are ended from outside, and what waits is dropped
+-- DOWN: all dialogues are closed, and what waits is dropped
 
--- a dialogue that was held is ended, and stays where something of it is left
-pub record Closes (sending : Bool) (row : Row) (left : Option Row) : Type 0 where
-  pub after : Row
-  pub ends : Ends Closed sending row after
-  pub left_is : left ≡ (if is_held after then Some after else None)
-
-abbrev pub ClosesAt : Bool → Option Row → Option Row → Type 0
-ClosesAt sending None left = left ≡ None
-ClosesAt sending (Some row) left = Closes sending row left
-
--- all of them; `out` is what is still being sent. Going down ends no serial; a dialogue that goes afterwards does;
+-- `out` is what is still being sent. Going down ends no serial; a dialogue that goes afterwards does;
 -- nobody sees it, since no Begin is accepted any more.
 pub record GoesDown (out : Option Content) (old : Shelf) (step : LoggedStep) (new : Shelf) : Type 0 where
   pub rows : (local : ℕ) → ClosesAt (is_frame_of local out) (get old.rows local) (get new.rows local)

@@ -2,6 +2,7 @@
 use Rattle.std.specs.Prelude.{ℕ, List, Bool, true, false, ◌==◌, ◌&&◌, Option, Some, None}
 use Rattle.fp_book.specs.declared.parcel.Content.{Content}
 use Rattle.fp_book.specs.declared.parcel.Content.TheVariants as contents
+use Rattle.fp_book.specs.Parcel.{dialogue_of}
 use Rattle.fp_book.specs.declared.sending.Kind.{Kind}
 use Rattle.fp_book.specs.declared.sending.Kind.TheVariants as kinds
 
@@ -17,6 +18,11 @@ abbrev pub is_frame : Option Content → Bool
 is_frame None = false
 is_frame (Some (contents.Abort frame)) = false
 is_frame (Some (contents.Frame waiting)) = true
+
+-- the dialogue of which a frame is being sent, if one is
+abbrev pub dialogue_out : Option Content → Option ℕ
+dialogue_out None = None
+dialogue_out (Some content) = dialogue_of content
 
 -- a frame of this dialogue is being sent
 abbrev pub is_frame_of : ℕ → Option Content → Bool

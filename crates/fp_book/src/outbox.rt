@@ -2,7 +2,7 @@
 
 ghost use Rattle.std.specs.Prelude.{◌≡◌, ◌+◌, ◌++◌, ◌<◌, ◌≤◌, ◌↔◌, Some, IfErr, IfOk, IsOk, IsTrue, length, nat_le, nat_lt};
 ghost use Rattle.std.specs.VecDeque.{deque_capacity};
-ghost use Rattle.fp_book.specs.Sending.{is_frame_of};
+ghost use Rattle.fp_book.specs.Sending.{dialogue_out, is_frame_of};
 ghost use Rattle.fp_book.specs.Outbox.{Picks, TakesNext, abort_added, frames_held, nothing, waiting_frames, with_frames, with_nothing_out, without_frames_of, without_waiting};
 
 use crate::parcel::{Content, Waiting};
@@ -127,6 +127,13 @@ impl Outbox {
     {
         self.aborts.clear();
         self.frames.clear();
+    }
+
+    /// The dialogue of which a frame is being sent, if one is.
+    pub(crate) fn sending(&self) -> Option<u32>
+        ensures { result ≡ dialogue_out self.now.out }
+    {
+        self.sending.dialogue()
     }
 
     /// Whether a frame of this dialogue is being sent.

@@ -2,7 +2,7 @@
 
 ghost use Rattle.std.specs.Prelude.{◌≡◌, ◌↔◌, Some, None, IfOk, IsTrue, is_some};
 ghost use Rattle.fp_book.specs.declared.parcel.Content.TheVariants as contents;
-ghost use Rattle.fp_book.specs.Sending.{is_frame, is_frame_of, is_frame_under};
+ghost use Rattle.fp_book.specs.Sending.{dialogue_out, is_frame, is_frame_of, is_frame_under};
 
 use crate::parcel::Content;
 use fp_reply::{AbortFrame, MOST_OCTETS};
@@ -91,6 +91,17 @@ impl Sending {
             Some(Kind::Frame { .. }) => true,
             Some(Kind::Abort(_)) => false,
             None => false,
+        }
+    }
+
+    /// The local transaction identifier of the dialogue of which a frame is being sent, if one is.
+    pub(crate) fn dialogue(&self) -> Option<u32>
+        ensures { result ≡ dialogue_out self.now }
+    {
+        match &self.kind {
+            Some(Kind::Frame { local, .. }) => Some(*local),
+            Some(Kind::Abort(_)) => None,
+            None => None,
         }
     }
 

@@ -3,17 +3,18 @@
 ghost use Rattle.std.specs.Prelude.{◌≡◌, ◌↔◌, ℕ, IfErr, IsOk, OnOk};
 ghost use Rattle.std.specs.FinMap.{get};
 ghost use Rattle.fp_book.specs.declared.line.LoggedStep.TheVariants as line;
-ghost use Rattle.fp_book.specs.Calls.{ClosesAt, GoesDown, Hands, IsOut, Sends, Unsends};
+ghost use Rattle.fp_book.specs.Calls.{GoesDown, Hands, IsOut, Sends, Unsends};
 ghost use Rattle.fp_book.specs.Sending.{is_frame_of};
 ghost use Rattle.fp_book.specs.Shelf.{Sound};
 ghost use Rattle.fp_book.specs.Views.{AreTimed};
+ghost use Rattle.fp_row.specs.Rows.{ClosesAt};
 
 use crate::serving::end_serial_unless_held;
 use crate::{
     Book, LoggedStep, Outbox, Parcel, Picked, dialogues, going_down_keeps_a_book_sound,
     sending_keeps_a_book_sound,
 };
-use fp_row::{Ending, Rows};
+use fp_row::Rows;
 use fp_service::entries_ask_once_at_most;
 use fp_timers::Deadlines;
 
@@ -22,12 +23,7 @@ fn close_all(rows: &mut Rows, deadlines: &mut Deadlines, outbox: &Outbox)
     ensures closes { (local : ℕ) → ClosesAt (is_frame_of local outbox.now.out) (get rows.old local) (get rows.new local) }
     ensures timed { AreTimed deadlines.new rows.new }
 {
-    let mut next = rows.after(None);
-    while let Some(local) = next {
-        let is_sending = outbox.is_sending(local);
-        dialogues::end(rows, local, Ending::Closed, is_sending);
-        next = rows.after(Some(local));
-    }
+    rows.close_all(outbox.sending());
     deadlines.clear_all();
 }
 

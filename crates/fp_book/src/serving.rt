@@ -26,19 +26,7 @@ pub(crate) fn end_serial_unless_held(ids: &mut LocalIds, local: u32, is_held: bo
     }
 }
 
-/// Gives a dialogue its deadline, or takes it away. Takes no memory.
-pub(crate) fn set_deadline(deadlines: &mut Deadlines, local: u32, deadline: Option<u64>)
-    requires { HasRoom deadlines.old local }
-    ensures { deadlines.new ≡ with_deadline deadlines.old local deadline }
-{
-    match deadline {
-        Some(deadline) => deadlines.set(local, deadline),
-        None => deadlines.clear(local),
-    }
-}
-
-/// Gives a dialogue a deadline in place of the one that it has, or takes that away. If it stays the same, nothing is
-/// searched. Takes no memory.
+/// Gives a dialogue a deadline in place of the one that it has, or takes that away. Takes no memory.
 pub(crate) fn change_deadline(
     deadlines: &mut Deadlines,
     local: u32,
@@ -49,8 +37,9 @@ pub(crate) fn change_deadline(
     requires room { HasRoom deadlines.old local }
     ensures { deadlines.new ≡ with_deadline deadlines.old local deadline }
 {
-    if before != deadline {
-        set_deadline(deadlines, local, deadline);
+    match deadline {
+        Some(deadline) => deadlines.set(local, before, deadline),
+        None => deadlines.clear(local, before),
     }
 }
 
@@ -140,7 +129,8 @@ impl Book {
         self.turns -= count;
         self.totals.served += served_count as u64;
         end_serial_unless_held(&mut self.ids, local, served.left.is_held);
-        set_deadline(&mut self.deadlines, local, served.left.deadline);
+        let before = served.deadline_before;
+        change_deadline(&mut self.deadlines, local, before, served.left.deadline);
         join(&mut self.ready, local, served.left.is_ready);
         let given = queue(&mut self.outbox, local, birth, served.requested);
         self.log.add(LoggedStep::Give {

@@ -1,8 +1,5 @@
-mod Afters
-mod LedTo
-mod Maps
-mod Order
-mod Searches
+mod HashMaps
+mod PuttingBack
 mod Stepping
 pub mod Fronts
 pub mod Keeping

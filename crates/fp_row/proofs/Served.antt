@@ -12,9 +12,8 @@ use Rattle.fp_row.specs.declared.done.Done.{Done}
 use Rattle.fp_row.specs.declared.ending.Ending.{Ending}
 use Rattle.fp_row.specs.declared.requested.Requested.{Requested}
 use Rattle.fp_row.specs.declared.row.Row.{Row}
-use Rattle.fp_row.specs.declared.turn.Turn.{Turn}
 use Rattle.fp_row.specs.Calls.{frames_in, requested_of}
-use Rattle.fp_row.specs.Row.{entries_out, frames_of, has_turn_out, is_closed, kept_of, queued_of, requests_of, sent_of, served_of, start_of, turn_of, turn_out, waiting_of}
+use Rattle.fp_row.specs.Row.{entries_out, frames_of, has_turn_out, is_closed, kept_of, queued_of, requests_of, sent_of, served_of, start_of, turn_out, waiting_of}
 use Rattle.fp_row.specs.Turn.{core_then, frames_under, frames_for, served_in}
 use Rattle.fp_service.specs.declared.request.Request.{Request}
 use Rattle.fp_service.specs.Dialogue.{is_over}

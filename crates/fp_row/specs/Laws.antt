@@ -1,5 +1,5 @@
 -- What the types of the layer keep.
-use Rattle.std.specs.Prelude.{◌≡◌, ◌≢◌, ◌≤◌, true, false, Some, None, [], ◌∷◌, ◌++◌, length}
+use Rattle.std.specs.Prelude.{◌≡◌, ◌≢◌, ◌≤◌, true, false, Some, None, ◌++◌, length}
 use mathlib.Core.List.{IsPrefix}
 use Rattle.fp_row.specs.declared.done.Done.{Done}
 use Rattle.fp_row.specs.declared.row.Row.{Row}

@@ -1,7 +1,5 @@
 pub mod Calls
-pub mod Keys
 pub mod Laws
-pub mod Leads
 pub mod Row
 pub mod Rows
 pub mod Serving

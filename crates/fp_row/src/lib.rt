@@ -12,8 +12,8 @@
 //!   how many of them were served, up to the first after which the dialogue is over, the core after those, and the
 //!   frames that they request. Both must be spent: neither may be dropped, so that no entry gets lost unseen. They are
 //!   small: their cores are in places of their own.
-//! * [`Rows`] is a finite map from local transaction identifier to row. [`after_is_one`] and
-//!   [`putting_back_changes_nothing`] hold of each such map.
+//! * [`Rows`] is a finite map from local transaction identifier to row, of which [`putting_back_changes_nothing`]
+//!   holds.
 //!
 //! | What | When |
 //! |---|---|
@@ -33,7 +33,6 @@
 mod done;
 mod ending;
 mod heap_core;
-mod index;
 mod laws;
 mod request_frame;
 mod request_frames;
@@ -45,9 +44,7 @@ mod turn;
 
 pub use done::Done;
 pub use ending::Ending;
-pub use laws::{
-    after_is_one, putting_back_changes_nothing, rows_keep_their_order, turns_are_served_by_the_step,
-};
+pub use laws::{putting_back_changes_nothing, rows_keep_their_order, turns_are_served_by_the_step};
 pub use request_frame::RequestFrame;
 pub use request_frames::RequestFrames;
 pub use requested::Requested;

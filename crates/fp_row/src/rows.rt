@@ -1,6 +1,6 @@
 //! Rows by local identifier.
 
-ghost use Rattle.std.specs.Prelude.{◌≡◌, ◌<◌, ◌^◌, IfErr, IsOk, IsTrue, OnOk};
+ghost use Rattle.std.specs.Prelude.{◌≡◌, ◌<◌, ◌^◌, ℕ, IfErr, IsOk, IsTrue, None, OnOk, Some, if◌then◌else◌};
 ghost use Rattle.std.specs.Option.{option_copied, option_copied_mut};
 ghost use Rattle.std.specs.Borrow.{LendsIf, sem};
 ghost use Rattle.std.specs.Ordering.{nat_cmp};
@@ -8,25 +8,20 @@ ghost use Rattle.std.specs.FinMap as map;
 ghost use Rattle.fp_row.specs.contracts.rows.Rows.{the_row};
 ghost use Rattle.fp_row.specs.contracts.row.Row as row_type;
 ghost use Rattle.fp_row.specs.declared.row.Row.{Row};
-ghost use Rattle.fp_row.specs.Leads.{accepted_at, is_due_at};
-ghost use Rattle.fp_row.specs.Rows.{IsAfter, count_due, entry_count};
+ghost use Rattle.fp_row.specs.Rows.{Closes, ClosesAt, count_due, entry_count, is_sent};
 
-use crate::Row;
-use crate::index::Index;
+use crate::{Ending, Row};
 use fp_digits::Moment;
-use slab::Slab;
 use std::alloc::Global;
+use std::collections::HashMap;
 use std::marker::Model;
 
 /// Rows, each under a local transaction identifier (ITU-T Q.773, 4.2.1.3), at most one under each. Contracts see them
 /// as a finite map.
 #[derive(Debug, Drop)]
 pub struct Rows {
-    // Each row stays where it is while others come and go, until the slab grows. Its identifier is beside it: a row
-    // that is lent may be changed in any way.
-    rows: Slab<(u32, Row)>,
-    // Leads from each identifier to its row.
-    index: Index,
+    // By hash, since identifiers come back in any order.
+    rows: HashMap<u32, Row>,
     alloc: Global,
 }
 
@@ -36,35 +31,30 @@ impl Model for Rows {
     ghost use Rattle.std.specs.Coded.{coded_ℕ};
     ghost use Rattle.fp_row.specs.contracts.row.Row as row_type;
     ghost use Rattle.fp_row.specs.declared.row.Row.{Row};
-    ghost use Rattle.fp_row.specs.Leads.{Leads, values_led_to};
 
     ghost Value = { map.FinMap nat_cmp Row };
 
     ghost coded = { map.code coded_ℕ row_type.the_row.coded };
 
-    ghost view = { λ rows. values_led_to rows.index rows.rows };
-
-    ghost invariant = { λ rows. Leads rows.index rows.rows };
+    ghost view = { λ rows. map.from_entries rows.rows.entries };
 }
 
-/// Whether the row of a key is due at a moment.
-fn is_due_at(rows: &Slab<(u32, Row)>, key: usize, moment: Moment) -> bool
-    ensures { result ≡ is_due_at rows.now key moment }
+/// Whether a frame of this dialogue is being sent, by the dialogue of which one is.
+fn is_sent(sending: Option<u32>, local: u32) -> bool
+    ensures { result ≡ is_sent sending local }
 {
-    match rows.get(key) {
-        Some(entry) => entry.1.is_due(moment),
+    match sending {
+        Some(sending) => sending == local,
         None => false,
     }
 }
 
-/// How many entries the row of a key keeps.
-fn accepted_at(rows: &Slab<(u32, Row)>, key: usize) -> u64
-    ensures { result ≡ accepted_at rows.now key }
+/// Closes a dialogue, and says whether something of it is left.
+fn close(row: &mut Row, is_sending: bool) -> bool
+    ensures { Closes is_sending row.old (if result then Some row.new else None) }
 {
-    match rows.get(key) {
-        Some(entry) => entry.1.accepted.len() as u64,
-        None => 0,
-    }
+    let _drops = row.end(Ending::Closed, is_sending);
+    row.is_held()
 }
 
 impl Rows {
@@ -73,8 +63,7 @@ impl Rows {
         ensures { result ≡ map.empty }
     {
         Rows {
-            rows: Slab::new(alloc),
-            index: Index::new(alloc),
+            rows: HashMap::new(alloc),
             alloc,
         }
     }
@@ -88,7 +77,7 @@ impl Rows {
     pub fn len(&self) -> usize
         ensures { result ≡ map.len self.now }
     {
-        self.index.len()
+        self.rows.len()
     }
 
     /// Puts a row under an identifier, in place of any that was there: then it takes no memory. If memory runs
@@ -98,29 +87,17 @@ impl Rows {
         ensures err { IfErr result (λ back. (back ≡ row) × (self.new ≡ self.old)) }
         ensures replaces { IsTrue (map.contains_key self.old local) → IsOk result }
     {
-        if let Some(key) = self.index.get(local) {
-            self.rows[key].1 = row;
-            return Ok(());
+        match self.rows.insert(local, row) {
+            Ok(_before) => Ok(()),
+            Err(refused) => Err(refused.value.1),
         }
-        if self.rows.reserve(1).is_err() {
-            return Err(row);
-        }
-        let key = self.rows.vacant_key();
-        if self.index.add(local, key).is_err() {
-            return Err(row);
-        }
-        self.rows.insert_reserved((local, row));
-        Ok(())
     }
 
     /// Gives the row under an identifier, if there is one.
     pub fn get(&self, local: u32) -> Option<&Row>
         ensures { option_copied result ≡ map.get self.now local }
     {
-        let Some(key) = self.index.get(local) else {
-            return None;
-        };
-        Some(&self.rows[key].1)
+        self.rows.get(&local)
     }
 
     /// Lends the row under an identifier, to be changed, if there is one: what the reference holds in the end is then
@@ -129,10 +106,7 @@ impl Rows {
         ensures* writes_back { sem 𝓛 (LendsIf the_row row_type.the_row self.entry result (λ (w : Row). map.insert self.old local w) self.old) }
         ensures value { option_copied_mut result ≡ map.get self.old local }
     {
-        let Some(key) = self.index.get(local) else {
-            return None;
-        };
-        Some(&mut self.rows[key].1)
+        self.rows.get_mut(&local)
     }
 
     /// Takes the row under an identifier out and hands it over, if there is one. Takes no memory.
@@ -140,28 +114,23 @@ impl Rows {
         ensures row { result ≡ map.get self.old local }
         ensures others { self.new ≡ map.remove self.old local }
     {
-        let Some(key) = self.index.remove(local) else {
-            return None;
-        };
-        Some(self.rows.remove(key).1)
+        self.rows.remove(&local)
     }
 
-    /// Gives the least identifier above this one that has a row, or the least of all for `None`: `None` if there is
-    /// none.
-    pub fn after(&self, local: Option<u32>) -> Option<u32>
-        ensures { IsAfter self.now local result }
+    /// Closes each dialogue, and takes those off of which nothing is left. `sending` is the dialogue of which a frame
+    /// is being sent, if one is. Takes no memory.
+    pub fn close_all(&mut self, sending: Option<u32>)
+        ensures { (local : ℕ) → ClosesAt (is_sent sending local) (map.get self.old local) (map.get self.new local) }
     {
-        self.index.after(local)
+        self.rows
+            .retain(|local, row| close(row, is_sent(sending, *local)));
     }
 
     /// How many of the dialogues are due at a moment.
     pub fn count_due(&self, moment: Moment) -> usize
         ensures { result ≡ count_due self.now moment }
     {
-        let rows = &self.rows;
-        let keys = self.index.iter();
-        let due = keys.filter(|entry| is_due_at(rows, entry.1, moment));
-        due.count()
+        self.rows.values().filter(|row| row.is_due(moment)).count()
     }
 
     /// How many entries the dialogues keep: all that each of them accepted. Goes through all of them.
@@ -169,8 +138,9 @@ impl Rows {
         requires { entry_count self.now < 2 ^ 64 }
         ensures { result ≡ entry_count self.now }
     {
-        let rows = &self.rows;
-        let keys = self.index.iter();
-        keys.map(|entry| accepted_at(rows, entry.1)).sum()
+        self.rows
+            .values()
+            .map(|row| row.accepted.len() as u64)
+            .sum()
     }
 }

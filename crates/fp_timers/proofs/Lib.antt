@@ -4,5 +4,4 @@ mod Lookups
 mod Maps
 mod Names
 mod Order
-mod Searches
 mod Times

@@ -1,5 +1,6 @@
 //! Files of records, put together from the parts of a case.
 
+use crate::texts::push_hexadecimal;
 use crate::values::hexadecimal;
 use anyhow::bail;
 use std::alloc::Global;
@@ -78,5 +79,23 @@ fn push_escaped(file: &mut Vec<u8>, text: &[u8]) -> anyhow::Result<()> {
 fn push_octet(file: &mut Vec<u8>, octet: u8, rest: &[u8]) -> anyhow::Result<()> {
     file.push(octet)?;
     file.extend_from_slice(rest)?;
+    Ok(())
+}
+
+/// Writes octets as the text of a part.
+pub(crate) fn push_part_text(out: &mut String, octets: &[u8]) -> anyhow::Result<()> {
+    for octet in octets {
+        match *octet {
+            b'\n' => out.push_str("\\n")?,
+            b'\r' => out.push_str("\\r")?,
+            b' ' => out.push_str("\\s")?,
+            b'\\' => out.push_str("\\x5C")?,
+            b'!'..=b'~' => out.push(char::from(*octet))?,
+            other => {
+                out.push_str("\\x")?;
+                push_hexadecimal(out, &[other])?;
+            }
+        }
+    }
     Ok(())
 }

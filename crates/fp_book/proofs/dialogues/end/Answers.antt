@@ -14,5 +14,5 @@ returns-clause-ends c = record {
 
 pub returns-clause-dropped : goal.returns-clause-dropped
 returns-clause-dropped c =
-    dropped_at _ c.args.ending c.args.is_sending c.in-Some.row.now c.end-frames.new.self c.is_held-is_held.result c.is_ready-was_ready.result c.end-frames.result (sym c.in-Some.ensures.value) c.end-frames.ensures.ends
+    dropped_at _ c.args.ending c.args.is_sending c.in-Some.row.now c.end-frames.new.self _ (sym c.in-Some.ensures.value) c.end-frames.ensures.ends
     c.is_ready-was_ready.ensures c.end-frames.ensures.drops

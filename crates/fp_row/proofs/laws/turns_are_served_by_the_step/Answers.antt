@@ -1,4 +1,4 @@
-use Rattle.std.proofs.Common.{◌≡◌, ◌≤◌, ◌++◌, length, ◌∙◌, ap, arith, length-append}
+use Rattle.std.proofs.Common.{length, ◌∙◌, ap, arith, length-append}
 use Rattle.fp_row.proofs.Keeping.{frames_under_count}
 use Rattle.fp_row.specs.Turn.{requests_in, served_in}
 use Rattle.fp_row.proofs.laws.turns_are_served_by_the_step.Goals as goal
