@@ -22,6 +22,8 @@
 //!   serves a turn it passes a [`Gate`], with no lock held. [`help`] does so by a thread that isn't a worker, up to a
 //!   bound.
 //! * [`finish`] returns what the link counted, if all parts came back.
+//! * [`Tables`] is the records that all links of a run answer from, under a lock of their own: they may be replaced
+//!   while the links run.
 //!
 //! | Thread | Calls | Waits for |
 //! |---|---|---|
@@ -63,6 +65,7 @@ mod kept;
 mod next;
 mod resting;
 mod seat;
+mod tables;
 mod waiting;
 mod work;
 mod workers;
@@ -75,6 +78,7 @@ pub use kept::Kept;
 pub use next::{Next, SentAndNext};
 pub use resting::LINES_OF_A_REST;
 pub use seat::{PARTS, Seat};
+pub use tables::Tables;
 pub use waiting::Looks;
 pub use work::{Stopped, Work, Worked};
 pub use workers::{abandon_all, help, worker};

@@ -1,6 +1,8 @@
--- What a run tells of its links: the address at which they were awaited, and in the end what each of them counted.
-use Rattle.std.specs.Prelude.{◌≡◌, ℕ, ◌+◌, List, [], ◌∷◌, ◌++◌, Option, codes, length}
+-- What a run tells: the address at which its links were awaited, each table that replaced another, and in the end what
+-- each link counted.
+use Rattle.std.specs.Prelude.{◌≡◌, ℕ, ◌+◌, List, [], ◌∷◌, ◌++◌, Option, codes, decimal, length}
 use Rattle.std.specs.Io.KnownBytes.{Appends}
+use Rattle.std.specs.List.{flat_map}
 use Rattle.std.specs.Net.Text.{socket_text}
 use Rattle.std.specs.declared.net.socket_addr.SocketAddr.{SocketAddr}
 use Rattle.fp_book.specs.declared.totals.Totals.{Totals}
@@ -15,9 +17,19 @@ abbrev pub lines_from : ℕ → List Totals → List ℕ
 lines_from link [] = []
 lines_from link (totals ∷ others) = report_line link totals ++ lines_from (link + 1) others
 
--- an address was written, and then what each of this number of links counted, in their order, and nothing else
+-- the line that tells the index of a table that replaced another
+abbrev pub reloaded_line : ℕ → List ℕ
+reloaded_line index = codes "reloaded " ++ (decimal index ++ 10 ∷ [])
+
+-- lines of that form were written, of any indexes, and nothing else
+abbrev pub TellsReloads : Option (List ℕ) → Option (List ℕ) → Type 0
+TellsReloads old new = (indexes : List ℕ) × Appends old new (flat_map reloaded_line indexes)
+
+-- an address was written, then lines of tables that replaced another, of any indexes, and in the end what each of this
+-- number of links counted, in their order, and nothing else
 pub record TellsLinks (links : ℕ) (old new : Option (List ℕ)) : Type 0 where
   pub address : SocketAddr
+  pub indexes : List ℕ
   pub totals : List Totals
   pub each : length totals ≡ links
-  pub wrote : Appends old new (listening_line address ++ lines_from 0 totals)
+  pub wrote : Appends old new (listening_line address ++ (flat_map reloaded_line indexes ++ lines_from 0 totals))

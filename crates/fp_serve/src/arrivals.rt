@@ -9,10 +9,11 @@ use fp_entry::Prepared;
 use fp_frames::Frame;
 use fp_hub::{Gate, Seat, Work, abandon_all, help};
 use fp_linkio::{Counted, Ended, Inbox, receive};
+use fp_records::Table;
 use std::collections::VecDeque;
 use std::rt::Clock;
-use std::sync::Wait;
 use std::sync::ledger::Ledger;
+use std::sync::{Arc, Wait};
 use std::time::Duration;
 
 /// How many reads a link may make.
@@ -31,6 +32,8 @@ const SECONDS_OF_THE_END: u64 = 2;
 struct Arrivals<'x, R, G: Gate, A: Ledger, B: Ledger, C: Ledger> {
     link: Link<'x, R, A, B, C>,
     service: Service<'x>,
+    // The table from which it answers: the newest when its last message was prepared.
+    table: Arc<Table>,
     gate: LineGate<'x, R, G, A, B, C>,
     seat: Seat<A, B, C>,
     // What was read and isn't prepared, at most 64, in room for as many.
@@ -44,22 +47,29 @@ struct Arrivals<'x, R, G: Gate, A: Ledger, B: Ledger, C: Ledger> {
 }
 
 impl<R: Wait + Clock, G: Gate, A: Ledger, B: Ledger, C: Ledger> Arrivals<'_, R, G, A, B, C> {
-    /// Prepares frames for the next hold, at the present moment. `false`: none is left.
+    /// Prepares frames for the next hold, at the present moment, by the newest table: as lost, if memory runs out where
+    /// that has to be fetched. `false`: none is left.
     fn prepare(&mut self) -> bool {
         if self.frames.is_empty() {
             return false;
         }
         let Service {
             alloc,
-            table,
+            tables,
             contexts,
         } = self.service;
-        let moment = now(self.link.rt);
+        let rt = self.link.rt;
+        let has_newest = tables.refresh(rt, &mut self.table).is_ok();
+        let moment = now(rt);
         for _ in 0..self.portion {
             let Some(frame) = self.frames.pop_front() else {
                 break;
             };
-            let came = Prepared::read(alloc, table, contexts, frame, moment);
+            let came = if has_newest {
+                Prepared::read(alloc, &self.table, contexts, frame, moment)
+            } else {
+                Prepared::lost(frame, moment)
+            };
             if self.came.push_back(came).is_err() {
                 self.link.end(Why::Memory);
             }
@@ -155,7 +165,8 @@ pub(crate) fn receive_all<'x, R: Wait + Clock, G: Gate, A: Ledger, B: Ledger, C:
     seat: Seat<A, B, C>,
 ) -> Seat<A, B, C> {
     let alloc = service.alloc;
-    let (Ok(frames), Ok(came)) = (
+    let (Ok(table), Ok(frames), Ok(came)) = (
+        service.tables.table(link.rt),
         VecDeque::with_capacity(alloc, MOST_FRAMES),
         VecDeque::with_capacity(alloc, MOST_FRAMES),
     ) else {
@@ -165,6 +176,7 @@ pub(crate) fn receive_all<'x, R: Wait + Clock, G: Gate, A: Ledger, B: Ledger, C:
     let mut arrivals = Arrivals {
         link,
         service,
+        table,
         gate: LineGate { link, gate },
         seat,
         frames,
@@ -184,6 +196,7 @@ pub(crate) fn receive_all<'x, R: Wait + Clock, G: Gate, A: Ledger, B: Ledger, C:
     let Arrivals {
         link: _,
         service: _,
+        table: _,
         gate: _,
         seat,
         frames: _,

@@ -1,4 +1,5 @@
-//! The events of a run, as lines on standard error: which links came and went, and what became of the log.
+//! The events of a run, as lines on standard error: which links came and went, which records were read again, and what
+//! became of the log.
 //!
 //! Standard error may block, and nobody waits for it: an event is added to a list of bounded length, and a thread of
 //! its own writes the list.
@@ -97,6 +98,13 @@ pub enum Event {
         /// The digest.
         digest: [u8; 32],
     },
+    /// The records were read again, from a file of this SHA-256 digest.
+    Reloaded {
+        /// Their index among those of the run, from 1.
+        index: u32,
+        /// The digest.
+        digest: [u8; 32],
+    },
     /// A link came up.
     Up {
         /// Its number.
@@ -122,15 +130,24 @@ pub enum Event {
     },
 }
 
+/// Writes a digest in hexadecimal digits.
+fn write_digest<W: fmt::Write>(digest: &[u8; 32], f: &mut fmt::Formatter<W>) -> fmt::Result {
+    for octet in digest {
+        write!(f, "{octet:02x}")?;
+    }
+    Ok(())
+}
+
 impl fmt::Display for Event {
     fn fmt<W: fmt::Write>(&self, f: &mut fmt::Formatter<W>) -> fmt::Result {
         match self {
             Event::Records { digest } => {
                 f.write_str("records ")?;
-                for octet in digest {
-                    write!(f, "{octet:02x}")?;
-                }
-                Ok(())
+                write_digest(digest, f)
+            }
+            Event::Reloaded { index, digest } => {
+                write!(f, "reloaded {index} ")?;
+                write_digest(digest, f)
             }
             Event::Up { link, peer } => write!(f, "link {link} up {peer}"),
             Event::Down { link, why } => write!(f, "link {link} down {why}"),

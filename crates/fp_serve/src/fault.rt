@@ -20,7 +20,7 @@ pub enum ServeFault {
     /// The log could not be written.
     #[error("log: cannot be written")]
     UnwrittenLog,
-    /// The report could not be written.
+    /// Standard output could not be written.
     #[error("output: cannot be written")]
     WriteFault,
     /// An allocation failed.

@@ -1,13 +1,16 @@
 //! The links of a server: connections that are awaited, and on each the threads that receive, serve and send.
 //!
-//! The layer is handed the records, a listener, writers for the log, for the report on the links and for events. It
-//! asks the system for connections, threads, the time, locks, sleep and memory; it opens no file and binds no address.
+//! The layer is handed the records, a listener, commands and who reads the records again, writers for the log, for the
+//! report on the links and for events. It asks the system for connections, threads, the time, locks, sleep and memory;
+//! it opens no file and binds no address.
 //!
-//! * [`serve`] awaits one connection for each link, runs them all, and returns when all are down.
+//! * [`serve`] awaits one connection for each link, runs them all, and returns when all are down and no more commands
+//!   come.
 //! * [`serve_through`] is the same with a gate that each thread passes before it serves a turn; tests wait there.
 //!   [`Service`] is what the messages are answered from.
 //! * [`Settings`] says how many links there are, how many workers each has, how many entries its dialogues may keep,
 //!   how many turns its receiver serves, and what is done when the log can't be written ([`WhenLogFails`]).
+//! * [`Commands`] are what is asked of the run while it lasts: to read its records again, which an [`Operator`] does.
 //! * [`ServeFault`] says why a run failed.
 //! * [`Events`] are lines on which link came or went and why, if they are asked for.
 //!
@@ -34,9 +37,13 @@
 //! If lines wait in a book, the clock is woken, which makes their text; if many do the other threads move some of them
 //! out of the book too. Only the writing thread waits for the device of the log.
 //!
+//! A thread of its own reads the commands, and the run follows them, while another thread accepts the connections and
+//! joins the threads of the links. All links share the tables, and each keeps the one from which it answers.
+//!
 //! | File | What it has |
 //! |---|---|
 //! | `serving.rt` | the run: a thread for each link, and the report |
+//! | `commands.rt` | the commands, the thread that reads them, and how they are followed |
 //! | `connections.rt`, `keep_alive.rt` | how connections are awaited, and how the system watches them |
 //! | `service.rt`, `settings.rt` | what messages are answered from; how many links, workers and entries there are |
 //! | `link.rt`, `ending.rt` | a link: what its threads share, its end and the reason of it, and what it counted |
@@ -52,14 +59,15 @@
 //! | `stop.rt` | why all links are to go down |
 //! | `report.rt` | the address, and what is written of the links in the end |
 //!
-//! The layer above may rely on this: if [`serve`] returns without a fault it wrote the address and one line for each
-//! link, and nothing else (`specs/Report.antt`). What a link's book, seats and hub keep is said in `fp_hub`; what of a
-//! stream is handed on and what of the parcels is written in `fp_linkio`. No contract says what the sockets and the log
-//! hold, that the threads get on, or that each does what the picture says: the tests of `tests_serve`, over loopback,
-//! show it.
+//! The layer above may rely on this: if [`serve`] returns without a fault it wrote the address, lines of tables that
+//! replaced another, and one for each link, and nothing else (`specs/Report.antt`). What a link's book, seats and hub
+//! keep is said in `fp_hub`; what of a stream is handed on and what of the parcels is written in `fp_linkio`. No
+//! contract says what the sockets and the log hold, that the threads get on, or that each does what the picture says:
+//! the tests of `tests_serve`, over loopback, show it.
 #![tactic(auto)]
 
 mod arrivals;
+mod commands;
 mod connections;
 mod departures;
 mod ending;
@@ -81,6 +89,7 @@ mod ticking;
 mod traced_stream;
 mod turns;
 
+pub use commands::{Commands, Operator};
 pub use events::{Event, Events, Wanted, Why};
 pub use fault::ServeFault;
 pub use service::Service;

@@ -3,7 +3,7 @@
 ghost use Rattle.std.specs.Prelude.{◌≡◌, IfOk, OnOk, string_bytes};
 ghost use Rattle.std.specs.Io.KnownBytes.{Appends};
 ghost use Rattle.std.specs.Net.Text.{socket_text};
-ghost use Rattle.fp_serve.specs.Report.{lines_from, listening_line};
+ghost use Rattle.fp_serve.specs.Report.{lines_from, listening_line, reloaded_line};
 
 use crate::ServeFault;
 use fp_book::Totals;
@@ -24,6 +24,18 @@ pub(crate) fn write_address<W: LinkWrite>(
     write_flushed(text.as_str(), output)
 }
 
+/// Writes `reloaded N` and a line feed, and flushes the output.
+pub(crate) fn write_reloaded<W: LinkWrite>(
+    alloc: Global,
+    index: u32,
+    output: &mut W,
+) -> Result<(), ServeFault>
+    ensures { OnOk result (Appends (W.contents output.old) (W.contents output.new) (reloaded_line index)) }
+{
+    let text = reloaded(alloc, index)?;
+    write_flushed(text.as_str(), output)
+}
+
 /// Writes a line for each link, in their order, and flushes the output.
 pub(crate) fn write_report<W: LinkWrite>(
     alloc: Global,
@@ -41,6 +53,13 @@ fn listening(alloc: Global, address: SocketAddr) -> Result<String, AllocError>
     ensures { IfOk result (λ text. string_bytes text ≡ listening_line address) }
 {
     format!(in alloc; "listening {address}\n")
+}
+
+/// `reloaded N` and a line feed.
+fn reloaded(alloc: Global, index: u32) -> Result<String, AllocError>
+    ensures { IfOk result (λ text. string_bytes text ≡ reloaded_line index) }
+{
+    format!(in alloc; "reloaded {index}\n")
 }
 
 /// A line for each link, in their order.

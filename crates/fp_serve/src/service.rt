@@ -1,7 +1,7 @@
 //! What the messages of a run are answered from.
 
 use fp_apdu::Name;
-use fp_records::Table;
+use fp_hub::Tables;
 use std::alloc::Global;
 
 /// What the messages of a run are answered from, on all its links.
@@ -9,8 +9,8 @@ use std::alloc::Global;
 pub struct Service<'x> {
     /// The allocator of all that the run takes.
     pub alloc: Global,
-    /// The records.
-    pub table: &'x Table,
+    /// The records, which may be replaced meanwhile.
+    pub tables: &'x Tables,
     /// The names of the application contexts that are accepted.
     pub contexts: &'x [Name],
 }

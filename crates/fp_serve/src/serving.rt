@@ -1,21 +1,22 @@
 //! A run: its connections, a thread for each link, and the report.
 
 ghost use Rattle.std.specs.Prelude.{◌≡◌, ◌≤◌, ◌<◌, OnOk};
-ghost use Rattle.fp_serve.specs.Report.{TellsLinks};
+ghost use Rattle.fp_serve.specs.Report.{TellsLinks, TellsReloads};
 
+use crate::commands::{Commands, MOST_WAITING, Notice, Operator, Progress, follow, start_reading};
 use crate::connections::connection;
 use crate::link::{Plan, run_link};
 use crate::log::Log;
 use crate::log_writer::start_log;
 use crate::report::{write_address, write_report};
 use crate::{Events, ServeFault, Service, Settings};
-use fp_apdu::Name;
+use crossbeam_channel::{Receiver, Sender, bounded};
 use fp_book::Totals;
 use fp_hub::{Gate, Looks, OpenGate};
-use fp_records::Table;
 use fp_streams::LinkWrite;
 use fp_tids::LocalIds;
-use std::alloc::{AllocError, Global};
+use std::alloc::AllocError;
+use std::io::Read;
 use std::net::TcpListener;
 use std::rt::Clock;
 use std::sync::Wait;
@@ -35,11 +36,17 @@ fn looks<R: Threads>(rt: &R, settings: Settings) -> Looks {
     Looks::for_threads(usize::from(settings.links) * of_a_link, processors)
 }
 
-/// Serves links until all of them are down: writes `listening A` to `output`, with the address of the listener; accepts
-/// one connection for each link, which are numbered from 0 in the order in which they came; answers on
-/// each the messages that come, from the records and with the names of application contexts that are accepted; and
-/// writes in the end `link L accepted A served S sent T` for each link, in order, up to the first of which that isn't
-/// known.
+/// Serves links until all of them are down and no more commands come: writes `listening A` to `output`, with the
+/// address of the listener; accepts one connection for each link, which are numbered from 0 in the order in which they
+/// came; answers on each the messages that come, from the newest records and with the names of application contexts
+/// that are accepted; and writes in the end `link L accepted A served S sent T` for each link, in order, up to the
+/// first of which that isn't known.
+///
+/// Each line of the commands' input is a command. `reload`: the operator reads the records again, and `reloaded N` is
+/// written once they replace the newest, N their index: each message that is prepared from then on is answered from
+/// them, and a dialogue that is open goes on with the rule that it got. Any other line is handed to the operator to be
+/// refused. A read that fails ends the commands, as the end of their input does. After a fault the run ends without
+/// waiting for their end, and the thread that reads them is left to itself.
 ///
 /// The log begins with its head, and gets the lines of each link about once a second, and more often under load: whole
 /// lines, after which the writer is flushed. A thread of its own writes it, and nobody else waits for the writer,
@@ -58,30 +65,26 @@ fn looks<R: Threads>(rt: &R, settings: Settings) -> Looks {
 /// ([`Settings::with_log_gaps`]): it is tried again each second. Once the last connection was accepted, or after a
 /// fault, the listener is dropped, so that later connections are refused. `events` get each link that comes up or goes
 /// down, when the log failed first and when it went on, and how many of its lines the run ended without.
-pub fn serve<R, L, W>(
+pub fn serve<R, I, O, L, W>(
     rt: &R,
-    alloc: Global,
-    table: &Table,
-    contexts: &[Name],
+    service: Service<'_>,
     settings: Settings,
     listener: TcpListener,
+    commands: Commands<I, O>,
     log: L,
     events: &Events,
     output: &mut W,
 ) -> Result<(), ServeFault>
 where
     R: Threads + Wait + Clock + Copy + Send + Sync + 'static,
+    I: Read + Send + Drop + 'static,
+    O: Operator + Drop,
     L: LinkWrite + Send + Drop + 'static,
     W: LinkWrite,
     ensures { OnOk result (TellsLinks settings.links (W.contents output.old) (W.contents output.new)) }
 {
-    let service = Service {
-        alloc,
-        table,
-        contexts,
-    };
     serve_through(
-        rt, service, settings, &OpenGate, listener, log, events, output,
+        rt, service, settings, &OpenGate, listener, commands, log, events, output,
     )
 }
 
@@ -90,21 +93,24 @@ where
 /// dialogues whose turns that thread took. In the receiving thread it also holds up the messages that come next, and
 /// frames of turns that this thread served just before; so if turns wait there, it is to serve none
 /// ([`Settings::with_most_helped`]). The run ends only once no thread waits there.
-pub fn serve_through<R, L, W, G>(
+pub fn serve_through<R, G, I, O, L, W>(
     rt: &R,
     service: Service<'_>,
     settings: Settings,
     gate: &G,
     listener: TcpListener,
+    commands: Commands<I, O>,
     log: L,
     events: &Events,
     output: &mut W,
 ) -> Result<(), ServeFault>
 where
     R: Threads + Wait + Clock + Copy + Send + Sync + 'static,
+    G: Gate + Sync,
+    I: Read + Send + Drop + 'static,
+    O: Operator + Drop,
     L: LinkWrite + Send + Drop + 'static,
     W: LinkWrite,
-    G: Gate + Sync,
     ensures { OnOk result (TellsLinks settings.links (W.contents output.old) (W.contents output.new)) }
 {
     let Ok(address) = listener.local_addr() else {
@@ -113,11 +119,36 @@ where
     if listener.set_nonblocking(true).is_err() {
         return Err(ServeFault::NoConnection);
     }
+    let Commands {
+        input,
+        mut operator,
+    } = commands;
+    let (sender, notices) = bounded(service.alloc, MOST_WAITING)?;
+    let of_commands = sender.clone()?;
     write_address(service.alloc, address, output)?;
     let log = start_log(rt, service.alloc, settings, events.share()?, log)?;
-    let ended = run_links(rt, service, settings, gate, listener, events, &log);
+    if let Err(fault) = start_reading(rt, input, of_commands) {
+        log.stop.ask_for(rt, fault);
+    }
+    let Ended { counted, followed } = run(
+        rt,
+        service,
+        settings,
+        gate,
+        listener,
+        events,
+        &log,
+        sender,
+        &notices,
+        &mut operator,
+        output,
+    );
     log.finish(rt);
-    let counted = ended?;
+    let counted = counted?;
+    match followed {
+        Ok(()) => {}
+        Err(fault) => return Err(log.stop.fault(rt).unwrap_or(fault)),
+    }
     let reported = write_report(service.alloc, counted.as_slice(), output);
     if let Some(first) = log.stop.fault(rt) {
         return Err(first);
@@ -129,6 +160,63 @@ where
     Ok(())
 }
 
+/// What came of the links of a run, and of its commands.
+#[derive(Drop)]
+struct Ended {
+    counted: Result<Vec<Totals>, AllocError>,
+    followed: Result<(), ServeFault>,
+}
+
+/// Runs links, at most 8, until all of them are down, in a thread of their own, and follows the commands meanwhile.
+fn run<'x, R, G, O, W>(
+    rt: &'x R,
+    service: Service<'x>,
+    settings: Settings,
+    gate: &'x G,
+    listener: TcpListener,
+    events: &'x Events,
+    log: &'x Log,
+    sender: Sender<Notice>,
+    notices: &Receiver<Notice>,
+    operator: &mut O,
+    output: &mut W,
+) -> Ended
+where
+    R: Threads + Wait + Clock + Sync,
+    G: Gate + Sync,
+    O: Operator,
+    W: LinkWrite,
+    ensures { OnOk result.followed (TellsReloads (W.contents output.old) (W.contents output.new)) }
+{
+    let mut listener = Some(listener);
+    let progress = Progress::new();
+    let (counted, followed) = thread::join_mut(
+        rt,
+        &mut || {
+            progress.begin();
+            let counted = run_links(rt, service, settings, gate, listener.take(), events, log);
+            if counted.is_err() {
+                log.stop.ask_for(rt, ServeFault::Memory);
+            }
+            progress.end(rt, &sender);
+            counted
+        },
+        &mut || {
+            follow(
+                rt,
+                service.alloc,
+                notices,
+                &progress,
+                service.tables,
+                operator,
+                &log.stop,
+                output,
+            )
+        },
+    );
+    Ended { counted, followed }
+}
+
 /// Runs links, at most 8, until all of them are down, and hands back what they counted, in their order, up to the first
 /// of which that isn't known.
 fn run_links<'x, R: Threads + Wait + Clock + Sync, G: Gate + Sync>(
@@ -136,7 +224,7 @@ fn run_links<'x, R: Threads + Wait + Clock + Sync, G: Gate + Sync>(
     service: Service<'x>,
     settings: Settings,
     gate: &'x G,
-    listener: TcpListener,
+    listener: Option<TcpListener>,
     events: &'x Events,
     log: &'x Log,
 ) -> Result<Vec<Totals>, AllocError> {
@@ -160,7 +248,10 @@ fn run_links<'x, R: Threads + Wait + Clock + Sync, G: Gate + Sync>(
             handles.reserve(usize::from(links))?;
             counted.reserve(usize::from(links))?;
             for link in 0..links {
-                let Some((stream, peer)) = connection(rt, &listener, &log.stop) else {
+                let Some(listener) = &listener else {
+                    break;
+                };
+                let Some((stream, peer)) = connection(rt, listener, &log.stop) else {
                     break;
                 };
                 let plan = Plan {

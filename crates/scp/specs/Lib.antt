@@ -1,3 +1,4 @@
 pub mod Contexts
 pub mod Counts
 pub mod Instant
+pub mod Migrating

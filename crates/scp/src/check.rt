@@ -11,7 +11,8 @@ use fp_records::Table;
 use std::alloc::{AllocError, Global};
 use std::io::Write;
 
-/// Writes how many numbers and how many rules a table has: `numbers N rules M` and a line feed.
+/// Writes how many numbers and how many rules a table has, and how many closed days if there are any: `numbers N
+/// rules M` or `numbers N rules M closed C`, and a line feed.
 pub fn check<W: Write>(alloc: Global, table: &Table, output: &mut W) -> Result<(), AskFault>
     ensures written { OnOk result (Appends (W.contents output.old) (W.contents output.new) (counts_line table.now)) }
     ensures fault { IfErr result (λ fault. (fault ≡ WriteFault) ⊎ (fault ≡ Memory)) }
@@ -25,5 +26,8 @@ fn text_of(alloc: Global, table: &Table) -> Result<String, AllocError>
     ensures { IfOk result (λ text. string_bytes text ≡ counts_line table.now) }
 {
     let (numbers, rules) = table.counts();
-    format!(in alloc; "numbers {numbers} rules {rules}\n")
+    match table.closed() {
+        0 => format!(in alloc; "numbers {numbers} rules {rules}\n"),
+        closed => format!(in alloc; "numbers {numbers} rules {rules} closed {closed}\n"),
+    }
 }

@@ -19,6 +19,11 @@ pub enum Asked<'a> {
         /// The path of the file.
         records: &'a str,
     },
+    /// The records of a file as a file of version 2.
+    Migrate {
+        /// The path of the file.
+        records: &'a str,
+    },
     /// Answers from the records of a file, at a moment.
     Ask {
         /// The path of the file.
@@ -69,6 +74,9 @@ const VERSION: &str = "0.9.0";
 /// The name of the subcommand that counts.
 const CHECK: &str = "check";
 
+/// The name of the subcommand that writes a file of version 2.
+const MIGRATE: &str = "migrate";
+
 /// The name of the subcommand that replays a log.
 const REPLAY: &str = "replay";
 
@@ -91,6 +99,9 @@ pub fn asked_by<'a>(alloc: Global, words: &'a [String]) -> Result<Asked<'a>, All
     let records = chosen.get_str("RECORDS").unwrap_or("");
     if name == CHECK {
         return Ok(Asked::Check { records });
+    }
+    if name == MIGRATE {
+        return Ok(Asked::Migrate { records });
     }
     let contexts = chosen.get_str("contexts");
     if name == REPLAY {
@@ -169,6 +180,13 @@ fn told_by<'a>(alloc: Global, error: &Error) -> Result<Asked<'a>, AllocError> {
 const CHECK_EXAMPLE: &str = "Example:
   scp check examples/freephone.csv";
 
+const MIGRATE_EXAMPLE: &str = "Example:
+  scp migrate examples/freephone.csv > records.csv
+
+Prints the line fprecords,2 and then the records of the file from its head on, one a line, without quotes,
+empty lines and carriage returns. Their fields are unchanged. Nothing is printed if a record is faulty.
+Print to another file than the one that is read: a shell empties it before the program begins.";
+
 const ASK_EXAMPLE: &str = "Example:
   scp ask examples/freephone.csv 2024-05-06T12:00:00Z < examples/calls.txt
 
@@ -186,11 +204,13 @@ const SERVE_EXAMPLE: &str = "Example:
   scp serve examples/freephone.csv --listen 127.0.0.1:14700 --log run.log
 
 Prints the address where it listens, answers each connection as one link, and prints what each link did
-once all of them are down. Each message follows its length, which has four octets. FILE is emptied first,
-and gets each step of the links: scp replay replays them.";
+once all of them are down and standard input has ended. Each line of that is a command: reload reads
+RECORDS again. Each message follows its length, which has four octets. FILE is emptied first, and gets
+each step of the links: scp replay replays them.";
 
 const EXAMPLES: &str = "Examples:
   scp check examples/freephone.csv
+  scp migrate examples/freephone.csv > records.csv
   scp ask examples/freephone.csv 2024-05-06T12:00:00Z < examples/calls.txt
   scp serve examples/freephone.csv --listen 127.0.0.1:14700 --log run.log
   scp replay examples/freephone.csv examples/calls.log";
@@ -213,8 +233,16 @@ fn contexts<'a>(alloc: Global) -> Arg<'a> {
 /// The subcommand that counts.
 fn check_command<'a>(alloc: Global) -> Result<Command<'a>, AllocError> {
     Command::new(alloc, CHECK)
-        .about("Validates a file of records and counts its numbers and rules")
+        .about("Validates a file of records and counts its numbers, rules and closed days")
         .after_help(CHECK_EXAMPLE)
+        .arg(records(alloc))
+}
+
+/// The subcommand that writes a file of version 2.
+fn migrate_command<'a>(alloc: Global) -> Result<Command<'a>, AllocError> {
+    Command::new(alloc, MIGRATE)
+        .about("Prints the records of a file as a file of version 2")
+        .after_help(MIGRATE_EXAMPLE)
         .arg(records(alloc))
 }
 
@@ -318,6 +346,7 @@ fn command<'a>(alloc: Global) -> Result<Command<'a>, AllocError> {
         .after_help(EXAMPLES)
         .subcommand_required(true)
         .subcommand(check_command(alloc)?)?
+        .subcommand(migrate_command(alloc)?)?
         .subcommand(ask_command(alloc)?)?
         .subcommand(serve_command(alloc)?)?
         .subcommand(replay_command(alloc)?)

@@ -12,7 +12,15 @@ pub fn write_text<W: Write>(text: &str, output: &mut W) -> Result<(), AskFault>
     ensures written { OnOk result (Appends (W.contents output.old) (W.contents output.new) text.now) }
     ensures fault { IfErr result (λ fault. fault ≡ WriteFault) }
 {
-    if output.write_all(text.as_bytes()).is_err() || output.flush().is_err() {
+    write_octets(text.as_bytes(), output)
+}
+
+/// Writes octets, and flushes the output.
+pub fn write_octets<W: Write>(octets: &[u8], output: &mut W) -> Result<(), AskFault>
+    ensures written { OnOk result (Appends (W.contents output.old) (W.contents output.new) octets.now) }
+    ensures fault { IfErr result (λ fault. fault ≡ WriteFault) }
+{
+    if output.write_all(octets).is_err() || output.flush().is_err() {
         return Err(AskFault::WriteFault);
     }
     Ok(())

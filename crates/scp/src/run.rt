@@ -10,6 +10,7 @@ use crate::check::check;
 use crate::command::{Asked, asked_by, moment_of};
 use crate::contexts::contexts_in;
 use crate::fault::RunFault;
+use crate::migrate::migrate;
 use crate::output::write_text;
 use fp_apdu::Name;
 use fp_ask::{AskFault, ask};
@@ -64,6 +65,7 @@ where
 {
     let outcome = match asked {
         Ok(Asked::Check { records }) => check_file(rt, records, output),
+        Ok(Asked::Migrate { records }) => migrate_file(rt, records, output),
         Ok(
             Asked::Ask {
                 records,
@@ -130,6 +132,16 @@ fn check_file<H: Files + AllocGlobal, W: Write>(
     let table = table_in(rt, records)?;
     check(rt.alloc(), &table, output)?;
     Ok(())
+}
+
+/// Writes the records of a file as a file of version 2.
+fn migrate_file<H: Files + AllocGlobal, W: Write>(
+    rt: &H,
+    records: &str,
+    output: &mut W,
+) -> Result<(), RunFault> {
+    let text = records_in(rt, records)?;
+    migrate(rt.alloc(), text.as_slice(), output)
 }
 
 /// Answers the lines of the input from the records of a file.

@@ -6,11 +6,12 @@ ghost use Rattle.fp_serve.specs.declared.fault.ServeFault.TheVariants.{Memory, N
 ghost use Rattle.scp.specs.declared.fault.RunFault.TheVariants.{Serve, UnopenedLog};
 
 use crate::command::{Asked, asked_by};
+use crate::console::Console;
 use crate::fault::RunFault;
 use crate::run::{accepted, records_in, run_asked, status_of};
-use fp_apdu::Name;
+use fp_hub::Tables;
 use fp_records::Table;
-use fp_serve::{Event, Events, ServeFault, Settings, Wanted, serve};
+use fp_serve::{Commands, Event, Events, Operator, ServeFault, Service, Settings, Wanted, serve};
 use fp_streams::Counted;
 use sha2::{Digest, Sha256};
 use std::fs;
@@ -32,7 +33,11 @@ use std::thread::Threads;
 /// awaited, are `listen: cannot listen`.
 ///
 /// The events of the run that the words ask for go to `event_lines`, by a thread that may still wait there when this
-/// returns.
+/// returns. So may a thread that reads commands from `input`, if the run ended after a fault.
+///
+/// A command `reload` reads the file of the records again. If it is faulty, or can't be read, its fault is a line on
+/// `errors`, and the records of before are kept. So they are after `reload: refused`: 999 files replaced others, or
+/// memory ran out once it was read. Any other line of the input gets the line `command: unknown`.
 pub fn program_with_links<H, R, W, E, V>(
     rt: &H,
     words: &[String],
@@ -52,7 +57,7 @@ where
         + Send
         + Sync
         + 'static,
-    R: Read + Drop,
+    R: Read + Send + Drop + 'static,
     W: Write,
     E: Write,
     V: Write + Send + Drop + 'static,
@@ -77,7 +82,8 @@ where
                 events,
                 contexts,
             };
-            status_of(serve_file(rt, asked, output, event_lines), errors)
+            let outcome = serve_file(rt, asked, input, output, errors, event_lines);
+            status_of(outcome, errors)
         }
         asked => run_asked(rt, asked, input, output, errors),
     }
@@ -95,10 +101,12 @@ struct Run<'a> {
 }
 
 /// Serves links from the records of a file.
-fn serve_file<H, W, V>(
+fn serve_file<H, R, W, E, V>(
     rt: &H,
     asked: Run<'_>,
+    input: R,
     output: &mut W,
+    errors: &mut E,
     event_lines: V,
 ) -> Result<(), RunFault>
 where
@@ -112,7 +120,9 @@ where
         + Send
         + Sync
         + 'static,
+    R: Read + Send + Drop + 'static,
     W: Write,
+    E: Write,
     V: Write + Send + Drop + 'static,
 {
     let Some(contexts) = accepted(rt.alloc(), asked.contexts)? else {
@@ -126,12 +136,24 @@ where
     empty(&file)?;
     let events = started_events(rt, asked.events, text.as_slice(), event_lines)?;
     drop(text);
+    let tables = Tables::new(rt.alloc(), table)?;
+    let service = Service {
+        alloc: rt.alloc(),
+        tables: &tables,
+        contexts: contexts.as_slice(),
+    };
+    let operator = Console {
+        rt,
+        records: asked.records,
+        events: &events,
+        errors,
+    };
     let outcome = serve_links(
         rt,
-        &table,
-        contexts.as_slice(),
+        service,
         asked.settings,
         listener,
+        Commands { input, operator },
         Counted::new(file),
         &events,
         &mut Counted::new(output),
@@ -254,30 +276,24 @@ fn empty(file: &File) -> Result<(), ServeFault>
 }
 
 /// Serves links, and says of writers whose octets are known what [`serve`] says.
-fn serve_links<H, W>(
+fn serve_links<H, I, O, W>(
     rt: &H,
-    table: &Table,
-    contexts: &[Name],
+    service: Service<'_>,
     settings: Settings,
     listener: TcpListener,
+    commands: Commands<I, O>,
     log: Counted<File>,
     events: &Events,
     output: &mut Counted<W>,
 ) -> Result<(), ServeFault>
 where
     H: AllocGlobal + Threads + Wait + Clock + Copy + Send + Sync + 'static,
+    I: Read + Send + Drop + 'static,
+    O: Operator + Drop,
     W: Write,
     ensures { OnOk result (TellsLinks settings.links (W.contents output.old.device) (W.contents output.new.device)) }
 {
     serve(
-        rt,
-        rt.alloc(),
-        table,
-        contexts,
-        settings,
-        listener,
-        log,
-        events,
-        output,
+        rt, service, settings, listener, commands, log, events, output,
     )
 }

@@ -43,6 +43,11 @@ pub(crate) fn answer(alloc: Global, identifier: u32) -> Result<String, AllocErro
     format!(in alloc; "641D4904{identifier:08X}6C15A113020101020114300BA009040783100322324304")
 }
 
+/// The message that answers it by records that lead the number to 302223399.
+pub(crate) fn led_elsewhere(alloc: Global, identifier: u32) -> Result<String, AllocError> {
+    format!(in alloc; "641D4904{identifier:08X}6C15A113020101020114300BA009040783100322329309")
+}
+
 /// The frame of such a Begin from 2A that names the application context 2A0304.
 pub(crate) const BEGIN_WITH_CONTEXT: &str =
     "0000004B624948040000002A6B1A2818060700118605010101A00D600B80020780A10506032A03046C25A123020101020100301B80016482078310081032540683078313032143650785010A9C0103";
@@ -181,6 +186,30 @@ pub(crate) fn all_kinds<R: Net<Stream = TcpStream>>(
     // The second dialogue of its link.
     if number & 0x1FFF_FFFF == 2 {
         Some(number >> 29)
+    } else {
+        None
+    }
+}
+
+/// Opens the first dialogue of link 0, for a number that leads to two places. `None`: it isn't led to the first.
+pub(crate) fn opens(alloc: Global, client: &mut Client) -> Option<()> {
+    let frame = begin_for(alloc, 0x101, "07").ok()?;
+    client.write_text(alloc, frame.as_str())?;
+    let first = connection(alloc, "00000001", "01", "02", "4304").ok()?;
+    if client.message(alloc)? == first {
+        Some(())
+    } else {
+        None
+    }
+}
+
+/// The first place of that dialogue is busy. `None`: it isn't led to the second.
+pub(crate) fn goes_on(alloc: Global, client: &mut Client) -> Option<()> {
+    let busy = report(alloc, "00000001", "02", "05").ok()?;
+    client.write_text(alloc, busy.as_str())?;
+    let second = connection(alloc, "00000001", "03", "04", "5305").ok()?;
+    if client.message(alloc)? == second {
+        Some(())
     } else {
         None
     }

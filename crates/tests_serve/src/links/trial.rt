@@ -4,10 +4,10 @@ use super::device::{Device, Mood};
 use crate::memory::{Shared, awaited_address};
 use crate::talk::RECORDS;
 use fp_apdu::Name;
-use fp_hub::Gate;
+use fp_hub::{Gate, Tables};
 use fp_records::Table;
 use fp_replay::{ReplayFault, replay};
-use fp_serve::{Events, ServeFault, Service, Settings, Wanted, serve_through};
+use fp_serve::{Commands, Events, Operator, ServeFault, Service, Settings, Wanted, serve_through};
 use fp_streams::Counted;
 use std::alloc::{AllocError, Global};
 use std::net::{SocketAddr, TcpListener};
@@ -53,6 +53,18 @@ pub(crate) fn lacks_text<R: Wait>(rt: &R, text: &Text, unwanted: &str) -> Option
     } else {
         Some(())
     }
+}
+
+/// No operator: no command comes.
+#[derive(Drop)]
+struct NoOperator;
+
+impl Operator for NoOperator {
+    fn reload(&mut self, _tables: &Tables) -> Option<u32> {
+        None
+    }
+
+    fn refuse(&mut self) {}
 }
 
 /// What a run shares with its clients and its test.
@@ -133,12 +145,16 @@ impl Trial {
         R: Threads + Wait + Clock + Copy + Send + Sync + 'static,
         G: Gate + Sync,
     {
-        let tables = [Table::read(alloc, RECORDS.as_bytes()).ok()?];
+        let tables = Tables::new(alloc, Table::read(alloc, RECORDS.as_bytes()).ok()?).ok()?;
         let contexts = [Name::new(&[0x2A, 3, 4])?];
         let service = Service {
             alloc,
-            table: &tables[0],
+            tables: &tables,
             contexts: &contexts,
+        };
+        let commands = Commands {
+            input: b"".as_slice(),
+            operator: NoOperator,
         };
         let device = Device::new(rt, &self.log, &self.mood).ok()?;
         let mut output = Counted::new(Shared::new(rt, alloc, &self.output));
@@ -148,6 +164,7 @@ impl Trial {
             self.settings,
             gate,
             listener,
+            commands,
             Counted::new(device),
             &self.events,
             &mut output,
@@ -156,6 +173,7 @@ impl Trial {
         // A thread that still writes the log ends.
         self.set_mood(rt, Mood::Takes(0));
         self.events.finish(rt);
+        let tables = [Table::read(alloc, RECORDS.as_bytes()).ok()?];
         let mut replayed = Counted::new(Vec::new(alloc));
         let mut lines = Counted::new(log.as_slice());
         let replay_fault = replay(

@@ -14,7 +14,7 @@ use std::thread::Threads;
 use std::{env, fs, str};
 
 /// Records of a number with a day that is there twice.
-const BAD_RECORDS: &str = "key,100,60
+pub(crate) const BAD_RECORDS: &str = "key,100,60
 800123456,,1224567,00:00,24:00,1,route,302223344
 ";
 

@@ -1,5 +1,5 @@
 use Rattle.std.proofs.Common.{length, take, drop, arith, ap, length-drop, rules}
-use Rattle.std.proofs.KnownBytes.{Appends-kept, Appends-trans}
+use Rattle.std.proofs.KnownBytes.{Appends-trans}
 use Rattle.std.proofs.lemmas.List.{take_rest}
 use Rattle.std.proofs.Math.Seq.{take-add}
 use Rattle.fp_serve.proofs.log_writer.write_front.Goals as goal

@@ -1,0 +1,109 @@
+//! The records that all links of a run answer from, and that are replaced while they run.
+
+ghost use Rattle.std.specs.Prelude.{◌≡◌, ◌≤◌, IfSome, OnErr};
+
+use fp_records::Table;
+use std::alloc::{AllocError, Global};
+use std::mem;
+use std::sync::atomic::{AtomicU16, Ordering};
+use std::sync::{Arc, Mutex, Wait};
+
+/// The tables that a lock keeps.
+#[derive(Drop)]
+struct Versions {
+    // The newest, from which messages are answered.
+    newest: Arc<Table>,
+    // Those that were replaced, until no link has one.
+    replaced: Vec<Arc<Table>>,
+}
+
+/// The records that all links of a run answer from: a table, which may be replaced. The first has index 0, and each
+/// that replaces one has the next index, so that a replay reads each message by the table by which it was answered.
+///
+/// A link keeps the table from which it answers, and needs the lock only to fetch another one.
+#[derive(Drop)]
+pub struct Tables {
+    versions: Mutex<Versions>,
+    // The index of the newest.
+    index: AtomicU16,
+    alloc: Global,
+}
+
+impl Tables {
+    /// The first table, under index 0.
+    pub fn new(alloc: Global, table: Table) -> Result<Tables, AllocError> {
+        let newest = Arc::new(alloc, table.numbered(0))?;
+        Ok(Tables {
+            versions: Mutex::new(Versions {
+                newest,
+                replaced: Vec::new(alloc),
+            }),
+            index: AtomicU16::new(0),
+            alloc,
+        })
+    }
+
+    /// The newest table.
+    pub fn table<R: Wait>(&self, rt: &R) -> Result<Arc<Table>, AllocError> {
+        Arc::try_clone(&self.versions.lock(rt).newest)
+    }
+
+    /// Fetches the newest table in the place of an older one. If it is the newest already, the lock isn't taken. If memory
+    /// runs out, nothing changes.
+    pub fn refresh<R: Wait>(&self, rt: &R, table: &mut Arc<Table>) -> Result<(), AllocError>
+        ensures { OnErr result (table.new ≡ table.old) }
+    {
+        if self.index.load(Ordering::SeqCst) == table.index() {
+            return Ok(());
+        }
+        let newest = self.table(rt)?;
+        drop(mem::replace(table, newest));
+        Ok(())
+    }
+
+    /// Replaces the newest table by another one, and gives the index that this has. `None`: the newest has index 999,
+    /// the last, or memory ran out. Then nothing changes.
+    ///
+    /// The old one is kept until no link has it: then [`Tables::free_replaced`] frees it.
+    pub fn reload<R: Wait>(&self, rt: &R, table: Table) -> Option<u32>
+        ensures { IfSome result (λ index. (1 ≤ index) × (index ≤ Table.LAST_INDEX)) }
+    {
+        let mut versions = self.versions.lock(rt);
+        let index = versions.newest.index() + 1;
+        if index > Table::LAST_INDEX {
+            return None;
+        }
+        versions.replaced.reserve(1).ok()?;
+        let newest = match Arc::new(self.alloc, table.numbered(index)) {
+            Ok(newest) => newest,
+            Err(refused) => {
+                // Its rules are freed with no lock held.
+                drop(versions);
+                drop(refused);
+                return None;
+            }
+        };
+        let old = mem::replace(&mut versions.newest, newest);
+        let _ = versions.replaced.push(old);
+        self.index.store(index, Ordering::SeqCst);
+        Some(u32::from(index))
+    }
+
+    /// Frees the tables that were replaced and that no link has any more. It is for a thread for which no message
+    /// waits: to free many rules takes milliseconds.
+    pub fn free_replaced<R: Wait>(&self, rt: &R) {
+        for _ in 0..=Table::LAST_INDEX {
+            let mut versions = self.versions.lock(rt);
+            let unused = versions
+                .replaced
+                .iter()
+                .position(|table| Arc::strong_count(table) == 1);
+            let Some(place) = unused else {
+                return;
+            };
+            let table = versions.replaced.swap_remove(place);
+            drop(versions);
+            drop(table);
+        }
+    }
+}

@@ -1,0 +1,61 @@
+//! What a run that serves links is asked for while it lasts.
+
+use crate::fault::RunFault;
+use crate::run::records_in;
+use fp_hub::Tables;
+use fp_records::Table;
+use fp_serve::{Event, Events, Operator};
+use sha2::{Digest, Sha256};
+use std::fmt;
+use std::io::Write;
+use std::rt::{Clock, Files};
+use std::sync::Wait;
+
+/// Reads the records of a run again from their file, and writes what is wrong with a command, a line each.
+#[derive(Drop)]
+pub(crate) struct Console<'a, H, E> {
+    pub(crate) rt: &'a H,
+    // The path of the records.
+    pub(crate) records: &'a str,
+    pub(crate) events: &'a Events,
+    pub(crate) errors: &'a mut E,
+}
+
+impl<H: Files + AllocGlobal + Wait + Clock, E: Write> Console<'_, H, E> {
+    /// Writes a line in one piece, so that no event comes between its parts. What can't be written is left out.
+    fn say<D: fmt::Display + Drop>(&mut self, text: D) {
+        if let Ok(line) = format!(in self.rt.alloc(); "{text}\n") {
+            let _ = self.errors.write_all(line.as_bytes());
+            let _ = self.errors.flush();
+        }
+    }
+
+    /// Reads the records again, and reports their index and the digest of their file as an event.
+    fn reread(&self, tables: &Tables) -> Result<u32, RunFault> {
+        let text = records_in(self.rt, self.records)?;
+        let table = Table::read(self.rt.alloc(), text.as_slice())?;
+        let Some(index) = tables.reload(self.rt, table) else {
+            return Err(RunFault::RefusedReload);
+        };
+        let digest = Sha256::digest(text.as_slice());
+        self.events
+            .report(self.rt, Event::Reloaded { index, digest });
+        Ok(index)
+    }
+}
+
+impl<H: Files + AllocGlobal + Wait + Clock, E: Write> Operator for Console<'_, H, E> {
+    fn reload(&mut self, tables: &Tables) -> Option<u32> {
+        match self.reread(tables) {
+            Ok(index) => Some(index),
+            Err(fault) => {
+                self.say(fault);
+                None
+            }
+        }
+    }
+
+    fn refuse(&mut self) {
+        self.say("command: unknown");
+    }
+}
