@@ -8,11 +8,12 @@
 //! | `get LOCAL` | the birth of the dialogue under this identifier, or `none` |
 //! | `remove LOCAL` | it is removed: its birth, or `none` |
 //! | `count` | how many there are |
+//! | `after LOCAL`, `first` | the least identifier above this one, or of all, or `none` |
 //! | `found COUNT` | under how many of the identifiers of `fill COUNT` the dialogue of that birth is |
 //! | `close` | all are closed, while no frame is being sent: how many are left |
 
 use crate::script::{Steps, play};
-use crate::texts::{local_of, moment_after, push_text};
+use crate::texts::{local_of, moment_after, push_local, push_text};
 use anyhow::bail;
 use cases::first_word;
 use fp_q773::Tid;
@@ -113,6 +114,7 @@ impl Register {
         match verb {
             "get" => push_birth(out, self.rows.get(local).map(Row::birth)),
             "remove" => push_birth(out, self.rows.remove(local).map(|row| row.birth())),
+            "after" => push_local(out, self.rows.after(Some(local))),
             _ => bail!("no step: {verb}"),
         }
     }
@@ -126,6 +128,7 @@ impl Steps for Register {
             "found" => self.push_found(rest, out),
             "close" => self.close(out),
             "count" => self.push_count(out),
+            "first" => push_local(out, self.rows.after(None)),
             "fill" => self.fill(rest, out),
             "empty" => self.empty(rest, out),
             _ => self.look(verb, rest, out),

@@ -1,3 +1,4 @@
+mod After
 mod HashMaps
 mod PuttingBack
 mod Stepping

@@ -1,8 +1,8 @@
 -- Rows by local transaction identifier (ITU-T Q.773, 4.2.1.3): a finite map.
-use Rattle.std.specs.Prelude.{◌≡◌, ℕ, ◌==◌, Bool, false, Option, Some, None, count_by, if◌then◌else◌, length}
+use Rattle.std.specs.Prelude.{◌≡◌, ℕ, ◌≤◌, ◌==◌, nat_lt, Bool, false, true, IsTrue, Option, Some, None, count_by, if◌then◌else◌, length}
 use Rattle.std.specs.List.{sum_by}
 use Rattle.std.specs.Ordering.{nat_cmp}
-use Rattle.std.specs.FinMap.{FinMap, entries, get, insert}
+use Rattle.std.specs.FinMap.{FinMap, contains_key, entries, get, insert}
 use Rattle.fp_row.specs.declared.ending.Ending.TheVariants.{Closed}
 use Rattle.fp_row.specs.declared.row.Row.{Row}
 use Rattle.fp_row.specs.Calls.{Ends}
@@ -15,6 +15,23 @@ count_due rows moment = count_by (λ (entry : ℕ × Row). is_due entry.1 moment
 -- how many entries the dialogues accepted
 abbrev pub entry_count : FinMap nat_cmp Row → ℕ
 entry_count rows = sum_by (λ (entry : ℕ × Row). length entry.1.accepted) (entries rows)
+
+-- an identifier is above this one, as each is above none
+abbrev pub is_above : Option ℕ → ℕ → Bool
+is_above None other = true
+is_above (Some local) other = nat_lt local other
+
+-- the least identifier of a row above one, and the least of all above none
+abbrev pub IsAfter : FinMap nat_cmp Row → Option ℕ → Option ℕ → Type 0
+-- none: no row has an identifier above it
+IsAfter rows local None = (other : ℕ) → IsTrue (contains_key rows other) → is_above local other ≡ false
+-- an identifier: a row has it, it is above, and no other that is above is smaller
+IsAfter rows local (Some next) =
+    IsTrue (contains_key rows next) × (is_above local next ≡ true) × ((other : ℕ) → IsTrue (contains_key rows other) → is_above local other ≡ true → next ≤ other)
+
+-- the least identifier above one is one identifier, or none
+abbrev pub AfterIsOne : Type 0
+AfterIsOne = (rows : FinMap nat_cmp Row) (local a b : Option ℕ) → IsAfter rows local a → IsAfter rows local b → a ≡ b
 
 -- to put back the row that was there changes nothing
 abbrev pub PuttingBackChangesNothing : Type 0

@@ -1,7 +1,7 @@
 //! What the types of the layer keep.
 
 ghost use Rattle.fp_row.specs.Laws.{RowsKeepTheirOrder, TurnsAreServedByTheStep};
-ghost use Rattle.fp_row.specs.Rows.{PuttingBackChangesNothing};
+ghost use Rattle.fp_row.specs.Rows.{AfterIsOne, PuttingBackChangesNothing};
 
 use fp_service::{births_stay, cut_is_a_front, entries_ask_once_at_most, folds_along_a_grown_list};
 
@@ -27,6 +27,12 @@ pub fn turns_are_served_by_the_step()
     cut_is_a_front();
     entries_ask_once_at_most();
 }
+
+/// What [`Rows::after`](crate::Rows::after) answers is one identifier, or none.
+#[tactic(auto, using(crate::proofs::After::after_is_one))]
+pub fn after_is_one()
+    ensures { AfterIsOne }
+{}
 
 /// To put a row under the identifier that it has changes nothing.
 #[tactic(auto, using(crate::proofs::PuttingBack::putting_back_changes_nothing))]

@@ -44,7 +44,9 @@ mod turn;
 
 pub use done::Done;
 pub use ending::Ending;
-pub use laws::{putting_back_changes_nothing, rows_keep_their_order, turns_are_served_by_the_step};
+pub use laws::{
+    after_is_one, putting_back_changes_nothing, rows_keep_their_order, turns_are_served_by_the_step,
+};
 pub use request_frame::RequestFrame;
 pub use request_frames::RequestFrames;
 pub use requested::Requested;

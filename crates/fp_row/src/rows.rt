@@ -8,7 +8,7 @@ ghost use Rattle.std.specs.FinMap as map;
 ghost use Rattle.fp_row.specs.contracts.rows.Rows.{the_row};
 ghost use Rattle.fp_row.specs.contracts.row.Row as row_type;
 ghost use Rattle.fp_row.specs.declared.row.Row.{Row};
-ghost use Rattle.fp_row.specs.Rows.{Closes, ClosesAt, count_due, entry_count, is_sent};
+ghost use Rattle.fp_row.specs.Rows.{Closes, ClosesAt, IsAfter, count_due, entry_count, is_above, is_sent};
 
 use crate::{Ending, Row};
 use fp_digits::Moment;
@@ -37,6 +37,16 @@ impl Model for Rows {
     ghost coded = { map.code coded_ℕ row_type.the_row.coded };
 
     ghost view = { λ rows. map.from_entries rows.rows.entries };
+}
+
+/// Whether an identifier is above this one, as each is above `None`.
+fn is_above(local: Option<u32>, other: u32) -> bool
+    ensures { result ≡ is_above local other }
+{
+    match local {
+        Some(local) => local < other,
+        None => true,
+    }
 }
 
 /// Whether a frame of this dialogue is being sent, by the dialogue of which one is.
@@ -124,6 +134,18 @@ impl Rows {
     {
         self.rows
             .retain(|local, row| close(row, is_sent(sending, *local)));
+    }
+
+    /// Gives the least identifier above this one that has a row, or the least of all for `None`: `None` if there is
+    /// none. Goes through all of them.
+    pub fn after(&self, local: Option<u32>) -> Option<u32>
+        ensures { IsAfter self.now local result }
+    {
+        self.rows
+            .keys()
+            .copied()
+            .filter(|other| is_above(local, *other))
+            .min()
     }
 
     /// How many of the dialogues are due at a moment.
