@@ -1,13 +1,14 @@
 //! The book of a link.
 
 ghost use Rattle.std.specs.Prelude.{◌≡◌, ◌+◌, ◌-◌, ◌<◌, ◌≤◌, [], IfOk, length, vec_capacity, vec_len};
+ghost use Rattle.std.specs.FinMap as map;
 ghost use Rattle.fp_book.specs.Calls.{DrainsBook};
 ghost use Rattle.fp_book.specs.Log.{Drains};
 ghost use Rattle.fp_book.specs.Outbox.{frames_held};
 ghost use Rattle.fp_book.specs.Shelf.{Sound, empty_shelf, places_held};
 ghost use Rattle.fp_book.specs.declared.totals.Totals as counts;
 
-use crate::{Line, Log, Outbox, ReadyQueue, Totals};
+use crate::{Line, Log, Outbox, ReadyQueue, Status, Totals};
 use fp_row::Rows;
 use fp_tids::{LocalIds, serials_are_distinct};
 use fp_timers::Deadlines;
@@ -113,6 +114,18 @@ impl Book {
         ensures sound { Sound self.now }
     {
         self.is_down
+    }
+
+    /// How far the link is. Takes no memory, and goes through no dialogues.
+    pub fn status(&self) -> Status
+        ensures value { result ≡ record { is_down = self.now.is_down; totals = self.now.totals; dialogues = map.len self.now.rows } }
+        ensures sound { Sound self.now }
+    {
+        Status {
+            is_down: self.is_down,
+            totals: self.totals,
+            dialogues: self.rows.len(),
+        }
     }
 
     /// How many lines the log has, at most [`Log::MOST`]. Takes no memory.

@@ -23,6 +23,7 @@
 //! | [`Book::is_quiet`] | | whether nothing is left to be served or sent |
 //! | [`Book::entry_count`] | | how many entries the dialogues that are held keep |
 //! | [`Book::totals`] | | [`Totals`]: components accepted, entries served, frames sent |
+//! | [`Book::status`] | | [`Status`]: whether it is down, these totals, and how many dialogues it holds |
 //!
 //! A dialogue is *admitted* from its Begin until its core is over, its peer's End or Abort is accepted, a message for
 //! it is refused, or its link goes down; it is *closed* by the last two of these. It is *ready* when an entry of it
@@ -35,11 +36,11 @@
 //! stale or foreign one comes back and changes nothing. A dialogue whose turn or parcel was abandoned stays held.
 //!
 //! What a call costs, by the number of dialogues that are held: `post`, `take`, `give`, `put_back` and `sent` look one
-//! of them up by halves, and mostly its deadline. If a dialogue or a deadline comes, goes or changes, 16 octets move
-//! for each one between its place and the nearer end of a list: next to none for the oldest and the newest dialogue,
-//! and up to half of them for a deadline before those of others. A Begin for which the rows have to grow moves all of
-//! them. `tick` does so for each dialogue that is due, and looks at one deadline if none is. `entry_count`, `down`,
-//! `unsent`, and a tick for which memory ran out, go through all dialogues. A message that is refused or ends its
+//! of them up by hash. A deadline that comes, goes or changes is found at an end of a lane, or by halves, and then 16
+//! octets move for each one between its place and the nearer end of that lane: next to none for the oldest and the
+//! newest. A Begin for which the rows have to grow moves all of them. `tick` does so for each dialogue that is due, and
+//! looks at four deadlines if none is. `entry_count`, `down`, `unsent`, and a tick for which memory ran out, go through
+//! all dialogues. A message that is refused or ends its
 //! dialogue goes through the frames that wait only if one of them is that dialogue's, and through the order of service
 //! only if that dialogue is in it. Nothing else grows with what other dialogues have: an identifier is given by a count
 //! or from the front of a queue, and its serial goes to the back of that queue once the dialogue is no longer held.
@@ -79,6 +80,7 @@ mod ready_queue;
 mod sending;
 mod sending_out;
 mod serving;
+mod status;
 mod taken;
 mod ticked;
 mod ticking;
@@ -98,6 +100,7 @@ pub use log::Log;
 pub use outbox::Outbox;
 pub use parcel::{Parcel, Picked};
 pub use ready_queue::ReadyQueue;
+pub use status::Status;
 pub use taken::Taken;
 pub use ticked::Ticked;
 pub use totals::Totals;

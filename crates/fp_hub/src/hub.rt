@@ -13,7 +13,7 @@ use crate::resting::Resting;
 use crate::waiting::Looking;
 use crate::{Hints, Kept, Looks, Seat};
 use crossbeam_utils::CachePadded;
-use fp_book::{Given, Line, Parcel, Picked, Posted, Taken, Ticked};
+use fp_book::{Given, Line, Parcel, Picked, Posted, Status, Taken, Ticked};
 use fp_digits::Moment;
 use fp_entry::Prepared;
 use fp_row::{Done, Turn};
@@ -276,6 +276,11 @@ impl<A: Ledger, B: Ledger, C: Ledger> Hub<A, B, C> {
     /// Whether the link is down.
     pub fn is_down<R: Wait>(&self, rt: &R) -> bool {
         self.hold(rt).kept.is_down()
+    }
+
+    /// How far the link is, as [`Kept::status`].
+    pub fn status<R: Wait>(&self, rt: &R) -> Status {
+        self.hold(rt).kept.status()
     }
 
     /// How many entries the dialogues that are held keep, as [`Kept::entry_count`]. Goes through all of them.

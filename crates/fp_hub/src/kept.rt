@@ -1,6 +1,7 @@
 //! What the lock of a link keeps.
 
 ghost use Rattle.std.specs.Prelude.{◌≡◌, ◌↔◌, ◌<◌, ◌-◌, false, Some, IfErr, IfOk, IsOk, IsTrue, OnOk, length, vec_capacity, vec_len};
+ghost use Rattle.std.specs.FinMap as map;
 ghost use Rattle.std.specs.FinMap.{get};
 ghost use Rattle.fp_book.specs.declared.line.LoggedStep.TheVariants as line;
 ghost use Rattle.fp_book.specs.Calls.{DrainsBook, GivesDone, GoesDown, Hands, IsOut, NoneReady, Posts, PutsTurnBack, Sends, Takes, Ticks, Unsends, posted_totals, turn_of};
@@ -13,7 +14,7 @@ mod several;
 
 use crate::next::Next;
 use crate::{PARTS, Seat};
-use fp_book::{Book, Given, Line, Parcel, Picked, Posted, Taken, Ticked, Totals};
+use fp_book::{Book, Given, Line, Parcel, Picked, Posted, Status, Taken, Ticked, Totals};
 use fp_digits::Moment;
 use fp_entry::Prepared;
 use fp_row::{Done, Turn};
@@ -171,6 +172,14 @@ impl<A: Ledger, B: Ledger, C: Ledger> Kept<A, B, C> {
         ensures sound { Sound self.now }
     {
         self.book.entry_count()
+    }
+
+    /// How far the link is, as [`Book::status`].
+    pub fn status(&self) -> Status
+        ensures value { result ≡ record { is_down = self.now.is_down; totals = self.now.totals; dialogues = map.len self.now.rows } }
+        ensures sound { Sound self.now }
+    {
+        self.book.status()
     }
 
     /// Time goes by, as for [`Book::tick`].

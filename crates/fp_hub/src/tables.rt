@@ -48,8 +48,8 @@ impl Tables {
         Arc::try_clone(&self.versions.lock(rt).newest)
     }
 
-    /// Fetches the newest table in the place of an older one. If it is the newest already, the lock isn't taken. If memory
-    /// runs out, nothing changes.
+    /// Fetches the newest table in the place of an older one. If it is the newest already, the lock isn't taken. If
+    /// memory runs out, nothing changes.
     pub fn refresh<R: Wait>(&self, rt: &R, table: &mut Arc<Table>) -> Result<(), AllocError>
         ensures { OnErr result (table.new ≡ table.old) }
     {

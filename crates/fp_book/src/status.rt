@@ -1,0 +1,14 @@
+//! How far a link is.
+
+use crate::Totals;
+
+/// How far a link is.
+#[derive(Clone, Copy, Debug, PartialEq, Eq)]
+pub struct Status {
+    /// Whether it is down.
+    pub is_down: bool,
+    /// What it counted.
+    pub totals: Totals,
+    /// How many dialogues it holds.
+    pub dialogues: usize,
+}
