@@ -1,35 +1,70 @@
--- What a run tells: the address at which its links were awaited, each table that replaced another, and in the end what
--- each link counted.
-use Rattle.std.specs.Prelude.{◌≡◌, ℕ, ◌+◌, List, [], ◌∷◌, ◌++◌, Option, codes, decimal, length}
+-- What a run tells: the address at which its links were awaited, what commands give, and in the end what each link
+-- counted.
+use Rattle.std.specs.Prelude.{◌≡◌, ℕ, ◌+◌, ◌≤◌, ◌⊎◌, Bool, true, List, [], ◌∷◌, ◌++◌, Option, codes, decimal, if◌then◌else◌, length}
 use Rattle.std.specs.Io.KnownBytes.{Appends}
-use Rattle.std.specs.List.{flat_map}
+use Rattle.std.specs.List.{All, concat}
 use Rattle.std.specs.Net.Text.{socket_text}
 use Rattle.std.specs.declared.net.socket_addr.SocketAddr.{SocketAddr}
 use Rattle.fp_book.specs.declared.totals.Totals.{Totals}
 use Rattle.fp_replay.specs.Replayed.{report_line}
+use Rattle.fp_serve.specs.declared.progress.LinkStatus.{LinkStatus}
 
 -- the line that tells an address
 abbrev pub listening_line : SocketAddr → List ℕ
 listening_line address = codes "listening " ++ (socket_text address ++ 10 ∷ [])
 
--- the lines of links from this number on, in their order, as a replay tells them
-abbrev pub lines_from : ℕ → List Totals → List ℕ
-lines_from link [] = []
-lines_from link (totals ∷ others) = report_line link totals ++ lines_from (link + 1) others
+-- the lines of links from this number on, in their order
+abbrev pub lines_by : {A : Type 0} → (ℕ → A → List ℕ) → ℕ → List A → List ℕ
+lines_by line link [] = []
+lines_by line link (first ∷ others) = line link first ++ lines_by line (link + 1) others
 
 -- the line that tells the index of a table that replaced another
 abbrev pub reloaded_line : ℕ → List ℕ
 reloaded_line index = codes "reloaded " ++ (decimal index ++ 10 ∷ [])
 
--- lines of that form were written, of any indexes, and nothing else
-abbrev pub TellsReloads : Option (List ℕ) → Option (List ℕ) → Type 0
-TellsReloads old new = (indexes : List ℕ) × Appends old new (flat_map reloaded_line indexes)
+-- the beginning of the line that tells how far a link is, and the rest of it
+abbrev pub beginning : ℕ → Bool → SocketAddr → List ℕ
+beginning link is_down peer = codes "link " ++ (decimal link ++ ((if is_down then codes " down " else codes " up ") ++ (socket_text peer ++ codes " accepted ")))
 
--- an address was written, then lines of tables that replaced another, of any indexes, and in the end what each of this
--- number of links counted, in their order, and nothing else
-pub record TellsLinks (links : ℕ) (old new : Option (List ℕ)) : Type 0 where
+abbrev pub counts : Totals → ℕ → List ℕ
+counts totals dialogues =
+    decimal totals.accepted ++ (codes " served " ++ (decimal totals.served ++ (codes " sent " ++ (decimal totals.sent
+    ++ (codes " held " ++ (decimal dialogues ++ 10 ∷ []))))))
+
+-- the line that tells how far a link is
+abbrev pub status_line : ℕ → LinkStatus → List ℕ
+status_line link known = beginning link known.status.is_down known.peer ++ counts known.status.totals known.status.dialogues
+
+-- the line that tells how many links came
+abbrev pub links_line : ℕ → List ℕ
+links_line count = codes "links " ++ (decimal count ++ 10 ∷ [])
+
+-- how far each of these links is, and how many they are
+abbrev pub links_answer : List LinkStatus → List ℕ
+links_answer links = lines_by status_line 0 links ++ links_line (length links)
+
+-- a table replaced another, and has one of the indexes that a log can name
+abbrev pub IsReloaded : List ℕ → Type 0
+IsReloaded text = (index : ℕ) × (1 ≤ index) × (index ≤ 999) × (text ≡ reloaded_line index)
+
+-- it was asked how far the links are
+abbrev pub TellsOfLinks : List ℕ → Type 0
+TellsOfLinks text = (links : List LinkStatus) × (text ≡ links_answer links)
+
+-- what a command gives: the second only where more commands are known
+abbrev pub IsAnswer : Bool → List ℕ → Type 0
+IsAnswer has_commands text = IsReloaded text ⊎ ((has_commands ≡ true) × TellsOfLinks text)
+
+-- what commands give was written, and nothing else
+abbrev pub TellsAnswers : Bool → Option (List ℕ) → Option (List ℕ) → Type 0
+TellsAnswers has_commands old new = (answers : List (List ℕ)) × All (IsAnswer has_commands) answers × Appends old new (concat answers)
+
+-- an address was written, then what commands give, and in the end what each of this number of links counted, in their
+-- order, and nothing else
+pub record TellsLinks (links : ℕ) (has_commands : Bool) (old new : Option (List ℕ)) : Type 0 where
   pub address : SocketAddr
-  pub indexes : List ℕ
+  pub answers : List (List ℕ)
+  pub allowed : All (IsAnswer has_commands) answers
   pub totals : List Totals
   pub each : length totals ≡ links
-  pub wrote : Appends old new (listening_line address ++ (flat_map reloaded_line indexes ++ lines_from 0 totals))
+  pub wrote : Appends old new (listening_line address ++ (concat answers ++ lines_by report_line 0 totals))

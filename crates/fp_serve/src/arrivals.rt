@@ -48,8 +48,11 @@ struct Arrivals<'x, R, G: Gate, A: Ledger, B: Ledger, C: Ledger> {
 
 impl<R: Wait + Clock, G: Gate, A: Ledger, B: Ledger, C: Ledger> Arrivals<'_, R, G, A, B, C> {
     /// Prepares frames for the next hold, at the present moment, by the newest table: as lost, if memory runs out where
-    /// that has to be fetched. `false`: none is left.
+    /// that has to be fetched. `false`: none is left, or nothing more is to be posted.
     fn prepare(&mut self) -> bool {
+        if self.link.log.stop.is_quitting() {
+            self.frames.clear();
+        }
         if self.frames.is_empty() {
             return false;
         }
@@ -156,8 +159,9 @@ impl<R: Wait + Clock, G: Gate, A: Ledger, B: Ledger, C: Ledger> Inbox
     }
 }
 
-/// Receives until the link ends. At the end of the input the link stays up until what it accepted is served and sent,
-/// two seconds at most; in any other case it goes down at once. Returns the seat, with what was counted.
+/// Receives until the link ends. At the end of the input, and if the links are to end as there, it stays up until what
+/// it accepted is served and sent, two seconds at most; in any other case it goes down at once. Returns the seat, with
+/// what was counted.
 pub(crate) fn receive_all<'x, R: Wait + Clock, G: Gate, A: Ledger, B: Ledger, C: Ledger>(
     link: Link<'x, R, A, B, C>,
     service: Service<'x>,
@@ -186,10 +190,15 @@ pub(crate) fn receive_all<'x, R: Wait + Clock, G: Gate, A: Ledger, B: Ledger, C:
     };
     let mut reader = Counted::new(link.traced_stream());
     let ended = receive(alloc, &mut reader, MOST_READS, &mut arrivals);
-    let why = reader.device.last.why(ended);
+    let is_quitting = link.log.stop.is_quitting();
+    let why = if is_quitting {
+        Why::Quit
+    } else {
+        reader.device.last.why(ended)
+    };
     // What ends the link after this follows from it.
     link.ending.note(link.rt, why);
-    if ended == Ended::EndOfInput {
+    if is_quitting || ended == Ended::EndOfInput {
         link.await_quiet(Duration::from_secs(SECONDS_OF_THE_END));
     }
     link.end(why);

@@ -1,10 +1,11 @@
 //! The commands of a run: lines of a reader, of which the run follows one after another until it is over.
 
-ghost use Rattle.std.specs.Prelude.{OnOk};
-ghost use Rattle.fp_serve.specs.Report.{TellsReloads};
+ghost use Rattle.std.specs.Prelude.{◌≤◌, IfSome, OnOk};
+ghost use Rattle.fp_serve.specs.Report.{TellsAnswers};
 
 use crate::ServeFault;
-use crate::report::write_reloaded;
+use crate::progress::Progress;
+use crate::report::{write_links, write_reloaded};
 use crate::stop::Stop;
 use crossbeam_channel::{Receiver, Sender};
 use fp_hub::Tables;
@@ -13,10 +14,9 @@ use std::alloc::Global;
 use std::io::{ErrorKind, Read};
 use std::rt::Clock;
 use std::sync::Wait;
-use std::sync::atomic::{AtomicBool, Ordering};
-use std::thread;
 use std::thread::Threads;
 use std::time::Duration;
+use std::{str, thread};
 
 /// How many octets one read of the commands may give.
 const MOST_READ: usize = 512;
@@ -40,7 +40,8 @@ const SECONDS_OF_THE_START: u64 = 10;
 pub trait Operator {
     /// Reads the records again, replaces the newest table by theirs, and gives its index. `None`: the newest stays, and
     /// it was said why.
-    fn reload(&mut self, tables: &Tables) -> Option<u32>;
+    fn reload(&mut self, tables: &Tables) -> Option<u32>
+        ensures { IfSome result (λ index. (1 ≤ index) × (index ≤ 999)) };
 
     /// Says that a command isn't known.
     fn refuse(&mut self);
@@ -60,6 +61,10 @@ pub struct Commands<I: Drop, O: Drop> {
 pub(crate) enum Command {
     /// `reload`: the records are read again.
     Reload,
+    /// `links`: how far each link is.
+    Links,
+    /// `quit`: all links are to end.
+    Quit,
     /// Any other line.
     Unknown,
 }
@@ -73,36 +78,6 @@ pub(crate) enum Notice {
     NoCommands,
     /// All links are down.
     LinksDown,
-}
-
-/// How far the links of a run are, for the thread that follows the commands.
-#[derive(Drop)]
-pub(crate) struct Progress {
-    // Whether their thread runs.
-    have_begun: AtomicBool,
-    // Whether all of them are down.
-    are_down: AtomicBool,
-}
-
-impl Progress {
-    /// Their thread doesn't run yet.
-    pub(crate) fn new() -> Progress {
-        Progress {
-            have_begun: AtomicBool::new(false),
-            are_down: AtomicBool::new(false),
-        }
-    }
-
-    /// Their thread runs.
-    pub(crate) fn begin(&self) {
-        self.have_begun.store(true, Ordering::SeqCst);
-    }
-
-    /// All of them are down. If no notice finds a place, it is seen without one.
-    pub(crate) fn end<R: Wait>(&self, rt: &R, notices: &Sender<Notice>) {
-        self.are_down.store(true, Ordering::SeqCst);
-        let _ = notices.try_send(rt, Notice::LinksDown);
-    }
 }
 
 /// A line of which some octets came.
@@ -134,9 +109,12 @@ impl Line {
 
     /// The command that the line is.
     fn command(&self) -> Command {
-        match self.octets.get(..self.count) {
-            Some(octets) if octets == b"reload".as_slice() => Command::Reload,
-            Some(_) | None => Command::Unknown,
+        let octets = self.octets.get(..self.count).unwrap_or_default();
+        match str::from_utf8(octets) {
+            Ok("reload") => Command::Reload,
+            Ok("links") => Command::Links,
+            Ok("quit") => Command::Quit,
+            Ok(_) | Err(_) => Command::Unknown,
         }
     }
 }
@@ -191,54 +169,77 @@ where
     }
 }
 
-/// Does what a command asks for, if one came: writes `reloaded N` if a table replaced another, N its index.
-fn obey<O: Operator, W: LinkWrite>(
-    alloc: Global,
+/// What the commands of a run act on.
+#[derive(Clone, Copy)]
+pub(crate) struct Run<'x> {
+    pub(crate) alloc: Global,
+    // Whether the commands `links` and `quit` are known, and the run ends with its links.
+    pub(crate) has_commands: bool,
+    pub(crate) tables: &'x Tables,
+    pub(crate) progress: &'x Progress,
+    pub(crate) stop: &'x Stop,
+}
+
+/// Does what a command asks for, if one came, and writes its answer, if it has one.
+fn obey<R: Wait + Clock, O: Operator, W: LinkWrite>(
+    rt: &R,
+    run: Run<'_>,
     command: Option<Command>,
-    tables: &Tables,
     operator: &mut O,
     output: &mut W,
 ) -> Result<(), ServeFault>
-    ensures { OnOk result (TellsReloads (W.contents output.old) (W.contents output.new)) }
+    ensures { OnOk result (TellsAnswers run.entry.has_commands (W.contents output.old) (W.contents output.new)) }
 {
     match command {
-        Some(Command::Reload) => match operator.reload(tables) {
-            Some(index) => write_reloaded(alloc, index, output),
+        None => Ok(()),
+        Some(Command::Reload) => match operator.reload(run.tables) {
+            Some(index) => write_reloaded(run.alloc, index, output),
             None => Ok(()),
         },
-        Some(Command::Unknown) => {
+        Some(Command::Links) if run.has_commands => {
+            let links = run.progress.links(rt, run.alloc)?;
+            write_links(run.alloc, links.as_slice(), output)
+        }
+        Some(Command::Quit) if run.has_commands => {
+            run.stop.quit(rt);
+            Ok(())
+        }
+        Some(Command::Links | Command::Quit | Command::Unknown) => {
             operator.refuse();
             Ok(())
         }
-        None => Ok(()),
     }
 }
 
-/// Follows the commands until all links are down, and no more commands come or there was a fault. If what they give
-/// can't be written, or the thread of the links doesn't run within ten seconds, all links are to go down.
+/// Follows the commands until all links are down, and, unless the run ends with its links, no more commands come or
+/// there was a fault. If what they give can't be written, or the thread of the links doesn't run within ten seconds, all
+/// links are to go down.
 pub(crate) fn follow<R: Wait + Clock, O: Operator, W: LinkWrite>(
     rt: &R,
-    alloc: Global,
+    run: Run<'_>,
     notices: &Receiver<Notice>,
-    progress: &Progress,
-    tables: &Tables,
     operator: &mut O,
-    stop: &Stop,
     output: &mut W,
 ) -> Result<(), ServeFault>
-    ensures { OnOk result (TellsReloads (W.contents output.old) (W.contents output.new)) }
+    ensures { OnOk result (TellsAnswers run.entry.has_commands (W.contents output.old) (W.contents output.new)) }
 {
-    let mut has_commands = true;
+    let Run {
+        tables,
+        progress,
+        stop,
+        ..
+    } = run;
+    let mut is_input_open = true;
     let mut patience = SECONDS_OF_THE_START;
     for _ in rt.forever() {
         let mut command = None;
         match notices.recv_timeout(rt, Duration::from_secs(REST_SECONDS)) {
             Ok(Notice::Command(came)) => command = Some(came),
-            Ok(Notice::NoCommands) => has_commands = false,
+            Ok(Notice::NoCommands) => is_input_open = false,
             Ok(Notice::LinksDown) => {}
             Err(_) => patience = patience.saturating_sub(1),
         }
-        match obey(alloc, command, tables, operator, output) {
+        match obey(rt, run, command, operator, output) {
             Ok(()) => {}
             Err(fault) => {
                 stop.ask_for(rt, fault);
@@ -246,12 +247,12 @@ pub(crate) fn follow<R: Wait + Clock, O: Operator, W: LinkWrite>(
             }
         }
         tables.free_replaced(rt);
-        if patience == 0 && !progress.have_begun.load(Ordering::SeqCst) {
+        if patience == 0 && !progress.have_begun() {
             stop.ask_for(rt, ServeFault::NoThread);
             return Err(ServeFault::NoThread);
         }
-        let has_links = !progress.are_down.load(Ordering::SeqCst);
-        if !has_links && (!has_commands || stop.fault(rt).is_some()) {
+        let awaits_commands = is_input_open && !run.has_commands && stop.fault(rt).is_none();
+        if progress.are_down() && !awaits_commands {
             return Ok(());
         }
     }

@@ -108,20 +108,20 @@ fn look_for_one<R: Wait + Clock>(rt: &R, listener: &TcpListener) -> Look {
 }
 
 /// Awaits the next connection of a listener that doesn't block, and gives it with the address of its client. `None`:
-/// all links are to go down, or none can be had, for which they are to.
+/// all links are to go down or to end, or none can be had, for which they are to go down.
 pub(crate) fn connection<R: Wait + Clock>(
     rt: &R,
     listener: &TcpListener,
     stop: &Stop,
 ) -> Option<(TcpStream, SocketAddr)> {
     for _ in rt.forever() {
-        if stop.fault(rt).is_some() {
+        if stop.refuses_connections(rt) {
             return None;
         }
         match look_for_one(rt, listener) {
             Look::Came(stream, peer) => {
-                // A fault may have come while the connection was awaited.
-                if stop.fault(rt).is_some() {
+                // A fault, or the command to end, may have come while the connection was awaited.
+                if stop.refuses_connections(rt) {
                     return None;
                 }
                 // Each answer goes out at once, whether the client has acknowledged the one before or not. If the

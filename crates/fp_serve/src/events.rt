@@ -51,6 +51,8 @@ pub enum Why {
     RunFault,
     /// The limit on reads or frames of a link was reached.
     Limit,
+    /// The command `quit` came.
+    Quit,
 }
 
 impl Why {
@@ -80,6 +82,7 @@ impl Why {
             Why::PeerGone => "peer gone",
             Why::RunFault => "run fault",
             Why::Limit => "limit",
+            Why::Quit => "quit",
         }
     }
 }

@@ -4,13 +4,15 @@
 //! report on the links and for events. It asks the system for connections, threads, the time, locks, sleep and memory;
 //! it opens no file and binds no address.
 //!
-//! * [`serve`] awaits one connection for each link, runs them all, and returns when all are down and no more commands
-//!   come.
+//! * [`serve`] awaits one connection for each link, runs them all, and returns when all are down, and, unless the run
+//!   ends with its links, no more commands come.
 //! * [`serve_through`] is the same with a gate that each thread passes before it serves a turn; tests wait there.
 //!   [`Service`] is what the messages are answered from.
 //! * [`Settings`] says how many links there are, how many workers each has, how many entries its dialogues may keep,
-//!   how many turns its receiver serves, and what is done when the log can't be written ([`WhenLogFails`]).
-//! * [`Commands`] are what is asked of the run while it lasts: to read its records again, which an [`Operator`] does.
+//!   how many turns its receiver serves, what is done when the log can't be written ([`WhenLogFails`]), and which
+//!   commands are known.
+//! * [`Commands`] are what is asked of the run while it lasts: to read its records again, which an [`Operator`] does; to
+//!   tell how far its links are ([`LinkStatus`]); and to end.
 //! * [`ServeFault`] says why a run failed.
 //! * [`Events`] are lines on which link came or went and why, if they are asked for.
 //!
@@ -44,6 +46,7 @@
 //! |---|---|
 //! | `serving.rt` | the run: a thread for each link, and the report |
 //! | `commands.rt` | the commands, the thread that reads them, and how they are followed |
+//! | `progress.rt` | how far the links are, for the commands |
 //! | `connections.rt`, `keep_alive.rt` | how connections are awaited, and how the system watches them |
 //! | `service.rt`, `settings.rt` | what messages are answered from; how many links, workers and entries there are |
 //! | `link.rt`, `ending.rt` | a link: what its threads share, its end and the reason of it, and what it counted |
@@ -56,11 +59,11 @@
 //! | `log.rt` | what the links and the run share with the thread that writes the log, and how long each waits for it |
 //! | `link_log.rt`, `log_writer.rt` | the lines of a link that wait, and the thread that writes them |
 //! | `events.rt` | the events of a run, and the thread that writes them |
-//! | `stop.rt` | why all links are to go down |
+//! | `stop.rt` | why all links are to go down, or to end |
 //! | `report.rt` | the address, and what is written of the links in the end |
 //!
-//! The layer above may rely on this: if [`serve`] returns without a fault it wrote the address, lines of tables that
-//! replaced another, and one for each link, and nothing else (`specs/Report.antt`). What a link's book, seats and hub
+//! The layer above may rely on this: if [`serve`] returns without a fault it wrote the address, what commands give, and
+//! a line for each link, and nothing else (`specs/Report.antt`). What a link's book, seats and hub
 //! keep is said in `fp_hub`; what of a stream is handed on and what of the parcels is written in `fp_linkio`. No
 //! contract says what the sockets and the log hold, that the threads get on, or that each does what the picture says:
 //! the tests of `tests_serve`, over loopback, show it.
@@ -79,6 +82,7 @@ mod link_log;
 mod log;
 mod log_writer;
 mod moment;
+mod progress;
 mod report;
 mod service;
 mod serving;
@@ -92,6 +96,7 @@ mod turns;
 pub use commands::{Commands, Operator};
 pub use events::{Event, Events, Wanted, Why};
 pub use fault::ServeFault;
+pub use progress::LinkStatus;
 pub use service::Service;
 pub use serving::{serve, serve_through};
 pub use settings::{Settings, WhenLogFails};

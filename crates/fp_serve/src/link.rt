@@ -7,6 +7,7 @@ use crate::departures::Outgoing;
 use crate::ending::Ending;
 use crate::link_log::{Left, LinkLog, Made};
 use crate::log::Log;
+use crate::progress::Progress;
 use crate::threads::run_threads;
 use crate::ticking::time_since;
 use crate::traced_stream::TracedStream;
@@ -40,8 +41,11 @@ pub(crate) struct Link<'x, R, A: Ledger, B: Ledger, C: Ledger> {
     // Where its lines wait for the thread that writes the log.
     pub(crate) lines: &'x LinkLog,
     pub(crate) log: &'x Log,
+    pub(crate) progress: &'x Progress,
     // What goes out to its socket.
     pub(crate) outgoing: &'x Mutex<Outgoing>,
+    // Its number.
+    pub(crate) number: u8,
     // How many entries its dialogues may keep.
     pub(crate) most_entries: u64,
     // How many turns its receiving thread serves at once at most.
@@ -51,7 +55,7 @@ pub(crate) struct Link<'x, R, A: Ledger, B: Ledger, C: Ledger> {
 impl<'x, R: Wait + Clock, A: Ledger, B: Ledger, C: Ledger> Link<'x, R, A, B, C> {
     /// Its connection, as one of its threads reads or writes it.
     pub(crate) fn traced_stream(&self) -> TracedStream<'x, R> {
-        TracedStream::new(self.rt, self.stream, self.ending)
+        TracedStream::new(self.rt, self.stream, self.ending, &self.log.stop)
     }
 
     /// Ends the link: it goes down, so that its sending thread and its clock end; its socket is shut down, so that its
@@ -64,6 +68,17 @@ impl<'x, R: Wait + Clock, A: Ledger, B: Ledger, C: Ledger> Link<'x, R, A, B, C> 
         }
         let _ = self.stream.shutdown(Shutdown::Both);
         self.hub.close(self.rt);
+    }
+
+    /// Ends its input: its receiving thread, if it waits for the socket, finds nothing more there.
+    pub(crate) fn end_input(&self) {
+        let _ = self.stream.shutdown(Shutdown::Read);
+    }
+
+    /// Notes how far it is.
+    pub(crate) fn note_status(&self) {
+        let status = self.hub.status(self.rt);
+        self.progress.note(self.rt, self.number, status);
     }
 
     /// Waits until nothing is left to be served or sent and all was handed on to the socket, or the link is down; at
@@ -153,6 +168,7 @@ fn run_over<
     blanks: (Blank, Blank, Blank),
     gate: &G,
     stream: &TcpStream,
+    progress: &Progress,
     events: &Events,
     log: &Log,
 ) -> Option<Totals>
@@ -177,7 +193,9 @@ fn run_over<
         ending: &ending,
         lines,
         log,
+        progress,
         outgoing: &*outgoing,
+        number: plan.link,
         most_entries: plan.most_entries,
         most_helped: plan.most_helped,
     };
@@ -189,6 +207,7 @@ fn run_over<
     events.report(rt, Event::Up { link: number, peer });
     let seat = run_threads(link, service, plan.workers, gate, seat);
     link.make_last_text();
+    link.note_status();
     let totals = finish(hub, seat);
     if totals.is_none() {
         log.stop.ask_for(rt, ServeFault::LostSeat);
@@ -204,11 +223,14 @@ pub(crate) fn run_link<R: Threads + Wait + Clock + Sync, G: Gate + Sync>(
     plan: Plan,
     gate: &G,
     stream: &TcpStream,
+    progress: &Progress,
     events: &Events,
     log: &Log,
 ) -> Option<Totals>
     requires { plan.link < LocalIds.LINKS }
 {
     let blanks = (Blank::new(PARTS), Blank::new(PARTS), Blank::new(PARTS));
-    run_over::<R, G, Brand, Brand, Brand>(rt, service, plan, blanks, gate, stream, events, log)
+    run_over::<R, G, Brand, Brand, Brand>(
+        rt, service, plan, blanks, gate, stream, progress, events, log,
+    )
 }

@@ -3,9 +3,10 @@
 ghost use Rattle.std.specs.Prelude.{◌≡◌, IfOk, OnOk, string_bytes};
 ghost use Rattle.std.specs.Io.KnownBytes.{Appends};
 ghost use Rattle.std.specs.Net.Text.{socket_text};
-ghost use Rattle.fp_serve.specs.Report.{lines_from, listening_line, reloaded_line};
+ghost use Rattle.fp_replay.specs.Replayed.{report_line};
+ghost use Rattle.fp_serve.specs.Report.{beginning, counts, lines_by, links_answer, links_line, listening_line, reloaded_line, status_line};
 
-use crate::ServeFault;
+use crate::{LinkStatus, ServeFault};
 use fp_book::Totals;
 use fp_replay::report_line;
 use fp_streams::{LinkWrite, write_all};
@@ -42,9 +43,21 @@ pub(crate) fn write_report<W: LinkWrite>(
     totals: &[Totals],
     output: &mut W,
 ) -> Result<(), ServeFault>
-    ensures { OnOk result (Appends (W.contents output.old) (W.contents output.new) (lines_from 0 totals.now)) }
+    ensures { OnOk result (Appends (W.contents output.old) (W.contents output.new) (lines_by report_line 0 totals.now)) }
 {
     let text = report(alloc, totals)?;
+    write_flushed(text.as_str(), output)
+}
+
+/// Writes how far each of these links is, in their order, and how many they are, and flushes the output.
+pub(crate) fn write_links<W: LinkWrite>(
+    alloc: Global,
+    links: &[LinkStatus],
+    output: &mut W,
+) -> Result<(), ServeFault>
+    ensures { OnOk result (Appends (W.contents output.old) (W.contents output.new) (links_answer links.now)) }
+{
+    let text = answer_of(alloc, links)?;
     write_flushed(text.as_str(), output)
 }
 
@@ -64,13 +77,81 @@ fn reloaded(alloc: Global, index: u32) -> Result<String, AllocError>
 
 /// A line for each link, in their order.
 fn report(alloc: Global, totals: &[Totals]) -> Result<String, AllocError>
-    ensures { IfOk result (λ text. string_bytes text ≡ lines_from 0 totals.now) }
+    ensures { IfOk result (λ text. string_bytes text ≡ lines_by report_line 0 totals.now) }
 {
     let mut text = String::new(alloc);
     for (link, counted) in totals.iter().enumerate() {
         let line = report_line(alloc, link, *counted)?;
         text.push_str(line.as_str())?;
     }
+    Ok(text)
+}
+
+/// The beginning of the line that tells how far a link is.
+fn beginning(
+    alloc: Global,
+    link: usize,
+    is_down: bool,
+    peer: SocketAddr,
+) -> Result<String, AllocError>
+    ensures { IfOk result (λ text. string_bytes text ≡ beginning link is_down peer) }
+{
+    if is_down {
+        format!(in alloc; "link {link} down {peer} accepted ")
+    } else {
+        format!(in alloc; "link {link} up {peer} accepted ")
+    }
+}
+
+/// The rest of that line.
+fn counts(alloc: Global, totals: Totals, dialogues: usize) -> Result<String, AllocError>
+    ensures { IfOk result (λ text. string_bytes text ≡ counts totals dialogues) }
+{
+    let Totals {
+        accepted,
+        served,
+        sent,
+    } = totals;
+    format!(in alloc; "{accepted} served {served} sent {sent} held {dialogues}\n")
+}
+
+/// The line that tells how far a link is.
+fn status_line(alloc: Global, link: usize, known: LinkStatus) -> Result<String, AllocError>
+    ensures { IfOk result (λ text. string_bytes text ≡ status_line link known) }
+{
+    let LinkStatus { peer, status } = known;
+    let mut line = beginning(alloc, link, status.is_down, peer)?;
+    let counts = counts(alloc, status.totals, status.dialogues)?;
+    line.push_str(counts.as_str())?;
+    Ok(line)
+}
+
+/// `links N` and a line feed.
+fn links_line(alloc: Global, count: usize) -> Result<String, AllocError>
+    ensures { IfOk result (λ text. string_bytes text ≡ links_line count) }
+{
+    format!(in alloc; "links {count}\n")
+}
+
+/// A line for each of these links, in their order.
+fn status_lines(alloc: Global, links: &[LinkStatus]) -> Result<String, AllocError>
+    ensures { IfOk result (λ text. string_bytes text ≡ lines_by status_line 0 links.now) }
+{
+    let mut text = String::new(alloc);
+    for (link, known) in links.iter().enumerate() {
+        let line = status_line(alloc, link, *known)?;
+        text.push_str(line.as_str())?;
+    }
+    Ok(text)
+}
+
+/// These lines, and then how many links they are of.
+fn answer_of(alloc: Global, links: &[LinkStatus]) -> Result<String, AllocError>
+    ensures { IfOk result (λ text. string_bytes text ≡ links_answer links.now) }
+{
+    let mut text = status_lines(alloc, links)?;
+    let line = links_line(alloc, links.len())?;
+    text.push_str(line.as_str())?;
     Ok(text)
 }
 

@@ -1,13 +1,14 @@
 //! A run: its connections, a thread for each link, and the report.
 
 ghost use Rattle.std.specs.Prelude.{◌≡◌, ◌≤◌, ◌<◌, OnOk};
-ghost use Rattle.fp_serve.specs.Report.{TellsLinks, TellsReloads};
+ghost use Rattle.fp_serve.specs.Report.{TellsAnswers, TellsLinks};
 
-use crate::commands::{Commands, MOST_WAITING, Notice, Operator, Progress, follow, start_reading};
+use crate::commands::{Commands, MOST_WAITING, Notice, Operator, Run, follow, start_reading};
 use crate::connections::connection;
 use crate::link::{Plan, run_link};
 use crate::log::Log;
 use crate::log_writer::start_log;
+use crate::progress::Progress;
 use crate::report::{write_address, write_report};
 use crate::{Events, ServeFault, Service, Settings};
 use crossbeam_channel::{Receiver, Sender, bounded};
@@ -25,6 +26,13 @@ use std::thread::Threads;
 
 /// How many threads of a link have work to do, beside its workers: the receiving thread and the sending one.
 const OTHER_THREADS: usize = 2;
+
+/// What a link counted that never came.
+const NOTHING: Totals = Totals {
+    accepted: 0,
+    served: 0,
+    sent: 0,
+};
 
 /// How the run's threads wait, given their number and the number of processors.
 fn looks<R: Threads>(rt: &R, settings: Settings) -> Looks {
@@ -47,6 +55,13 @@ fn looks<R: Threads>(rt: &R, settings: Settings) -> Looks {
 /// them, and a dialogue that is open goes on with the rule that it got. Any other line is handed to the operator to be
 /// refused. A read that fails ends the commands, as the end of their input does. After a fault the run ends without
 /// waiting for their end, and the thread that reads them is left to itself.
+///
+/// If the settings say so ([`Settings::with_commands`]), the run ends with its links, without waiting for the end of
+/// the commands, and two more are known. `links` writes, for each link that came, in order, `link L up P accepted A
+/// served S sent T held H`, or `down` in the place of `up`: with the address of its client, what it had counted and how
+/// many dialogues it held at its last tick, a second ago at most, or in the end; and then `links N`, how many came.
+/// `quit` ends all links: nothing more is accepted, what was is served and sent, two seconds after the command at most,
+/// and then each link goes down. A link that never came has counted nothing.
 ///
 /// The log begins with its head, and gets the lines of each link about once a second, and more often under load: whole
 /// lines, after which the writer is flushed. A thread of its own writes it, and nobody else waits for the writer,
@@ -81,7 +96,7 @@ where
     O: Operator + Drop,
     L: LinkWrite + Send + Drop + 'static,
     W: LinkWrite,
-    ensures { OnOk result (TellsLinks settings.links (W.contents output.old) (W.contents output.new)) }
+    ensures { OnOk result (TellsLinks settings.links settings.has_commands (W.contents output.old) (W.contents output.new)) }
 {
     serve_through(
         rt, service, settings, &OpenGate, listener, commands, log, events, output,
@@ -111,7 +126,7 @@ where
     O: Operator + Drop,
     L: LinkWrite + Send + Drop + 'static,
     W: LinkWrite,
-    ensures { OnOk result (TellsLinks settings.links (W.contents output.old) (W.contents output.new)) }
+    ensures { OnOk result (TellsLinks settings.links settings.has_commands (W.contents output.old) (W.contents output.new)) }
 {
     let Ok(address) = listener.local_addr() else {
         return Err(ServeFault::NoConnection);
@@ -125,6 +140,7 @@ where
     } = commands;
     let (sender, notices) = bounded(service.alloc, MOST_WAITING)?;
     let of_commands = sender.clone()?;
+    let progress = Progress::new(service.alloc, settings.links)?;
     write_address(service.alloc, address, output)?;
     let log = start_log(rt, service.alloc, settings, events.share()?, log)?;
     if let Err(fault) = start_reading(rt, input, of_commands) {
@@ -136,6 +152,7 @@ where
         settings,
         gate,
         listener,
+        &progress,
         events,
         &log,
         sender,
@@ -174,6 +191,7 @@ fn run<'x, R, G, O, W>(
     settings: Settings,
     gate: &'x G,
     listener: TcpListener,
+    progress: &'x Progress,
     events: &'x Events,
     log: &'x Log,
     sender: Sender<Notice>,
@@ -186,33 +204,37 @@ where
     G: Gate + Sync,
     O: Operator,
     W: LinkWrite,
-    ensures { OnOk result.followed (TellsReloads (W.contents output.old) (W.contents output.new)) }
+    ensures { OnOk result.followed (TellsAnswers settings.has_commands (W.contents output.old) (W.contents output.new)) }
 {
     let mut listener = Some(listener);
-    let progress = Progress::new();
+    let commanded = Run {
+        alloc: service.alloc,
+        has_commands: settings.has_commands,
+        tables: service.tables,
+        progress,
+        stop: &log.stop,
+    };
     let (counted, followed) = thread::join_mut(
         rt,
         &mut || {
             progress.begin();
-            let counted = run_links(rt, service, settings, gate, listener.take(), events, log);
+            let counted = run_links(
+                rt,
+                service,
+                settings,
+                gate,
+                listener.take(),
+                progress,
+                events,
+                log,
+            );
             if counted.is_err() {
                 log.stop.ask_for(rt, ServeFault::Memory);
             }
             progress.end(rt, &sender);
             counted
         },
-        &mut || {
-            follow(
-                rt,
-                service.alloc,
-                notices,
-                &progress,
-                service.tables,
-                operator,
-                &log.stop,
-                output,
-            )
-        },
+        &mut || follow(rt, commanded, notices, operator, output),
     );
     Ended { counted, followed }
 }
@@ -225,6 +247,7 @@ fn run_links<'x, R: Threads + Wait + Clock + Sync, G: Gate + Sync>(
     settings: Settings,
     gate: &'x G,
     listener: Option<TcpListener>,
+    progress: &'x Progress,
     events: &'x Events,
     log: &'x Log,
 ) -> Result<Vec<Totals>, AllocError> {
@@ -254,6 +277,7 @@ fn run_links<'x, R: Threads + Wait + Clock + Sync, G: Gate + Sync>(
                 let Some((stream, peer)) = connection(rt, listener, &log.stop) else {
                     break;
                 };
+                progress.add(rt, peer);
                 let plan = Plan {
                     link,
                     peer,
@@ -264,7 +288,7 @@ fn run_links<'x, R: Threads + Wait + Clock + Sync, G: Gate + Sync>(
                 };
                 let run = move || -> Option<Totals>
                     requires { plan.link < LocalIds.LINKS }
-                { run_link(rt, service, plan, gate, &stream, events, log) };
+                { run_link(rt, service, plan, gate, &stream, progress, events, log) };
                 match scope.spawn(run) {
                     Ok(handle) => {
                         let _ = handles.push(handle);
@@ -281,6 +305,12 @@ fn run_links<'x, R: Threads + Wait + Clock + Sync, G: Gate + Sync>(
                         let _ = counted.push(totals);
                     }
                     Some(_) | None => is_known = false,
+                }
+            }
+            if is_known && log.stop.is_quitting() {
+                // Links that never came.
+                for _ in counted.len()..usize::from(links) {
+                    let _ = counted.push(NOTHING);
                 }
             }
             Ok(counted)

@@ -1,7 +1,7 @@
 //! How many links a run has, how many workers and entries each of them, and what the run does when its log can't be
 //! written.
 
-ghost use Rattle.std.specs.Prelude.{◌≡◌, ◌≤◌, IfSome, IsSome, ◌↔◌};
+ghost use Rattle.std.specs.Prelude.{◌≡◌, ◌≤◌, IfSome, IsSome, ◌↔◌, false, true};
 ghost use Rattle.fp_serve.specs.declared.settings.WhenLogFails.TheVariants.{EndRun, LeaveGap};
 
 /// What a run does when its log can't be written.
@@ -14,7 +14,8 @@ pub enum WhenLogFails {
 }
 
 /// How many links a run has, 1 to 8, how many workers each of them, 1 to 8, how many entries the dialogues of a link
-/// may keep, how many turns a receiving thread serves, and what the run does when its log can't be written.
+/// may keep, how many turns a receiving thread serves, what the run does when its log can't be written, and which
+/// commands it knows.
 #[derive(Clone, Copy, Debug, PartialEq, Eq)]
 pub struct Settings {
     /// How many links there are.
@@ -27,6 +28,8 @@ pub struct Settings {
     pub most_helped: usize,
     /// What is done when the log can't be written.
     pub when_log_fails: WhenLogFails,
+    /// Whether the commands `links` and `quit` are known, and the run ends with its links.
+    pub has_commands: bool,
     ghost some_link: { 1 ≤ links },
     ghost few_links: { links ≤ 8 },
     ghost some_worker: { 1 ≤ workers },
@@ -54,6 +57,7 @@ impl Settings {
         ensures entries { IfSome result (λ settings. settings.most_entries ≡ 1048576) }
         ensures helped { IfSome result (λ settings. settings.most_helped ≡ 64) }
         ensures fails { IfSome result (λ settings. settings.when_log_fails ≡ EndRun) }
+        ensures commands { IfSome result (λ settings. settings.has_commands ≡ false) }
     {
         if links == 0 || links > Self::MOST || workers == 0 || workers > Self::MOST {
             return None;
@@ -64,6 +68,7 @@ impl Settings {
             most_entries: Self::MOST_ENTRIES,
             most_helped: Self::MOST_HELPED,
             when_log_fails: WhenLogFails::EndRun,
+            has_commands: false,
         })
     }
 
@@ -77,6 +82,21 @@ impl Settings {
             most_entries: self.most_entries,
             most_helped: self.most_helped,
             when_log_fails: WhenLogFails::LeaveGap,
+            has_commands: self.has_commands,
+        }
+    }
+
+    /// The same settings, of a run that knows the commands `links` and `quit` too, and ends with its links.
+    pub fn with_commands(self) -> Settings
+        ensures { result ≡ record self { has_commands = true } }
+    {
+        Settings {
+            links: self.links,
+            workers: self.workers,
+            most_entries: self.most_entries,
+            most_helped: self.most_helped,
+            when_log_fails: self.when_log_fails,
+            has_commands: true,
         }
     }
 
@@ -90,6 +110,7 @@ impl Settings {
             most_entries,
             most_helped: self.most_helped,
             when_log_fails: self.when_log_fails,
+            has_commands: self.has_commands,
         }
     }
 
@@ -104,6 +125,7 @@ impl Settings {
             most_entries: self.most_entries,
             most_helped,
             when_log_fails: self.when_log_fails,
+            has_commands: self.has_commands,
         }
     }
 }

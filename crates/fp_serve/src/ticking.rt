@@ -21,9 +21,10 @@ pub(crate) fn time_since<R: Clock>(rt: &R, last: Option<Instant>) -> Option<Dura
 const MILLISECONDS_WITHOUT_ROOM: u64 = 10;
 
 /// Ticks once a second, and hints to a worker then; makes the text of the lines of the link, for the thread that writes
-/// the log, once a second, and when 512 wait in the book, in one turn after another while some are left; and takes the
-/// link down if all links are to go down, or if its dialogues keep more entries than they may. Returns once the link is
-/// down.
+/// the log, once a second, and when 512 wait in the book, in one turn after another while some are left; notes how far
+/// the link is; and takes it down if all links are to go down, if its dialogues keep more entries than they may, or two
+/// seconds after the links were to end, whatever its other threads wait for: before that it ends its input. Returns once
+/// the link is down.
 ///
 /// If the clock gives no time, it ticks each time that it wakes, and after each turn.
 pub(crate) fn keep_time<R: Wait + Clock, A: Ledger, B: Ledger, C: Ledger>(
@@ -37,10 +38,12 @@ pub(crate) fn keep_time<R: Wait + Clock, A: Ledger, B: Ledger, C: Ledger>(
     for _ in rt.forever() {
         let since = time_since(rt, last).unwrap_or(Duration::ZERO);
         let to_the_tick = second.saturating_sub(since);
+        let to_the_end = log.stop.time_left(rt).unwrap_or(second);
+        let rest = to_the_tick.min(to_the_end);
         match left {
-            Left::Nothing => hub.rest(rt, to_the_tick),
+            Left::Nothing => hub.rest(rt, rest),
             Left::Lines => {}
-            Left::NoRoom => hub.rest(rt, to_the_tick.min(without_room)),
+            Left::NoRoom => hub.rest(rt, rest.min(without_room)),
         }
         if time_since(rt, last).unwrap_or(second) >= second {
             last = Instant::now(rt).ok();
@@ -51,6 +54,12 @@ pub(crate) fn keep_time<R: Wait + Clock, A: Ledger, B: Ledger, C: Ledger>(
             } else if hub.entry_count(rt) > link.most_entries {
                 link.end(Why::Entries);
             }
+            link.note_status();
+        }
+        match log.stop.time_left(rt) {
+            Some(left) if left.is_zero() => link.end(Why::Quit),
+            Some(_) => link.end_input(),
+            None => {}
         }
         left = link.make_text();
         if hub.is_down(rt) {

@@ -2,6 +2,7 @@
 
 use crate::Why;
 use crate::ending::Ending;
+use crate::stop::Stop;
 use fp_linkio::Ended;
 use std::io;
 use std::io::{ErrorKind, Read, Write};
@@ -54,7 +55,8 @@ impl LastCall {
     }
 }
 
-/// The connection of a link, and how the last read or write through it ended.
+/// The connection of a link, and how the last read or write through it ended. Its input is at its end once the links
+/// are to end.
 ///
 /// A call that fails notes the reason at once. The system reports a fault of the connection to one thread only, and the
 /// other one then finds the end of the input, or a broken pipe: that comes later, and the first reason counts.
@@ -63,6 +65,7 @@ pub(crate) struct TracedStream<'x, R> {
     rt: &'x R,
     stream: &'x TcpStream,
     ending: &'x Ending<'x>,
+    stop: &'x Stop,
     pub(crate) last: LastCall,
 }
 
@@ -72,11 +75,13 @@ impl<'x, R: Wait> TracedStream<'x, R> {
         rt: &'x R,
         stream: &'x TcpStream,
         ending: &'x Ending<'x>,
+        stop: &'x Stop,
     ) -> TracedStream<'x, R> {
         TracedStream {
             rt,
             stream,
             ending,
+            stop,
             last: LastCall::Moved,
         }
     }
@@ -93,6 +98,10 @@ impl<'x, R: Wait> TracedStream<'x, R> {
 
 impl<R: Wait> Read for TracedStream<'_, R> {
     fn read(&mut self, octets: &mut [u8]) -> io::Result<usize> {
+        if self.stop.is_quitting() {
+            self.last = LastCall::AtEnd;
+            return Ok(0);
+        }
         let mut stream = self.stream;
         let answer = stream.read(octets);
         self.trace(LastCall::of(&answer), Ended::ReadFault);

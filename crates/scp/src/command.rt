@@ -138,11 +138,16 @@ fn serve_asked<'a>(
         return Asked::Refused(String::new(alloc));
     };
     let has_log_gaps = chosen.get_flag("log-gaps");
+    let settings = if has_log_gaps {
+        settings.with_log_gaps()
+    } else {
+        settings
+    };
     Asked::Serve {
         records,
         listen: chosen.get_str("listen").unwrap_or(""),
-        settings: if has_log_gaps {
-            settings.with_log_gaps()
+        settings: if chosen.get_flag("commands") {
+            settings.with_commands()
         } else {
             settings
         },
@@ -205,8 +210,9 @@ const SERVE_EXAMPLE: &str = "Example:
 
 Prints the address where it listens, answers each connection as one link, and prints what each link did
 once all of them are down and standard input has ended. Each line of that is a command: reload reads
-RECORDS again. Each message follows its length, which has four octets. FILE is emptied first, and gets
-each step of the links: scp replay replays them.";
+RECORDS again. With --commands, links prints how far each link is, quit ends the run once what was
+accepted is served and sent, and the run ends with its links. Each message follows its length, which
+has four octets. FILE is emptied first, and gets each step of the links: scp replay replays them.";
 
 const EXAMPLES: &str = "Examples:
   scp check examples/freephone.csv
@@ -329,6 +335,11 @@ fn serve_command<'a>(alloc: Global) -> Result<Command<'a>, AllocError> {
             alloc,
             "events",
             "Write a line on standard error for the records, each link that comes or goes, and a log that fails",
+        ))?
+        .arg(flag(
+            alloc,
+            "commands",
+            "Know the commands links and quit too, and end with the links, whatever standard input does",
         ))?
         .arg(flag(
             alloc,

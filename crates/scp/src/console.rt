@@ -1,5 +1,7 @@
 //! What a run that serves links is asked for while it lasts.
 
+ghost use Rattle.std.specs.Prelude.{◌≤◌, IfOk};
+
 use crate::fault::RunFault;
 use crate::run::records_in;
 use fp_hub::Tables;
@@ -31,7 +33,9 @@ impl<H: Files + AllocGlobal + Wait + Clock, E: Write> Console<'_, H, E> {
     }
 
     /// Reads the records again, and reports their index and the digest of their file as an event.
-    fn reread(&self, tables: &Tables) -> Result<u32, RunFault> {
+    fn reread(&self, tables: &Tables) -> Result<u32, RunFault>
+        ensures { IfOk result (λ index. (1 ≤ index) × (index ≤ 999)) }
+    {
         let text = records_in(self.rt, self.records)?;
         let table = Table::read(self.rt.alloc(), text.as_slice())?;
         let Some(index) = tables.reload(self.rt, table) else {

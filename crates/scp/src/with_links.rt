@@ -33,11 +33,12 @@ use std::thread::Threads;
 /// awaited, are `listen: cannot listen`.
 ///
 /// The events of the run that the words ask for go to `event_lines`, by a thread that may still wait there when this
-/// returns. So may a thread that reads commands from `input`, if the run ended after a fault.
+/// returns. So may a thread that reads commands from `input`, if the run ended after a fault or with its links.
 ///
 /// A command `reload` reads the file of the records again. If it is faulty, or can't be read, its fault is a line on
 /// `errors`, and the records of before are kept. So they are after `reload: refused`: 999 files replaced others, or
-/// memory ran out once it was read. Any other line of the input gets the line `command: unknown`.
+/// memory ran out once it was read. `links` and `quit` are what [`serve`] says, if the words ask for them. Any other line
+/// of the input gets the line `command: unknown`.
 pub fn program_with_links<H, R, W, E, V>(
     rt: &H,
     words: &[String],
@@ -291,7 +292,7 @@ where
     I: Read + Send + Drop + 'static,
     O: Operator + Drop,
     W: Write,
-    ensures { OnOk result (TellsLinks settings.links (W.contents output.old.device) (W.contents output.new.device)) }
+    ensures { OnOk result (TellsLinks settings.links settings.has_commands (W.contents output.old.device) (W.contents output.new.device)) }
 {
     serve(
         rt, service, settings, listener, commands, log, events, output,

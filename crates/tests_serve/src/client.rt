@@ -111,6 +111,11 @@ impl Client {
         Some(Client { stream })
     }
 
+    /// Its own address.
+    pub(crate) fn address(&self) -> Option<SocketAddr> {
+        self.stream.local_addr().ok()
+    }
+
     /// Writes octets.
     pub(crate) fn write(&mut self, octets: &[u8]) -> Option<()> {
         self.stream.write_all(octets).ok()

@@ -7,6 +7,7 @@ mod devices;
 mod ends;
 mod gates;
 mod trial;
+mod typed;
 
 use crate::client::Client;
 use crate::talk::{ANSWER_WITH_CONTEXT, BEGIN_WITH_CONTEXT, all_kinds};

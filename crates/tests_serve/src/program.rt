@@ -1,16 +1,15 @@
 //! Runs of `scp serve` over files and over the loopback of this machine.
 
 mod calls;
+mod commanding;
 mod reloading;
 mod runs;
 
 use crate::client::Client;
 use crate::memory::{Shared, awaited_address};
-use crate::talk::{RECORDS, begin};
+use crate::talk::begin;
 use calls::make_calls;
-use reloading::{NEW_RECORDS, Written, make_calls_between};
 use runs::{Ended, enter_folder, old_log, run, run_with_events, want, words_of};
-use scp::program_with_links;
 use std::alloc::Global;
 use std::fs::File;
 use std::io::Read;
@@ -211,74 +210,6 @@ link 2 accepted 0 served 0 sent 0
     assert_eq!(rt; mode & 0o137, 0);
     fs::remove_dir_all(&rt, folder.as_str())?;
     Ok(())
-}
-
-/// A command `reload` replaces the records between two calls; a call that is open goes on by the rule that it got.
-/// Faulty records and other commands are reported, and replace nothing. The log is replayed from all the files.
-#[test]
-fn records_are_replaced_between_calls(rt: HostRuntime) -> Result<(), Fail> {
-    let alloc = rt.alloc();
-    let folder = enter_folder(&rt, process::id(rt.process()))?;
-    fs::write(&rt, "now.csv", RECORDS)?;
-    fs::write(&rt, "new.csv", NEW_RECORDS)?;
-    let line = "serve now.csv --listen 127.0.0.1:0 --log old.log";
-    let words = words_of(alloc, line, "")?;
-    let written = Written {
-        output: Mutex::new(Vec::new(alloc)),
-        errors: Mutex::new(Vec::new(alloc)),
-    };
-    let (input, commands) = io::pipe(&rt)?;
-    let (status, made) = thread::join(
-        &rt,
-        || program_with_links(
-            &rt,
-            words.as_slice(),
-            input,
-            &mut Shared::new(&rt, alloc, &written.output),
-            &mut Shared::new(&rt, alloc, &written.errors),
-            Vec::new(alloc),
-        ),
-        || make_calls_between(&rt, alloc, &written, commands),
-    );
-    made.ok_or("another answer")?;
-    assert_eq!(rt; status, 0);
-    want_replaced(&rt, &written)?;
-    fs::remove_dir_all(&rt, folder.as_str())?;
-    Ok(())
-}
-
-/// Fails if a run didn't report that its records were replaced twice, and else what a replay of its log reports.
-fn want_replaced<H>(rt: &H, written: &Written) -> Result<(), Fail>
-where
-    H: Files<File = File>
-        + AllocGlobal
-        + Net<Listener = TcpListener, Stream = TcpStream>
-        + Threads
-        + Wait
-        + Clock
-        + Copy
-        + Send
-        + Sync
-        + 'static,
-{
-    let alloc = rt.alloc();
-    let errors = written.errors.lock(rt);
-    want(
-        str::from_utf8(errors.as_slice())?,
-        "record 2: BadDays\ncommand: unknown\n",
-    )?;
-    let output = written.output.lock(rt);
-    let (_, after) = str::from_utf8(output.as_slice())?
-        .split_once('\n')
-        .ok_or("no address")?;
-    let replayed = ran(rt, "replay good.csv old.log new.csv good.csv", "")?;
-    let told = after
-        .strip_prefix("reloaded 1\nreloaded 2\n")
-        .ok_or("nothing was replaced")?;
-    want(
-        format!(in alloc; "0, {told}, ")?.as_str(),
-        replayed.as_str(),
-    )
 }
 
 /// Makes a call whose answer it reads once it closed its sending side, closes a second connection inside a frame, and

@@ -1,4 +1,4 @@
-//! What ends a link: its client, which may read nothing, its dialogues, or the log.
+//! What ends a link: its client, which may read nothing, its dialogues, the log, or a command.
 
 use super::crowd::{make_calls, read_answers, write_begins};
 use super::device::Mood;
@@ -33,6 +33,8 @@ enum Cause {
     LogFault,
     /// One dialogue keeps more entries than the dialogues of a link may.
     Entries,
+    /// The run is given the command to end.
+    Quit,
 }
 
 /// A way in which link 0 ends.
@@ -71,7 +73,7 @@ const LATE: u64 = 500;
 
 /// The ways in which link 0 ends. Where a client reads nothing while its link serves and sends in the receiving thread,
 /// that one is blocked, and sees the end of the input only once the client reads.
-const ROWS: [Row; 9] = [
+const ROWS: [Row; 12] = [
     Row {
         calls: 500,
         most_helped: Settings::MOST_HELPED,
@@ -171,6 +173,39 @@ const ROWS: [Row; 9] = [
         told: "link 0 accepted 1009 served ",
         fault: None,
     },
+    Row {
+        calls: 500,
+        most_helped: Settings::MOST_HELPED,
+        log: "\n0 Y 500\n",
+        cause: Cause::Quit,
+        least_seconds: 0,
+        event: " link 0 down quit\n",
+        other_event: " link 0 down quit\n",
+        told: "link 0 accepted 500 served 1000 sent 500\n",
+        fault: None,
+    },
+    Row {
+        calls: 10_000,
+        most_helped: 0,
+        log: SERVED_7000,
+        cause: Cause::Quit,
+        least_seconds: 2,
+        event: " link 0 down quit\n",
+        other_event: " link 0 down quit\n",
+        told: "link 0 accepted ",
+        fault: None,
+    },
+    Row {
+        calls: 10_000,
+        most_helped: Settings::MOST_HELPED,
+        log: SERVED_4000,
+        cause: Cause::Quit,
+        least_seconds: 2,
+        event: " link 0 down quit\n",
+        other_event: " link 0 down quit\n",
+        told: "link 0 accepted ",
+        fault: None,
+    },
 ];
 
 /// How many seconds it takes at most from the cause to the end of link 0.
@@ -213,6 +248,7 @@ fn bring_about<R: Wait + Clock>(
             client.message(alloc)?;
             client.write_text(alloc, continues(alloc, REJECT, 63).ok()?.as_str())
         }
+        Cause::Quit => trial.command(rt, "quit\n"),
     }
 }
 
@@ -230,6 +266,10 @@ fn end_link<R: Net<Stream = TcpStream> + Wait + Clock>(
     await_text(rt, &trial.log, row.log)?;
     let mut other = Client::connect(rt, address)?;
     make_calls(alloc, &mut other, 0x2A, 1)?;
+    if row.cause == Cause::Quit {
+        // What comes later would be read no more.
+        trial.await_still_log(rt)?;
+    }
     let start = Instant::now(rt).ok()?;
     bring_about(rt, alloc, trial, row, &mut client, &mut other)?;
     if row.cause == Cause::ClientGone {
@@ -252,10 +292,10 @@ where
     let settings = Settings::new(2, 2)
         .ok_or("settings")?
         .with_most_helped(row.most_helped);
-    let settings = if row.cause == Cause::Entries {
-        settings.with_most_entries(1_000)
-    } else {
-        settings
+    let settings = match row.cause {
+        Cause::Entries => settings.with_most_entries(1_000),
+        Cause::Quit => settings.with_commands(),
+        _ => settings,
     };
     let trial = Trial::with_events(rt, alloc, settings, Mood::Takes(0), Wanted::All)?;
     let listener = TcpListener::bind(rt, "127.0.0.1:0")?;

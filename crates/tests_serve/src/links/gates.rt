@@ -192,3 +192,84 @@ fn fill_dialogue<R: Net<Stream = TcpStream> + Wait + Clock>(
     // Not before, since an End drops an answer that waits to be sent.
     client.write_text(alloc, END)
 }
+
+/// How many milliseconds a gate holds a turn at most.
+const MOST_MILLISECONDS: u32 = 30_000;
+
+/// A gate that holds each turn until it is opened.
+#[derive(Drop)]
+struct ClosedGate<R> {
+    rt: R,
+    is_reached: AtomicBool,
+    is_open: AtomicBool,
+}
+
+impl<R: Clock> ClosedGate<R> {
+    /// Waits until a turn has reached it. `None`: none did in time.
+    fn await_turn(&self) -> Option<()> {
+        for _ in 0..MOST_MILLISECONDS {
+            if self.is_reached.load(Ordering::SeqCst) {
+                return Some(());
+            }
+            thread::sleep(&self.rt, Duration::from_millis(1));
+        }
+        None
+    }
+}
+
+impl<R: Clock> Gate for ClosedGate<R> {
+    fn pass(&self, _link: u8, _birth: u64, _position: u64) {
+        self.is_reached.store(true, Ordering::SeqCst);
+        for _ in 0..MOST_MILLISECONDS {
+            if self.is_open.load(Ordering::SeqCst) {
+                break;
+            }
+            thread::sleep(&self.rt, Duration::from_millis(1));
+        }
+    }
+}
+
+/// After the command to end a call that was accepted is served and answered, and one that comes later isn't accepted.
+#[test]
+fn an_accepted_call_is_answered_at_the_end(rt: HostRuntime) -> Result<(), Fail> {
+    let alloc = rt.alloc();
+    let listener = listener(&rt)?;
+    let settings = Settings::new(1, 2).ok_or("settings")?;
+    let settings = settings.with_most_helped(0).with_commands();
+    let trial = Trial::new(alloc, settings, Mood::Takes(0))?;
+    let gate = ClosedGate {
+        rt,
+        is_reached: AtomicBool::new(false),
+        is_open: AtomicBool::new(false),
+    };
+    let (outcome, given) = thread::join(
+        &rt,
+        || trial.serve(&rt, alloc, &gate, listener),
+        || call_and_quit(&rt, alloc, &trial, &gate),
+    );
+    assert_eq!(rt;
+        given.ok_or("no answer")?.as_str(),
+        answer(alloc, 0x2A)?.as_str()
+    );
+    assert_told(&rt, outcome, "link 0 accepted 1 served 2 sent 1\n")?;
+    Ok(())
+}
+
+/// Makes a call, gives the command to end while its turn waits, makes another one, and opens the gate: gives the first
+/// answer.
+fn call_and_quit<R: Net<Stream = TcpStream> + Wait + Clock>(
+    rt: &R,
+    alloc: Global,
+    trial: &Trial,
+    gate: &ClosedGate<R>,
+) -> Option<String> {
+    let mut client = Client::connect(rt, trial.address(rt)?)?;
+    client.write_text(alloc, begin(alloc, 0x2A).ok()?.as_str())?;
+    gate.await_turn()?;
+    trial.command(rt, "quit\n")?;
+    // Meanwhile the run reads it.
+    thread::sleep(rt, Duration::from_millis(500));
+    client.write_text(alloc, begin(alloc, 0x2B).ok()?.as_str())?;
+    gate.is_open.store(true, Ordering::SeqCst);
+    client.message(alloc)
+}

@@ -1,6 +1,7 @@
 //! A run whose outputs are in memory.
 
 use super::device::{Device, Mood};
+use super::typed::{Given, Typed, given};
 use crate::memory::{Shared, awaited_address};
 use crate::talk::RECORDS;
 use fp_apdu::Name;
@@ -20,6 +21,9 @@ use std::{str, thread};
 
 /// How often it is looked whether a text came, each 20 milliseconds.
 const MOST_LOOKS: u32 = 3_000;
+
+/// How many of these looks in turn find a log that doesn't grow any more.
+const STILL_LOOKS: u32 = 100;
 
 /// A text that one thread writes and others read.
 pub(crate) type Text = Arc<Mutex<Vec<u8>>>;
@@ -55,7 +59,7 @@ pub(crate) fn lacks_text<R: Wait>(rt: &R, text: &Text, unwanted: &str) -> Option
     }
 }
 
-/// No operator: no command comes.
+/// No operator: nothing is reloaded.
 #[derive(Drop)]
 struct NoOperator;
 
@@ -77,6 +81,8 @@ pub(crate) struct Trial {
     // The events, as far as they were written.
     pub(crate) errors: Text,
     mood: Arc<Mutex<Mood>>,
+    // The commands that it is given, which have no end if it ends with its links.
+    commands: Given,
     events: Events,
 }
 
@@ -89,6 +95,7 @@ impl Trial {
             log: Arc::new(alloc, Mutex::new(Vec::new(alloc)))?,
             errors: Arc::new(alloc, Mutex::new(Vec::new(alloc)))?,
             mood: Arc::new(alloc, Mutex::new(mood))?,
+            commands: given(alloc, settings.has_commands)?,
             events: Events::none(),
         })
     }
@@ -127,6 +134,32 @@ impl Trial {
         None
     }
 
+    /// Waits until the log hasn't grown for two seconds. `None`: it grew all the time.
+    pub(crate) fn await_still_log<R: Wait + Clock>(&self, rt: &R) -> Option<()> {
+        let mut count = 0;
+        let mut still: u32 = 0;
+        for _ in 0..MOST_LOOKS {
+            let now = self.log.lock(rt).len();
+            still = if now == count {
+                still.saturating_add(1)
+            } else {
+                0
+            };
+            if still >= STILL_LOOKS {
+                return Some(());
+            }
+            count = now;
+            thread::sleep(rt, Duration::from_millis(20));
+        }
+        None
+    }
+
+    /// Gives the run commands. `None`: it takes none.
+    pub(crate) fn command<R: Wait>(&self, rt: &R, text: &str) -> Option<()> {
+        let mut commands = self.commands.lock(rt);
+        commands.as_mut()?.extend_from_slice(text.as_bytes()).ok()
+    }
+
     /// From now on the device of the log has this mood.
     pub(crate) fn set_mood<R: Wait>(&self, rt: &R, mood: Mood) {
         *self.mood.lock(rt) = mood;
@@ -153,7 +186,7 @@ impl Trial {
             contexts: &contexts,
         };
         let commands = Commands {
-            input: b"".as_slice(),
+            input: Typed::new(rt, &self.commands).ok()?,
             operator: NoOperator,
         };
         let device = Device::new(rt, &self.log, &self.mood).ok()?;
@@ -170,8 +203,9 @@ impl Trial {
             &mut output,
         );
         let log = self.log.lock(rt).to_vec(alloc).ok()?;
-        // A thread that still writes the log ends.
+        // A thread that still writes the log ends, and one that reads commands.
         self.set_mood(rt, Mood::Takes(0));
+        *self.commands.lock(rt) = None;
         self.events.finish(rt);
         let tables = [Table::read(alloc, RECORDS.as_bytes()).ok()?];
         let mut replayed = Counted::new(Vec::new(alloc));

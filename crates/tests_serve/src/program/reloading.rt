@@ -1,30 +1,31 @@
 //! Records that are read again while links are served from them.
 
-use super::runs::BAD_RECORDS;
+use super::ran;
+use super::runs::{BAD_RECORDS, Written, enter_folder, run_with_commands, want, words_of};
 use crate::client::Client;
-use crate::memory::{await_text_in, awaited_address};
+use crate::memory::{Shared, await_text_in, awaited_address};
 use crate::talk::{RECORDS, answer, begin, goes_on, led_elsewhere, opens};
+use scp::program_with_links;
 use std::alloc::Global;
-use std::fs;
-use std::io::Write;
-use std::net::{Net, TcpStream};
+use std::fs::File;
+use std::io::{ErrorKind, Write};
+use std::net::{Net, TcpListener, TcpStream};
 use std::rt::{Clock, Files};
 use std::sync::{Mutex, Wait};
+use std::test::Fail;
+use std::thread::Threads;
+use std::{fs, io, process, str, thread};
 
 /// Other records: the first number leads elsewhere, and calls to the second one are refused.
-pub(crate) const NEW_RECORDS: &str = "key,100,60
+const NEW_RECORDS: &str = "key,100,60
 800123456,,1234567,00:00,24:00,1,route,302223399
 800123457,,1234567,00:00,24:00,1,refuse
 ";
 
-/// What a run writes.
-#[derive(Drop)]
-pub(crate) struct Written {
-    pub(crate) output: Mutex<Vec<u8>>,
-    pub(crate) errors: Mutex<Vec<u8>>,
-}
+/// What is said of three commands that are unknown.
+const UNKNOWN: &str = "command: unknown\ncommand: unknown\ncommand: unknown\n";
 
-/// A run with one link, which is given commands.
+/// A run with two links, which is given commands.
 #[derive(Drop)]
 struct Commanded<'x, R, C> {
     rt: &'x R,
@@ -32,6 +33,19 @@ struct Commanded<'x, R, C> {
     written: &'x Written,
     commands: C,
     client: Client,
+    // A client that makes its first call once the records were replaced.
+    quiet: Client,
+}
+
+/// Makes a call to the first number, which has to get this answer. `None`: it gets another one.
+fn call(alloc: Global, client: &mut Client, identifier: u32, wanted: String) -> Option<()> {
+    let frame = begin(alloc, identifier).ok()?;
+    client.write_text(alloc, frame.as_str())?;
+    if client.message(alloc)? == wanted {
+        Some(())
+    } else {
+        None
+    }
 }
 
 impl<R: Files + Wait + Clock, C: Write> Commanded<'_, R, C> {
@@ -41,27 +55,22 @@ impl<R: Files + Wait + Clock, C: Write> Commanded<'_, R, C> {
         self.commands.write_all(commands.as_bytes()).ok()
     }
 
-    /// Makes a call to the first number, which has to get this answer. `None`: it gets another one.
-    fn call(&mut self, identifier: u32, wanted: String) -> Option<()> {
-        let frame = begin(self.alloc, identifier).ok()?;
-        self.client.write_text(self.alloc, frame.as_str())?;
-        if self.client.message(self.alloc)? == wanted {
-            Some(())
-        } else {
-            None
-        }
-    }
-
     /// Makes a call that is answered from the old records.
     fn call_by_old(&mut self, identifier: u32) -> Option<()> {
         let wanted = answer(self.alloc, identifier).ok()?;
-        self.call(identifier, wanted)
+        call(self.alloc, &mut self.client, identifier, wanted)
     }
 
     /// Makes a call that is answered from the new ones.
     fn call_by_new(&mut self, identifier: u32) -> Option<()> {
         let wanted = led_elsewhere(self.alloc, identifier).ok()?;
-        self.call(identifier, wanted)
+        call(self.alloc, &mut self.client, identifier, wanted)
+    }
+
+    /// Makes the first call of the quiet client, which is answered from the new ones.
+    fn first_call_by_new(&mut self, identifier: u32) -> Option<()> {
+        let wanted = led_elsewhere(self.alloc, identifier).ok()?;
+        call(self.alloc, &mut self.quiet, identifier, wanted)
     }
 
     /// Makes calls before and after the records are replaced; one of them is open meanwhile.
@@ -71,14 +80,15 @@ impl<R: Files + Wait + Clock, C: Write> Commanded<'_, R, C> {
         self.command(NEW_RECORDS, "reload\n")?;
         await_text_in(self.rt, &self.written.output, "reloaded 1\n")?;
         self.call_by_new(2)?;
+        self.first_call_by_new(5)?;
         goes_on(self.alloc, &mut self.client)
     }
 
-    /// Makes calls after records that are faulty, and after a command that is unknown, by which nothing is replaced;
+    /// Makes calls after records that are faulty, and after commands that are unknown, by which nothing is replaced;
     /// and once the first records are there again.
     fn keep(&mut self) -> Option<()> {
-        self.command(BAD_RECORDS, "reload\nreload records\n")?;
-        await_text_in(self.rt, &self.written.errors, "command: unknown\n")?;
+        self.command(BAD_RECORDS, "reload\nreload records\nlinks\nquit\n")?;
+        await_text_in(self.rt, &self.written.errors, UNKNOWN)?;
         self.call_by_new(3)?;
         self.command(RECORDS, "reload\n")?;
         await_text_in(self.rt, &self.written.output, "reloaded 2\n")?;
@@ -86,26 +96,150 @@ impl<R: Files + Wait + Clock, C: Write> Commanded<'_, R, C> {
     }
 }
 
-/// Makes calls on the link of a run whose records are replaced meanwhile. `None`: one wasn't answered as it has to be.
-pub(crate) fn make_calls_between<R, C>(
-    rt: &R,
-    alloc: Global,
-    written: &Written,
-    commands: C,
-) -> Option<()>
+/// Makes calls on the links of a run whose records are replaced meanwhile. `None`: one wasn't answered as it has to be.
+fn make_calls_between<R, C>(rt: &R, alloc: Global, written: &Written, commands: C) -> Option<()>
 where
     R: Files + Net<Stream = TcpStream> + Wait + Clock,
     C: Write + Drop,
 {
     let address = awaited_address(rt, &written.output)?;
     let client = Client::connect(rt, address)?;
+    let quiet = Client::connect(rt, address)?;
     let mut run = Commanded {
         rt,
         alloc,
         written,
         commands,
         client,
+        quiet,
     };
     run.replace()?;
     run.keep()
+}
+
+/// A command `reload` replaces the records between two calls; a call that is open goes on by the rule that it got.
+/// Faulty records and other commands are reported, and replace nothing. A link on which no call was made meanwhile is
+/// answered from the new records too. The log is replayed from all the files.
+#[test]
+fn records_are_replaced_between_calls(rt: HostRuntime) -> Result<(), Fail> {
+    let alloc = rt.alloc();
+    let folder = enter_folder(&rt, process::id(rt.process()))?;
+    fs::write(&rt, "now.csv", RECORDS)?;
+    fs::write(&rt, "new.csv", NEW_RECORDS)?;
+    let line = "serve now.csv --listen 127.0.0.1:0 --log old.log --links 2";
+    let words = words_of(alloc, line, "")?;
+    let written = Written::new(alloc);
+    let (input, commands) = io::pipe(&rt)?;
+    let (status, made) = thread::join(
+        &rt,
+        || run_with_commands(&rt, words.as_slice(), input, &written),
+        || make_calls_between(&rt, alloc, &written, commands),
+    );
+    made.ok_or("another answer")?;
+    assert_eq!(rt; status, 0);
+    want_replaced(&rt, &written)?;
+    fs::remove_dir_all(&rt, folder.as_str())?;
+    Ok(())
+}
+
+/// Fails if a run didn't report that its records were replaced twice, and else what a replay of its log reports.
+fn want_replaced<H>(rt: &H, written: &Written) -> Result<(), Fail>
+where
+    H: Files<File = File>
+        + AllocGlobal
+        + Net<Listener = TcpListener, Stream = TcpStream>
+        + Threads
+        + Wait
+        + Clock
+        + Copy
+        + Send
+        + Sync
+        + 'static,
+{
+    let alloc = rt.alloc();
+    let errors = written.errors.lock(rt);
+    want(
+        str::from_utf8(errors.as_slice())?,
+        format!(in alloc; "record 2: BadDays\n{UNKNOWN}")?.as_str(),
+    )?;
+    let output = written.output.lock(rt);
+    let (_, after) = str::from_utf8(output.as_slice())?
+        .split_once('\n')
+        .ok_or("no address")?;
+    let replayed = ran(rt, "replay good.csv old.log new.csv good.csv", "")?;
+    let told = after
+        .strip_prefix("reloaded 1\nreloaded 2\n")
+        .ok_or("nothing was replaced")?;
+    want(
+        format!(in alloc; "0, {told}, ")?.as_str(),
+        replayed.as_str(),
+    )
+}
+
+/// An output that takes no line of a table that replaced another.
+#[derive(Drop)]
+struct Refusing<'x, R: Wait> {
+    taken: Shared<'x, R>,
+}
+
+impl<R: Wait> Write for Refusing<'_, R> {
+    fn write(&mut self, octets: &[u8]) -> io::Result<usize> {
+        if octets.starts_with(b"reloaded") {
+            return Err(io::Error::from(ErrorKind::StorageFull));
+        }
+        self.taken.write(octets)
+    }
+
+    fn flush(&mut self) -> io::Result<()> {
+        self.taken.flush()
+    }
+}
+
+/// If the output fails when it is told that the records were replaced, the run ends with that fault, though more
+/// commands wait, and its client is still there.
+#[test]
+fn an_output_that_fails_ends_the_run(rt: HostRuntime) -> Result<(), Fail> {
+    let alloc = rt.alloc();
+    let folder = enter_folder(&rt, process::id(rt.process()))?;
+    let words = words_of(
+        alloc,
+        "serve good.csv --listen 127.0.0.1:0 --log old.log",
+        "",
+    )?;
+    let written = Written::new(alloc);
+    let mut errors = Vec::new(alloc);
+    let (input, commands) = io::pipe(&rt)?;
+    let (status, ended) = thread::join(
+        &rt,
+        || program_with_links(
+            &rt,
+            words.as_slice(),
+            input,
+            &mut Refusing {
+                taken: Shared::new(&rt, alloc, &written.output),
+            },
+            &mut errors,
+            Vec::new(alloc),
+        ),
+        || is_ended_by_reload(&rt, &written.output, commands),
+    );
+    assert_eq!(rt; ended, Some(true));
+    assert_eq!(rt; status, 1);
+    want(
+        str::from_utf8(errors.as_slice())?,
+        "output: cannot be written\n",
+    )?;
+    fs::remove_dir_all(&rt, folder.as_str())?;
+    Ok(())
+}
+
+/// Connects to a run that is given three times the command to reload, and says whether it ended the connection.
+fn is_ended_by_reload<R, C>(rt: &R, output: &Mutex<Vec<u8>>, mut commands: C) -> Option<bool>
+where
+    R: Net<Stream = TcpStream> + Wait + Clock,
+    C: Write + Drop,
+{
+    let mut client = Client::connect(rt, awaited_address(rt, output)?)?;
+    commands.write_all(b"reload\nreload\nreload\n").ok()?;
+    Some(client.is_at_end())
 }

@@ -1,14 +1,15 @@
 //! Runs of the program in a folder of their own.
 
+use crate::memory::Shared;
 use crate::talk::RECORDS;
 use scp::program_with_links;
 use std::alloc::{AllocError, Global};
 use std::env::Env;
 use std::fs::File;
-use std::io::Write;
+use std::io::{Read, Write};
 use std::net::{Net, TcpListener, TcpStream};
 use std::rt::{Clock, Files};
-use std::sync::Wait;
+use std::sync::{Mutex, Wait};
 use std::test::Fail;
 use std::thread::Threads;
 use std::{env, fs, str};
@@ -55,6 +56,49 @@ pub(crate) fn words_of(alloc: Global, line: &str, used: &str) -> Result<Vec<Stri
         words.push(String::from_str(alloc, word)?)?;
     }
     Ok(words)
+}
+
+/// What a run writes.
+#[derive(Drop)]
+pub(crate) struct Written {
+    pub(crate) output: Mutex<Vec<u8>>,
+    pub(crate) errors: Mutex<Vec<u8>>,
+}
+
+impl Written {
+    /// Nothing yet.
+    pub(crate) fn new(alloc: Global) -> Written {
+        Written {
+            output: Mutex::new(Vec::new(alloc)),
+            errors: Mutex::new(Vec::new(alloc)),
+        }
+    }
+}
+
+/// Runs the program with these words, and commands that are read here, and gives its status. Events are left out.
+pub(crate) fn run_with_commands<H, I>(rt: &H, words: &[String], input: I, written: &Written) -> u8
+where
+    H: Files<File = File>
+        + AllocGlobal
+        + Net<Listener = TcpListener, Stream = TcpStream>
+        + Threads
+        + Wait
+        + Clock
+        + Copy
+        + Send
+        + Sync
+        + 'static,
+    I: Read + Send + Drop + 'static,
+{
+    let alloc = rt.alloc();
+    program_with_links(
+        rt,
+        words,
+        input,
+        &mut Shared::new(rt, alloc, &written.output),
+        &mut Shared::new(rt, alloc, &written.errors),
+        Vec::new(alloc),
+    )
 }
 
 /// What came of a run, without its output.

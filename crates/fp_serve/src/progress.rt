@@ -1,0 +1,92 @@
+//! How far the links of a run are.
+
+use crate::commands::Notice;
+use crossbeam_channel::Sender;
+use fp_book::{Status, Totals};
+use std::alloc::{AllocError, Global};
+use std::net::SocketAddr;
+use std::sync::atomic::{AtomicBool, Ordering};
+use std::sync::{Mutex, Wait};
+
+/// How far a link is that came.
+#[derive(Clone, Copy, Debug, PartialEq, Eq)]
+pub struct LinkStatus {
+    /// The address of its client.
+    pub peer: SocketAddr,
+    /// What its book said at its last tick, or in the end.
+    pub status: Status,
+}
+
+/// How far the links of a run are, for the thread that follows the commands.
+#[derive(Drop)]
+pub(crate) struct Progress {
+    // Whether their thread runs.
+    have_begun: AtomicBool,
+    // Whether all of them are down.
+    are_down: AtomicBool,
+    // Those that came, in their order, in room for all.
+    links: Mutex<Vec<LinkStatus>>,
+}
+
+impl Progress {
+    /// The thread of the links doesn't run yet. There may be this number of them.
+    pub(crate) fn new(alloc: Global, links: u8) -> Result<Progress, AllocError> {
+        Ok(Progress {
+            have_begun: AtomicBool::new(false),
+            are_down: AtomicBool::new(false),
+            links: Mutex::new(Vec::with_capacity(alloc, usize::from(links))?),
+        })
+    }
+
+    /// Their thread runs.
+    pub(crate) fn begin(&self) {
+        self.have_begun.store(true, Ordering::SeqCst);
+    }
+
+    /// Whether their thread runs.
+    pub(crate) fn have_begun(&self) -> bool {
+        self.have_begun.load(Ordering::SeqCst)
+    }
+
+    /// All of them are down. If no notice finds a place, it is seen without one.
+    pub(crate) fn end<R: Wait>(&self, rt: &R, notices: &Sender<Notice>) {
+        self.are_down.store(true, Ordering::SeqCst);
+        let _ = notices.try_send(rt, Notice::LinksDown);
+    }
+
+    /// Whether all of them are down.
+    pub(crate) fn are_down(&self) -> bool {
+        self.are_down.load(Ordering::SeqCst)
+    }
+
+    /// The next link came, from this client.
+    pub(crate) fn add<R: Wait>(&self, rt: &R, peer: SocketAddr) {
+        let status = Status {
+            is_down: false,
+            totals: Totals {
+                accepted: 0,
+                served: 0,
+                sent: 0,
+            },
+            dialogues: 0,
+        };
+        // There is room for as many as come.
+        let _ = self.links.lock(rt).push(LinkStatus { peer, status });
+    }
+
+    /// A link that came is this far.
+    pub(crate) fn note<R: Wait>(&self, rt: &R, link: u8, status: Status) {
+        if let Some(known) = self.links.lock(rt).get_mut(usize::from(link)) {
+            known.status = status;
+        }
+    }
+
+    /// The links that came, in their order.
+    pub(crate) fn links<R: Wait>(
+        &self,
+        rt: &R,
+        alloc: Global,
+    ) -> Result<Vec<LinkStatus>, AllocError> {
+        self.links.lock(rt).to_vec(alloc)
+    }
+}
