@@ -10,10 +10,12 @@ ghost use Rattle.fp_row.specs.contracts.row.Row as row_type;
 ghost use Rattle.fp_row.specs.declared.row.Row.{Row};
 ghost use Rattle.fp_row.specs.Rows.{Closes, ClosesAt, IsAfter, count_due, entry_count, is_above, is_sent};
 
+use crate::identifier_hash::IdentifierHasher;
 use crate::{Ending, Row};
 use fp_digits::Moment;
 use std::alloc::Global;
 use std::collections::HashMap;
+use std::hash::BuildHasherDefault;
 use std::marker::Model;
 
 /// Rows, each under a local transaction identifier (ITU-T Q.773, 4.2.1.3), at most one under each. Contracts see them
@@ -21,7 +23,7 @@ use std::marker::Model;
 #[derive(Debug, Drop)]
 pub struct Rows {
     // By hash, since identifiers come back in any order.
-    rows: HashMap<u32, Row>,
+    rows: HashMap<u32, Row, BuildHasherDefault<IdentifierHasher>>,
     alloc: Global,
 }
 
@@ -73,7 +75,7 @@ impl Rows {
         ensures { result ≡ map.empty }
     {
         Rows {
-            rows: HashMap::new(alloc),
+            rows: HashMap::with_hasher(alloc, BuildHasherDefault::new()),
             alloc,
         }
     }
