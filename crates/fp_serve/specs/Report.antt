@@ -1,4 +1,4 @@
--- What a run tells: the address at which its links were awaited, what commands give, and in the end what each link
+-- What a run writes: the address at which its links were awaited, the answers to commands, and in the end what each link
 -- counted.
 use Rattle.std.specs.Prelude.{◌≡◌, ℕ, ◌+◌, ◌≤◌, ◌⊎◌, Bool, true, List, [], ◌∷◌, ◌++◌, Option, codes, decimal, if◌then◌else◌, length}
 use Rattle.std.specs.Io.KnownBytes.{Appends}
@@ -9,7 +9,7 @@ use Rattle.fp_book.specs.declared.totals.Totals.{Totals}
 use Rattle.fp_replay.specs.Replayed.{report_line}
 use Rattle.fp_serve.specs.declared.progress.LinkStatus.{LinkStatus}
 
--- the line that tells an address
+-- the line of an address
 abbrev pub listening_line : SocketAddr → List ℕ
 listening_line address = codes "listening " ++ (socket_text address ++ 10 ∷ [])
 
@@ -18,28 +18,30 @@ abbrev pub lines_by : {A : Type 0} → (ℕ → A → List ℕ) → ℕ → List
 lines_by line link [] = []
 lines_by line link (first ∷ others) = line link first ++ lines_by line (link + 1) others
 
--- the line that tells the index of a table that replaced another
+-- the line of a table that replaced another, with its index
 abbrev pub reloaded_line : ℕ → List ℕ
 reloaded_line index = codes "reloaded " ++ (decimal index ++ 10 ∷ [])
 
--- the beginning of the line that tells how far a link is, and the rest of it
+-- the beginning of the status line of a link, and the rest of it
 abbrev pub beginning : ℕ → Bool → SocketAddr → List ℕ
-beginning link is_down peer = codes "link " ++ (decimal link ++ ((if is_down then codes " down " else codes " up ") ++ (socket_text peer ++ codes " accepted ")))
+beginning link is_down peer =
+    codes "link " ++ (decimal link ++ ((if is_down then codes " down " else codes " up ")
+    ++ (socket_text peer ++ codes " accepted ")))
 
 abbrev pub counts : Totals → ℕ → List ℕ
 counts totals dialogues =
     decimal totals.accepted ++ (codes " served " ++ (decimal totals.served ++ (codes " sent " ++ (decimal totals.sent
     ++ (codes " held " ++ (decimal dialogues ++ 10 ∷ []))))))
 
--- the line that tells how far a link is
+-- the status line of a link
 abbrev pub status_line : ℕ → LinkStatus → List ℕ
 status_line link known = beginning link known.status.is_down known.peer ++ counts known.status.totals known.status.dialogues
 
--- the line that tells how many links came
+-- the line with the number of links that were accepted
 abbrev pub links_line : ℕ → List ℕ
 links_line count = codes "links " ++ (decimal count ++ 10 ∷ [])
 
--- how far each of these links is, and how many they are
+-- the status lines of these links, and their number
 abbrev pub links_answer : List LinkStatus → List ℕ
 links_answer links = lines_by status_line 0 links ++ links_line (length links)
 
@@ -47,20 +49,20 @@ links_answer links = lines_by status_line 0 links ++ links_line (length links)
 abbrev pub IsReloaded : List ℕ → Type 0
 IsReloaded text = (index : ℕ) × (1 ≤ index) × (index ≤ 999) × (text ≡ reloaded_line index)
 
--- it was asked how far the links are
+-- the answer to `links`
 abbrev pub TellsOfLinks : List ℕ → Type 0
 TellsOfLinks text = (links : List LinkStatus) × (text ≡ links_answer links)
 
--- what a command gives: the second only where more commands are known
+-- the answer to a command: the second only if more commands are known
 abbrev pub IsAnswer : Bool → List ℕ → Type 0
 IsAnswer has_commands text = IsReloaded text ⊎ ((has_commands ≡ true) × TellsOfLinks text)
 
--- what commands give was written, and nothing else
+-- the answers to commands were written, and nothing else
 abbrev pub TellsAnswers : Bool → Option (List ℕ) → Option (List ℕ) → Type 0
 TellsAnswers has_commands old new = (answers : List (List ℕ)) × All (IsAnswer has_commands) answers × Appends old new (concat answers)
 
--- an address was written, then what commands give, and in the end what each of this number of links counted, in their
--- order, and nothing else
+-- an address was written, then the answers to commands, and in the end what each of this number of links counted, in
+-- their order, and nothing else
 pub record TellsLinks (links : ℕ) (has_commands : Bool) (old new : Option (List ℕ)) : Type 0 where
   pub address : SocketAddr
   pub answers : List (List ℕ)

@@ -3,6 +3,7 @@
 use crate::departures::send_waiting;
 use crate::link::Link;
 use crate::moment::now;
+use crate::stop::SECONDS_TO_END;
 use crate::turns::LineGate;
 use crate::{Service, Why};
 use fp_entry::Prepared;
@@ -21,9 +22,6 @@ const MOST_READS: u64 = 1 << 40;
 
 /// How many frames are posted at once at most.
 const MOST_FRAMES: usize = 64;
-
-/// How many seconds a link whose input ended is up at most, so that what it accepted is served and sent.
-const SECONDS_OF_THE_END: u64 = 2;
 
 /// Puts the frames of a link into its book, those of a read in as few holds of its lock as it takes, and helps to serve
 /// and to send what they bring. A frame that is held back waits here with those after it, and no other is read
@@ -199,7 +197,7 @@ pub(crate) fn receive_all<'x, R: Wait + Clock, G: Gate, A: Ledger, B: Ledger, C:
     // What ends the link after this follows from it.
     link.ending.note(link.rt, why);
     if is_quitting || ended == Ended::EndOfInput {
-        link.await_quiet(Duration::from_secs(SECONDS_OF_THE_END));
+        link.await_quiet(Duration::from_secs(SECONDS_TO_END));
     }
     link.end(why);
     let Arrivals {

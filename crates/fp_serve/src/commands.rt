@@ -61,7 +61,7 @@ pub struct Commands<I: Drop, O: Drop> {
 pub(crate) enum Command {
     /// `reload`: the records are read again.
     Reload,
-    /// `links`: how far each link is.
+    /// `links`: the status of each link.
     Links,
     /// `quit`: all links are to end.
     Quit,

@@ -12,7 +12,7 @@
 //!   how many turns its receiver serves, what is done when the log can't be written ([`WhenLogFails`]), and which
 //!   commands are known.
 //! * [`Commands`] are what is asked of the run while it lasts: to read its records again, which an [`Operator`] does; to
-//!   tell how far its links are ([`LinkStatus`]); and to end.
+//!   print the status of its links ([`LinkStatus`]); and to end.
 //! * [`ServeFault`] says why a run failed.
 //! * [`Events`] are lines on which link came or went and why, if they are asked for.
 //!
@@ -46,7 +46,7 @@
 //! |---|---|
 //! | `serving.rt` | the run: a thread for each link, and the report |
 //! | `commands.rt` | the commands, the thread that reads them, and how they are followed |
-//! | `progress.rt` | how far the links are, for the commands |
+//! | `progress.rt` | the status of the links, for the commands |
 //! | `connections.rt`, `keep_alive.rt` | how connections are awaited, and how the system watches them |
 //! | `service.rt`, `settings.rt` | what messages are answered from; how many links, workers and entries there are |
 //! | `link.rt`, `ending.rt` | a link: what its threads share, its end and the reason of it, and what it counted |
@@ -60,7 +60,7 @@
 //! | `link_log.rt`, `log_writer.rt` | the lines of a link that wait, and the thread that writes them |
 //! | `events.rt` | the events of a run, and the thread that writes them |
 //! | `stop.rt` | why all links are to go down, or to end |
-//! | `report.rt` | the address, and what is written of the links in the end |
+//! | `report.rt` | the lines of the address, of the commands' answers and of the report |
 //!
 //! The layer above may rely on this: if [`serve`] returns without a fault it wrote the address, what commands give, and
 //! a line for each link, and nothing else (`specs/Report.antt`). What a link's book, seats and hub

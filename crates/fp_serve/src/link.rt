@@ -75,7 +75,7 @@ impl<'x, R: Wait + Clock, A: Ledger, B: Ledger, C: Ledger> Link<'x, R, A, B, C> 
         let _ = self.stream.shutdown(Shutdown::Read);
     }
 
-    /// Notes how far it is.
+    /// Notes its status.
     pub(crate) fn note_status(&self) {
         let status = self.hub.status(self.rt);
         self.progress.note(self.rt, self.number, status);

@@ -1,4 +1,4 @@
-//! How far the links of a run are.
+//! The status of the links of a run.
 
 use crate::commands::Notice;
 use crossbeam_channel::Sender;
@@ -8,7 +8,7 @@ use std::net::SocketAddr;
 use std::sync::atomic::{AtomicBool, Ordering};
 use std::sync::{Mutex, Wait};
 
-/// How far a link is that came.
+/// The status of a link that was accepted.
 #[derive(Clone, Copy, Debug, PartialEq, Eq)]
 pub struct LinkStatus {
     /// The address of its client.
@@ -17,14 +17,14 @@ pub struct LinkStatus {
     pub status: Status,
 }
 
-/// How far the links of a run are, for the thread that follows the commands.
+/// The status of the links of a run, for the thread that follows the commands.
 #[derive(Drop)]
 pub(crate) struct Progress {
     // Whether their thread runs.
     have_begun: AtomicBool,
     // Whether all of them are down.
     are_down: AtomicBool,
-    // Those that came, in their order, in room for all.
+    // Those that were accepted, in their order, in room for all.
     links: Mutex<Vec<LinkStatus>>,
 }
 
@@ -59,7 +59,7 @@ impl Progress {
         self.are_down.load(Ordering::SeqCst)
     }
 
-    /// The next link came, from this client.
+    /// The next link was accepted, from this client.
     pub(crate) fn add<R: Wait>(&self, rt: &R, peer: SocketAddr) {
         let status = Status {
             is_down: false,
@@ -70,18 +70,18 @@ impl Progress {
             },
             dialogues: 0,
         };
-        // There is room for as many as come.
+        // There is room for all of them.
         let _ = self.links.lock(rt).push(LinkStatus { peer, status });
     }
 
-    /// A link that came is this far.
+    /// Notes the status of a link that was accepted.
     pub(crate) fn note<R: Wait>(&self, rt: &R, link: u8, status: Status) {
         if let Some(known) = self.links.lock(rt).get_mut(usize::from(link)) {
             known.status = status;
         }
     }
 
-    /// The links that came, in their order.
+    /// The links that were accepted, in their order.
     pub(crate) fn links<R: Wait>(
         &self,
         rt: &R,

@@ -1,4 +1,4 @@
-//! The address and the report on the links.
+//! The lines that a run writes: its address, the answers to its commands, and the report on its links.
 
 ghost use Rattle.std.specs.Prelude.{◌≡◌, IfOk, OnOk, string_bytes};
 ghost use Rattle.std.specs.Io.KnownBytes.{Appends};
@@ -49,7 +49,7 @@ pub(crate) fn write_report<W: LinkWrite>(
     write_flushed(text.as_str(), output)
 }
 
-/// Writes how far each of these links is, in their order, and how many they are, and flushes the output.
+/// Writes the status of each of these links, in their order, and the number of links, and flushes the output.
 pub(crate) fn write_links<W: LinkWrite>(
     alloc: Global,
     links: &[LinkStatus],
@@ -87,7 +87,7 @@ fn report(alloc: Global, totals: &[Totals]) -> Result<String, AllocError>
     Ok(text)
 }
 
-/// The beginning of the line that tells how far a link is.
+/// The beginning of the status line of a link.
 fn beginning(
     alloc: Global,
     link: usize,
@@ -103,7 +103,7 @@ fn beginning(
     }
 }
 
-/// The rest of that line.
+/// The rest of the status line.
 fn counts(alloc: Global, totals: Totals, dialogues: usize) -> Result<String, AllocError>
     ensures { IfOk result (λ text. string_bytes text ≡ counts totals dialogues) }
 {
@@ -115,7 +115,7 @@ fn counts(alloc: Global, totals: Totals, dialogues: usize) -> Result<String, All
     format!(in alloc; "{accepted} served {served} sent {sent} held {dialogues}\n")
 }
 
-/// The line that tells how far a link is.
+/// The status line of a link.
 fn status_line(alloc: Global, link: usize, known: LinkStatus) -> Result<String, AllocError>
     ensures { IfOk result (λ text. string_bytes text ≡ status_line link known) }
 {
@@ -133,7 +133,7 @@ fn links_line(alloc: Global, count: usize) -> Result<String, AllocError>
     format!(in alloc; "links {count}\n")
 }
 
-/// A line for each of these links, in their order.
+/// The status line of each of these links, in their order.
 fn status_lines(alloc: Global, links: &[LinkStatus]) -> Result<String, AllocError>
     ensures { IfOk result (λ text. string_bytes text ≡ lines_by status_line 0 links.now) }
 {
@@ -145,7 +145,7 @@ fn status_lines(alloc: Global, links: &[LinkStatus]) -> Result<String, AllocErro
     Ok(text)
 }
 
-/// These lines, and then how many links they are of.
+/// The answer to `links`: the status lines, and the number of links.
 fn answer_of(alloc: Global, links: &[LinkStatus]) -> Result<String, AllocError>
     ensures { IfOk result (λ text. string_bytes text ≡ links_answer links.now) }
 {

@@ -6,8 +6,9 @@ use std::sync::atomic::{AtomicBool, Ordering};
 use std::sync::{Mutex, Wait};
 use std::time::{Duration, Instant};
 
-/// How many seconds links that were told to end are up at most, so that what they accepted is served and sent.
-const SECONDS_TO_END: u64 = 2;
+/// How many seconds a link is up at most after its input ended, or after all were to end, so that what it accepted is
+/// served and sent.
+pub(crate) const SECONDS_TO_END: u64 = 2;
 
 /// Whether all links are to go down at their next tick, and why.
 #[derive(Drop)]

@@ -21,10 +21,10 @@ pub(crate) fn time_since<R: Clock>(rt: &R, last: Option<Instant>) -> Option<Dura
 const MILLISECONDS_WITHOUT_ROOM: u64 = 10;
 
 /// Ticks once a second, and hints to a worker then; makes the text of the lines of the link, for the thread that writes
-/// the log, once a second, and when 512 wait in the book, in one turn after another while some are left; notes how far
-/// the link is; and takes it down if all links are to go down, if its dialogues keep more entries than they may, or two
-/// seconds after the links were to end, whatever its other threads wait for: before that it ends its input. Returns once
-/// the link is down.
+/// the log, once a second, and when 512 wait in the book, in one turn after another while some are left; notes the
+/// status of the link; and takes it down if all links are to go down, if its dialogues keep more entries than they may,
+/// or two seconds after the links were to end, whatever its other threads wait for: before that it ends its input.
+/// Returns once the link is down.
 ///
 /// If the clock gives no time, it ticks each time that it wakes, and after each turn.
 pub(crate) fn keep_time<R: Wait + Clock, A: Ledger, B: Ledger, C: Ledger>(

@@ -210,7 +210,7 @@ const SERVE_EXAMPLE: &str = "Example:
 
 Prints the address where it listens, answers each connection as one link, and prints what each link did
 once all of them are down and standard input has ended. Each line of that is a command: reload reads
-RECORDS again. With --commands, links prints how far each link is, quit ends the run once what was
+RECORDS again. With --commands, links prints the status of each link, quit ends the run once what was
 accepted is served and sent, and the run ends with its links. Each message follows its length, which
 has four octets. FILE is emptied first, and gets each step of the links: scp replay replays them.";
 
