@@ -1,7 +1,8 @@
 //! The answer to a request for a dialogue, AARE (Q.773, 4.2.3).
 
-ghost use Rattle.std.specs.Prelude.{◌≡◌, ◌+◌, ◌++◌, length, OnOk};
+ghost use Rattle.std.specs.Prelude.{◌≡◌, ◌+◌, ◌++◌, length, OnOk, OnErr};
 ghost use Rattle.fp_ber.specs.Canon.{canon, HasLengths};
+ghost use Rattle.fp_ber.specs.Putting.{EndsWith};
 ghost use Rattle.fp_ber.specs.declared.element.Class.TheVariants as classes;
 ghost use Rattle.fp_ber.specs.Tree.{HasTags, constructed, more, none};
 ghost use Rattle.fp_apdu.specs.Aare.{aare, integer};
@@ -22,15 +23,17 @@ const RESULT_SOURCE_DIAGNOSTIC: u16 = 3;
 
 /// Puts an integer of one octet before what is there.
 fn write_integer(octet: u8, out: &mut Writer) -> Result<(), AllocError>
-    ensures { OnOk result (out.new ≡ canon (integer octet) ++ out.old) }
+    ensures ok { OnOk result (out.new ≡ canon (integer octet) ++ out.old) }
+    ensures stays { EndsWith out.new out.old }
 {
     out.put_primitive(Class::Universal, INTEGER, &[octet])
 }
 
 /// Puts the result of a verdict before what is there.
 fn write_result(verdict: Verdict, out: &mut Writer) -> Result<(), AllocError>
-    ensures { OnOk result (out.new ≡ canon (constructed classes.Context 2
+    ensures ok { OnOk result (out.new ≡ canon (constructed classes.Context 2
         (more (integer (associate_result verdict)) none)) ++ out.old) }
+    ensures stays { EndsWith out.new out.old }
 {
     let behind = out.len();
     write_integer(verdict.result(), out)?;
@@ -39,8 +42,9 @@ fn write_result(verdict: Verdict, out: &mut Writer) -> Result<(), AllocError>
 
 /// Puts the diagnostic of a verdict, in the tag of its source, before what is there.
 fn write_source(verdict: Verdict, out: &mut Writer) -> Result<(), AllocError>
-    ensures { OnOk result (out.new ≡ canon (constructed classes.Context (source verdict)
+    ensures ok { OnOk result (out.new ≡ canon (constructed classes.Context (source verdict)
         (more (integer (diagnostic verdict)) none)) ++ out.old) }
+    ensures stays { EndsWith out.new out.old }
 {
     let behind = out.len();
     write_integer(verdict.diagnostic(), out)?;
@@ -49,9 +53,10 @@ fn write_source(verdict: Verdict, out: &mut Writer) -> Result<(), AllocError>
 
 /// Puts the result's source and diagnostic of a verdict before what is there.
 fn write_diagnostic(verdict: Verdict, out: &mut Writer) -> Result<(), AllocError>
-    ensures { OnOk result (out.new ≡ canon (constructed classes.Context 3
+    ensures ok { OnOk result (out.new ≡ canon (constructed classes.Context 3
         (more (constructed classes.Context (source verdict) (more (integer (diagnostic verdict)) none))
         none)) ++ out.old) }
+    ensures stays { EndsWith out.new out.old }
 {
     let behind = out.len();
     write_source(verdict, out)?;
@@ -60,7 +65,8 @@ fn write_diagnostic(verdict: Verdict, out: &mut Writer) -> Result<(), AllocError
 
 /// Puts the AARE of a verdict, with this application context name, before what is there.
 fn write_apdu(name: &[u8], verdict: Verdict, out: &mut Writer) -> Result<(), AllocError>
-    ensures { OnOk result (out.new ≡ canon (aare name.now verdict) ++ out.old) }
+    ensures ok { OnOk result (out.new ≡ canon (aare name.now verdict) ++ out.old) }
+    ensures stays { EndsWith out.new out.old }
 {
     let behind = out.len();
     write_diagnostic(verdict, out)?;
@@ -71,10 +77,11 @@ fn write_apdu(name: &[u8], verdict: Verdict, out: &mut Writer) -> Result<(), All
 }
 
 /// Puts the dialogue portion that answers a request for a dialogue of this name by a verdict before the octets that are
-/// there: an AARE of version 1 with the same name, 37 octets and those of the name. If memory runs out, nothing
-/// is promised of the octets.
+/// there: an AARE of version 1 with the same name, 37 octets and those of the name. If memory runs out, the
+/// octets are unchanged.
 pub fn write_aare(name: &Name, verdict: Verdict, out: &mut Writer) -> Result<(), AllocError>
     ensures ok { OnOk result (out.new ≡ canon (dialogue_portion (aare name.now verdict)) ++ out.old) }
+    ensures err { OnErr result (out.new ≡ out.old) }
 
     // The dialogue portion is in range to be spelled.
     ensures tags { HasTags (dialogue_portion (aare name.now verdict)) }
@@ -83,6 +90,9 @@ pub fn write_aare(name: &Name, verdict: Verdict, out: &mut Writer) -> Result<(),
 {
     let name = name.as_slice();
     let behind = out.len();
-    write_apdu(name, verdict, out)?;
-    dialogue_portion::write(behind, out)
+    if write_apdu(name, verdict, out).is_err() || dialogue_portion::write(behind, out).is_err() {
+        out.keep_last(behind);
+        return Err(AllocError);
+    }
+    Ok(())
 }

@@ -1,7 +1,8 @@
 //! The abort of a dialogue, ABRT (Q.773, 4.2.3).
 
-ghost use Rattle.std.specs.Prelude.{◌≡◌, ◌++◌, length, OnOk};
+ghost use Rattle.std.specs.Prelude.{◌≡◌, ◌++◌, length, OnOk, OnErr};
 ghost use Rattle.fp_ber.specs.Canon.{canon, HasLengths};
+ghost use Rattle.fp_ber.specs.Putting.{EndsWith};
 ghost use Rattle.fp_ber.specs.Tree.{HasTags};
 ghost use Rattle.fp_apdu.specs.Abrt.{abrt};
 ghost use Rattle.fp_apdu.specs.DialoguePortion.{dialogue_portion};
@@ -19,7 +20,8 @@ const DIALOGUE_SERVICE_USER: u8 = 0;
 
 /// Puts the ABRT of an abort by the dialogue service user before what is there.
 fn write_apdu(out: &mut Writer) -> Result<(), AllocError>
-    ensures { OnOk result (out.new ≡ canon abrt ++ out.old) }
+    ensures ok { OnOk result (out.new ≡ canon abrt ++ out.old) }
+    ensures stays { EndsWith out.new out.old }
 {
     let behind = out.len();
     out.put_primitive(Class::Context, ABORT_SOURCE, &[DIALOGUE_SERVICE_USER])?;
@@ -27,9 +29,10 @@ fn write_apdu(out: &mut Writer) -> Result<(), AllocError>
 }
 
 /// Puts the dialogue portion of an abort by the dialogue service user, an ABRT, before the octets that are there: 20
-/// octets. If memory runs out, nothing is promised of the octets.
+/// octets. If memory runs out, the octets are unchanged.
 pub fn write_abrt(out: &mut Writer) -> Result<(), AllocError>
     ensures ok { OnOk result (out.new ≡ canon (dialogue_portion abrt) ++ out.old) }
+    ensures err { OnErr result (out.new ≡ out.old) }
 
     // The dialogue portion is in range to be spelled.
     ensures tags { HasTags (dialogue_portion abrt) }
@@ -37,6 +40,9 @@ pub fn write_abrt(out: &mut Writer) -> Result<(), AllocError>
     ensures size { length (canon (dialogue_portion abrt)) ≡ 20 }
 {
     let behind = out.len();
-    write_apdu(out)?;
-    dialogue_portion::write(behind, out)
+    if write_apdu(out).is_err() || dialogue_portion::write(behind, out).is_err() {
+        out.keep_last(behind);
+        return Err(AllocError);
+    }
+    Ok(())
 }

@@ -2,6 +2,7 @@
 
 ghost use Rattle.std.specs.Prelude.{◌≡◌, ◌++◌, ℕ, List, MatchOption, OnOk};
 ghost use Rattle.fp_ber.specs.Canon.{canon};
+ghost use Rattle.fp_ber.specs.Putting.{EndsWith};
 ghost use Rattle.fp_ber.specs.View.{tree_of};
 ghost use Rattle.fp_apdu.specs.Name.{IsName, application_context_name};
 
@@ -25,7 +26,8 @@ pub(crate) fn read(element: &Element) -> Option<Name>
 
 /// Puts the application context name of these octets before what is there.
 pub(crate) fn write(name: &[u8], out: &mut Writer) -> Result<(), AllocError>
-    ensures { OnOk result (out.new ≡ canon (application_context_name name.now) ++ out.old) }
+    ensures ok { OnOk result (out.new ≡ canon (application_context_name name.now) ++ out.old) }
+    ensures stays { EndsWith out.new out.old }
 {
     let behind = out.len();
     object_identifier::write(name, out)?;

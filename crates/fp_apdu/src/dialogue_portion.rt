@@ -2,6 +2,7 @@
 
 ghost use Rattle.std.specs.Prelude.{◌≡◌, ◌++◌, ℕ, List, MatchOption, OnOk, length};
 ghost use Rattle.fp_ber.specs.Canon.{canon};
+ghost use Rattle.fp_ber.specs.Putting.{EndsWith};
 ghost use Rattle.fp_ber.specs.Tree.{Tree};
 ghost use Rattle.fp_ber.specs.View.{tree_of};
 ghost use Rattle.fp_apdu.specs.DialoguePortion.{external, dialogue_portion};
@@ -49,8 +50,9 @@ pub(crate) fn read(portion: &Element) -> Option<&Element>
 /// dialogue portion. All octets but the last ones, `behind` in number, are those of the APDU.
 pub(crate) fn write(behind: usize, out: &mut Writer) -> Result<(), AllocError>
     requires { (apdu : Tree) × (rest : List ℕ) × (out.old ≡ canon apdu ++ rest) × (length rest ≡ behind) }
-    ensures { (apdu : Tree) (rest : List ℕ) → out.old ≡ canon apdu ++ rest → length rest ≡ behind
+    ensures ok { (apdu : Tree) (rest : List ℕ) → out.old ≡ canon apdu ++ rest → length rest ≡ behind
         → OnOk result (out.new ≡ canon (dialogue_portion apdu) ++ rest) }
+    ensures stays { EndsWith out.new out.old }
 {
     out.put_constructed(Class::Context, SINGLE_ASN1_TYPE, behind)?;
     object_identifier::write(&DIALOGUE_AS, out)?;

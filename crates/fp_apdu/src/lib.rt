@@ -15,7 +15,7 @@
 //! `specs/DialoguePortion.antt`, and those trees have tags and lengths that `fp_ber` can write.
 //! Contracts see a [`Name`] as the list of its octets, and two names are equal by `==` exactly where the lists
 //! are. Unstructured dialogue and the contents of user information aren't read.
-#![tactic(auto)]
+#![tactic(auto, using(fp_ber::specs::Putting::end_of_end))]
 
 mod aare;
 mod aarq;

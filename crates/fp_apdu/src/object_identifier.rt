@@ -2,6 +2,7 @@
 
 ghost use Rattle.std.specs.Prelude.{◌≡◌, ◌++◌, List, ℕ, MatchOption, OnOk};
 ghost use Rattle.fp_ber.specs.Canon.{canon};
+ghost use Rattle.fp_ber.specs.Putting.{EndsWith};
 ghost use Rattle.fp_ber.specs.View.{tree_of};
 ghost use Rattle.fp_apdu.specs.ObjectIdentifier.{object_identifier};
 
@@ -19,7 +20,8 @@ pub(crate) fn read(element: &Element) -> Option<&[u8]>
 
 /// Puts the object identifier of these octets before what is there.
 pub(crate) fn write(octets: &[u8], out: &mut Writer) -> Result<(), AllocError>
-    ensures { OnOk result (out.new ≡ canon (object_identifier octets.now) ++ out.old) }
+    ensures ok { OnOk result (out.new ≡ canon (object_identifier octets.now) ++ out.old) }
+    ensures stays { EndsWith out.new out.old }
 {
     out.put_primitive(Class::Universal, OBJECT_IDENTIFIER, octets)
 }

@@ -2,6 +2,7 @@
 
 ghost use Rattle.std.specs.Prelude.{◌≡◌, ◌++◌, ℕ, List, MatchOption, OnOk};
 ghost use Rattle.fp_ber.specs.Canon.{canon};
+ghost use Rattle.fp_ber.specs.Putting.{EndsWith};
 ghost use Rattle.fp_ber.specs.View.{tree_of};
 ghost use Rattle.fp_apdu.specs.ProtocolVersion.{protocol_version, version_1};
 
@@ -24,7 +25,8 @@ pub(crate) fn read(element: &Element) -> Option<&[u8]>
 
 /// Puts the protocol version of version 1 alone before what is there.
 pub(crate) fn write(out: &mut Writer) -> Result<(), AllocError>
-    ensures { OnOk result (out.new ≡ canon (protocol_version version_1) ++ out.old) }
+    ensures ok { OnOk result (out.new ≡ canon (protocol_version version_1) ++ out.old) }
+    ensures stays { EndsWith out.new out.old }
 {
     out.put_primitive(Class::Context, PROTOCOL_VERSION, &VERSION_1)
 }

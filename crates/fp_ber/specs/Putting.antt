@@ -25,3 +25,15 @@ drop_before items (suc n) item h l is =
     let e : suc n - 1 ≡ n = omega arith in
     let is' : item ≡ get_or items n item = rw e at is in
     rw e (drop-cons items n item (omega arith) ∙ ap (λ x. x ∷ drop (suc n) items) (sym is'))
+
+-- octets that end with others
+pub record EndsWith (octets rest : List ℕ) : Type 0 where
+  pub front : List ℕ
+  pub is : octets ≡ front ++ rest
+
+-- the end of an end
+pub end_of_end : (xs ys zs : List ℕ) → EndsWith xs ys → EndsWith ys zs → EndsWith xs zs
+end_of_end xs ys zs p q = record {
+  front = p.front ++ q.front;
+  is = p.is ∙ (ap (λ octets. p.front ++ octets) q.is ∙ sym (append_assoc p.front q.front zs));
+}

@@ -7,6 +7,7 @@
 ghost use Rattle.std.specs.Prelude.{◌≡◌, ◌<◌, ◌≤◌, ◌^◌, ◌++◌, ℕ, List, [], IfOk, OnOk, OnErr, drop, length, reverse, take, vec_len};
 ghost use Rattle.std.specs.Prelude as lists;
 ghost use Rattle.fp_ber.specs.Canon.{HasLengths, canon, canon_of_all, length_octets, tag_octets};
+ghost use Rattle.fp_ber.specs.Putting.{EndsWith};
 ghost use Rattle.fp_ber.specs.Tree as tree;
 ghost use Rattle.fp_ber.specs.Tree.{HasTags, IsTagNumber};
 ghost use Rattle.fp_ber.specs.View.{tree_of};
@@ -71,6 +72,7 @@ impl Writer {
     pub fn put(&mut self, octets: &[u8]) -> Result<(), AllocError>
         ensures ok { OnOk result (self.new ≡ octets.now ++ self.old) }
         ensures err { OnErr result (self.new ≡ self.old) }
+        ensures stays { EndsWith self.new self.old }
     {
         let length = self.reversed.len();
         if octets.len() > MOST - length {
@@ -87,22 +89,24 @@ impl Writer {
         requires length { length < 2 ^ 32 }
         ensures ok { OnOk result (self.new ≡ tag_octets tag.class tag.constructed tag.number ++ (length_octets length ++ self.old)) }
         ensures err { OnErr result (self.new ≡ self.old) }
+        ensures stays { EndsWith self.new self.old }
     {
         let mut header = [0; HEADER];
         let start = put_header(tag, length, &mut header, HEADER);
         self.put(&header[start..])
     }
 
-    /// Takes away all octets but the last ones, this many.
-    fn keep_behind(&mut self, behind: usize)
-        requires { behind ≤ length self.old }
-        ensures { (front rest : List ℕ) → self.old ≡ front ++ rest → length rest ≡ behind → self.new ≡ rest }
+    /// Takes away all octets but the last ones, this many. If there are fewer, they stay.
+    pub fn keep_last(&mut self, count: usize)
+        ensures some { (rest : List ℕ) → EndsWith self.old rest → length rest ≡ count → self.new ≡ rest }
+        ensures all { length self.old ≤ count → self.new ≡ self.old }
     {
-        self.reversed.truncate(behind);
+        self.reversed.truncate(count);
     }
 
     /// Puts the canonical spelling of a primitive element before the octets that are there. More than 2^32 - 1 octets
     /// in all count as out of memory.
+    #[tactic(auto, using(crate::specs::Putting::end_of_end))]
     pub fn put_primitive(
         &mut self,
         class: Class,
@@ -112,6 +116,7 @@ impl Writer {
         requires tag { IsTagNumber class number }
         ensures ok { OnOk result (self.new ≡ canon (tree.primitive class number octets.now) ++ self.old) }
         ensures err { OnErr result (self.new ≡ self.old) }
+        ensures stays { EndsWith self.new self.old }
     {
         let behind = self.len();
         self.put(octets)?;
@@ -122,7 +127,7 @@ impl Writer {
             number,
         };
         if self.put_header(tag, length).is_err() {
-            self.keep_behind(behind);
+            self.keep_last(behind);
             return Err(AllocError);
         }
         Ok(())
@@ -141,6 +146,7 @@ impl Writer {
         ensures ok { (children : tree.Trees) (rest : List ℕ) → self.old ≡ canon_of_all children ++ rest → length rest ≡ behind
             → OnOk result (self.new ≡ canon (tree.constructed class number children) ++ rest) }
         ensures err { OnErr result (self.new ≡ self.old) }
+        ensures stays { EndsWith self.new self.old }
     {
         let length = self.reversed.len() - behind;
         let tag = Tag {
@@ -158,6 +164,7 @@ impl Writer {
         requires lengths { HasLengths (tree_of element.now) }
         ensures ok { OnOk result (self.new ≡ canon (tree_of element.now) ++ self.old) }
         ensures err { OnErr result (self.new ≡ self.old) }
+        ensures stays { EndsWith self.new self.old }
     {
         let length = self.reversed.len();
         if size_of(element) > MOST - length {

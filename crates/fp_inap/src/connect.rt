@@ -1,6 +1,6 @@
 //! Connect: the argument that is written.
 
-ghost use Rattle.std.specs.Prelude.{◌≡◌, ◌++◌, ◌<◌, ◌≤◌, length, Some, OnOk};
+ghost use Rattle.std.specs.Prelude.{◌≡◌, ◌++◌, ◌<◌, ◌≤◌, length, Some, OnOk, OnErr};
 ghost use Rattle.std.specs.List.{All};
 ghost use Rattle.fp_ber.specs.Canon.{canon, HasLengths};
 ghost use Rattle.fp_ber.specs.Tree.{HasTags};
@@ -21,12 +21,13 @@ const DESTINATION_ROUTING_ADDRESS: u16 = 0;
 /// before the octets written so far.
 ///
 /// The argument is a sequence of destinationRoutingAddress alone, tag 0, and that of one called party number, as
-/// [`write_called`] spells it. If memory runs out, nothing is promised of the octets.
+/// [`write_called`] spells it. If memory runs out, the octets are unchanged.
 pub fn write_connect(destination: &[u8], out: &mut Writer) -> Result<(), AllocError>
     requires some { 1 ≤ length destination.now }
     requires most { length destination.now ≤ 15 }
     requires decimal { All (λ digit. digit < 10) destination.now }
     ensures ok { OnOk result (out.new ≡ canon (connect destination.now) ++ out.old) }
+    ensures err { OnErr result (out.new ≡ out.old) }
 
     // The argument is in range to be spelled, in at most 16 octets.
     ensures tags { HasTags (connect destination.now) }
@@ -39,7 +40,18 @@ pub fn write_connect(destination: &[u8], out: &mut Writer) -> Result<(), AllocEr
 {
     let number = write_called(destination);
     let start = out.len();
-    out.put_primitive(Class::Universal, OCTET_STRING, number.as_slice())?;
-    out.put_constructed(Class::Context, DESTINATION_ROUTING_ADDRESS, start)?;
-    out.put_constructed(Class::Universal, SEQUENCE, start)
+    if out
+        .put_primitive(Class::Universal, OCTET_STRING, number.as_slice())
+        .is_err()
+        || out
+            .put_constructed(Class::Context, DESTINATION_ROUTING_ADDRESS, start)
+            .is_err()
+        || out
+            .put_constructed(Class::Universal, SEQUENCE, start)
+            .is_err()
+    {
+        out.keep_last(start);
+        return Err(AllocError);
+    }
+    Ok(())
 }

@@ -1,6 +1,6 @@
 //! ReleaseCall: the argument that is written.
 
-ghost use Rattle.std.specs.Prelude.{◌≡◌, ◌++◌, length, OnOk};
+ghost use Rattle.std.specs.Prelude.{◌≡◌, ◌++◌, length, OnOk, OnErr};
 ghost use Rattle.fp_ber.specs.Canon.{canon, HasLengths};
 ghost use Rattle.fp_ber.specs.Tree.{HasTags};
 ghost use Rattle.fp_inap.specs.ReleaseCall.{release_call};
@@ -11,9 +11,10 @@ use fp_digits::{Cause, cause};
 use std::alloc::AllocError;
 
 /// Puts the argument of ReleaseCall (after ITU-T Q.1218) with this cause before the octets written so far: an octet
-/// string with the octets of Q.763, 3.12. If memory runs out, nothing is promised of the octets.
+/// string with the octets of Q.763, 3.12. If memory runs out, the octets are unchanged.
 pub fn write_release(value: Cause, out: &mut Writer) -> Result<(), AllocError>
     ensures ok { OnOk result (out.new ≡ canon (release_call value) ++ out.old) }
+    ensures err { OnErr result (out.new ≡ out.old) }
 
     // The argument is in range to be spelled, in four octets.
     ensures tags { HasTags (release_call value) }

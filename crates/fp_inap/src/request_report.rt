@@ -1,6 +1,6 @@
 //! RequestReportBCSMEvent: the argument that is written.
 
-ghost use Rattle.std.specs.Prelude.{◌≡◌, ◌++◌, length, OnOk};
+ghost use Rattle.std.specs.Prelude.{◌≡◌, ◌++◌, length, OnOk, OnErr};
 ghost use Rattle.fp_ber.specs.Canon.{canon, HasLengths};
 ghost use Rattle.fp_ber.specs.Tree.{HasTags};
 ghost use Rattle.fp_inap.specs.RequestReport.{request_report};
@@ -27,9 +27,10 @@ const REQUEST_REPORT: [u8; 69] = [
 
 /// Puts the argument of RequestReportBCSMEvent (after ITU-T Q.1218) that follows a call before the octets written so
 /// far: events 4, 5 and 6 interrupt the call at leg 2; 7 at leg 2 and 10 at leg 1 are notified. If memory runs out,
-/// nothing is promised of the octets.
+/// the octets are unchanged.
 pub fn write_request_report(out: &mut Writer) -> Result<(), AllocError>
     ensures ok { OnOk result (out.new ≡ canon request_report ++ out.old) }
+    ensures err { OnErr result (out.new ≡ out.old) }
 
     // The argument is in range to be spelled, in 69 octets.
     ensures tags { HasTags request_report }

@@ -1,7 +1,8 @@
 //! Abort (Q.773, 4.2.1): a dialogue is cut off, by the provider or by the user.
 
-ghost use Rattle.std.specs.Prelude.{◌≡◌, ◌<◌, ◌≤◌, ◌^◌, ◌++◌, ℕ, [], ◌∷◌, List, Option, Some, None, IfSome, IfNone, OnOk, length, option_map};
+ghost use Rattle.std.specs.Prelude.{◌≡◌, ◌<◌, ◌≤◌, ◌^◌, ◌++◌, ℕ, [], ◌∷◌, List, Option, Some, None, IfSome, IfNone, OnOk, OnErr, length, option_map};
 ghost use Rattle.fp_ber.specs.Canon.{canon, canon_of_all};
+ghost use Rattle.fp_ber.specs.Putting.{EndsWith};
 ghost use Rattle.fp_ber.specs.declared.element.Class.TheVariants as classes;
 ghost use Rattle.fp_ber.specs.Tree as tree;
 ghost use Rattle.fp_ber.specs.View.{tree_of, forest_of};
@@ -81,7 +82,8 @@ impl<'a> AbortReason<'a> {
     fn write(&self, out: &mut Writer) -> Result<(), AllocError>
         requires tags { ReasonHasTags (Some (reason_of self.now)) }
         requires room { reason_room (Some (reason_of self.now)) < 2 ^ 32 }
-        ensures { OnOk result (out.new ≡ canon_of_all (reason_trees (Some (reason_of self.now))) ++ out.old) }
+        ensures exact { OnOk result (out.new ≡ canon_of_all (reason_trees (Some (reason_of self.now))) ++ out.old) }
+        ensures stays { EndsWith out.new out.old }
     {
         match self {
             AbortReason::Provider(cause) => {
@@ -125,7 +127,8 @@ impl<'a> Abort<'a> {
     fn write_reason(&self, out: &mut Writer) -> Result<(), AllocError>
         requires tags { ReasonHasTags (option_map reason_of self.now.reason) }
         requires room { reason_room (option_map reason_of self.now.reason) < 2 ^ 32 }
-        ensures { OnOk result (out.new ≡ canon_of_all (reason_trees (option_map reason_of self.now.reason)) ++ out.old) }
+        ensures exact { OnOk result (out.new ≡ canon_of_all (reason_trees (option_map reason_of self.now.reason)) ++ out.old) }
+        ensures stays { EndsWith out.new out.old }
     {
         let Some(reason) = self.reason else {
             return Ok(());
@@ -139,6 +142,7 @@ impl<'a> Abort<'a> {
         requires tags { CopiesHaveTags (abort_of self.now) }
         requires room { message_room (abort_of self.now) < 2 ^ 32 }
         ensures exact { OnOk result (out.new ≡ canon (written (abort_of self.now)) ++ out.old) }
+        ensures stays { EndsWith out.new out.old }
         ensures found { OnOk result (IsMessage (written (abort_of self.now)) (abort_of self.now)) }
     {
         let behind = out.len();
@@ -148,8 +152,8 @@ impl<'a> Abort<'a> {
 }
 
 /// Writes what precedes the reason of an Abort, of the user or of the provider. The octets before the last
-/// `behind` ones are the spelling of its reason, and there are none where it has none. If memory runs out, nothing is
-/// promised of the octets.
+/// `behind` ones are the spelling of its reason, and there are none where it has none. If memory runs out, the octets
+/// are unchanged.
 pub fn write_abort_message(
     destination: Tid,
     behind: usize,
@@ -161,11 +165,21 @@ pub fn write_abort_message(
     ensures exact { (reason : Option value.ReasonValue) (rest : List ℕ)
         → out.old ≡ canon_of_all (reason_trees reason) ++ rest → length rest ≡ behind
         → OnOk result (out.new ≡ canon (written (value.abort (octets_of destination) reason)) ++ rest) }
+    ensures err { OnErr result (out.new ≡ out.old) }
+    ensures stays { EndsWith out.new out.old }
 
     // It is read as that Abort.
     ensures found { OnOk result ((reason : Option value.ReasonValue) → IsWritableReason reason
         → IsMessage (written (value.abort (octets_of destination) reason)) (value.abort (octets_of destination) reason)) }
 {
-    write_transaction(destination, DESTINATION, out)?;
-    out.put_constructed(Class::Application, ABORT, behind)
+    let start = out.len();
+    if write_transaction(destination, DESTINATION, out).is_err()
+        || out
+            .put_constructed(Class::Application, ABORT, behind)
+            .is_err()
+    {
+        out.keep_last(start);
+        return Err(AllocError);
+    }
+    Ok(())
 }

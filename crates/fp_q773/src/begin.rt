@@ -2,6 +2,7 @@
 
 ghost use Rattle.std.specs.Prelude.{◌≡◌, ◌<◌, ◌^◌, ◌++◌, All, ℕ, List, Option, IfOk, IfErr, OnOk, map};
 ghost use Rattle.fp_ber.specs.Canon.{canon};
+ghost use Rattle.fp_ber.specs.Putting.{EndsWith};
 ghost use Rattle.fp_ber.specs.Tree.{Tree};
 ghost use Rattle.fp_ber.specs.View.{forest_of};
 ghost use Rattle.fp_q773.specs.Value as value;
@@ -63,6 +64,7 @@ impl<'a> Begin<'a> {
         requires tags { CopiesHaveTags (begin_of self.now) }
         requires room { message_room (begin_of self.now) < 2 ^ 32 }
         ensures exact { OnOk result (out.new ≡ canon (written (begin_of self.now)) ++ out.old) }
+        ensures stays { EndsWith out.new out.old }
         ensures found { OnOk result (IsMessage (written (begin_of self.now)) (begin_of self.now)) }
     {
         let behind = out.len();

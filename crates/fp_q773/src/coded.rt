@@ -2,6 +2,7 @@
 
 ghost use Rattle.std.specs.Prelude.{◌≡◌, ◌<◌, ◌^◌, ◌++◌, Option, None, Some, IfSome, IfNone, OnOk, pos, ◌+ℤ◌, ◌*ℤ◌, false};
 ghost use Rattle.fp_ber.specs.Canon.{canon, canon_of_all};
+ghost use Rattle.fp_ber.specs.Putting.{EndsWith};
 ghost use Rattle.fp_ber.specs.Tree.{Tree};
 ghost use Rattle.fp_ber.specs.View.{tree_of, forest_of};
 ghost use Rattle.fp_ber.specs.Integer.{signed};
@@ -72,6 +73,7 @@ fn octet_in(number: i32) -> Option<u8>
 /// Writes an integer with the least octets that stand for it in two's complement.
 fn write_integer(number: i32, out: &mut Writer) -> Result<(), AllocError>
     ensures exact { OnOk result (out.new ≡ canon (code_tree (value.local number)) ++ out.old) }
+    ensures stays { EndsWith out.new out.old }
     ensures found { IsCode (code_tree (value.local number)) (value.local number) }
 {
     if let Some(first) = octet_in(number) {
@@ -113,6 +115,7 @@ impl<'a> Code<'a> {
     /// Writes a code.
     pub(crate) fn write(&self, out: &mut Writer) -> Result<(), AllocError>
         ensures exact { OnOk result (out.new ≡ canon (code_tree (code_of self.now)) ++ out.old) }
+        ensures stays { EndsWith out.new out.old }
         ensures found { IsCode (code_tree (code_of self.now)) (code_of self.now) }
     {
         match self {
@@ -158,6 +161,7 @@ impl<'a> Coded<'a> {
         requires room { result_room (Some (result_of self.now)) < 2 ^ 32 }
         ensures exact { OnOk result (out.new
             ≡ canon_of_all (coded_trees (code_of self.now.code) (tree_in self.now.parameter)) ++ out.old) }
+        ensures stays { EndsWith out.new out.old }
         ensures found { OnOk result (IsCoded (coded_trees (code_of self.now.code) (tree_in self.now.parameter))
             (code_of self.now.code) (tree_in self.now.parameter)) }
     {

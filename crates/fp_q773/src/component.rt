@@ -2,6 +2,7 @@
 
 ghost use Rattle.std.specs.Prelude.{◌≡◌, ◌<◌, ◌^◌, ◌++◌, ℤ, Option, Some, None, MatchOption, OnOk};
 ghost use Rattle.fp_ber.specs.Canon.{canon};
+ghost use Rattle.fp_ber.specs.Putting.{EndsWith};
 ghost use Rattle.fp_ber.specs.declared.element.Class.TheVariants as classes;
 ghost use Rattle.fp_ber.specs.Tree as tree;
 ghost use Rattle.fp_ber.specs.Tree.{Tree};
@@ -189,6 +190,7 @@ impl<'a> Component<'a> {
         requires tags { ComponentHasTags (component_of self.now) }
         requires room { component_room (component_of self.now) < 2 ^ 32 }
         ensures exact { OnOk result (out.new ≡ canon (component_tree (component_of self.now)) ++ out.old) }
+        ensures stays { EndsWith out.new out.old }
         ensures found { OnOk result (IsReadBack (component_of self.now)) }
     {
         match self {

@@ -1,7 +1,8 @@
 //! Continue (Q.773, 4.2.1): a dialogue goes on.
 
-ghost use Rattle.std.specs.Prelude.{◌≡◌, ◌<◌, ◌≤◌, ◌^◌, ◌++◌, All, ℕ, List, Option, IfOk, IfErr, OnOk, length, map};
+ghost use Rattle.std.specs.Prelude.{◌≡◌, ◌<◌, ◌≤◌, ◌^◌, ◌++◌, All, ℕ, List, Option, IfOk, IfErr, OnOk, OnErr, length, map};
 ghost use Rattle.fp_ber.specs.Canon.{canon, canon_of_all};
+ghost use Rattle.fp_ber.specs.Putting.{EndsWith};
 ghost use Rattle.fp_ber.specs.Tree.{Tree};
 ghost use Rattle.fp_ber.specs.View.{forest_of};
 ghost use Rattle.fp_q773.specs.Value as value;
@@ -70,6 +71,7 @@ impl<'a> Continue<'a> {
         requires tags { CopiesHaveTags (continue_of self.now) }
         requires room { message_room (continue_of self.now) < 2 ^ 32 }
         ensures exact { OnOk result (out.new ≡ canon (written (continue_of self.now)) ++ out.old) }
+        ensures stays { EndsWith out.new out.old }
         ensures found { OnOk result (IsMessage (written (continue_of self.now)) (continue_of self.now)) }
     {
         let behind = out.len();
@@ -79,7 +81,7 @@ impl<'a> Continue<'a> {
 }
 
 /// Writes what precedes the portions of a Continue. The octets before the last `behind` ones are the spelling of
-/// its portions, and there are none where it has none. If memory runs out, nothing is promised of the octets.
+/// its portions, and there are none where it has none. If memory runs out, the octets are unchanged.
 pub fn write_continue_message(
     originating: Tid,
     destination: Tid,
@@ -92,6 +94,8 @@ pub fn write_continue_message(
     ensures exact { (dialogue : Option Tree) (components : List value.ComponentValue) (rest : List ℕ)
         → out.old ≡ canon_of_all (portions_trees dialogue components) ++ rest → length rest ≡ behind
         → OnOk result (out.new ≡ canon (written (value.continuing (octets_of originating) (octets_of destination) dialogue components)) ++ rest) }
+    ensures err { OnErr result (out.new ≡ out.old) }
+    ensures stays { EndsWith out.new out.old }
 
     // It is read as that Continue.
     ensures found { OnOk result ((dialogue : Option Tree) (components : List value.ComponentValue)
@@ -99,7 +103,15 @@ pub fn write_continue_message(
         → IsMessage (written (value.continuing (octets_of originating) (octets_of destination) dialogue components))
         (value.continuing (octets_of originating) (octets_of destination) dialogue components)) }
 {
-    write_transaction(destination, DESTINATION, out)?;
-    write_transaction(originating, ORIGINATING, out)?;
-    out.put_constructed(Class::Application, CONTINUE, behind)
+    let start = out.len();
+    if write_transaction(destination, DESTINATION, out).is_err()
+        || write_transaction(originating, ORIGINATING, out).is_err()
+        || out
+            .put_constructed(Class::Application, CONTINUE, behind)
+            .is_err()
+    {
+        out.keep_last(start);
+        return Err(AllocError);
+    }
+    Ok(())
 }

@@ -1,7 +1,8 @@
 //! End (Q.773, 4.2.1): a dialogue ends.
 
-ghost use Rattle.std.specs.Prelude.{◌≡◌, ◌<◌, ◌≤◌, ◌^◌, ◌++◌, All, ℕ, List, Option, IfOk, IfErr, OnOk, length, map};
+ghost use Rattle.std.specs.Prelude.{◌≡◌, ◌<◌, ◌≤◌, ◌^◌, ◌++◌, All, ℕ, List, Option, IfOk, IfErr, OnOk, OnErr, length, map};
 ghost use Rattle.fp_ber.specs.Canon.{canon, canon_of_all};
+ghost use Rattle.fp_ber.specs.Putting.{EndsWith};
 ghost use Rattle.fp_ber.specs.Tree.{Tree};
 ghost use Rattle.fp_ber.specs.View.{forest_of};
 ghost use Rattle.fp_q773.specs.Value as value;
@@ -63,6 +64,7 @@ impl<'a> End<'a> {
         requires tags { CopiesHaveTags (end_of self.now) }
         requires room { message_room (end_of self.now) < 2 ^ 32 }
         ensures exact { OnOk result (out.new ≡ canon (written (end_of self.now)) ++ out.old) }
+        ensures stays { EndsWith out.new out.old }
         ensures found { OnOk result (IsMessage (written (end_of self.now)) (end_of self.now)) }
     {
         let behind = out.len();
@@ -72,7 +74,7 @@ impl<'a> End<'a> {
 }
 
 /// Writes what precedes the portions of an End. The octets before the last `behind` ones are the spelling of
-/// its portions, and there are none where it has none. If memory runs out, nothing is promised of the octets.
+/// its portions, and there are none where it has none. If memory runs out, the octets are unchanged.
 pub fn write_end_message(
     destination: Tid,
     behind: usize,
@@ -84,6 +86,8 @@ pub fn write_end_message(
     ensures exact { (dialogue : Option Tree) (components : List value.ComponentValue) (rest : List ℕ)
         → out.old ≡ canon_of_all (portions_trees dialogue components) ++ rest → length rest ≡ behind
         → OnOk result (out.new ≡ canon (written (value.end (octets_of destination) dialogue components)) ++ rest) }
+    ensures err { OnErr result (out.new ≡ out.old) }
+    ensures stays { EndsWith out.new out.old }
 
     // It is read as that End.
     ensures found { OnOk result ((dialogue : Option Tree) (components : List value.ComponentValue)
@@ -91,6 +95,14 @@ pub fn write_end_message(
         → IsMessage (written (value.end (octets_of destination) dialogue components))
         (value.end (octets_of destination) dialogue components)) }
 {
-    write_transaction(destination, DESTINATION, out)?;
-    out.put_constructed(Class::Application, END, behind)
+    let start = out.len();
+    if write_transaction(destination, DESTINATION, out).is_err()
+        || out
+            .put_constructed(Class::Application, END, behind)
+            .is_err()
+    {
+        out.keep_last(start);
+        return Err(AllocError);
+    }
+    Ok(())
 }

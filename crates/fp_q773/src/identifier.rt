@@ -1,7 +1,8 @@
 //! Invoke identifiers (Q.773, 4.2.2): integers of one octet.
 
-ghost use Rattle.std.specs.Prelude.{◌≡◌, ◌++◌, ℤ, MatchOption, OnOk};
+ghost use Rattle.std.specs.Prelude.{◌≡◌, ◌++◌, ℤ, MatchOption, OnOk, OnErr};
 ghost use Rattle.fp_ber.specs.Canon.{canon};
+ghost use Rattle.fp_ber.specs.Putting.{EndsWith};
 ghost use Rattle.fp_ber.specs.View.{tree_of};
 ghost use Rattle.fp_q773.specs.Grammar.{IsIdentifier, IsLinked};
 ghost use Rattle.fp_q773.specs.Written.{identifier_tree, linked_tree};
@@ -27,9 +28,11 @@ pub fn identifier_of(element: &Element) -> Option<i8>
     Some(signed_of(*octet))
 }
 
-/// Writes an invoke identifier.
+/// Writes an invoke identifier. If memory runs out, the octets are unchanged.
 pub fn write_identifier(identifier: i8, out: &mut Writer) -> Result<(), AllocError>
     ensures exact { OnOk result (out.new ≡ canon (identifier_tree identifier) ++ out.old) }
+    ensures err { OnErr result (out.new ≡ out.old) }
+    ensures stays { EndsWith out.new out.old }
     ensures found { IsIdentifier (identifier_tree identifier) identifier }
 {
     out.put_primitive(Class::Universal, INTEGER, &[octet_of(identifier)])
@@ -49,9 +52,11 @@ pub fn linked_of(element: &Element) -> Option<i8>
     Some(signed_of(*octet))
 }
 
-/// Writes a linked identifier.
+/// Writes a linked identifier. If memory runs out, the octets are unchanged.
 pub fn write_linked(identifier: i8, out: &mut Writer) -> Result<(), AllocError>
     ensures exact { OnOk result (out.new ≡ canon (linked_tree identifier) ++ out.old) }
+    ensures err { OnErr result (out.new ≡ out.old) }
+    ensures stays { EndsWith out.new out.old }
     ensures found { IsLinked (linked_tree identifier) identifier }
 {
     out.put_primitive(Class::Context, LINKED, &[octet_of(identifier)])

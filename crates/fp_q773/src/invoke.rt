@@ -1,7 +1,8 @@
 //! Invoke (Q.773, 4.2.2): an operation is asked for.
 
-ghost use Rattle.std.specs.Prelude.{◌≡◌, ◌<◌, ◌≤◌, ◌^◌, ◌++◌, ℕ, ℤ, List, Option, None, IfSome, IfNone, OnOk, length};
+ghost use Rattle.std.specs.Prelude.{◌≡◌, ◌<◌, ◌≤◌, ◌^◌, ◌++◌, ℕ, ℤ, List, Option, None, IfSome, IfNone, OnOk, OnErr, length};
 ghost use Rattle.fp_ber.specs.Canon.{canon, canon_of_all};
+ghost use Rattle.fp_ber.specs.Putting.{EndsWith};
 ghost use Rattle.fp_ber.specs.Tree as tree;
 ghost use Rattle.fp_ber.specs.Tree.{Tree};
 ghost use Rattle.fp_ber.specs.View.{tree_of, forest_of};
@@ -100,6 +101,7 @@ impl<'a> Invoke<'a> {
         requires tags { ComponentHasTags (invoke_of self.now) }
         requires room { component_room (invoke_of self.now) < 2 ^ 32 }
         ensures exact { OnOk result (out.new ≡ canon (component_tree (invoke_of self.now)) ++ out.old) }
+        ensures stays { EndsWith out.new out.old }
         ensures found { OnOk result (IsReadBack (invoke_of self.now)) }
     {
         let behind = out.len();
@@ -111,6 +113,7 @@ impl<'a> Invoke<'a> {
 /// Writes a linked identifier, if there is one, and a code.
 fn write_asked(linked: Option<i8>, code: Code<'_>, out: &mut Writer) -> Result<(), AllocError>
     ensures exact { OnOk result (out.new ≡ canon_of_all (asked_trees linked (code_of code.entry) None) ++ out.old) }
+    ensures stays { EndsWith out.new out.old }
     ensures found { OnOk result ((parameter : Option Tree)
         → IsAsked (asked_trees linked (code_of code.entry) parameter) linked (code_of code.entry) parameter) }
 {
@@ -122,7 +125,7 @@ fn write_asked(linked: Option<i8>, code: Code<'_>, out: &mut Writer) -> Result<(
 }
 
 /// Writes what precedes the parameter of an Invoke. The octets before the last `behind` ones are the spelling of
-/// its parameter, and there are none where it has none. If memory runs out, nothing is promised of the octets.
+/// its parameter, and there are none where it has none. If memory runs out, the octets are unchanged.
 pub fn write_invoke(
     identifier: i8,
     linked: Option<i8>,
@@ -135,11 +138,19 @@ pub fn write_invoke(
     // The Invoke precedes the last octets.
     ensures exact { (parameter : Option Tree) (rest : List ℕ) → out.old ≡ canon_of_all (only parameter) ++ rest → length rest ≡ behind
         → OnOk result (out.new ≡ canon (component_tree (value.invoke identifier linked (code_of code.entry) parameter)) ++ rest) }
+    ensures err { OnErr result (out.new ≡ out.old) }
+    ensures stays { EndsWith out.new out.old }
 
     // It is read as that Invoke.
     ensures found { OnOk result ((parameter : Option Tree) → IsReadBack (value.invoke identifier linked (code_of code.entry) parameter)) }
 {
-    write_asked(linked, code, out)?;
-    write_identifier(identifier, out)?;
-    out.put_constructed(Class::Context, INVOKE, behind)
+    let start = out.len();
+    if write_asked(linked, code, out).is_err()
+        || write_identifier(identifier, out).is_err()
+        || out.put_constructed(Class::Context, INVOKE, behind).is_err()
+    {
+        out.keep_last(start);
+        return Err(AllocError);
+    }
+    Ok(())
 }

@@ -1,7 +1,8 @@
 //! The elements that an element holds.
 
-ghost use Rattle.std.specs.Prelude.{◌≡◌, ◌<◌, ◌^◌, ◌++◌, MatchOption, OnOk};
+ghost use Rattle.std.specs.Prelude.{◌≡◌, ◌<◌, ◌^◌, ◌++◌, MatchOption, OnOk, OnErr};
 ghost use Rattle.fp_ber.specs.Canon.{canon_of_all};
+ghost use Rattle.fp_ber.specs.Putting.{EndsWith};
 ghost use Rattle.fp_ber.specs.Tree as tree;
 ghost use Rattle.fp_ber.specs.View.{tree_of, forest_of};
 ghost use Rattle.fp_q773.specs.Copied.{CopyHasTags};
@@ -30,11 +31,13 @@ pub fn split_first(members: &[Element]) -> Option<Split<'_>>
     Some(Split { first, rest })
 }
 
-/// Writes an element, if it is there.
+/// Writes an element, if it is there. If memory runs out, the octets are unchanged.
 pub fn write_optional(element: Option<&Element>, out: &mut Writer) -> Result<(), AllocError>
     requires tags { CopyHasTags (tree_in element) }
     requires room { tree_room (tree_in element) < 2 ^ 32 }
-    ensures { OnOk result (out.new ≡ canon_of_all (only (tree_in element.entry)) ++ out.old) }
+    ensures exact { OnOk result (out.new ≡ canon_of_all (only (tree_in element.entry)) ++ out.old) }
+    ensures err { OnErr result (out.new ≡ out.old) }
+    ensures stays { EndsWith out.new out.old }
 {
     let Some(element) = element else {
         return Ok(());

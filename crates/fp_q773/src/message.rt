@@ -1,9 +1,10 @@
 //! Messages (Q.773, 4.2.1): what the two ends of a dialogue send each other.
 
-ghost use Rattle.std.specs.Prelude.{◌≡◌, ◌≢◌, ◌<◌, ◌^◌, ◌++◌, IfOk, IfErr, OnOk};
+ghost use Rattle.std.specs.Prelude.{◌≡◌, ◌≢◌, ◌<◌, ◌^◌, ◌++◌, IfOk, IfErr, OnOk, OnErr};
 ghost use Rattle.fp_ber.specs.declared.element.Class.TheVariants as classes;
 ghost use Rattle.fp_ber.specs.Tree as tree;
 ghost use Rattle.fp_ber.specs.Canon.{canon};
+ghost use Rattle.fp_ber.specs.Putting.{EndsWith};
 ghost use Rattle.fp_ber.specs.View.{tree_of, forest_of};
 ghost use Rattle.fp_q773.specs.declared.fault.MessageFault.{MessageFault};
 ghost use Rattle.fp_q773.specs.declared.fault.MessageFault.TheVariants as faults;
@@ -141,20 +142,13 @@ pub fn message_of(alloc: Global, element: &Element) -> Result<Message<'_>, Messa
     read_message(alloc, element)
 }
 
-/// Writes a message (Q.773, 4.2.1) before the octets that are there.
-///
-/// No component is faulty, and a dialogue portion has the tag 6B. The elements that the message lends, its parameters
-/// and its dialogue portion, have tags that elements may have, and lengths that four octets can say. A Unidirectional
-/// is written without components. If memory runs out, nothing is promised of the octets.
-pub fn write_message(message: &Message<'_>, out: &mut Writer) -> Result<(), AllocError>
+/// Writes a message as [`write_message`] does. If memory runs out, a part of it may be there.
+fn write_parts(message: &Message<'_>, out: &mut Writer) -> Result<(), AllocError>
     requires writable { IsWritableMessage (message_value message.now) }
     requires tags { CopiesHaveTags (message_value message.now) }
     requires room { message_room (message_value message.now) < 2 ^ 32 }
-
-    // The message determines the octets: what may be spelled in several ways is written in one.
     ensures exact { OnOk result (out.new ≡ canon (written (message_value message.now)) ++ out.old) }
-
-    // What is written is read as the message.
+    ensures stays { EndsWith out.new out.old }
     ensures found { OnOk result (IsMessage (written (message_value message.now)) (message_value message.now)) }
 {
     match message {
@@ -167,4 +161,29 @@ pub fn write_message(message: &Message<'_>, out: &mut Writer) -> Result<(), Allo
         Message::Continue(continuing) => continuing.write(out),
         Message::Abort(abort) => abort.write(out),
     }
+}
+
+/// Writes a message (Q.773, 4.2.1) before the octets that are there.
+///
+/// No component is faulty, and a dialogue portion has the tag 6B. The elements that the message lends, its parameters
+/// and its dialogue portion, have tags that elements may have, and lengths that four octets can say. A Unidirectional
+/// is written without components. If memory runs out, the octets are unchanged.
+pub fn write_message(message: &Message<'_>, out: &mut Writer) -> Result<(), AllocError>
+    requires writable { IsWritableMessage (message_value message.now) }
+    requires tags { CopiesHaveTags (message_value message.now) }
+    requires room { message_room (message_value message.now) < 2 ^ 32 }
+
+    // The message determines the octets: what may be spelled in several ways is written in one.
+    ensures exact { OnOk result (out.new ≡ canon (written (message_value message.now)) ++ out.old) }
+    ensures err { OnErr result (out.new ≡ out.old) }
+
+    // What is written is read as the message.
+    ensures found { OnOk result (IsMessage (written (message_value message.now)) (message_value message.now)) }
+{
+    let start = out.len();
+    if write_parts(message, out).is_err() {
+        out.keep_last(start);
+        return Err(AllocError);
+    }
+    Ok(())
 }

@@ -1,7 +1,8 @@
 //! The portions of a message (Q.773, 4.2): of the dialogue, and of components.
 
-ghost use Rattle.std.specs.Prelude.{◌≡◌, ◌≢◌, ◌<◌, ◌≤◌, ◌+◌, ◌^◌, ◌++◌, ℕ, All, [], Option, List, IfOk, IfErr, IfSome, IfNone, OnOk, length, map};
+ghost use Rattle.std.specs.Prelude.{◌≡◌, ◌≢◌, ◌<◌, ◌≤◌, ◌+◌, ◌^◌, ◌++◌, ℕ, All, [], Option, List, IfOk, IfErr, IfSome, IfNone, OnOk, OnErr, length, map};
 ghost use Rattle.fp_ber.specs.Canon.{canon_of_all};
+ghost use Rattle.fp_ber.specs.Putting.{EndsWith};
 ghost use Rattle.fp_ber.specs.Tree as tree;
 ghost use Rattle.fp_ber.specs.Tree.{Tree};
 ghost use Rattle.fp_ber.specs.View.{tree_of, forest_of};
@@ -128,6 +129,7 @@ fn write_components(components: &[Component<'_>], out: &mut Writer) -> Result<()
     requires tags { ComponentsHaveTags (map component_of components.now) }
     requires room { components_room (map component_of components.now) < 2 ^ 32 }
     ensures exact { OnOk result (out.new ≡ canon_of_all (component_trees (map component_of components.now)) ++ out.old) }
+    ensures stays { EndsWith out.new out.old }
     ensures found { OnOk result (All IsReadBack (map component_of components.now)) }
 {
     'components: for index in (0..components.len()).rev() {
@@ -137,12 +139,14 @@ fn write_components(components: &[Component<'_>], out: &mut Writer) -> Result<()
 }
 
 /// Writes what precedes components, of which there is one at least. The octets before the last `behind` ones are
-/// their spellings. If memory runs out, nothing is promised of the octets.
+/// their spellings. If memory runs out, the octets are unchanged.
 pub fn write_component_portion(behind: usize, out: &mut Writer) -> Result<(), AllocError>
     requires { behind ≤ length out.old }
-    ensures { (components : List ComponentValue) (rest : List ℕ) → components ≢ []
+    ensures exact { (components : List ComponentValue) (rest : List ℕ) → components ≢ []
         → out.old ≡ canon_of_all (component_trees components) ++ rest → length rest ≡ behind
         → OnOk result (out.new ≡ canon_of_all (portion_trees components) ++ rest) }
+    ensures err { OnErr result (out.new ≡ out.old) }
+    ensures stays { EndsWith out.new out.old }
 {
     out.put_constructed(Class::Application, COMPONENT_PORTION, behind)
 }
@@ -153,6 +157,7 @@ fn write_portion(components: &[Component<'_>], out: &mut Writer) -> Result<(), A
     requires tags { ComponentsHaveTags (map component_of components.now) }
     requires room { components_room (map component_of components.now) < 2 ^ 32 }
     ensures exact { OnOk result (out.new ≡ canon_of_all (portion_trees (map component_of components.now)) ++ out.old) }
+    ensures stays { EndsWith out.new out.old }
     ensures found { OnOk result (All IsReadBack (map component_of components.now)) }
 {
     if components.is_empty() {
@@ -175,6 +180,7 @@ pub fn write_portions(
     requires room { tree_room (tree_in dialogue) + components_room (map component_of components.now) < 2 ^ 32 }
     ensures exact { OnOk result (out.new
         ≡ canon_of_all (portions_trees (tree_in dialogue.entry) (map component_of components.now)) ++ out.old) }
+    ensures stays { EndsWith out.new out.old }
     ensures found { OnOk result (All IsReadBack (map component_of components.now)) }
 {
     write_portion(components, out)?;

@@ -1,7 +1,8 @@
 //! Reject (Q.773, 4.2.2): a component can't be taken.
 
-ghost use Rattle.std.specs.Prelude.{◌≡◌, ◌++◌, ℤ, Option, IfSome, IfNone, MatchOption, OnOk};
+ghost use Rattle.std.specs.Prelude.{◌≡◌, ◌++◌, ℤ, Option, IfSome, IfNone, MatchOption, OnOk, OnErr};
 ghost use Rattle.fp_ber.specs.Canon.{canon};
+ghost use Rattle.fp_ber.specs.Putting.{EndsWith};
 ghost use Rattle.fp_ber.specs.View.{tree_of, forest_of};
 ghost use Rattle.fp_q773.specs.Value.{ProblemValue};
 ghost use Rattle.fp_q773.specs.Problem.{problem_of, IsNamed};
@@ -56,6 +57,7 @@ fn rejected_of(element: &Element) -> Option<Rejected>
 /// Writes the identifier of a rejected component, or null.
 fn write_rejected(identifier: Option<i8>, out: &mut Writer) -> Result<(), AllocError>
     ensures exact { OnOk result (out.new ≡ canon (rejected_tree identifier) ++ out.old) }
+    ensures stays { EndsWith out.new out.old }
     ensures found { IsRejected (rejected_tree identifier) identifier }
 {
     match identifier {
@@ -82,6 +84,7 @@ fn problem_in(element: &Element) -> Option<Problem>
 /// Writes a problem.
 fn write_problem(problem: Problem, out: &mut Writer) -> Result<(), AllocError>
     ensures exact { OnOk result (out.new ≡ canon (problem_tree (problem_of problem)) ++ out.old) }
+    ensures stays { EndsWith out.new out.old }
     ensures found { IsProblem (problem_tree (problem_of problem)) (problem_of problem) }
 {
     out.put_primitive(Class::Context, problem.tag(), &[problem.code()])
@@ -116,16 +119,23 @@ impl Reject {
         })
     }
 
-    /// Writes a Reject.
+    /// Writes a Reject. If memory runs out, the octets are unchanged.
     pub fn write(&self, out: &mut Writer) -> Result<(), AllocError>
         ensures exact { OnOk result (out.new ≡ canon (component_tree (reject_of self.now)) ++ out.old) }
+        ensures err { OnErr result (out.new ≡ out.old) }
+        ensures stays { EndsWith out.new out.old }
 
         // It is read as that Reject.
         ensures found { OnOk result (IsReadBack (reject_of self.now)) }
     {
         let behind = out.len();
-        write_problem(self.problem, out)?;
-        write_rejected(self.identifier, out)?;
-        out.put_constructed(Class::Context, REJECT, behind)
+        if write_problem(self.problem, out).is_err()
+            || write_rejected(self.identifier, out).is_err()
+            || out.put_constructed(Class::Context, REJECT, behind).is_err()
+        {
+            out.keep_last(behind);
+            return Err(AllocError);
+        }
+        Ok(())
     }
 }

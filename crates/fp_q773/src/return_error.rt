@@ -1,7 +1,8 @@
 //! ReturnError (Q.773, 4.2.2): an operation failed.
 
-ghost use Rattle.std.specs.Prelude.{◌≡◌, ◌<◌, ◌≤◌, ◌^◌, ◌++◌, ℕ, ℤ, List, Option, IfSome, IfNone, OnOk, length};
+ghost use Rattle.std.specs.Prelude.{◌≡◌, ◌<◌, ◌≤◌, ◌^◌, ◌++◌, ℕ, ℤ, List, Option, IfSome, IfNone, OnOk, OnErr, length};
 ghost use Rattle.fp_ber.specs.Canon.{canon, canon_of_all};
+ghost use Rattle.fp_ber.specs.Putting.{EndsWith};
 ghost use Rattle.fp_ber.specs.Tree.{Tree};
 ghost use Rattle.fp_ber.specs.View.{forest_of};
 ghost use Rattle.fp_q773.specs.Copied.{ComponentHasTags};
@@ -62,6 +63,7 @@ impl<'a> ReturnError<'a> {
         requires tags { ComponentHasTags (return_error_of self.now) }
         requires room { component_room (return_error_of self.now) < 2 ^ 32 }
         ensures exact { OnOk result (out.new ≡ canon (component_tree (return_error_of self.now)) ++ out.old) }
+        ensures stays { EndsWith out.new out.old }
         ensures found { OnOk result (IsReadBack (return_error_of self.now)) }
     {
         let behind = out.len();
@@ -71,7 +73,7 @@ impl<'a> ReturnError<'a> {
 }
 
 /// Writes what precedes the parameter of a ReturnError. The octets before the last `behind` ones are the spelling
-/// of its parameter, and there are none where it has none. If memory runs out, nothing is promised of the octets.
+/// of its parameter, and there are none where it has none. If memory runs out, the octets are unchanged.
 pub fn write_return_error(
     identifier: i8,
     code: Code<'_>,
@@ -83,11 +85,21 @@ pub fn write_return_error(
     // The ReturnError precedes the last octets.
     ensures exact { (parameter : Option Tree) (rest : List ℕ) → out.old ≡ canon_of_all (only parameter) ++ rest → length rest ≡ behind
         → OnOk result (out.new ≡ canon (component_tree (value.return_error identifier (code_of code.entry) parameter)) ++ rest) }
+    ensures err { OnErr result (out.new ≡ out.old) }
+    ensures stays { EndsWith out.new out.old }
 
     // It is read as that ReturnError.
     ensures found { OnOk result ((parameter : Option Tree) → IsReadBack (value.return_error identifier (code_of code.entry) parameter)) }
 {
-    code.write(out)?;
-    write_identifier(identifier, out)?;
-    out.put_constructed(Class::Context, RETURN_ERROR, behind)
+    let start = out.len();
+    if code.write(out).is_err()
+        || write_identifier(identifier, out).is_err()
+        || out
+            .put_constructed(Class::Context, RETURN_ERROR, behind)
+            .is_err()
+    {
+        out.keep_last(start);
+        return Err(AllocError);
+    }
+    Ok(())
 }

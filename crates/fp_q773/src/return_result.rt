@@ -2,6 +2,7 @@
 
 ghost use Rattle.std.specs.Prelude.{◌≡◌, ◌<◌, ◌^◌, ◌++◌, ℤ, Option, Some, IfSome, IfNone, OnOk, option_map};
 ghost use Rattle.fp_ber.specs.Canon.{canon_of_all};
+ghost use Rattle.fp_ber.specs.Putting.{EndsWith};
 ghost use Rattle.fp_ber.specs.declared.element.Class.TheVariants as classes;
 ghost use Rattle.fp_ber.specs.Tree as tree;
 ghost use Rattle.fp_ber.specs.View.{tree_of, forest_of};
@@ -79,6 +80,7 @@ impl<'a> ReturnResult<'a> {
         requires room { result_room (option_map result_of self.now.result) < 2 ^ 32 }
         ensures exact { OnOk result (out.new
             ≡ canon_of_all (returned_trees (option_map result_of self.now.result)) ++ out.old) }
+        ensures stays { EndsWith out.new out.old }
         ensures found { OnOk result (IsReturned (returned_trees (option_map result_of self.now.result))
             (option_map result_of self.now.result)) }
     {
@@ -96,6 +98,7 @@ impl<'a> ReturnResult<'a> {
         requires room { result_room (option_map result_of self.now.result) < 2 ^ 32 }
         ensures exact { OnOk result (out.new
             ≡ canon_of_all (return_result_trees self.now.identifier (option_map result_of self.now.result)) ++ out.old) }
+        ensures stays { EndsWith out.new out.old }
         ensures found { OnOk result (IsReturnResult
             (return_result_trees self.now.identifier (option_map result_of self.now.result))
             self.now.identifier (option_map result_of self.now.result)) }

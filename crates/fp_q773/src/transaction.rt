@@ -1,7 +1,8 @@
 //! Transaction identifiers in a message (Q.773, 4.2.1.3).
 
-ghost use Rattle.std.specs.Prelude.{◌≡◌, ◌++◌, ℕ, List, IfSome, IfNone, OnOk};
+ghost use Rattle.std.specs.Prelude.{◌≡◌, ◌++◌, ℕ, List, IfSome, IfNone, OnOk, OnErr};
 ghost use Rattle.fp_ber.specs.Canon.{canon};
+ghost use Rattle.fp_ber.specs.Putting.{EndsWith};
 ghost use Rattle.fp_ber.specs.declared.element.Class.TheVariants as classes;
 ghost use Rattle.fp_ber.specs.Tree as tree;
 ghost use Rattle.fp_ber.specs.Tree.{IsTagNumber};
@@ -47,10 +48,12 @@ pub fn transaction_at(members: &[Element], number: u16) -> Option<Transaction<'_
     })
 }
 
-/// Writes a transaction identifier, with the tag of this number.
+/// Writes a transaction identifier, with the tag of this number. If memory runs out, the octets are unchanged.
 pub fn write_transaction(identifier: Tid, number: u16, out: &mut Writer) -> Result<(), AllocError>
     requires { IsTagNumber classes.Application number }
     ensures exact { OnOk result (out.new ≡ canon (tree.primitive classes.Application number (octets_of identifier)) ++ out.old) }
+    ensures err { OnErr result (out.new ≡ out.old) }
+    ensures stays { EndsWith out.new out.old }
     ensures size { IsTid (octets_of identifier) }
 {
     out.put_primitive(Class::Application, number, identifier.as_slice())

@@ -1,17 +1,32 @@
 -- An identifier before what is asked for.
-use Rattle.std.proofs.Common.{w8}
+use Rattle.std.proofs.Common.{◌≡◌, ◌++◌, [], None, rules, sym, w8}
 use Rattle.std.proofs.lemmas.Int.{to_z-of_z}
+use Rattle.fp_ber.specs.Canon.{canon, canon_of_all}
 use Rattle.fp_ber.specs.Tree.{more}
 use Rattle.fp_q773.specs.View.{code_of}
 use Rattle.fp_q773.specs.Written.{identifier_tree, asked_trees}
-use Rattle.fp_ber.specs.Putting.{before_others}
+use Rattle.fp_ber.specs.Putting.{before_others, end_of_end}
 use Rattle.fp_q773.proofs.Puts.{asked_put}
+use Rattle.fp_q773.proofs.invoke.write_invoke.Goals.{then-is_err-via-then-is_err, then-is_err-via-else-is_err+then-is_err-2, then-is_err-via-else-is_err+else-is_err-2+then-is_err-3}
 use Rattle.fp_q773.proofs.invoke.write_invoke.Goals as goal
+
+pub returns-then-is_err-clause-err : goal.returns-then-is_err-clause-err
+returns-then-is_err-clause-err c =
+    c.keep_last.ensures.some c.args.out.now (elim c.then-is_err.branch [
+      | then-is_err-via-then-is_err w ↦ search rules
+      | then-is_err-via-else-is_err+then-is_err-2 w ↦ search (rules, end_of_end)
+      | then-is_err-via-else-is_err+else-is_err-2+then-is_err-3 w ↦ search (rules, end_of_end)
+    ]) (sym c.len-start.ensures.value)
+
+pub returns-then-is_err-clause-stays : goal.returns-then-is_err-clause-stays
+returns-then-is_err-clause-stays c = record { front = []; is = returns-then-is_err-clause-err c }
 
 pub returns-clause-exact : goal.returns-clause-exact
 returns-clause-exact c = λ parameter rest is size.
     let first = identifier_tree c.args.identifier in
     let others = asked_trees c.args.linked (code_of c.args.code) parameter in
-    let inside = asked_put _ _ rest c.args.linked (code_of c.args.code) parameter c.in_ok-write_asked.ensures.exact is in
-    let put = rw (to_z-of_z w8 c.args.identifier c.ranges.identifier) at c.in_ok-write_identifier.ensures.exact in
-    c.put_constructed.ensures.ok (more first others) rest (before_others first others rest _ _ put inside) size
+    let asked : c.write_asked.new.out ≡ canon_of_all (asked_trees c.args.linked (code_of c.args.code) None) ++ c.args.out.now = search rules in
+    let inside = asked_put _ _ rest c.args.linked (code_of c.args.code) parameter asked is in
+    let spelled = rw (to_z-of_z w8 c.args.identifier c.ranges.identifier) at c.write_identifier.ensures.exact in
+    let put : c.write_identifier.new.out ≡ canon first ++ c.write_asked.new.out = search rules in
+    let whole = c.put_constructed.ensures.ok (more first others) rest (before_others first others rest _ _ put inside) size in search rules

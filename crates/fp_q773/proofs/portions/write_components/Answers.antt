@@ -5,7 +5,7 @@ use Rattle.std.proofs.lemmas.List.Elements.{All-cons, All-nil}
 use Rattle.fp_q773.specs.View.{component_of}
 use Rattle.fp_q773.specs.Written.{component_tree, component_trees, IsReadBack}
 use Rattle.fp_q773.proofs.Parts.{writable_at, tags_at, room_at}
-use Rattle.fp_ber.specs.Putting.{before_others, drop_before}
+use Rattle.fp_ber.specs.Putting.{before_others, drop_before, end_of_end}
 use Rattle.fp_q773.proofs.portions.write_components.Goals as goal
 
 pub write-requires-clause-writable : goal.write-requires-clause-writable
@@ -43,3 +43,6 @@ returns-clause-exact c =
 pub returns-clause-found : goal.returns-clause-found
 returns-clause-found c =
     let none_left : c.components.index ≡ 0 = omega arith in rw none_left at c.components.invariant.found
+
+pub returns-in_err-write-clause-stays : goal.returns-in_err-write-clause-stays
+returns-in_err-write-clause-stays c = end_of_end _ _ _ c.in_err-write.ensures.stays (record { front = _; is = c.components.invariant.exact })

@@ -1,10 +1,10 @@
 -- An identifier before the portions.
-use Rattle.std.proofs.Common.{map, sym}
+use Rattle.std.proofs.Common.{map, rules, sym}
 use Rattle.fp_ber.specs.Tree.{more}
 use Rattle.fp_q773.specs.Tid.{octets_of}
 use Rattle.fp_q773.specs.View.{component_of, tree_in}
 use Rattle.fp_q773.specs.Written.{originating_tree, portions_trees}
-use Rattle.fp_ber.specs.Putting.{before_others}
+use Rattle.fp_ber.specs.Putting.{before_others, end_of_end}
 use Rattle.fp_q773.proofs.Puts.{on_ok}
 use Rattle.fp_q773.proofs.Sound.{begin_sound}
 use Rattle.fp_q773.proofs.begin.Begin.write.Goals as goal
@@ -23,3 +23,6 @@ returns-clause-found c =
     let b = c.args.self.now in
     let all = rw c.as_slice.ensures.value at c.in_ok-write_portions.ensures.found in
     on_ok c.put_constructed.result _ (begin_sound _ c.write_transaction.ensures.size (tree_in b.dialogue) (map component_of b.components.items) c.requires.writable.0 all)
+
+pub returns-clause-stays : goal.returns-clause-stays
+returns-clause-stays c = search (rules, end_of_end)
