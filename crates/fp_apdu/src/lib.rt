@@ -12,7 +12,8 @@
 //! The layer above may rely on this: an opening is answered exactly where `Opens` of `specs/Opening.antt` has
 //! it, which is at most one ([`openings_are_one`]), and [`Badly`] exactly where it has none; what is written are the
 //! canonical spellings of the trees of `specs/Aare.antt` and `specs/Abrt.antt`, within the dialogue portion of
-//! `specs/DialoguePortion.antt`, and those trees have tags and lengths that `fp_ber` can write.
+//! `specs/DialoguePortion.antt`, and those trees have tags and lengths that `fp_ber` can write; if memory runs out
+//! for it, the octets are unchanged.
 //! Contracts see a [`Name`] as the list of its octets, and two names are equal by `==` exactly where the lists
 //! are. Unstructured dialogue and the contents of user information aren't read.
 #![tactic(auto, using(fp_ber::specs::Putting::end_of_end))]

@@ -1,4 +1,5 @@
--- Octets that grow at their front by one element after another: what `canon` of elements comes to.
+-- Octets that grow at their front by one element after another: what `canon` of elements comes to, and that those
+-- behind stay.
 use Rattle.std.proofs.Common.{◌≡◌, ℕ, zero, suc, ◌-◌, ◌<◌, ◌≤◌, List, ◌∷◌, ◌++◌, length, get_or, drop, drop-cons, refl, sym, ◌∙◌, ap, arith, append_assoc, length-append}
 use Rattle.fp_ber.specs.Canon.{canon, canon_of_all}
 use Rattle.fp_ber.specs.Tree.{Tree, Trees, none, more}

@@ -13,9 +13,9 @@
 //! The layer above may rely on this: `read` answers an element exactly where the octets spell it and it
 //! is in range (at most sixteen elements inside each other, tag numbers to 16,383), unless memory runs out;
 //! no spelling begins another; octets have one first fault at most, and none where they spell an element in
-//! range; and what `write` appends is a spelling of its element, which `read` reads
-//! as that element. Contracts speak of an element as its tree (`specs/Tree.antt`), and of octets by
-//! `Spells` (`specs/Spelling.antt`) and `canon` (`specs/Canon.antt`).
+//! range; what `write` appends is a spelling of its element, which `read` reads as that element; and if memory
+//! runs out for what is written, the octets are unchanged. Contracts speak of an element as its tree
+//! (`specs/Tree.antt`), and of octets by `Spells` (`specs/Spelling.antt`) and `canon` (`specs/Canon.antt`).
 #![tactic(auto)]
 
 mod cloning;

@@ -116,7 +116,7 @@ impl Book {
         self.is_down
     }
 
-    /// How far the link is. Takes no memory, and goes through no dialogues.
+    /// The status of the link. Takes no memory, and goes through no dialogues.
     pub fn status(&self) -> Status
         ensures value { result ≡ record { is_down = self.now.is_down; totals = self.now.totals; dialogues = map.len self.now.rows } }
         ensures sound { Sound self.now }

@@ -1,8 +1,8 @@
-//! How far a link is.
+//! The status of a link.
 
 use crate::Totals;
 
-/// How far a link is.
+/// The status of a link.
 #[derive(Clone, Copy, Debug, PartialEq, Eq)]
 pub struct Status {
     /// Whether it is down.

@@ -278,7 +278,7 @@ impl<A: Ledger, B: Ledger, C: Ledger> Hub<A, B, C> {
         self.hold(rt).kept.is_down()
     }
 
-    /// How far the link is, as [`Kept::status`].
+    /// The status of the link, as [`Kept::status`].
     pub fn status<R: Wait>(&self, rt: &R) -> Status {
         self.hold(rt).kept.status()
     }

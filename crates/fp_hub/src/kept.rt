@@ -174,7 +174,7 @@ impl<A: Ledger, B: Ledger, C: Ledger> Kept<A, B, C> {
         self.book.entry_count()
     }
 
-    /// How far the link is, as [`Book::status`].
+    /// The status of the link, as [`Book::status`].
     pub fn status(&self) -> Status
         ensures value { result ≡ record { is_down = self.now.is_down; totals = self.now.totals; dialogues = map.len self.now.rows } }
         ensures sound { Sound self.now }

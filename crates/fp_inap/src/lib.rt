@@ -18,7 +18,7 @@
 //! The layer above may rely on this: an argument is read exactly if `IsInitialDp` of `specs/InitialDp.antt` or
 //! `IsEventReport` of `specs/EventReport.antt` holds for some value, and the result is that value; otherwise it is
 //! [`Mistyped`]. What is put is the canonical spelling of the element of `specs/` for the values passed in, which is in
-//! range to be spelled, in few octets.
+//! range to be spelled, in few octets; if memory runs out for it, the octets are unchanged.
 #![tactic(auto)]
 
 mod activity_test;

@@ -23,7 +23,8 @@
 //! of the message, and that element is the message by the same grammar; and `ids_of` answers by
 //! `specs/Ids.antt`. An element is at most one message, and octets tell one kind and one identifier of each
 //! sort, so each answer is the only one; of octets that spell a message they are those of the message. A
-//! problem that is read goes by its name, where it has one, and each number has one identifier of four octets.
+//! problem that is read goes by its name, where it has one, and each number has one identifier of four octets. If
+//! memory runs out for what is written, the octets are unchanged.
 #![tactic(auto, using(fp_ber::specs::Putting::end_of_end))]
 
 mod abort;

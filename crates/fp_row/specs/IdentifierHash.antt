@@ -1,7 +1,7 @@
 -- The hash of a local identifier.
 use Rattle.std.specs.Prelude.{ℕ, ◌+◌, ◌*◌, ◌/◌, ◌%◌, ◌^◌, List, length, if◌then◌else◌, nat_le, slice_index}
 
--- the identifier of which four octets were written, the lowest first; fewer are none
+-- the identifier of which four octets were written, the lowest first; fewer change nothing
 abbrev pub written : ℕ → List ℕ → ℕ
 written identifier octets =
     if nat_le 4 (length octets)

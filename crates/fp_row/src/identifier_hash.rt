@@ -9,7 +9,8 @@ use std::hash::Hasher;
 const MULTIPLIER: u32 = 0x9E37_79B9;
 
 /// Hashes an identifier by its lowest bits, so that those that are given one after another are side by side in a hash
-/// map, and no more of them in one place than in another. It isn't for keys that a peer can choose.
+/// map. It isn't for keys that a peer can choose: a link gives the identifiers itself, and its peer can only ask for
+/// them.
 #[derive(Clone, Copy, Debug, Drop)]
 pub struct IdentifierHasher {
     // The last identifier.
