@@ -147,12 +147,19 @@ impl Client {
         self.read_text(alloc, usize::try_from(count).ok()?)
     }
 
+    /// Reads the next frame. `None`: none comes, or one with another message.
+    pub(crate) fn expect(&mut self, alloc: Global, wanted: &str) -> Option<()> {
+        if self.message(alloc)?.as_str() == wanted {
+            Some(())
+        } else {
+            None
+        }
+    }
+
     /// Reads this number of frames. `None`: fewer come, or one with another message.
     pub(crate) fn messages(&mut self, alloc: Global, count: u32, wanted: &str) -> Option<()> {
         for _ in 0..count {
-            if self.message(alloc)?.as_str() != wanted {
-                return None;
-            }
+            self.expect(alloc, wanted)?;
         }
         Some(())
     }

@@ -51,6 +51,12 @@ link 2 up 127.0.0.1
 records 1e925dc5549ebae979bccbac61d9898176e6dd0be9560b9f692eaca6e69a4bdc
 ";
 
+/// What the run of these three links reports of them.
+const THREE_LINKS: &str = "link 0 accepted 1 served 2 sent 1
+link 1 accepted 0 served 0 sent 0
+link 2 accepted 0 served 0 sent 0
+, ";
+
 /// Command lines that are refused.
 const REFUSED: &str = "\
 serve good.csv --listen x --log old.log --workers 0
@@ -140,8 +146,7 @@ fn a_log_is_of_one_run(rt: HostRuntime) -> Result<(), Fail> {
     )?;
     let output = shown.into_inner();
     let given = ended.text(alloc, output.as_slice())?;
-    let (_, after) = given.as_str().split_once('\n').ok_or("no address")?;
-    want(after, "link 0 accepted 0 served 0 sent 0\n, ")?;
+    want_after_address(given.as_str(), "link 0 accepted 0 served 0 sent 0\n, ")?;
     let log = fs::read(&rt, "old.log")?;
     assert_eq!(rt; str::from_utf8(log.as_slice())?, "fplog 4 1\n0 N\n");
     fs::remove_dir_all(&rt, folder.as_str())?;
@@ -177,39 +182,56 @@ where
 fn events_are_written(rt: HostRuntime) -> Result<(), Fail> {
     let alloc = rt.alloc();
     let folder = enter_folder(&rt, process::id(rt.process()))?;
-    let line = "serve good.csv --listen 127.0.0.1:0 --log new.log --links 3 --events";
-    let words = words_of(alloc, line, "")?;
-    let shown = Mutex::new(Vec::new(alloc));
-    let (mut reader, writer) = io::pipe(&rt)?;
-    let (ended, made) = thread::join(
-        &rt,
-        || run_with_events(
-            &rt,
-            words.as_slice(),
-            &mut Shared::new(&rt, alloc, &shown),
-            writer,
-        ),
-        || end_three_links(&rt, alloc, &shown),
-    );
-    made.ok_or("no answer")?;
-    let output = shown.into_inner();
-    let given = ended.text(alloc, output.as_slice())?;
-    let (_, after) = given.as_str().split_once('\n').ok_or("no address")?;
-    let told = "link 0 accepted 1 served 2 sent 1
-link 1 accepted 0 served 0 sent 0
-link 2 accepted 0 served 0 sent 0
-, ";
-    want(after, told)?;
-    let mut text = Vec::new(alloc);
-    reader.read_to_end(&mut text)?;
-    want(
-        sorted_events(alloc, str::from_utf8(text.as_slice())?)?.as_str(),
-        EVENTS,
-    )?;
+    let text = run_three_links(&rt)?;
+    let events = sorted_events(alloc, str::from_utf8(text.as_slice())?)?;
+    want(events.as_str(), EVENTS)?;
     let mode = fs::metadata(&rt, "new.log")?.mode();
     assert_eq!(rt; mode & 0o137, 0);
     fs::remove_dir_all(&rt, folder.as_str())?;
     Ok(())
+}
+
+/// Runs three links that end, and gives the lines of their events. Fails unless their counts are reported.
+fn run_three_links<H>(rt: &H) -> Result<Vec<u8>, Fail>
+where
+    H: Files<File = File>
+        + AllocGlobal
+        + Net<Listener = TcpListener, Stream = TcpStream>
+        + Threads
+        + Wait
+        + Clock
+        + Copy
+        + Send
+        + Sync
+        + 'static,
+{
+    let alloc = rt.alloc();
+    let line = "serve good.csv --listen 127.0.0.1:0 --log new.log --links 3 --events";
+    let words = words_of(alloc, line, "")?;
+    let shown = Mutex::new(Vec::new(alloc));
+    let (mut reader, writer) = io::pipe(rt)?;
+    let (ended, made) = thread::join(
+        rt,
+        || run_with_events(
+            rt,
+            words.as_slice(),
+            &mut Shared::new(rt, alloc, &shown),
+            writer,
+        ),
+        || end_three_links(rt, alloc, &shown),
+    );
+    made.ok_or("no answer")?;
+    let given = ended.text(alloc, shown.lock(rt).as_slice())?;
+    want_after_address(given.as_str(), THREE_LINKS)?;
+    let mut text = Vec::new(alloc);
+    reader.read_to_end(&mut text)?;
+    Ok(text)
+}
+
+/// Fails if what came of a run isn't this, behind the line of its address.
+fn want_after_address(given: &str, wanted: &str) -> Result<(), Fail> {
+    let (_, after) = given.split_once('\n').ok_or("no address")?;
+    want(after, wanted)
 }
 
 /// Makes a call whose answer it reads once it closed its sending side, closes a second connection inside a frame, and
@@ -227,8 +249,7 @@ fn end_three_links<R: Net<Stream = TcpStream> + Wait + Clock>(
     first.end_input()?;
     first.message(alloc)?;
     second.write_text(alloc, "0000002F622D4804")?;
-    third.write_text(alloc, "00000000")?;
-    Some(())
+    third.write_text(alloc, "00000000")
 }
 
 /// The lines of events without their moments and without the ports of the clients, in alphabetical order.
@@ -329,8 +350,7 @@ where
         "serve good.csv --listen 127.0.0.1:0 --log /dev/full",
         "",
     )?;
-    let (_, after) = given.as_str().split_once('\n').ok_or("no address")?;
-    want(after, ", log: cannot be written\n")
+    want_after_address(given.as_str(), ", log: cannot be written\n")
 }
 
 /// What comes of a run with these words: its status, its output and its errors.

@@ -43,6 +43,12 @@ pub(crate) fn answer(alloc: Global, identifier: u32) -> Result<String, AllocErro
     format!(in alloc; "641D4904{identifier:08X}6C15A113020101020114300BA009040783100322324304")
 }
 
+/// Makes a call from this identifier. `None`: something else came than its answer.
+pub(crate) fn calls(alloc: Global, client: &mut Client, identifier: u32) -> Option<()> {
+    client.write_text(alloc, begin(alloc, identifier).ok()?.as_str())?;
+    client.expect(alloc, answer(alloc, identifier).ok()?.as_str())
+}
+
 /// The message that answers it by records that lead the number to 302223399.
 pub(crate) fn led_elsewhere(alloc: Global, identifier: u32) -> Result<String, AllocError> {
     format!(in alloc; "641D4904{identifier:08X}6C15A113020101020114300BA009040783100322329309")
@@ -120,46 +126,69 @@ fn connection(
     )
 }
 
-/// Opens a dialogue for a number of each kind, sends a Continue to a dialogue that doesn't exist, and reads what comes;
-/// gives the local identifier of the dialogue that goes on. `None`: something else came than has to.
-fn open_four(alloc: Global, client: &mut Client) -> Option<String> {
+/// The frames of a Begin for a number of each kind, and of a Continue to a dialogue that doesn't exist.
+fn five_frames(alloc: Global) -> Result<String, AllocError> {
     let mut frames = String::new(alloc);
     for (identifier, last) in [(0x100, "06"), (0x101, "07"), (0x102, "08"), (0x103, "09")] {
-        frames
-            .push_str(begin_for(alloc, identifier, last).ok()?.as_str())
-            .ok()?;
+        frames.push_str(begin_for(alloc, identifier, last)?.as_str())?;
     }
-    frames.push_str(UNKNOWN).ok()?;
-    client.write_text(alloc, frames.as_str())?;
+    frames.push_str(UNKNOWN)?;
+    Ok(frames)
+}
+
+/// Reads the messages that answer them, and gives them by their tags and lengths.
+fn five_messages(alloc: Global, client: &mut Client) -> Option<Vec<String>> {
     let mut messages = Vec::new(alloc);
     for _ in 0..5 {
         messages.push(client.message(alloc)?).ok()?;
     }
-    // By their tags and lengths they are in this order.
     messages.sort_unstable();
-    let local = messages.get(3)?.get(8..16)?;
-    let passed = format!(in alloc; "6410490400000103{PASSED}").ok()?;
-    let refused = format!(in alloc; "6414490400000102{REFUSED}").ok()?;
-    let wanted = [
-        passed,
-        refused,
-        answer(alloc, 0x100).ok()?,
-        connection(alloc, local, "01", "02", "4304").ok()?,
-        String::from_str(alloc, ABORTED).ok()?,
-    ];
-    let are_wanted = messages
-        .iter()
-        .zip(&wanted)
-        .all(|(came, wanted)| came == wanted);
-    if are_wanted {
-        String::from_str(alloc, local).ok()
+    Some(messages)
+}
+
+/// `None`: the message in this place isn't the wanted one.
+fn is_at(messages: &[String], place: usize, wanted: &str) -> Option<()> {
+    if messages.get(place)?.as_str() == wanted {
+        Some(())
     } else {
         None
     }
 }
 
-/// Makes a call of each kind on a connection of its own, of which one goes on: its first place is busy, and its second
-/// one doesn't answer. Gives the link that the dialogues were opened on. `None`: something else came than has to.
+/// The local identifier of the dialogue that goes on. `None`: these aren't the messages that have to come.
+fn opened_in(alloc: Global, messages: &[String]) -> Option<String> {
+    let local = messages.get(3)?.get(8..16)?;
+    let passed = format!(in alloc; "6410490400000103{PASSED}").ok()?;
+    is_at(messages, 0, passed.as_str())?;
+    let refused = format!(in alloc; "6414490400000102{REFUSED}").ok()?;
+    is_at(messages, 1, refused.as_str())?;
+    is_at(messages, 2, answer(alloc, 0x100).ok()?.as_str())?;
+    let led = connection(alloc, local, "01", "02", "4304").ok()?;
+    is_at(messages, 3, led.as_str())?;
+    is_at(messages, 4, ABORTED)?;
+    String::from_str(alloc, local).ok()
+}
+
+/// Opens a dialogue for a number of each kind, sends a Continue to a dialogue that doesn't exist, and reads what comes;
+/// gives the local identifier of the dialogue that goes on. `None`: something else came than has to.
+fn open_four(alloc: Global, client: &mut Client) -> Option<String> {
+    client.write_text(alloc, five_frames(alloc).ok()?.as_str())?;
+    let messages = five_messages(alloc, client)?;
+    opened_in(alloc, messages.as_slice())
+}
+
+/// The dialogue of this local identifier goes on: its first place is busy, and its second one doesn't answer. `None`:
+/// something else came than has to.
+fn goes_through_both(alloc: Global, client: &mut Client, local: &str) -> Option<()> {
+    client.write_text(alloc, report(alloc, local, "02", "05").ok()?.as_str())?;
+    let second = connection(alloc, local, "03", "04", "5305").ok()?;
+    client.expect(alloc, second.as_str())?;
+    client.write_text(alloc, report(alloc, local, "03", "06").ok()?.as_str())?;
+    client.expect(alloc, RELEASED)
+}
+
+/// Makes a call of each kind on a connection of its own, of which one goes on through both of its places. Gives the link
+/// that the dialogues were opened on. `None`: something else came than has to.
 pub(crate) fn all_kinds<R: Net<Stream = TcpStream>>(
     rt: &R,
     alloc: Global,
@@ -167,21 +196,7 @@ pub(crate) fn all_kinds<R: Net<Stream = TcpStream>>(
 ) -> Option<u32> {
     let mut client = Client::connect(rt, address)?;
     let local = open_four(alloc, &mut client)?;
-    client.write_text(
-        alloc,
-        report(alloc, local.as_str(), "02", "05").ok()?.as_str(),
-    )?;
-    let second = connection(alloc, local.as_str(), "03", "04", "5305").ok()?;
-    if client.message(alloc)? != second {
-        return None;
-    }
-    client.write_text(
-        alloc,
-        report(alloc, local.as_str(), "03", "06").ok()?.as_str(),
-    )?;
-    if client.message(alloc)?.as_str() != RELEASED {
-        return None;
-    }
+    goes_through_both(alloc, &mut client, local.as_str())?;
     let number = u32::from_str_radix(local.as_str(), 16).ok()?;
     // The second dialogue of its link.
     if number & 0x1FFF_FFFF == 2 {
@@ -193,24 +208,14 @@ pub(crate) fn all_kinds<R: Net<Stream = TcpStream>>(
 
 /// Opens the first dialogue of link 0, for a number that leads to two places. `None`: it isn't led to the first.
 pub(crate) fn opens(alloc: Global, client: &mut Client) -> Option<()> {
-    let frame = begin_for(alloc, 0x101, "07").ok()?;
-    client.write_text(alloc, frame.as_str())?;
+    client.write_text(alloc, begin_for(alloc, 0x101, "07").ok()?.as_str())?;
     let first = connection(alloc, "00000001", "01", "02", "4304").ok()?;
-    if client.message(alloc)? == first {
-        Some(())
-    } else {
-        None
-    }
+    client.expect(alloc, first.as_str())
 }
 
 /// The first place of that dialogue is busy. `None`: it isn't led to the second.
 pub(crate) fn goes_on(alloc: Global, client: &mut Client) -> Option<()> {
-    let busy = report(alloc, "00000001", "02", "05").ok()?;
-    client.write_text(alloc, busy.as_str())?;
+    client.write_text(alloc, report(alloc, "00000001", "02", "05").ok()?.as_str())?;
     let second = connection(alloc, "00000001", "03", "04", "5305").ok()?;
-    if client.message(alloc)? == second {
-        Some(())
-    } else {
-        None
-    }
+    client.expect(alloc, second.as_str())
 }

@@ -4,6 +4,7 @@ use super::crowd::make_calls;
 use super::device::Mood;
 use super::trial::{Trial, await_text};
 use crate::client::Client;
+use crate::talk::calls;
 use fp_hub::OpenGate;
 use fp_replay::ReplayFault;
 use fp_serve::{ServeFault, Settings, Wanted};
@@ -126,27 +127,39 @@ fn fill_and_mend<R: Net<Stream = TcpStream> + Wait + Clock>(
     let address = trial.address(rt)?;
     let mut first = Client::connect(rt, address)?;
     let mut second = Client::connect(rt, address)?;
-    make_calls(alloc, &mut first, 0, 1)?;
-    make_calls(alloc, &mut second, 0, 1)?;
+    call_on_each(alloc, &mut first, &mut second, 0)?;
     await_text(rt, &trial.errors, row.first_event)?;
-    let mut frame = Vec::new(alloc);
-    frame.extend_from_slice(&[0, 0, 1, 244]).ok()?;
-    frame.resize(504, 0).ok()?;
-    let mut frames = Vec::new(alloc);
-    for _ in 0..FRAMES_AT_ONCE {
-        frames.extend_from_slice(frame.as_slice()).ok()?;
-    }
-    for _ in 0..MANY_FRAMES / FRAMES_AT_ONCE {
-        first.write(frames.as_slice())?;
-    }
+    write_many(alloc, &mut first)?;
     // Its answer shows that all of them came; its lines find no place.
-    make_calls(alloc, &mut first, 1, 1)?;
-    make_calls(alloc, &mut second, 1, 1)?;
+    call_on_each(alloc, &mut first, &mut second, 1)?;
     trial.set_mood(rt, Mood::Takes(0));
     // What waited was written, so that the run doesn't give up on it.
     await_text(rt, &trial.log, "\n0 Z ")?;
-    make_calls(alloc, &mut first, 2, 1)?;
-    make_calls(alloc, &mut second, 2, 1)
+    call_on_each(alloc, &mut first, &mut second, 2)
+}
+
+/// Makes a call from this identifier on each of two links. `None`: one wasn't answered.
+fn call_on_each(
+    alloc: Global,
+    first: &mut Client,
+    second: &mut Client,
+    identifier: u32,
+) -> Option<()> {
+    calls(alloc, first, identifier)?;
+    calls(alloc, second, identifier)
+}
+
+/// Writes many frames that nobody can read.
+fn write_many(alloc: Global, client: &mut Client) -> Option<()> {
+    let mut frames = Vec::new(alloc);
+    for _ in 0..FRAMES_AT_ONCE {
+        frames.extend_from_slice(&[0, 0, 1, 244]).ok()?;
+        frames.resize(frames.len() + 500, 0).ok()?;
+    }
+    for _ in 0..MANY_FRAMES / FRAMES_AT_ONCE {
+        client.write(frames.as_slice())?;
+    }
+    Some(())
 }
 
 /// How many lines of a log begin so.

@@ -252,6 +252,25 @@ fn bring_about<R: Wait + Clock>(
     }
 }
 
+/// Makes the calls of a row on link 0 and one on link 1, and waits until the log has what the row wants.
+fn make_calls_before<R: Net<Stream = TcpStream> + Wait + Clock>(
+    rt: &R,
+    alloc: Global,
+    trial: &Trial,
+    row: Row,
+    client: &mut Client,
+) -> Option<Client> {
+    write_begins(alloc, client, 0, row.calls)?;
+    await_text(rt, &trial.log, row.log)?;
+    let mut other = Client::connect(rt, trial.address(rt)?)?;
+    make_calls(alloc, &mut other, 0x2A, 1)?;
+    if row.cause == Cause::Quit {
+        // What comes later would be read no more.
+        trial.await_still_log(rt)?;
+    }
+    Some(other)
+}
+
 /// Ends link 0 as a row says, after another client made a call on link 1, and waits until that is reported. Gives how
 /// many seconds after the cause it was. `None`: something else came than has to.
 fn end_link<R: Net<Stream = TcpStream> + Wait + Clock>(
@@ -260,25 +279,17 @@ fn end_link<R: Net<Stream = TcpStream> + Wait + Clock>(
     trial: &Trial,
     row: Row,
 ) -> Option<u64> {
-    let address = trial.address(rt)?;
-    let mut client = Client::connect(rt, address)?;
-    write_begins(alloc, &mut client, 0, row.calls)?;
-    await_text(rt, &trial.log, row.log)?;
-    let mut other = Client::connect(rt, address)?;
-    make_calls(alloc, &mut other, 0x2A, 1)?;
-    if row.cause == Cause::Quit {
-        // What comes later would be read no more.
-        trial.await_still_log(rt)?;
-    }
+    let mut client = Client::connect(rt, trial.address(rt)?)?;
+    let mut other = make_calls_before(rt, alloc, trial, row, &mut client)?;
     let start = Instant::now(rt).ok()?;
     bring_about(rt, alloc, trial, row, &mut client, &mut other)?;
-    if row.cause == Cause::ClientGone {
-        drop(client);
-        await_text(rt, &trial.errors, " link 0 down ")?;
+    let staying = if row.cause == Cause::ClientGone {
+        None
     } else {
-        await_text(rt, &trial.errors, " link 0 down ")?;
-        drop(client);
-    }
+        Some(client)
+    };
+    await_text(rt, &trial.errors, " link 0 down ")?;
+    drop(staying);
     Some(start.elapsed(rt).ok()?.as_secs())
 }
 

@@ -4,13 +4,15 @@ use super::ran;
 use super::runs::{Written, enter_folder, run_with_commands, want, words_of};
 use crate::client::Client;
 use crate::memory::awaited_address;
-use crate::talk::{answer, begin, opens};
+use crate::talk::{calls, opens};
 use std::alloc::Global;
+use std::fs::File;
 use std::io::Write;
-use std::net::{Net, TcpStream};
-use std::rt::Clock;
+use std::net::{Net, TcpListener, TcpStream};
+use std::rt::{Clock, Files};
 use std::sync::Wait;
 use std::test::Fail;
+use std::thread::Threads;
 use std::time::Duration;
 use std::{fs, io, process, str, thread};
 
@@ -31,37 +33,64 @@ link 3 accepted 0 served 0 sent 0
 fn a_run_ends_by_a_command(rt: HostRuntime) -> Result<(), Fail> {
     let alloc = rt.alloc();
     let folder = enter_folder(&rt, process::id(rt.process()))?;
-    let line = "serve good.csv --listen 127.0.0.1:0 --log old.log --links 4 --commands";
-    let words = words_of(alloc, line, "")?;
     let written = Written::new(alloc);
-    let (input, mut commands) = io::pipe(&rt)?;
-    let (status, wanted) = thread::join(
-        &rt,
-        || run_with_commands(&rt, words.as_slice(), input, &written),
-        || ask_and_quit(&rt, alloc, &written, &mut commands),
-    );
+    let (status, told) = run_until_quit(&rt, &written)?;
     assert_eq!(rt; status, 0);
-    // Until here.
-    drop(commands);
-    let errors = written.errors.into_inner();
-    want(str::from_utf8(errors.as_slice())?, "command: unknown\n")?;
-    let output = written.output.into_inner();
-    let output = str::from_utf8(output.as_slice())?;
-    let wanted = format!(in alloc; "{}{REPORT}", wanted.ok_or("another answer")?)?;
-    if !output.ends_with(wanted.as_str()) {
-        return Err(Fail::new(output));
-    }
+    want_told(&rt, &written, told.ok_or("another answer")?.as_str())?;
+    let replayed = ran(&rt, "replay good.csv old.log", "")?;
     want(
-        ran(&rt, "replay good.csv old.log", "")?.as_str(),
+        replayed.as_str(),
         format!(in alloc; "0, {REPORT}, ")?.as_str(),
     )?;
     fs::remove_dir_all(&rt, folder.as_str())?;
     Ok(())
 }
 
-/// Opens a dialogue on one link, writes a part of a frame on another and makes a call on a third, which it closes; asks
-/// how far they are until that is printed, and ends the run. Gives what is printed of the links. `None`: something else
-/// came than has to, or the run didn't end a connection.
+/// Runs four links, and asks and ends them beside. Gives the status, and what was printed of the links.
+fn run_until_quit<H>(rt: &H, written: &Written) -> Result<(u8, Option<String>), Fail>
+where
+    H: Files<File = File>
+        + AllocGlobal
+        + Net<Listener = TcpListener, Stream = TcpStream>
+        + Threads
+        + Wait
+        + Clock
+        + Copy
+        + Send
+        + Sync
+        + 'static,
+{
+    let alloc = rt.alloc();
+    let line = "serve good.csv --listen 127.0.0.1:0 --log old.log --links 4 --commands";
+    let words = words_of(alloc, line, "")?;
+    let (input, mut commands) = io::pipe(rt)?;
+    let ended = thread::join(
+        rt,
+        || run_with_commands(rt, words.as_slice(), input, written),
+        || ask_and_quit(rt, alloc, written, &mut commands),
+    );
+    // The commands have no end until here.
+    drop(commands);
+    Ok(ended)
+}
+
+/// Fails unless a run said that one command is unknown, and in the end this of its links and its report.
+fn want_told<R: Wait + AllocGlobal>(rt: &R, written: &Written, told: &str) -> Result<(), Fail> {
+    let errors = written.errors.lock(rt);
+    want(str::from_utf8(errors.as_slice())?, "command: unknown\n")?;
+    let wanted = format!(in rt.alloc(); "{told}{REPORT}")?;
+    let output = written.output.lock(rt);
+    let output = str::from_utf8(output.as_slice())?;
+    if output.ends_with(wanted.as_str()) {
+        Ok(())
+    } else {
+        Err(Fail::new(output))
+    }
+}
+
+/// Connects three clients, which say what [`visit`] says; asks how far their links are until that is printed, and ends
+/// the run. Gives what is printed of the links. `None`: something else came than has to, or the run didn't end a
+/// connection.
 fn ask_and_quit<R, C>(rt: &R, alloc: Global, written: &Written, commands: &mut C) -> Option<String>
 where
     R: Net<Stream = TcpStream> + Wait + Clock,
@@ -69,15 +98,30 @@ where
 {
     let address = awaited_address(rt, &written.output)?;
     let mut first = Client::connect(rt, address)?;
-    opens(alloc, &mut first)?;
     let mut second = Client::connect(rt, address)?;
-    second.write_text(alloc, "0000002F622D4804")?;
-    let mut third = Client::connect(rt, address)?;
-    third.write_text(alloc, begin(alloc, 0x2A).ok()?.as_str())?;
-    if third.message(alloc)? != answer(alloc, 0x2A).ok()? {
-        return None;
+    let third = Client::connect(rt, address)?;
+    let told = visit(alloc, &mut first, &mut second, third)?;
+    ask(rt, written, commands, told.as_str())?;
+    commands.write_all(b"quit now\nquit\n").ok()?;
+    if first.is_at_end() && second.is_at_end() {
+        Some(told)
+    } else {
+        None
     }
-    let wanted = format!(in alloc;
+}
+
+/// Opens a dialogue on one link, writes a part of a frame on another and makes a call on a third, which it closes. Gives
+/// what has to be printed of the links then. `None`: something else came than has to.
+fn visit(
+    alloc: Global,
+    first: &mut Client,
+    second: &mut Client,
+    mut third: Client,
+) -> Option<String> {
+    opens(alloc, first)?;
+    second.write_text(alloc, "0000002F622D4804")?;
+    calls(alloc, &mut third, 0x2A)?;
+    format!(in alloc;
         "link 0 up {} accepted 1 served 2 sent 1 held 1
 link 1 up {} accepted 0 served 0 sent 0 held 0
 link 2 down {} accepted 1 served 2 sent 1 held 0
@@ -87,24 +131,23 @@ links 3
         second.address()?,
         third.address()?
     )
-    .ok()?;
-    drop(third);
+    .ok()
+}
+
+/// Asks how far the links are until this is printed, or it was asked often enough.
+fn ask<R, C>(rt: &R, written: &Written, commands: &mut C, told: &str) -> Option<()>
+where
+    R: Wait + Clock,
+    C: Write,
+{
     for _ in 0..MOST_QUESTIONS {
         commands.write_all(b"links\n").ok()?;
         thread::sleep(rt, Duration::from_millis(100));
-        if has_text(rt, written, wanted.as_str()) {
+        if str::from_utf8(written.output.lock(rt).as_slice()).is_ok_and(|text| text.contains(
+            told,
+        )) {
             break;
         }
     }
-    commands.write_all(b"quit now\nquit\n").ok()?;
-    if first.is_at_end() && second.is_at_end() {
-        Some(wanted)
-    } else {
-        None
-    }
-}
-
-/// Whether the output of a run has this in it.
-fn has_text<R: Wait>(rt: &R, written: &Written, wanted: &str) -> bool {
-    str::from_utf8(written.output.lock(rt).as_slice()).is_ok_and(|text| text.contains(wanted))
+    Some(())
 }

@@ -4,7 +4,7 @@ use super::ran;
 use super::runs::{BAD_RECORDS, Written, enter_folder, run_with_commands, want, words_of};
 use crate::client::Client;
 use crate::memory::{Shared, await_text_in, awaited_address};
-use crate::talk::{RECORDS, answer, begin, goes_on, led_elsewhere, opens};
+use crate::talk::{RECORDS, begin, calls, goes_on, led_elsewhere, opens};
 use scp::program_with_links;
 use std::alloc::Global;
 use std::fs::File;
@@ -37,15 +37,10 @@ struct Commanded<'x, R, C> {
     quiet: Client,
 }
 
-/// Makes a call to the first number, which has to get this answer. `None`: it gets another one.
-fn call(alloc: Global, client: &mut Client, identifier: u32, wanted: String) -> Option<()> {
-    let frame = begin(alloc, identifier).ok()?;
-    client.write_text(alloc, frame.as_str())?;
-    if client.message(alloc)? == wanted {
-        Some(())
-    } else {
-        None
-    }
+/// Makes a call that is answered from the new records. `None`: it gets another answer.
+fn is_led_elsewhere(alloc: Global, client: &mut Client, identifier: u32) -> Option<()> {
+    client.write_text(alloc, begin(alloc, identifier).ok()?.as_str())?;
+    client.expect(alloc, led_elsewhere(alloc, identifier).ok()?.as_str())
 }
 
 impl<R: Files + Wait + Clock, C: Write> Commanded<'_, R, C> {
@@ -55,32 +50,14 @@ impl<R: Files + Wait + Clock, C: Write> Commanded<'_, R, C> {
         self.commands.write_all(commands.as_bytes()).ok()
     }
 
-    /// Makes a call that is answered from the old records.
-    fn call_by_old(&mut self, identifier: u32) -> Option<()> {
-        let wanted = answer(self.alloc, identifier).ok()?;
-        call(self.alloc, &mut self.client, identifier, wanted)
-    }
-
-    /// Makes a call that is answered from the new ones.
-    fn call_by_new(&mut self, identifier: u32) -> Option<()> {
-        let wanted = led_elsewhere(self.alloc, identifier).ok()?;
-        call(self.alloc, &mut self.client, identifier, wanted)
-    }
-
-    /// Makes the first call of the quiet client, which is answered from the new ones.
-    fn first_call_by_new(&mut self, identifier: u32) -> Option<()> {
-        let wanted = led_elsewhere(self.alloc, identifier).ok()?;
-        call(self.alloc, &mut self.quiet, identifier, wanted)
-    }
-
     /// Makes calls before and after the records are replaced; one of them is open meanwhile.
     fn replace(&mut self) -> Option<()> {
         opens(self.alloc, &mut self.client)?;
-        self.call_by_old(1)?;
+        calls(self.alloc, &mut self.client, 1)?;
         self.command(NEW_RECORDS, "reload\n")?;
         await_text_in(self.rt, &self.written.output, "reloaded 1\n")?;
-        self.call_by_new(2)?;
-        self.first_call_by_new(5)?;
+        is_led_elsewhere(self.alloc, &mut self.client, 2)?;
+        is_led_elsewhere(self.alloc, &mut self.quiet, 5)?;
         goes_on(self.alloc, &mut self.client)
     }
 
@@ -89,10 +66,10 @@ impl<R: Files + Wait + Clock, C: Write> Commanded<'_, R, C> {
     fn keep(&mut self) -> Option<()> {
         self.command(BAD_RECORDS, "reload\nreload records\nlinks\nquit\n")?;
         await_text_in(self.rt, &self.written.errors, UNKNOWN)?;
-        self.call_by_new(3)?;
+        is_led_elsewhere(self.alloc, &mut self.client, 3)?;
         self.command(RECORDS, "reload\n")?;
         await_text_in(self.rt, &self.written.output, "reloaded 2\n")?;
-        self.call_by_old(4)
+        calls(self.alloc, &mut self.client, 4)
     }
 }
 
