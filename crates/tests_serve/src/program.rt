@@ -182,50 +182,36 @@ where
 fn events_are_written(rt: HostRuntime) -> Result<(), Fail> {
     let alloc = rt.alloc();
     let folder = enter_folder(&rt, process::id(rt.process()))?;
-    let text = run_three_links(&rt)?;
-    let events = sorted_events(alloc, str::from_utf8(text.as_slice())?)?;
-    want(events.as_str(), EVENTS)?;
+    let line = "serve good.csv --listen 127.0.0.1:0 --log new.log --links 3 --events";
+    let words = words_of(alloc, line, "")?;
+    let shown = Mutex::new(Vec::new(alloc));
+    let (mut reader, writer) = io::pipe(&rt)?;
+    let (ended, made) = thread::join(
+        &rt,
+        || run_with_events(
+            &rt,
+            words.as_slice(),
+            &mut Shared::new(&rt, alloc, &shown),
+            writer,
+        ),
+        || end_three_links(&rt, alloc, &shown),
+    );
+    made.ok_or("no answer")?;
+    let given = ended.text(alloc, shown.into_inner().as_slice())?;
+    want_after_address(given.as_str(), THREE_LINKS)?;
+    want_events(alloc, &mut reader)?;
     let mode = fs::metadata(&rt, "new.log")?.mode();
     assert_eq!(rt; mode & 0o137, 0);
     fs::remove_dir_all(&rt, folder.as_str())?;
     Ok(())
 }
 
-/// Runs three links that end, and gives the lines of their events. Fails unless their counts are reported.
-fn run_three_links<H>(rt: &H) -> Result<Vec<u8>, Fail>
-where
-    H: Files<File = File>
-        + AllocGlobal
-        + Net<Listener = TcpListener, Stream = TcpStream>
-        + Threads
-        + Wait
-        + Clock
-        + Copy
-        + Send
-        + Sync
-        + 'static,
-{
-    let alloc = rt.alloc();
-    let line = "serve good.csv --listen 127.0.0.1:0 --log new.log --links 3 --events";
-    let words = words_of(alloc, line, "")?;
-    let shown = Mutex::new(Vec::new(alloc));
-    let (mut reader, writer) = io::pipe(rt)?;
-    let (ended, made) = thread::join(
-        rt,
-        || run_with_events(
-            rt,
-            words.as_slice(),
-            &mut Shared::new(rt, alloc, &shown),
-            writer,
-        ),
-        || end_three_links(rt, alloc, &shown),
-    );
-    made.ok_or("no answer")?;
-    let given = ended.text(alloc, shown.lock(rt).as_slice())?;
-    want_after_address(given.as_str(), THREE_LINKS)?;
+/// Fails unless these are the lines of the events of three links.
+fn want_events<P: Read>(alloc: Global, reader: &mut P) -> Result<(), Fail> {
     let mut text = Vec::new(alloc);
     reader.read_to_end(&mut text)?;
-    Ok(text)
+    let events = sorted_events(alloc, str::from_utf8(text.as_slice())?)?;
+    want(events.as_str(), EVENTS)
 }
 
 /// Fails if what came of a run isn't this, behind the line of its address.

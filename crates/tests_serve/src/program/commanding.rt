@@ -6,13 +6,11 @@ use crate::client::Client;
 use crate::memory::awaited_address;
 use crate::talk::{calls, opens};
 use std::alloc::Global;
-use std::fs::File;
 use std::io::Write;
-use std::net::{Net, TcpListener, TcpStream};
-use std::rt::{Clock, Files};
+use std::net::{Net, TcpStream};
+use std::rt::Clock;
 use std::sync::Wait;
 use std::test::Fail;
-use std::thread::Threads;
 use std::time::Duration;
 use std::{fs, io, process, str, thread};
 
@@ -33,8 +31,17 @@ link 3 accepted 0 served 0 sent 0
 fn a_run_ends_by_a_command(rt: HostRuntime) -> Result<(), Fail> {
     let alloc = rt.alloc();
     let folder = enter_folder(&rt, process::id(rt.process()))?;
+    let line = "serve good.csv --listen 127.0.0.1:0 --log old.log --links 4 --commands";
+    let words = words_of(alloc, line, "")?;
     let written = Written::new(alloc);
-    let (status, told) = run_until_quit(&rt, &written)?;
+    let (input, mut commands) = io::pipe(&rt)?;
+    let (status, told) = thread::join(
+        &rt,
+        || run_with_commands(&rt, words.as_slice(), input, &written),
+        || ask_and_quit(&rt, alloc, &written, &mut commands),
+    );
+    // Until here.
+    drop(commands);
     assert_eq!(rt; status, 0);
     want_told(&rt, &written, told.ok_or("another answer")?.as_str())?;
     let replayed = ran(&rt, "replay good.csv old.log", "")?;
@@ -44,34 +51,6 @@ fn a_run_ends_by_a_command(rt: HostRuntime) -> Result<(), Fail> {
     )?;
     fs::remove_dir_all(&rt, folder.as_str())?;
     Ok(())
-}
-
-/// Runs four links, and asks and ends them beside. Gives the status, and what was printed of the links.
-fn run_until_quit<H>(rt: &H, written: &Written) -> Result<(u8, Option<String>), Fail>
-where
-    H: Files<File = File>
-        + AllocGlobal
-        + Net<Listener = TcpListener, Stream = TcpStream>
-        + Threads
-        + Wait
-        + Clock
-        + Copy
-        + Send
-        + Sync
-        + 'static,
-{
-    let alloc = rt.alloc();
-    let line = "serve good.csv --listen 127.0.0.1:0 --log old.log --links 4 --commands";
-    let words = words_of(alloc, line, "")?;
-    let (input, mut commands) = io::pipe(rt)?;
-    let ended = thread::join(
-        rt,
-        || run_with_commands(rt, words.as_slice(), input, written),
-        || ask_and_quit(rt, alloc, written, &mut commands),
-    );
-    // The commands have no end until here.
-    drop(commands);
-    Ok(ended)
 }
 
 /// Fails unless a run said that one command is unknown, and in the end this of its links and its report.
