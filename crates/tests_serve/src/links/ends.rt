@@ -283,13 +283,13 @@ fn end_link<R: Net<Stream = TcpStream> + Wait + Clock>(
     let mut other = make_calls_before(rt, alloc, trial, row, &mut client)?;
     let start = Instant::now(rt).ok()?;
     bring_about(rt, alloc, trial, row, &mut client, &mut other)?;
-    let staying = if row.cause == Cause::ClientGone {
-        None
+    if row.cause == Cause::ClientGone {
+        drop(client);
+        await_text(rt, &trial.errors, " link 0 down ")?;
     } else {
-        Some(client)
-    };
-    await_text(rt, &trial.errors, " link 0 down ")?;
-    drop(staying);
+        await_text(rt, &trial.errors, " link 0 down ")?;
+        drop(client);
+    }
     Some(start.elapsed(rt).ok()?.as_secs())
 }
 
