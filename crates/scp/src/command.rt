@@ -183,7 +183,12 @@ fn told_by<'a>(alloc: Global, error: &Error) -> Result<Asked<'a>, AllocError> {
 
 /// What to type, after the help of the program and of its subcommands.
 const CHECK_EXAMPLE: &str = "Example:
-  scp check examples/freephone.csv";
+  scp check examples/freephone.csv
+
+The first record is key,SERVICE_KEY,OFFSET: OFFSET is local time less UTC, in minutes. Each other record is a rule,
+number,prefix,days,from,to,weight,action[,destination ..], as 800123456,,12345,08:00,18:00,1,route,302223344.
+A file of version 2 begins with fprecords,2 and may have closed days, as closed,800123456,2026-12-25.
+The first faulty record is reported.";
 
 const MIGRATE_EXAMPLE: &str = "Example:
   scp migrate examples/freephone.csv > records.csv
@@ -233,7 +238,9 @@ fn contexts<'a>(alloc: Global) -> Arg<'a> {
     Arg::new(alloc, "contexts")
         .long("contexts")
         .value_name("LIST")
-        .help("The application contexts that are accepted, as 2A0304,2A0305 [default: none]")
+        .help(
+            "The application contexts that are accepted, without tag and length, as 2A0304,2A0305 [default: none]",
+        )
 }
 
 /// The subcommand that counts.

@@ -30,9 +30,9 @@ const TURNS: u64 = 1_099_511_627_776;
 /// Runs the program with these words, of which the first names it, and returns its status.
 ///
 /// 0: all was answered, or help was asked for and written to `output`. 2: the words were refused, and a text on
-/// `errors` says why. 1: one line on `errors` names the fault. Faults are found in this order: the words, the moment,
-/// the application contexts, the records, the opening of the log, then those of the lines. What cannot be written to
-/// `errors` is left out, and the status stays.
+/// `errors` says why. 1: one line on `errors` names the fault, after the path of the file if that is one of LATER.
+/// Faults are found in this order: the words, the moment, the application contexts, the records, the opening of the
+/// log, then those of the lines. What cannot be written to `errors` is left out, and the status stays.
 ///
 /// It is handed no network. So words that ask for `serve` and aren't refused get status 1 and the line
 /// `listen: cannot listen`, before the application contexts, the records and the log are looked at:
@@ -80,7 +80,7 @@ where
                 later,
                 contexts,
             },
-        ) => replay_file(rt, records, log, later.as_slice(), contexts, output),
+        ) => replay_file(rt, records, log, later.as_slice(), contexts, output, errors),
         Ok(Asked::Serve { .. }) => Err(RunFault::Serve(ServeFault::NoConnection)),
         Ok(Asked::Help(text)) => show(text.as_str(), output),
         Ok(Asked::Refused(text)) => {
@@ -179,22 +179,24 @@ where
 }
 
 /// Replays the log in a file from the records of others.
-fn replay_file<H, W>(
+fn replay_file<H, W, E>(
     rt: &H,
     records: &str,
     log: &str,
     later: &[&str],
     contexts: Option<&str>,
     output: &mut W,
+    errors: &mut E,
 ) -> Result<(), RunFault>
 where
     H: Files + AllocGlobal,
     W: Write,
+    E: Write,
 {
     let Some(contexts) = accepted(rt.alloc(), contexts)? else {
         return Err(RunFault::NoContexts);
     };
-    let tables = tables_in(rt, records, later)?;
+    let tables = tables_in(rt, records, later, errors)?;
     let file = match fs::open(rt, log) {
         Ok(file) => file,
         Err(error) if error.kind() == ErrorKind::OutOfMemory => {
@@ -234,18 +236,35 @@ fn table_in<H: Files + AllocGlobal>(rt: &H, path: &str) -> Result<Table, RunFaul
 
 /// The tables in the file with which a run began and in those that were loaded later, in that order. Each is numbered by
 /// its place, as far as there are indexes.
-fn tables_in<H: Files + AllocGlobal>(
+fn tables_in<H: Files + AllocGlobal, E: Write>(
     rt: &H,
     records: &str,
     later: &[&str],
+    errors: &mut E,
 ) -> Result<Vec<Table>, RunFault> {
     let mut tables = Vec::new(rt.alloc());
     tables.push(table_in(rt, records)?)?;
     for path in later {
         let index = tables.len().min(usize::from(Table::LAST_INDEX)) as u16;
-        tables.push(table_in(rt, path)?.numbered(index))?;
+        tables.push(later_table_in(rt, path, errors)?.numbered(index))?;
     }
     Ok(tables)
+}
+
+/// The table in a file that was loaded later. If the file is faulty, its path is written before the line of the fault.
+fn later_table_in<H: Files + AllocGlobal, E: Write>(
+    rt: &H,
+    path: &str,
+    errors: &mut E,
+) -> Result<Table, RunFault> {
+    let table = table_in(rt, path);
+    if matches!(
+        &table,
+        Err(RunFault::Records(_) | RunFault::UnreadableRecords)
+    ) {
+        let _ = write!(errors, "{path}: ");
+    }
+    table
 }
 
 /// The octets of a file of records.
