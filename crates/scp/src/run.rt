@@ -15,7 +15,7 @@ use crate::output::write_text;
 use fp_apdu::Name;
 use fp_ask::{AskFault, ask};
 use fp_digits::Moment;
-use fp_records::Table;
+use fp_records::{RecordsFault, Table};
 use fp_replay::{ReplayFault, replay};
 use fp_serve::ServeFault;
 use fp_streams::Counted;
@@ -260,7 +260,7 @@ fn later_table_in<H: Files + AllocGlobal, E: Write>(
     let table = table_in(rt, path);
     if matches!(
         &table,
-        Err(RunFault::Records(_) | RunFault::UnreadableRecords)
+        Err(RunFault::Records(RecordsFault::Record { .. }) | RunFault::UnreadableRecords)
     ) {
         let _ = write!(errors, "{path}: ");
     }
