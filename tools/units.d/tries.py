@@ -12,8 +12,7 @@ import sys
 import time
 
 ROOT, LOGS, RUN, RECORDS = pathlib.Path("/root/scp"), "/var/log/scp", "/run/scp/run", "/etc/scp/records.csv"
-PROGRAM, FORCE = "/usr/local/lib/scp/scp", "/run/scp.force"
-DROP_INS = "/run/systemd/system/scp.service.d"
+PROGRAM, DROP_IN = "/usr/local/lib/scp/scp", pathlib.Path("/run/systemd/system/scp.service.d/try.conf")
 passed = failed = 0
 
 
@@ -31,9 +30,13 @@ def sh(command, seconds=60):
     return run.returncode, run.stdout.decode(errors="replace").strip()
 
 
-def show(unit, *names):
+def succeeds(command):
+    return sh(command)[0] == 0
+
+
+def show(unit, *fields):
     lines = dict(line.split("=", 1) for line in sh(f"systemctl show {unit}")[1].splitlines() if "=" in line)
-    return [lines.get(name, "") for name in names]
+    return [lines.get(field, "") for field in fields]
 
 
 @contextlib.contextmanager
@@ -69,12 +72,14 @@ def active(unit="scp"):
 def reload():
     """Gives whether `systemctl reload scp` succeeds."""
     active()
-    return sh("systemctl reload scp")[0] == 0
+    return succeeds("systemctl reload scp")
 
 
 def force():
+    """Has the records taken by the command of the document, and gives whether a run answers from them."""
     active()
-    return sh(block("RECORDS_FORCE"))[0] == 0
+    sh(block("RECORDS_FORCE"))
+    return pathlib.Path(RUN, "good.csv").read_bytes() == pathlib.Path(RECORDS).read_bytes()
 
 
 def main_pid(unit="scp"):
@@ -85,14 +90,20 @@ def files(pattern="*", folder=LOGS):
     return sorted(os.path.basename(it) for it in glob.glob(f"{folder}/{pattern}"))
 
 
-def drop_in(name, text):
-    os.makedirs(DROP_INS, exist_ok=True)
-    pathlib.Path(DROP_INS, name).write_text("[Service]\n" + text + "\n")
+def drop_in(text):
+    DROP_IN.parent.mkdir(parents=True, exist_ok=True)
+    DROP_IN.write_text(f"[Service]\n{text}\n")
     sh("systemctl daemon-reload")
 
 
-def no_drop_ins():
-    sh(f"rm -rf {DROP_INS}; systemctl daemon-reload")
+def name():
+    """The name of the files of the run, or of the last one."""
+    return pathlib.Path(RUN, "name").read_text().strip()
+
+
+def told(seen, *words):
+    """Gives the lines of a journal that have one of these words."""
+    return [line for line in seen[0].splitlines() if any(word in line for word in words)]
 
 
 # Calls
@@ -143,9 +154,26 @@ def linked(port=14700):
 
 
 def drop(link):
-    """Closes a link and connects again: a new link, refusals and milliseconds."""
+    """Closes a link and connects again: a new link, and what that took in words."""
     link.close()
-    return connect()
+    link, refused, took = connect()
+    return link, f"refused {refused} times, answered after {took:.1f} ms"
+
+
+def range_of(figures):
+    """Gives what several connections took, in words."""
+    refused, took = [it[0] for it in figures], [it[1] for it in figures]
+    return f"refused {min(refused)} to {max(refused)} times, answered after {min(took):.1f} to {max(took):.1f} ms"
+
+
+def restarted(link, unit="scp"):
+    """Restarts a unit that has the link. Gives whether that succeeds, the new link, refusals and milliseconds."""
+    restarting = subprocess.Popen(["systemctl", "restart", unit])
+    with contextlib.suppress(OSError):
+        while link.recv(1):
+            pass
+    figures = connect()
+    return restarting.wait() == 0, *figures
 
 
 def over(link, unit="scp", port=14700):
@@ -186,7 +214,7 @@ def replay(run):
 
 def install():
     status, text = sh("set -e\n" + block("useradd"))
-    note(status == 0 and is_listening(), "installed by the document's commands, and it listens", text[-200:])
+    note(status == 0 and is_listening(), "installed by the document's commands, and it listens", text[-150:])
     note(show("scp", "ActiveState", "SubState") == ["active", "running"], "scp.service",
          sh("systemd-analyze security --no-pager scp | tail -n 1")[1])
     text = sh("systemd-analyze verify scp.service scp@14701.service scp.socket scp@14701.socket 2>&1 | grep -i scp")[1]
@@ -197,143 +225,120 @@ def install():
 
 def a_call():
     link, _, took = connect()
+    time.sleep(1)
     text = sh(block("echo links"))[1]
-    note("link 0 up" in text, f"a call, {took:.1f} ms, and the status of its link", text)
-    name = pathlib.Path(RUN, "name").read_text().strip()
+    note("link 0 up" in text and "accepted 1" in text, f"a call, {took:.1f} ms, and the status of its link", text)
+    run = name()
+    lines = sh(f"tail -n 2 {LOGS}/{run}-00000")[1]
+    note("0 Y 1" in lines, "its log can be read while the run goes on", lines)
     over(link)
-    text = replay(name)
-    note("accepted 1 served 2 sent 1" in text, "its log replays by the document's command", f"{text}; {files(name + '*')}")
-    old = files("run-*")
+    text = replay(run)
+    note("accepted 1 served 2 sent 1" in text, "its log replays by the document's command", f"{text}; {files(run + '*')}")
     records(one="302229999")
-    link = linked()
-    reload()
-    name = pathlib.Path(RUN, "name").read_text().strip()
-    got = call(link)
+    link, run = linked(), name()
+    is_done = reload()
+    got = [call(link)]
     sh("echo reload > /run/scp/commands; sleep 0.3")
     records()
-    reload()
-    got = got, call(link)
+    is_done = reload() and is_done
+    got.append(call(link))
     over(link)
-    text = replay(name)
-    note(got == ("302229999", "302223344") and "accepted 3" in text, "three reloads, one by hand, and the replay",
-         f"{got}; {text}; {files(name + '*')}; of the run before: {old}")
-
-
-def drops():
-    link, figures = linked(), []
-    for _ in range(5):
-        link, refused, took = drop(link)
-        figures.append((refused, took))
-        time.sleep(0.3)
-    note(all(refused for refused, _ in figures), "five drops without a spare", told(figures))
-    return link
-
-
-def told(figures):
-    return (f"refused {min(it[0] for it in figures)} to {max(it[0] for it in figures)} times, "
-            f"answered after {min(it[1] for it in figures):.1f} to {max(it[1] for it in figures):.1f} ms")
+    text = replay(run)
+    note(is_done and got == ["302229999", "302223344"] and "accepted 3" in text, "three reloads, one by hand, and the replay",
+         f"{got}; {text}; {files(run + '*')}")
 
 
 def spare():
-    """The spare of scp.service. Both units have to listen one after the other, so each step waits until one does."""
-    link = drops()
+    """The spare of scp.service. The two listen one after the other, so each drop waits until one does."""
+    link, figures = linked(), []
+    for _ in range(5):
+        link.close()
+        link, *figure = connect()
+        figures.append(figure)
+    note(all(refused for refused, _ in figures), "five drops without a spare", range_of(figures))
     half = link
     try:
         connect(seconds=1)
         seen = "answered"
     except ConnectionError:
         seen = "refused"
-    note(seen == "refused", "a half-open link without a spare: a second", seen)
+    note(seen == "refused", "a half-open link without a spare, for a second", seen)
     status, text = sh("set -e\n" + block("scp-spare.conf"))
-    is_up = wait_until(is_listening)
-    note(status == 0 and is_up, "a spare by the document's commands: it listens beside the link", text)
-    link, refused, took = connect()
-    note(refused == 0, "a half-open link with it", told([(refused, took)]))
+    note(status == 0 and wait_until(is_listening), "a spare by the document's commands: it listens beside the link")
+    link, *figure = connect()
+    note(figure[0] == 0, "a half-open link with it", range_of([figure]))
     half.close()
     figures = []
-    wait_until(is_listening)
     for _ in range(5):
-        link, refused, took = drop(link)
-        figures.append((refused, took))
         wait_until(is_listening)
-        time.sleep(0.5)
-    note(not any(refused for refused, _ in figures), "five drops with it, once the other run listens", told(figures))
+        link.close()
+        link, *figure = connect()
+        figures.append(figure)
+    note(not any(refused for refused, _ in figures), "five drops with it, once the other run listens", range_of(figures))
     units = ["scp", "scp@14700"]
-    holder = [it for it in units if f"pid={main_pid(it)}," in sh("ss -tnp state established sport = :14700")[1]]
-    figures = []
-    for unit in holder + [it for it in units if it not in holder]:
-        wait_until(is_listening)
-        begun = time.monotonic()
-        restarting = subprocess.Popen(["systemctl", "restart", unit])
-        with contextlib.suppress(OSError):
-            if unit in holder:
-                while link.recv(1):
-                    pass
-                link, refused, took = connect()
-                figures.append((refused, took))
-        status = restarting.wait()
-        note(status == 0, f"restart of {unit}, {'which has the link' if unit in holder else 'which has none'}",
-             f"status {status}, {time.monotonic() - begun:.2f} s; {told(figures) if unit in holder else ''}")
+    has_link = f"pid={main_pid()}," in sh("ss -tnp state established sport = :14700")[1]
+    idle, holder = reversed(units) if has_link else units
+    wait_until(is_listening)
+    note(succeeds(f"systemctl restart {idle}"), f"restart of {idle}, which has no link")
+    wait_until(is_listening)
+    is_done, link, *figure = restarted(link, holder)
+    note(is_done and figure[0] == 0, f"restart of {holder}, which has it", range_of([figure]))
     with journal("-u scp", "-u scp@14700") as seen:
         link.close()
         time.sleep(10)
-    lines = seen[0].splitlines()
-    note(True, "nobody is connected for ten seconds", f"{len(lines)} lines, {lines.count('listen: cannot listen')} starts")
-    listener = [it for it in units if f"pid={main_pid(it)}," in sh("ss -ltnp sport = :14700")[1]]
-    other = [it for it in units if it not in listener]
-    status, _ = sh(f"systemctl restart {other[0]}")
-    link, refused, took = connect()
-    note(status == 0 and refused == 0, f"restart of {other[0]} while {listener} listens, and the switch comes", told([(refused, took)]))
-    sh("systemctl disable --now scp@14700; rm -r /etc/systemd/system/scp*.service.d; systemctl daemon-reload; systemctl restart scp")
+    note(True, "nobody is connected for ten seconds",
+         f"{len(seen[0].splitlines())} lines of journal, {len(told(seen, 'listen: cannot listen'))} starts in vain")
+    listener = f"pid={main_pid()}," in sh("ss -ltnp sport = :14700")[1]
+    other = units[listener]
+    is_done = succeeds(f"systemctl restart {other}")
+    link, *figure = connect()
+    note(is_done and figure[0] == 0, f"restart of {other}, which can't listen, and the switch comes", range_of([figure]))
+    sh("systemctl disable --now scp@14700; rm -r /etc/systemd/system/scp*.service.d; systemctl daemon-reload")
     link.close()
+    sh("systemctl restart scp")
 
 
 def faulty():
     records()
-    sh("systemctl restart scp")
     link = linked()
+    reload()
     records("800123450,,1234567,8:00,24:00,1,pass", one="302221111")
     with journal() as seen:
         is_done = reload()
-        got = call(link)
-    note(not is_done and got == "302223344" and "records.csv: record 6: BadTime" in seen[0], "a faulty edit: reload fails", seen[0])
+    note(not is_done and call(link) == "302223344" and told(seen, "records.csv: record 6: BadTime"),
+         "a faulty edit: reload fails", told(seen, RECORDS, "not reloaded"))
     with journal() as seen:
-        link, refused, took = drop(link)
-        got = call(link)
-    reason = [line for line in seen[0].splitlines() if "BadTime" in line or "answered from" in line]
-    note(got == "302223344" and took < 5000 and len(reason) == 2, "then a drop: served by the last good copy",
-         f"{told([(refused, took)])}; {reason}")
+        link, took = drop(link)
+    text = told(seen, RECORDS, "answered from")
+    note(call(link) == "302223344" and len(text) == 2, "then a drop: served by the last good copy", f"{took}; {text}")
     records(one="302221111")
     with journal() as seen:
         is_done = reload()
-    got = call(link)
-    note(is_done and got == "302221111", "mended: reload brings the file", f"{got}; {seen[0]}")
+    note(is_done and call(link) == "302221111", "mended: reload brings the file", told(seen, RECORDS, "reloaded"))
     os.rename(RECORDS, RECORDS + ".away")
     is_done = reload()
     with journal() as seen:
-        link, refused, took = drop(link)
+        link, took = drop(link)
     note(not is_done and call(link) == "302221111", "a missing file: reload fails, and the next run has the last copy",
-         [line for line in seen[0].splitlines() if RECORDS in line or "answered from" in line])
+         told(seen, RECORDS, "answered from"))
     sh(f"systemctl stop scp; rm -rf /run/scp; mv {RECORDS}.away {RECORDS}; echo x >> {RECORDS}")
     with journal() as seen:
-        status, _ = sh("systemctl start scp")
-    note(status == 0 and call(linked()) == "302221111", "a faulty file after a boot, with /run empty",
-         [line for line in seen[0].splitlines() if RECORDS in line or "answered from" in line])
+        is_done = succeeds("systemctl start scp")
+    note(is_done and call(linked()) == "302221111", "a faulty file after a boot, with /run empty", told(seen, RECORDS, "answered from"))
     sh("systemctl stop scp; mkdir /root/kept; mv /var/log/scp/* /root/kept/; rm -rf /run/scp")
     with journal() as seen:
-        status, text = sh("systemctl start scp")
-    state = show("scp", "ActiveState", "SubState")
-    note(status != 0, "a faulty file at the first start: it fails", f"{state}; {seen[0].splitlines()[:2]}")
+        is_done = succeeds("systemctl start scp")
+    note(not is_done, "a faulty file at the first start: it fails", told(seen, RECORDS)[:1])
     records()
-    note(wait_until(is_listening, 5), "and listens once the file is mended", show("scp", "ActiveState"))
-    sh("rmdir /var/log/scp/kept; mv /root/kept/* /var/log/scp/")
+    note(wait_until(is_listening, 5), "and listens once the file is mended")
+    sh("mv /root/kept/* /var/log/scp/; rmdir /root/kept")
 
 
 def doubtful():
-    """Files that are valid and wrong."""
+    """Files that pass the check and are hardly meant, and one that is empty."""
     records(more=16)
-    sh("systemctl restart scp")
     link = linked()
+    reload()
     for what, write in (("cut inside its last destination", lambda: os.truncate(RECORDS, os.path.getsize(RECORDS) - 5)),
                         ("empty", lambda: pathlib.Path(RECORDS).write_text("")),
                         ("without a number", lambda: pathlib.Path(RECORDS).write_text("key,100,60\n")),
@@ -342,17 +347,15 @@ def doubtful():
         write()
         with journal() as seen:
             is_done = reload()
-        link, _, took = drop(link)
-        text = [line for line in seen[0].splitlines() if RECORDS in line]
-        note(not is_done and text and call(link) == "302223344", f"a file {what}: not reloaded, and the next run has the copy", text)
-    with journal() as seen:
-        is_done = force()
-    is_in_use = pathlib.Path(RUN, "good.csv").read_bytes() == pathlib.Path(RECORDS).read_bytes()
-    note(is_done and is_in_use and not os.path.exists(FORCE), "with RECORDS_FORCE=1, by the document's command", seen[0])
+        link, _ = drop(link)
+        text = told(seen, RECORDS)
+        is_kept = call(link) == "302223344" and sh(f"grep -c , {RUN}/now.csv")[1] == "21"
+        note(not is_done and text and is_kept, f"a file {what}: not reloaded, and the next run has the copy", text)
+    note(force() and not os.path.exists("/run/scp.force"), "RECORDS_FORCE=1, by the document's command")
     records("800555555,,1234567,00:00,24:00,1,pass", one="302220000", more=13)
     with journal() as seen:
         is_done = reload()
-    note(is_done and "numbers 18, added 1, removed 1, changed 1" in seen[0], "a count of changes", seen[0])
+    note(is_done and told(seen, "numbers 18, added 1, removed 1, changed 1"), "a count of changes", told(seen, RECORDS))
     records(more=99000)
     reload()
     records("800555555,,1234567,00:00,24:00,1,pass", one="302220000", more=98999)
@@ -360,9 +363,12 @@ def doubtful():
         begun = time.monotonic()
         is_done = reload()
         took = time.monotonic() - begun
-    note(is_done and took < 10, "with 99,000 rules", f"{took:.1f} s; {[it for it in seen[0].splitlines() if RECORDS in it]}")
-    link, _, took = drop(link)
-    note(took < 5000, "a drop with them", f"answered after {took:.0f} ms")
+    note(is_done and took < 10, f"99,004 rules, reloaded in {took:.1f} s", told(seen, RECORDS))
+    link, text = drop(link)
+    note(True, "a drop with them", text)
+    records(more=98999)
+    link, text = drop(link)
+    note(True, "a drop after an edit of them", text)
     records()
     force()
     over(link)
@@ -370,184 +376,156 @@ def doubtful():
 
 def full_disk():
     sh("systemctl stop scp; mount -t tmpfs -o size=100k,mode=755 tmpfs /var/log/scp; chown scp:scp /var/log/scp; systemctl start scp")
-    link = linked()
-    over(link)
-    fill = "dd if=/dev/zero of=/var/log/scp/fill bs=1k 2>/dev/null"
-    sh(fill)
+    over(linked())
+    sh("for fill in 1 2 3; do sleep 0.5; dd if=/dev/zero of=/var/log/scp/fill$fill bs=1k; done")
     with journal() as seen:
-        status, _ = sh("systemctl restart scp")
-        link = linked()
-        link, refused, took = drop(link)
-    lines = [line for line in seen[0].splitlines() if "No space" in line or "not kept" in line]
-    note(status == 0, "a full disk: start, and a drop", f"{told([(refused, took)])}; {lines[:4]}")
+        is_done = succeeds("systemctl restart scp")
+        link, took = drop(linked())
+    text = told(seen, "No space", "not kept")
+    note(is_done and text, "a full disk: start, and a drop", f"{took}; {text[:2]}")
     records(more=3000)
     with journal() as seen:
         is_done = reload()
-    note(is_done, "reload of records for which there is no room", seen[0])
+    note(is_done, "reload of records for which there is no room", told(seen, RECORDS, "No space", "not kept", "reloaded")[:4])
     records("x")
     with journal() as seen:
-        link, refused, took = drop(link)
-    note("answered from" in seen[0] and sh(f"grep -c , {RUN}/now.csv")[1] == "3005", "then a faulty edit and a drop",
-         f"{told([(refused, took)])}; {[it for it in seen[0].splitlines() if RECORDS in it or 'not kept' in it]}")
-    sh("rm /var/log/scp/fill")
+        link, took = drop(link)
+    note(sh(f"grep -c , {RUN}/now.csv")[1] == "3005", "then a faulty edit and a drop: served by these",
+         f"{took}; {told(seen, RECORDS, 'answered from')}")
+    sh("rm /var/log/scp/fill*")
     records()
-    is_done = force()
-    name = pathlib.Path(RUN, "name").read_text().strip()
+    force()
     over(link)
-    link = linked()
-    name = pathlib.Path(RUN, "name").read_text().strip()
+    link, run = linked(), name()
     over(link)
-    note("accepted 1" in replay(name), "with room again the next log replays", files())
+    text = replay(run)
+    note("accepted 1" in text, "with room again the next log replays", text)
     sh("systemctl stop scp; umount /var/log/scp; systemctl start scp")
 
 
 def empty_runs():
-    records()
-    sh("systemctl restart scp")
-    over(linked())
-    over(linked())
+    for _ in range(2):
+        over(linked())
     before = files()
     for _ in range(5):
-        link = socket.create_connection(("127.0.0.1", 14700))
-        over(link)
-    after = [it for it in files() if it not in before]
-    name = pathlib.Path(RUN, "name").read_text().strip()
-    note(after == [name + ".csv"], "five runs without a message leave nothing", f"new is that of the run: {after}")
-    copies = {os.stat(f"{LOGS}/{it}").st_ino for it in files()[-5:] + ["good.csv"] if it.endswith(".csv")}
-    note(len(copies) == 1, "copies of unchanged records are one file",
-         f"{os.stat(LOGS + '/good.csv').st_nlink} names; that of {RECORDS} is another: {os.stat(RECORDS).st_ino not in copies}")
+        over(socket.create_connection(("127.0.0.1", 14700)))
+    new = [it for it in files() if it not in before]
+    note(new == [name() + ".csv"], "five runs without a message leave nothing", f"new is that of the run: {new}")
+    copies = {os.stat(f"{LOGS}/{it}").st_ino for it in files("run-*Z.csv")[-3:] + ["good.csv"]}
+    note(len(copies) == 1 and os.stat(RECORDS).st_ino not in copies, "copies of unchanged records are one file",
+         f"{os.stat(LOGS + '/good.csv').st_nlink} names")
     old = files("run-*")
-    sh(f"touch -d '31 days ago' {LOGS}/run-*; for old in {LOGS}/run-*; do mv $old $(echo $old | sed s/run-20../run-1999/); done")
+    sh(f"touch -d '31 days ago' {LOGS}/run-*; for it in {LOGS}/run-*; do mv $it $(echo $it | sed s/run-20../run-1999/); done")
     over(linked())
     left = files("run-*")
-    note(len(left) <= 3, "31 days later", f"{len(old)} files, then {left}")
+    note(len(left) <= 3, f"31 days later: {len(old)} files, then", left)
 
 
 def upgrade():
-    with open("/proc/sys/kernel/random/uuid") as file:
-        mark = file.read().encode()
     link = linked()
-    status, text = sh(f"cp {PROGRAM} /root/new && printf %s '{mark.decode()}' >> /root/new && install -m 755 /root/new {PROGRAM}")
-    before = call(link)
-    begun = time.monotonic()
-    restarting = subprocess.Popen(["systemctl", "restart", "scp"])
-    with contextlib.suppress(OSError):
-        while link.recv(1):
-            pass
-    link, refused, took = connect()
-    is_new = open(f"/proc/{main_pid()}/exe", "rb").read().endswith(mark)
-    note(restarting.wait() == 0 and status == 0 and before and is_new, "an upgrade under an open link, without a spare",
-         f"{told([(refused, took)])}, {time.monotonic() - begun:.2f} s in all")
+    is_done = succeeds(f"cp {PROGRAM} /root/new && echo mark >> /root/new && install -m 755 /root/new {PROGRAM}")
+    is_open = call(link) == "302223344"
+    is_restarted, link, *figure = restarted(link)
+    is_new = pathlib.Path(f"/proc/{main_pid()}/exe").read_bytes().endswith(b"mark\n")
+    note(is_done and is_open and is_restarted and is_new, "an upgrade under an open link, without a spare", range_of([figure]))
     over(link)
 
 
 def starts():
-    drop_in("try.conf", "Environment=ADDRESS=192.0.2.9:14700")
-    status, _ = sh("systemctl restart scp")
-    note(status != 0, "restart fails for an address that isn't there", f"status {status}, {show('scp', 'ActiveState', 'Result')}")
-    drop_in("try.conf", "Environment=OPTIONS=--nonsense")
-    status, _ = sh("systemctl restart scp; systemctl start scp")
+    drop_in("Environment=ADDRESS=192.0.2.9:14700")
+    note(not succeeds("systemctl restart scp"), "restart fails for an address that isn't there", show("scp", "ActiveState", "Result"))
+    drop_in("Environment=OPTIONS=--nonsense")
+    is_done = succeeds("systemctl restart scp")
     time.sleep(1.5)
     seen = show("scp", "ActiveState", "ExecMainStatus", "NRestarts")
-    note(status != 0 and seen[:2] == ["failed", "2"], "for an option that is refused, and it isn't tried again", seen)
-    no_drop_ins()
+    note(not is_done and seen[:2] == ["failed", "2"], "and for an option that is refused, and it isn't tried again", seen)
+    drop_in("Environment=\"OPTIONS=--workers 8\"")
     begun = time.monotonic()
-    status, _ = sh("systemctl restart scp")
-    note(status == 0 and is_listening(), "and succeeds once it is mended", f"{time.monotonic() - begun:.2f} s")
-    link = linked()
-    with journal() as seen:
-        begun = time.monotonic()
-        sh("systemctl stop scp")
-        took = time.monotonic() - begun
-    note("accepted 1 served 2 sent 1" in seen[0] and "down quit" in seen[0] and took < 3 and link.recv(1) == b"" and
-         not os.path.exists("/run/scp/commands"), "stop drains the link, and removes the FIFO", f"{took:.2f} s; {seen[0]}")
-    sh("systemctl start scp")
-    link = linked()
-    os.kill(main_pid(), signal.SIGKILL)
-    link, refused, took = connect()
-    note(took < 5000, "after SIGKILL", told([(refused, took)]))
-    over(link)
-    drop_in("try.conf", "Environment=\"OPTIONS=--workers 8\"")
-    sh("systemctl restart scp")
+    note(succeeds("systemctl restart scp") and is_listening(), "and succeeds once it is mended", f"{time.monotonic() - begun:.2f} s")
     link = linked()
     records(one="302220808")
     with journal() as seen:
         is_done = reload()
-    note(is_done and call(link) == "302220808" and "fork" not in seen[0], "eight workers, and a reload: tasks",
+    note(is_done and call(link) == "302220808" and not told(seen, "fork"), "eight workers, and a reload: tasks",
          show("scp", "TasksCurrent", "TasksMax"))
-    no_drop_ins()
+    with journal() as seen:
+        begun = time.monotonic()
+        sh("systemctl stop scp")
+        took = time.monotonic() - begun
+    text = told(seen, "link 0")
+    note("accepted 2" in str(text) and "down quit" in str(text) and took < 5 and link.recv(1) == b"" and
+         not os.path.exists("/run/scp/commands"), "stop drains the link, and removes the FIFO", f"{took:.2f} s; {text}")
+    sh(f"rm {DROP_IN}; systemctl daemon-reload; systemctl start scp")
     records()
-    sh("systemctl restart scp")
+    link = linked()
+    os.kill(main_pid(), signal.SIGKILL)
+    link, text = drop(link)
+    note(True, "after SIGKILL", text)
+    over(link)
 
 
 def plain_file():
     status, text = sh("set -e\n" + block("scp-file.conf"))
-    link = linked()
-    reload()
+    link, run = linked(), name()
+    is_done = reload()
     call(link)
-    name = pathlib.Path(RUN, "name").read_text().strip()
     over(link)
-    note(status == 0 and files(name + "*") == [name + it for it in (".001.csv", ".csv", ".log")], "the log in one file", files(name + "*"))
+    note(status == 0 and is_done and files(run + "*") == [run + it for it in (".001.csv", ".csv", ".log")], "the log in one file", files(run + "*"))
     for _ in range(2):
         over(socket.create_connection(("127.0.0.1", 14700)))
-    sh("systemctl stop scp; systemctl start scp")
     note(len(files("run-*.now")) == 1, "runs without a message leave nothing", files("run-*.now"))
-    begun = replay(name)
-    status, text = sh("logrotate /etc/logrotate.d/scp")
-    note(status == 0 and files(name + ".log*") == [name + ".log.1.gz"] and begun == replay(name), "logrotate, and the replay",
-         f"{text}; {files(name + '*')}; {begun}")
-    sh(f"touch -d '31 days ago' {LOGS}/{name}*; logrotate -f /etc/logrotate.d/scp; systemctl restart scp")
-    note(not files(name + ".log*"), "31 days later", files("run-*.log*"))
-    sh("rm -r /etc/systemd/system/scp.service.d; systemctl daemon-reload; systemctl restart scp")
-    link = linked()
+    text = replay(run)
+    is_done = succeeds("logrotate /etc/logrotate.d/scp")
+    note(is_done and files(run + ".log*") == [run + ".log.1.gz"] and replay(run) == text and "accepted 2" in text, "logrotate, and the replay", text)
+    sh(f"touch -d '31 days ago' {LOGS}/{run}*; rm -r /etc/systemd/system/scp.service.d; systemctl daemon-reload; systemctl restart scp")
+    note(not files(run + ".log*"), "31 days later, when a run begins", files("run-*.log*"))
+    link, run = linked(), name()
     over(link)
-    note(not files("run-*.now") and files("run-*-00000*"), "and in pieces again", files("run-*-00000*")[-1:])
+    note(not files("run-*.now") and files(run + "-00000*"), "and in pieces again", files(run + "*"))
 
 
 def template():
-    status, text = sh(block("scp@14701"))
-    link = linked(14701)
+    records()
+    is_done = succeeds(block("scp@14701"))
+    link, other = linked(14701), linked()
     records(one="302221212")
-    other = linked()
     active()
-    status, text = sh(block("reload scp 'scp@"))
+    is_done = succeeds(block("reload scp 'scp@")) and is_done
     got = call(link), call(other)
-    note(status == 0 and got == ("302221212", "302221212"), "scp@14701 beside scp, and a reload of both",
+    note(is_done and got == ("302221212", "302221212"), "scp@14701 beside scp, and a reload of both",
          f"{got}; {files('*', '/var/log/scp-14701')}")
     sh("systemctl disable --now scp@14701")
     note(not os.path.exists("/run/scp-14701/commands") and call(other), "its stop leaves scp alone")
     records()
     reload()
-    status, text = sh("set -e\n" + block("scp-offset.timer"))
     pid = main_pid()
+    is_done = succeeds("set -e\n" + block("scp-offset.timer"))
     with journal() as seen:
-        status, text = sh("systemctl start scp-offset")
+        is_done = succeeds("systemctl start scp-offset") and is_done
     head = open(RECORDS).readline().strip()
-    note(status == 0 and f"head {head} instead of key,100,60" in seen[0] and main_pid() == pid and call(other),
-         "scp-offset, for Athens", f"{head}; {seen[0]}")
+    note(is_done and told(seen, f"head {head} instead of key,100,60") and main_pid() == pid and call(other), "scp-offset, for Athens",
+         told(seen, RECORDS, "reloaded"))
     records()
     over(other)
 
 
 def closed_day():
-    """The timers of the document that bring other records for a day, at once."""
-    text = (ROOT / "docs/serving.md").read_text()
-    units = re.findall(r"```ini\n# (/etc/systemd/system/\S+)\n(.*?)```", text, re.S)
-    for path, content in units:
-        pathlib.Path(path).write_text(content)
-    records(one="302220024")
-    os.rename(RECORDS, "/etc/scp/night.csv")
-    records()
-    sh("systemctl daemon-reload; systemctl restart scp")
-    link = linked()
-    active()
-    status, text = sh("systemctl start scp-records@night")
-    got = call(link)
-    verified, text = sh("systemd-analyze verify /etc/systemd/system/scp-*.timer 2>&1 | grep scp; systemd-analyze calendar "
-                        + " ".join(f"'{it}'" for it in re.findall(r"OnCalendar=(.*)", "".join(it[1] for it in units))))
-    note(units and status == 0 and got == "302220024" and verified == 0, "other records for a day", f"{got}; {text[-300:]}")
-    records()
-    reload()
+    """The timer of the document that brings the records of the day."""
+    units = dict(re.findall(r"```ini\n# (/etc/systemd/system/\S+)\n(.*?)```", (ROOT / "docs/serving.md").read_text(), re.S))
+    for path, text in units.items():
+        pathlib.Path(path).write_text(text)
+    status, text = sh("systemctl daemon-reload; systemd-analyze verify /etc/systemd/system/scp-day.timer && systemctl start scp-day.timer "
+                      "&& systemctl list-timers --no-pager scp-day.timer | sed -n 2p")
+    note(len(units) == 2 and status == 0, "a timer for the records of the day", text)
+    link, got = linked(), []
+    for one, file in (("302220024", "$(TZ=Europe/Vienna date +%F).csv"), ("302220001", "usual.csv")):
+        records(one=one)
+        sh(f"mv {RECORDS} /etc/scp/{file}; cp {RUN}/good.csv {RECORDS}")
+    for command in ("true", "rm /etc/scp/20*.csv", "true"):
+        active()
+        sh(f"{command}; systemctl start scp-day")
+        got.append(call(link))
+    note(got == ["302220024", "302220001", "302220001"], "the records of the day, and the next one", f"{got}; {files(name() + '*')}")
     over(link)
 
 
