@@ -4,9 +4,7 @@ import glob
 import os
 import pathlib
 import re
-import signal
 import socket
-import struct
 import subprocess
 import sys
 import time
@@ -39,15 +37,12 @@ def show(unit, *fields):
     return [lines.get(field, "") for field in fields]
 
 
-@contextlib.contextmanager
-def journal(*words):
-    """Collects the journal of what happens inside, in a list with one text."""
-    sh("journalctl --sync")
-    cursor = re.search(r"-- cursor: (.*)", sh("journalctl -n 0 --show-cursor")[1])[1]
-    seen = []
-    yield seen
-    sh("journalctl --sync")
-    seen.append(sh(f"journalctl -q -o cat --after-cursor='{cursor}' {' '.join(words) or '-u scp'}")[1])
+def heard(what, *words, units="-u scp"):
+    """Gives what a function returns, and the lines with one of these words that came into the journal meanwhile."""
+    cursor = re.search(r"-- cursor: (.*)", sh("journalctl --sync; journalctl -n 0 --show-cursor")[1])[1]
+    result = what()
+    lines = sh(f"journalctl --sync; journalctl -q -o cat --after-cursor='{cursor}' {units}")[1].splitlines()
+    return result, [line for line in lines if any(word in line for word in words)]
 
 
 def wait_until(what, seconds=10.0):
@@ -101,33 +96,17 @@ def name():
     return pathlib.Path(RUN, "name").read_text().strip()
 
 
-def told(seen, *words):
-    """Gives the lines of a journal that have one of these words."""
-    return [line for line in seen[0].splitlines() if any(word in line for word in words)]
-
-
 # Calls
 
 
-def call(link, called="800123456", identifier=0x2A):
-    """Makes a call, and gives the first destination."""
-    digits = called + "0"
-    swapped = "".join(digits[at + 1] + digits[at] for at in range(0, 10, 2))
-    message = bytes.fromhex(f"622D4804{identifier:08X}6C25A123020101020100301B80016482078310{swapped}"
-                            "83078313032143650785010A9C0103")
-    link.sendall(struct.pack(">I", len(message)) + message)
-    answer = exactly(link, struct.unpack(">I", exactly(link, 4))[0])
+def call(link):
+    """Makes a call to 800123456, and gives its destination."""
+    link.sendall(bytes.fromhex("0000002F622D48040000002A6C25A123020101020100301B800164820783100810325406"
+                               "83078313032143650785010A9C0103"))
+    answer = link.recv(35, socket.MSG_WAITALL)
+    if len(answer) < 35:
+        raise ConnectionError("no answer")
     return "".join(f"{octet & 15:x}{octet >> 4:x}" for octet in answer[-5:])[:9]
-
-
-def exactly(link, count):
-    got = b""
-    while len(got) < count:
-        part = link.recv(count - len(got))
-        if not part:
-            raise ConnectionError("the end")
-        got += part
-    return got
 
 
 def connect(port=14700, seconds=15.0):
@@ -215,8 +194,7 @@ def replay(run):
 def install():
     status, text = sh("set -e\n" + block("useradd"))
     note(status == 0 and is_listening(), "installed by the document's commands, and it listens", text[-150:])
-    note(show("scp", "ActiveState", "SubState") == ["active", "running"], "scp.service",
-         sh("systemd-analyze security --no-pager scp | tail -n 1")[1])
+    note(show("scp", "ActiveState") == ["active"], "scp.service", sh("systemd-analyze security --no-pager scp | tail -n 1")[1])
     text = sh("systemd-analyze verify scp.service scp@14701.service scp.socket scp@14701.socket 2>&1 | grep -i scp")[1]
     note(not text, "systemd-analyze verify", text)
     text = sh("journalctl -q -o cat -t scp")[1]
@@ -257,12 +235,10 @@ def spare():
         figures.append(figure)
     note(all(refused for refused, _ in figures), "five drops without a spare", range_of(figures))
     half = link
-    try:
-        connect(seconds=1)
-        seen = "answered"
-    except ConnectionError:
-        seen = "refused"
-    note(seen == "refused", "a half-open link without a spare, for a second", seen)
+    is_refused = True
+    with contextlib.suppress(ConnectionError):
+        is_refused = not connect(seconds=1)
+    note(is_refused, "a half-open link without a spare: refused for a second")
     status, text = sh("set -e\n" + block("scp-spare.conf"))
     note(status == 0 and wait_until(is_listening), "a spare by the document's commands: it listens beside the link")
     link, *figure = connect()
@@ -283,11 +259,10 @@ def spare():
     wait_until(is_listening)
     is_done, link, *figure = restarted(link, holder)
     note(is_done and figure[0] == 0, f"restart of {holder}, which has it", range_of([figure]))
-    with journal("-u scp", "-u scp@14700") as seen:
-        link.close()
-        time.sleep(10)
+    link.close()
+    _, lines = heard(lambda: time.sleep(10), "", units="-u scp -u scp@14700")
     note(True, "nobody is connected for ten seconds",
-         f"{len(seen[0].splitlines())} lines of journal, {len(told(seen, 'listen: cannot listen'))} starts in vain")
+         f"{len(lines)} lines of journal, {lines.count('listen: cannot listen')} starts in vain")
     listener = f"pid={main_pid()}," in sh("ss -ltnp sport = :14700")[1]
     other = units[listener]
     is_done = succeeds(f"systemctl restart {other}")
@@ -303,32 +278,23 @@ def faulty():
     link = linked()
     reload()
     records("800123450,,1234567,8:00,24:00,1,pass", one="302221111")
-    with journal() as seen:
-        is_done = reload()
-    note(not is_done and call(link) == "302223344" and told(seen, "records.csv: record 6: BadTime"),
-         "a faulty edit: reload fails", told(seen, RECORDS, "not reloaded"))
-    with journal() as seen:
-        link, took = drop(link)
-    text = told(seen, RECORDS, "answered from")
-    note(call(link) == "302223344" and len(text) == 2, "then a drop: served by the last good copy", f"{took}; {text}")
+    is_done, lines = heard(reload, RECORDS, "not reloaded")
+    note(not is_done and call(link) == "302223344" and "record 6: BadTime" in lines[0], "a faulty edit: reload fails", lines)
+    (link, took), lines = heard(lambda: drop(link), RECORDS, "answered from")
+    note(call(link) == "302223344" and len(lines) == 2, "then a drop: served by the last good copy", f"{took}; {lines}")
     records(one="302221111")
-    with journal() as seen:
-        is_done = reload()
-    note(is_done and call(link) == "302221111", "mended: reload brings the file", told(seen, RECORDS, "reloaded"))
+    is_done, lines = heard(reload, RECORDS, "reloaded")
+    note(is_done and call(link) == "302221111", "mended: reload brings the file", lines)
     os.rename(RECORDS, RECORDS + ".away")
     is_done = reload()
-    with journal() as seen:
-        link, took = drop(link)
-    note(not is_done and call(link) == "302221111", "a missing file: reload fails, and the next run has the last copy",
-         told(seen, RECORDS, "answered from"))
+    (link, took), lines = heard(lambda: drop(link), RECORDS, "answered from")
+    note(not is_done and call(link) == "302221111", "a missing file: reload fails, and the next run has the last copy", lines)
     sh(f"systemctl stop scp; rm -rf /run/scp; mv {RECORDS}.away {RECORDS}; echo x >> {RECORDS}")
-    with journal() as seen:
-        is_done = succeeds("systemctl start scp")
-    note(is_done and call(linked()) == "302221111", "a faulty file after a boot, with /run empty", told(seen, RECORDS, "answered from"))
+    is_done, lines = heard(lambda: succeeds("systemctl start scp"), RECORDS, "answered from")
+    note(is_done and call(linked()) == "302221111", "a faulty file after a boot, with /run empty", lines)
     sh("systemctl stop scp; mkdir /root/kept; mv /var/log/scp/* /root/kept/; rm -rf /run/scp")
-    with journal() as seen:
-        is_done = succeeds("systemctl start scp")
-    note(not is_done, "a faulty file at the first start: it fails", told(seen, RECORDS)[:1])
+    is_done, lines = heard(lambda: succeeds("systemctl start scp"), RECORDS)
+    note(not is_done, "a faulty file at the first start: it fails", lines[:1])
     records()
     note(wait_until(is_listening, 5), "and listens once the file is mended")
     sh("mv /root/kept/* /var/log/scp/; rmdir /root/kept")
@@ -345,53 +311,42 @@ def doubtful():
                         ("with a tenth fewer numbers", lambda: records(more=14))):
         records(more=16)
         write()
-        with journal() as seen:
-            is_done = reload()
+        is_done, lines = heard(reload, RECORDS)
         link, _ = drop(link)
-        text = told(seen, RECORDS)
         is_kept = call(link) == "302223344" and sh(f"grep -c , {RUN}/now.csv")[1] == "21"
-        note(not is_done and text and is_kept, f"a file {what}: not reloaded, and the next run has the copy", text)
+        note(not is_done and lines and is_kept, f"a file {what}: not reloaded, and the next run has the copy", lines)
     note(force() and not os.path.exists("/run/scp.force"), "RECORDS_FORCE=1, by the document's command")
     records("800555555,,1234567,00:00,24:00,1,pass", one="302220000", more=13)
-    with journal() as seen:
-        is_done = reload()
-    note(is_done and told(seen, "numbers 18, added 1, removed 1, changed 1"), "a count of changes", told(seen, RECORDS))
+    is_done, lines = heard(reload, RECORDS)
+    note(is_done and "numbers 18, added 1, removed 1, changed 1" in lines[0], "a count of changes", lines)
     records(more=99000)
     reload()
     records("800555555,,1234567,00:00,24:00,1,pass", one="302220000", more=98999)
-    with journal() as seen:
-        begun = time.monotonic()
-        is_done = reload()
-        took = time.monotonic() - begun
-    note(is_done and took < 10, f"99,004 rules, reloaded in {took:.1f} s", told(seen, RECORDS))
+    begun = time.monotonic()
+    is_done = reload()
+    note(is_done, "99,004 rules are reloaded", f"{time.monotonic() - begun:.1f} s")
     link, text = drop(link)
     note(True, "a drop with them", text)
-    records(more=98999)
-    link, text = drop(link)
-    note(True, "a drop after an edit of them", text)
     records()
     force()
     over(link)
 
 
 def full_disk():
-    sh("systemctl stop scp; mount -t tmpfs -o size=100k,mode=755 tmpfs /var/log/scp; chown scp:scp /var/log/scp; systemctl start scp")
+    sh("systemctl stop scp; mount -t tmpfs -o size=100k,mode=755 tmpfs /var/log/scp")
+    sh("chown scp:scp /var/log/scp; systemctl start scp")
     over(linked())
     sh("for fill in 1 2 3; do sleep 0.5; dd if=/dev/zero of=/var/log/scp/fill$fill bs=1k; done")
-    with journal() as seen:
-        is_done = succeeds("systemctl restart scp")
-        link, took = drop(linked())
-    text = told(seen, "No space", "not kept")
-    note(is_done and text, "a full disk: start, and a drop", f"{took}; {text[:2]}")
+    is_done, lines = heard(lambda: succeeds("systemctl restart scp") and drop(linked()), "No space", "not kept")
+    note(is_done and lines, "a full disk: start, and a drop", f"{is_done[1:]}; {lines[:2]}")
+    link = is_done[0]
     records(more=3000)
-    with journal() as seen:
-        is_done = reload()
-    note(is_done, "reload of records for which there is no room", told(seen, RECORDS, "No space", "not kept", "reloaded")[:4])
+    is_done, lines = heard(reload, RECORDS, "No space", "not kept", "reloaded")
+    note(is_done, "reload of records for which there is no room", lines[:4])
     records("x")
-    with journal() as seen:
-        link, took = drop(link)
-    note(sh(f"grep -c , {RUN}/now.csv")[1] == "3005", "then a faulty edit and a drop: served by these",
-         f"{took}; {told(seen, RECORDS, 'answered from')}")
+    (link, took), lines = heard(lambda: drop(link), RECORDS, "answered from")
+    is_kept = sh(f"grep -c , {RUN}/now.csv")[1] == "3005"
+    note(is_kept, "then a faulty edit and a drop: served by these", f"{took}; {lines}")
     sh("rm /var/log/scp/fill*")
     records()
     force()
@@ -433,35 +388,26 @@ def upgrade():
 
 def starts():
     drop_in("Environment=ADDRESS=192.0.2.9:14700")
-    note(not succeeds("systemctl restart scp"), "restart fails for an address that isn't there", show("scp", "ActiveState", "Result"))
+    is_done = succeeds("systemctl restart scp")
+    note(not is_done, "restart fails for an address that isn't there", show("scp", "ActiveState", "Result"))
     drop_in("Environment=OPTIONS=--nonsense")
     is_done = succeeds("systemctl restart scp")
     time.sleep(1.5)
     seen = show("scp", "ActiveState", "ExecMainStatus", "NRestarts")
     note(not is_done and seen[:2] == ["failed", "2"], "and for an option that is refused, and it isn't tried again", seen)
     drop_in("Environment=\"OPTIONS=--workers 8\"")
-    begun = time.monotonic()
-    note(succeeds("systemctl restart scp") and is_listening(), "and succeeds once it is mended", f"{time.monotonic() - begun:.2f} s")
+    note(succeeds("systemctl restart scp") and is_listening(), "and succeeds once it is mended")
     link = linked()
     records(one="302220808")
-    with journal() as seen:
-        is_done = reload()
-    note(is_done and call(link) == "302220808" and not told(seen, "fork"), "eight workers, and a reload: tasks",
-         show("scp", "TasksCurrent", "TasksMax"))
-    with journal() as seen:
-        begun = time.monotonic()
-        sh("systemctl stop scp")
-        took = time.monotonic() - begun
-    text = told(seen, "link 0")
-    note("accepted 2" in str(text) and "down quit" in str(text) and took < 5 and link.recv(1) == b"" and
-         not os.path.exists("/run/scp/commands"), "stop drains the link, and removes the FIFO", f"{took:.2f} s; {text}")
-    sh(f"rm {DROP_IN}; systemctl daemon-reload; systemctl start scp")
+    is_done, lines = heard(reload, "fork")
+    is_done = is_done and call(link) == "302220808" and not lines
+    note(is_done, "eight workers, and a reload: tasks", show("scp", "TasksCurrent", "TasksMax"))
+    _, lines = heard(lambda: sh("systemctl stop scp"), "link 0")
+    is_removed = not os.path.exists("/run/scp/commands")
+    note("down quit" in lines[0] and "accepted 2" in lines[1] and link.recv(1) == b"" and is_removed,
+         "stop drains the link, and removes the FIFO", lines)
     records()
-    link = linked()
-    os.kill(main_pid(), signal.SIGKILL)
-    link, text = drop(link)
-    note(True, "after SIGKILL", text)
-    over(link)
+    sh(f"rm {DROP_IN}; systemctl daemon-reload; systemctl start scp")
 
 
 def plain_file():
@@ -470,14 +416,17 @@ def plain_file():
     is_done = reload()
     call(link)
     over(link)
-    note(status == 0 and is_done and files(run + "*") == [run + it for it in (".001.csv", ".csv", ".log")], "the log in one file", files(run + "*"))
+    seen = files(run + "*")
+    note(status == 0 and is_done and seen == [run + it for it in (".001.csv", ".csv", ".log")], "the log in one file", seen)
     for _ in range(2):
         over(socket.create_connection(("127.0.0.1", 14700)))
     note(len(files("run-*.now")) == 1, "runs without a message leave nothing", files("run-*.now"))
     text = replay(run)
     is_done = succeeds("logrotate /etc/logrotate.d/scp")
-    note(is_done and files(run + ".log*") == [run + ".log.1.gz"] and replay(run) == text and "accepted 2" in text, "logrotate, and the replay", text)
-    sh(f"touch -d '31 days ago' {LOGS}/{run}*; rm -r /etc/systemd/system/scp.service.d; systemctl daemon-reload; systemctl restart scp")
+    is_done = is_done and files(run + ".log*") == [run + ".log.1.gz"]
+    note(is_done and replay(run) == text and "accepted 2" in text, "logrotate, and the replay", text)
+    sh(f"touch -d '31 days ago' {LOGS}/{run}*; rm -r /etc/systemd/system/scp.service.d")
+    sh("systemctl daemon-reload; systemctl restart scp")
     note(not files(run + ".log*"), "31 days later, when a run begins", files("run-*.log*"))
     link, run = linked(), name()
     over(link)
@@ -500,11 +449,9 @@ def template():
     reload()
     pid = main_pid()
     is_done = succeeds("set -e\n" + block("scp-offset.timer"))
-    with journal() as seen:
-        is_done = succeeds("systemctl start scp-offset") and is_done
-    head = open(RECORDS).readline().strip()
-    note(is_done and told(seen, f"head {head} instead of key,100,60") and main_pid() == pid and call(other), "scp-offset, for Athens",
-         told(seen, RECORDS, "reloaded"))
+    is_started, lines = heard(lambda: succeeds("systemctl start scp-offset"), RECORDS)
+    is_done = is_done and is_started and " instead of key,100,60" in lines[0]
+    note(is_done and main_pid() == pid and call(other), "scp-offset, for Athens", lines)
     records()
     over(other)
 
@@ -514,8 +461,8 @@ def closed_day():
     units = dict(re.findall(r"```ini\n# (/etc/systemd/system/\S+)\n(.*?)```", (ROOT / "docs/serving.md").read_text(), re.S))
     for path, text in units.items():
         pathlib.Path(path).write_text(text)
-    status, text = sh("systemctl daemon-reload; systemd-analyze verify /etc/systemd/system/scp-day.timer && systemctl start scp-day.timer "
-                      "&& systemctl list-timers --no-pager scp-day.timer | sed -n 2p")
+    status, text = sh("systemctl daemon-reload; systemd-analyze verify /etc/systemd/system/scp-day.timer && "
+                      "systemctl start scp-day.timer && systemctl list-timers --no-pager scp-day.timer | sed -n 2p")
     note(len(units) == 2 and status == 0, "a timer for the records of the day", text)
     link, got = linked(), []
     for one, file in (("302220024", "$(TZ=Europe/Vienna date +%F).csv"), ("302220001", "usual.csv")):
@@ -525,7 +472,7 @@ def closed_day():
         active()
         sh(f"{command}; systemctl start scp-day")
         got.append(call(link))
-    note(got == ["302220024", "302220001", "302220001"], "the records of the day, and the next one", f"{got}; {files(name() + '*')}")
+    note(got == ["302220024", "302220001", "302220001"], "the records of the day, and the next one", got)
     over(link)
 
 
