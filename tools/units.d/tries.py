@@ -59,6 +59,11 @@ def is_listening(port=14700):
         return f":{port:04X} 00000000:0000 0A" in file.read()
 
 
+def is_gone(path):
+    """Waits until a FIFO is removed: its socket unit stops a moment after the service."""
+    return wait_until(lambda: not os.path.exists(path))
+
+
 def active(unit="scp"):
     """Waits until a unit has started: until then systemctl refuses to reload it."""
     wait_until(lambda: show(unit, "ActiveState") == ["active"])
@@ -247,10 +252,11 @@ def spare():
     figures = []
     for _ in range(5):
         wait_until(is_listening)
+        time.sleep(1)
         link.close()
         link, *figure = connect()
         figures.append(figure)
-    note(not any(refused for refused, _ in figures), "five drops with it, once the other run listens", range_of(figures))
+    note(not any(refused for refused, _ in figures), "five drops with it, a second after the other run listens", range_of(figures))
     units = ["scp", "scp@14700"]
     has_link = f"pid={main_pid()}," in sh("ss -tnp state established sport = :14700")[1]
     idle, holder = reversed(units) if has_link else units
@@ -403,8 +409,8 @@ def starts():
     is_done = is_done and call(link) == "302220808" and not lines
     note(is_done, "eight workers, and a reload: tasks", show("scp", "TasksCurrent", "TasksMax"))
     _, lines = heard(lambda: sh("systemctl stop scp"), "link 0")
-    is_removed = not os.path.exists("/run/scp/commands")
-    note("down quit" in lines[0] and "accepted 2" in lines[1] and link.recv(1) == b"" and is_removed,
+    is_done = link.recv(1) == b"" and is_gone("/run/scp/commands")
+    note(is_done and "down quit" in lines[0] and "accepted 2" in lines[1],
          "stop drains the link, and removes the FIFO", lines)
     records()
     sh(f"rm {DROP_IN}; systemctl daemon-reload; systemctl start scp")
@@ -444,7 +450,7 @@ def template():
     note(is_done and got == ("302221212", "302221212"), "scp@14701 beside scp, and a reload of both",
          f"{got}; {files('*', '/var/log/scp-14701')}")
     sh("systemctl disable --now scp@14701")
-    note(not os.path.exists("/run/scp-14701/commands") and call(other), "its stop leaves scp alone")
+    note(is_gone("/run/scp-14701/commands") and call(other), "its stop leaves scp alone")
     records()
     reload()
     pid = main_pid()
