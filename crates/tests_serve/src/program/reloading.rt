@@ -198,7 +198,7 @@ fn an_output_that_fails_ends_the_run(rt: HostRuntime) -> Result<(), Fail> {
             &mut errors,
             Vec::new(alloc),
         ),
-        || is_ended_by_reload(&rt, &written.output, commands),
+        || is_ended_by_reload(&rt, alloc, &written.output, commands),
     );
     assert_eq!(rt; ended, Some(true));
     assert_eq!(rt; status, 1);
@@ -210,13 +210,20 @@ fn an_output_that_fails_ends_the_run(rt: HostRuntime) -> Result<(), Fail> {
     Ok(())
 }
 
-/// Connects to a run that is given three times the command to reload, and says whether it ended the connection.
-fn is_ended_by_reload<R, C>(rt: &R, output: &Mutex<Vec<u8>>, mut commands: C) -> Option<bool>
+/// Makes a call, by which its connection was accepted, gives the run three times the command to reload, and says whether
+/// that ended the connection.
+fn is_ended_by_reload<R, C>(
+    rt: &R,
+    alloc: Global,
+    output: &Mutex<Vec<u8>>,
+    mut commands: C,
+) -> Option<bool>
 where
     R: Net<Stream = TcpStream> + Wait + Clock,
     C: Write + Drop,
 {
     let mut client = Client::connect(rt, awaited_address(rt, output)?)?;
+    calls(alloc, &mut client, 1)?;
     commands.write_all(b"reload\nreload\nreload\n").ok()?;
     Some(client.is_at_end())
 }
