@@ -69,10 +69,10 @@ def active(unit="scp"):
     wait_until(lambda: show(unit, "ActiveState") == ["active"])
 
 
-def reload():
-    """Gives whether `systemctl reload scp` succeeds."""
+def reload(units="scp"):
+    """Gives whether `systemctl reload` succeeds."""
     active()
-    return succeeds("systemctl reload scp")
+    return succeeds("systemctl reload " + units)
 
 
 def force():
@@ -101,9 +101,6 @@ def name():
     return pathlib.Path(RUN, "name").read_text().strip()
 
 
-# Calls
-
-
 def call(link):
     """Makes a call to 800123456, and gives its destination."""
     link.sendall(bytes.fromhex("0000002F622D48040000002A6C25A123020101020100301B800164820783100810325406"
@@ -114,9 +111,9 @@ def call(link):
     return "".join(f"{octet & 15:x}{octet >> 4:x}" for octet in answer[-5:])[:9]
 
 
-def connect(port=14700, seconds=15.0):
-    """Connects and makes a call, as a switch that tries again after 50 ms. Gives the link, the number of times that it was
-    refused, and the milliseconds until the answer."""
+def connect(port=14700, seconds=5.0):
+    """Connects and makes a call, as a switch that tries again after 50 ms, and fails if that takes longer. Gives the link,
+    the number of times that it was refused, and the milliseconds until the answer."""
     begun, refused = time.monotonic(), 0
     while True:
         link = socket.socket()
@@ -137,17 +134,32 @@ def linked(port=14700):
     return connect(port)[0]
 
 
-def drop(link):
+def drop(link, seconds=5.0):
     """Closes a link and connects again: a new link, and what that took in words."""
     link.close()
-    link, refused, took = connect()
-    return link, f"refused {refused} times, answered after {took:.1f} ms"
+    link, *figure = connect(seconds=seconds)
+    return link, range_of([figure])
+
+
+def drops(link, seconds=None):
+    """Drops a link five times, so long after another run listens, if given: the last link, what the calls got, figures."""
+    got, figures = [], []
+    for _ in range(5):
+        if seconds is not None:
+            wait_until(is_listening)
+            time.sleep(seconds)
+        link.close()
+        link, *figure = connect()
+        got.append(call(link))
+        figures.append(figure)
+    return link, got, figures
 
 
 def range_of(figures):
     """Gives what several connections took, in words."""
-    refused, took = [it[0] for it in figures], [it[1] for it in figures]
-    return f"refused {min(refused)} to {max(refused)} times, answered after {min(took):.1f} to {max(took):.1f} ms"
+    ends = [f"{min(them):.{digits}f} to {max(them):.{digits}f}" for digits, them in enumerate(zip(*figures))]
+    refused, took = [end if len(figures) > 1 else end.split()[0] for end in ends]
+    return f"refused {refused} times, answered after {took} ms"
 
 
 def restarted(link, unit="scp"):
@@ -193,9 +205,6 @@ def replay(run):
     return sh(script if files(run + ".*.csv") else script.replace(" $run.*.csv", ""))[1]
 
 
-# The tries
-
-
 def install():
     status, text = sh("set -e\n" + block("useradd"))
     note(status == 0 and is_listening(), "installed by the document's commands, and it listens", text[-150:])
@@ -219,27 +228,25 @@ def a_call():
     note("accepted 1 served 2 sent 1" in text, "its log replays by the document's command", f"{text}; {files(run + '*')}")
     records(one="302229999")
     link, run = linked(), name()
-    is_done = reload()
-    got = [call(link)]
+    is_done, got = reload(), [call(link)]
     sh("echo reload > /run/scp/commands; sleep 0.3")
     records()
-    is_done = reload() and is_done
-    got.append(call(link))
+    is_done, got = reload() and is_done, [*got, call(link)]
     over(link)
     text = replay(run)
     note(is_done and got == ["302229999", "302223344"] and "accepted 3" in text, "three reloads, one by hand, and the replay",
          f"{got}; {text}; {files(run + '*')}")
+    link = linked()
+    is_open = succeeds("kill -9 $(pgrep -u scp -x split)") and call(link)
+    link, took = drop(link, 12)
+    run, _ = name(), over(link)
+    note(is_open and "accepted 1" in replay(run), "split is killed: calls go on, a drop, and the next log replays", took)
 
 
 def spare():
     """The spare of scp.service. The two listen one after the other, so each drop waits until one does."""
-    link, figures = linked(), []
-    for _ in range(5):
-        link.close()
-        link, *figure = connect()
-        figures.append(figure)
+    half, _, figures = drops(linked())
     note(all(refused for refused, _ in figures), "five drops without a spare", range_of(figures))
-    half = link
     is_refused = True
     with contextlib.suppress(ConnectionError):
         is_refused = not connect(seconds=1)
@@ -249,15 +256,22 @@ def spare():
     link, *figure = connect()
     note(figure[0] == 0, "a half-open link with it", range_of([figure]))
     half.close()
-    figures = []
-    for _ in range(5):
-        wait_until(is_listening)
-        time.sleep(1)
-        link.close()
-        link, *figure = connect()
-        figures.append(figure)
-    note(not any(refused for refused, _ in figures), "five drops with it, a second after the other run listens", range_of(figures))
-    units = ["scp", "scp@14700"]
+    link, _, figures = drops(link)
+    note(max(took for _, took in figures) < 3000, "five drops with it, each at once after the last", range_of(figures))
+    link, _, figures = drops(link, 3)
+    note(not any(refused for refused, _ in figures), "five drops with it, of a link up for three seconds", range_of(figures))
+    units, both = ["scp", "scp@14700"], "scp 'scp@*.service'"
+    records(more=30)
+    is_done = wait_until(is_listening) and reload(both)
+    records(one="302225555", more=16)
+    is_done = not reload(both) and succeeds(block("RECORDS_FORCE")) and is_done
+    records(one="302226666")
+    is_done = not reload(both) and is_done
+    link, got, _ = drops(link, 0)
+    note(is_done and set(got) == {"302225555"}, "both take a doubtful file by its digest, and no further one", got)
+    is_done = wait_until(is_listening) and succeeds(f"echo RECORDS_FORCE=1 > /run/scp.force; systemctl reload {both}")
+    link, got, _ = drops(link, 0)
+    note(is_done and set(got) == {"302226666"} and succeeds("rm /run/scp.force"), "and any by RECORDS_FORCE=1", got)
     has_link = f"pid={main_pid()}," in sh("ss -tnp state established sport = :14700")[1]
     idle, holder = reversed(units) if has_link else units
     wait_until(is_listening)
@@ -266,17 +280,16 @@ def spare():
     is_done, link, *figure = restarted(link, holder)
     note(is_done and figure[0] == 0, f"restart of {holder}, which has it", range_of([figure]))
     link.close()
-    _, lines = heard(lambda: time.sleep(10), "", units="-u scp -u scp@14700")
-    note(True, "nobody is connected for ten seconds",
+    _, lines = heard(lambda: time.sleep(10), "", units="-u scp -u scp@14700 -u scp.socket -u scp@14700.socket")
+    note(len(lines) < 60, "nobody is connected for ten seconds",
          f"{len(lines)} lines of journal, {lines.count('listen: cannot listen')} starts in vain")
-    listener = f"pid={main_pid()}," in sh("ss -ltnp sport = :14700")[1]
-    other = units[listener]
+    other = units[f"pid={main_pid()}," in sh("ss -ltnp sport = :14700")[1]]
     is_done = succeeds(f"systemctl restart {other}")
     link, *figure = connect()
     note(is_done and figure[0] == 0, f"restart of {other}, which can't listen, and the switch comes", range_of([figure]))
-    sh("systemctl disable --now scp@14700; rm -r /etc/systemd/system/scp*.service.d; systemctl daemon-reload")
     link.close()
-    sh("systemctl restart scp")
+    sh("systemctl disable --now scp@14700; rm /etc/systemd/system/scp*.service.d/spare.conf; systemctl daemon-reload")
+    note(is_gone("/run/scp-14700/commands") and wait_until(is_listening), "the spare is removed, as the document says")
 
 
 def faulty():
@@ -295,9 +308,19 @@ def faulty():
     is_done = reload()
     (link, took), lines = heard(lambda: drop(link), RECORDS, "answered from")
     note(not is_done and call(link) == "302221111", "a missing file: reload fails, and the next run has the last copy", lines)
+    sh(f"mkfifo {RECORDS}")
+    is_done, lines = heard(reload, RECORDS)
+    link, took = drop(link, 12)
+    note(not is_done and call(link) == "302221111", "a path that hangs: reload fails, and a drop", f"{took}; {lines}")
     sh(f"systemctl stop scp; rm -rf /run/scp; mv {RECORDS}.away {RECORDS}; echo x >> {RECORDS}")
     is_done, lines = heard(lambda: succeeds("systemctl start scp"), RECORDS, "answered from")
     note(is_done and call(linked()) == "302221111", "a faulty file after a boot, with /run empty", lines)
+    sh("rm -rf /run/scp")
+    link, took = drop(linked())
+    note(call(link) == "302221111" and os.path.exists("/run/scp/commands"), "/run is lost under a link, and a drop", took)
+    sh(f"systemctl stop scp; rm -rf /run/scp; : > {LOGS}/good.csv")
+    is_done, lines = heard(lambda: succeeds("systemctl start scp"), "answered from", "last good")
+    note(is_done and call(linked()) == "302223344", "and with an empty good.csv", lines)
     sh("systemctl stop scp; mkdir /root/kept; mv /var/log/scp/* /root/kept/; rm -rf /run/scp")
     is_done, lines = heard(lambda: succeeds("systemctl start scp"), RECORDS)
     note(not is_done, "a faulty file at the first start: it fails", lines[:1])
@@ -321,7 +344,7 @@ def doubtful():
         link, _ = drop(link)
         is_kept = call(link) == "302223344" and sh(f"grep -c , {RUN}/now.csv")[1] == "21"
         note(not is_done and lines and is_kept, f"a file {what}: not reloaded, and the next run has the copy", lines)
-    note(force() and not os.path.exists("/run/scp.force"), "RECORDS_FORCE=1, by the document's command")
+    note(force(), "RECORDS_FORCE= and the digest, by the document's command")
     records("800555555,,1234567,00:00,24:00,1,pass", one="302220000", more=13)
     is_done, lines = heard(reload, RECORDS)
     note(is_done and "numbers 18, added 1, removed 1, changed 1" in lines[0], "a count of changes", lines)
@@ -331,8 +354,13 @@ def doubtful():
     begun = time.monotonic()
     is_done = reload()
     note(is_done, "99,004 rules are reloaded", f"{time.monotonic() - begun:.1f} s")
-    link, text = drop(link)
-    note(True, "a drop with them", text)
+    link, took = drop(link, 10)
+    note(call(link) == "302220000", "a drop with them", took)
+    records(more=99000)
+    reloading = subprocess.Popen(["systemctl", "reload", "scp"])
+    time.sleep(0.5)
+    link, took = drop(link, 15)
+    note(call(link) == "302223344", "a drop during a reload of them", f"{took}; the reload ends with {reloading.wait()}")
     records()
     force()
     over(link)
@@ -353,7 +381,12 @@ def full_disk():
     (link, took), lines = heard(lambda: drop(link), RECORDS, "answered from")
     is_kept = sh(f"grep -c , {RUN}/now.csv")[1] == "3005"
     note(is_kept, "then a faulty edit and a drop: served by these", f"{took}; {lines}")
-    sh("rm /var/log/scp/fill*")
+    run, _ = name(), sh("rm /var/log/scp/fill*")
+    time.sleep(12)
+    now, _ = int(time.time() * 1000), call(link)
+    link, took = drop(link, 3)
+    last = sh(f"zcat -f {LOGS}/{run}-00000* | awk '$2 == \"P\" {{ print $3 }}' | tail -n 1")[1]
+    note(int(last or 0) >= now, "room is made: then the log goes on", f"a call at {now}, the last in the piece at {last}; {took}")
     records()
     force()
     over(link)
@@ -378,8 +411,8 @@ def empty_runs():
     old = files("run-*")
     sh(f"touch -d '31 days ago' {LOGS}/run-*; for it in {LOGS}/run-*; do mv $it $(echo $it | sed s/run-20../run-1999/); done")
     over(linked())
-    left = files("run-*")
-    note(len(left) <= 3, f"31 days later: {len(old)} files, then", left)
+    is_swept = wait_until(lambda: len(files("run-*")) <= 3)
+    note(is_swept, f"31 days later: {len(old)} files, then", files("run-*"))
 
 
 def upgrade():
@@ -394,8 +427,7 @@ def upgrade():
 
 def starts():
     drop_in("Environment=ADDRESS=192.0.2.9:14700")
-    is_done = succeeds("systemctl restart scp")
-    note(not is_done, "restart fails for an address that isn't there", show("scp", "ActiveState", "Result"))
+    note(not succeeds("systemctl restart scp"), "restart fails for an address that isn't there", show("scp", "ActiveState", "Result"))
     drop_in("Environment=OPTIONS=--nonsense")
     is_done = succeeds("systemctl restart scp")
     time.sleep(1.5)
@@ -406,12 +438,11 @@ def starts():
     link = linked()
     records(one="302220808")
     is_done, lines = heard(reload, "fork")
-    is_done = is_done and call(link) == "302220808" and not lines
-    note(is_done, "eight workers, and a reload: tasks", show("scp", "TasksCurrent", "TasksMax"))
+    note(is_done and call(link) == "302220808" and not lines, "eight workers, and a reload: tasks",
+         show("scp", "TasksCurrent", "TasksMax"))
     _, lines = heard(lambda: sh("systemctl stop scp"), "link 0")
-    is_done = link.recv(1) == b"" and is_gone("/run/scp/commands")
-    note(is_done and "down quit" in lines[0] and "accepted 2" in lines[1],
-         "stop drains the link, and removes the FIFO", lines)
+    is_done = link.recv(1) == b"" and is_gone("/run/scp/commands") and "down quit" in lines[0] and "accepted 2" in lines[1]
+    note(is_done, "stop drains the link, and removes the FIFO", lines)
     records()
     sh(f"rm {DROP_IN}; systemctl daemon-reload; systemctl start scp")
 
@@ -428,12 +459,11 @@ def plain_file():
         over(socket.create_connection(("127.0.0.1", 14700)))
     note(len(files("run-*.now")) == 1, "runs without a message leave nothing", files("run-*.now"))
     text = replay(run)
-    is_done = succeeds("logrotate /etc/logrotate.d/scp")
-    is_done = is_done and files(run + ".log*") == [run + ".log.1.gz"]
+    is_done = succeeds("logrotate /etc/logrotate.d/scp") and files(run + ".log*") == [run + ".log.1.gz"]
     note(is_done and replay(run) == text and "accepted 2" in text, "logrotate, and the replay", text)
     sh(f"touch -d '31 days ago' {LOGS}/{run}*; rm -r /etc/systemd/system/scp.service.d")
     sh("systemctl daemon-reload; systemctl restart scp")
-    note(not files(run + ".log*"), "31 days later, when a run begins", files("run-*.log*"))
+    note(wait_until(lambda: not files(run + ".log*")), "31 days later, when a run begins", files("run-*.log*"))
     link, run = linked(), name()
     over(link)
     note(not files("run-*.now") and files(run + "-00000*"), "and in pieces again", files(run + "*"))
@@ -456,8 +486,8 @@ def template():
     pid = main_pid()
     is_done = succeeds("set -e\n" + block("scp-offset.timer"))
     is_started, lines = heard(lambda: succeeds("systemctl start scp-offset"), RECORDS)
-    is_done = is_done and is_started and " instead of key,100,60" in lines[0]
-    note(is_done and main_pid() == pid and call(other), "scp-offset, for Athens", lines)
+    is_done = is_done and is_started and " instead of key,100,60" in lines[0] and main_pid() == pid and call(other)
+    note(is_done, "scp-offset, for Athens", lines)
     records()
     over(other)
 
@@ -474,11 +504,10 @@ def closed_day():
     for one, file in (("302220024", "$(TZ=Europe/Vienna date +%F).csv"), ("302220001", "usual.csv")):
         records(one=one)
         sh(f"mv {RECORDS} /etc/scp/{file}; cp {RUN}/good.csv {RECORDS}")
-    for command in ("true", "rm /etc/scp/20*.csv", "true"):
+    for command in ("true", "head -n 1 /etc/scp/usual.csv > /etc/scp/20*.csv", "true", "rm /etc/scp/20*.csv"):
         active()
-        sh(f"{command}; systemctl start scp-day")
-        got.append(call(link))
-    note(got == ["302220024", "302220001", "302220001"], "the records of the day, and the next one", got)
+        got.append((succeeds(f"{command}; systemctl start scp-day"), call(link)[-2:]))
+    note(got == [(True, "24"), (False, "24"), (False, "24"), (True, "01")], "the day's records, faulty ones, the next day's", got)
     over(link)
 
 
