@@ -386,7 +386,7 @@ def full_disk():
     now, _ = int(time.time() * 1000), call(link)
     link, took = drop(link, 3)
     last = sh(f"zcat -f {LOGS}/{run}-00000* | awk '$2 == \"P\" {{ print $3 }}' | tail -n 1")[1]
-    note(int(last or 0) >= now, "room is made: then the log goes on", f"a call at {now}, the last in the piece at {last}; {took}")
+    note(int(last or 0) > now - 1000, "room is made: then the log goes on", f"a call at {now}, the last in the piece at {last}; {took}")
     records()
     force()
     over(link)
@@ -444,7 +444,8 @@ def starts():
     is_done = link.recv(1) == b"" and is_gone("/run/scp/commands") and "down quit" in lines[0] and "accepted 2" in lines[1]
     note(is_done, "stop drains the link, and removes the FIFO", lines)
     records()
-    sh(f"rm {DROP_IN}; systemctl daemon-reload; systemctl start scp")
+    is_done = succeeds(f"rm {DROP_IN}; systemctl daemon-reload; echo links > /run/scp/commands; systemctl start scp")
+    note(is_done, "a command while there is no FIFO: the next start succeeds")
 
 
 def plain_file():
@@ -519,7 +520,8 @@ for one in TRIES:
     try:
         one()
     except Exception as fault:
-        at = fault.__traceback__.tb_next
-        note(False, one.__name__, f"{type(fault).__name__}: {fault} (line {at.tb_lineno if at else '?'})")
+        line = getattr(fault.__traceback__.tb_next, "tb_lineno", "?")
+        note(False, one.__name__, f"{type(fault).__name__}: {fault} (line {line})\n"
+             + sh("journalctl -q -u scp -n 12")[1])
 print(f"{passed} passed, {failed} failed")
 sys.exit(failed > 0)
