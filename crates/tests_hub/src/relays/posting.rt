@@ -95,6 +95,8 @@ fn post_all<R: Wait + Clock, G: Gate, A: Ledger, B: Ledger, C: Ledger>(
         }
     }
     if plan.has_stranger {
+        // Its Abort would be sent before an answer that waits.
+        await_sent(rt, load.marks, plan.count);
         thread::sleep(rt, Duration::from_millis(plan.pause));
         let posted = post(rt, hub, seat, load, frame_of(load.alloc, STRANGE));
         return matches!(posted, Some(Posted::Aborted(_)));
