@@ -1,5 +1,6 @@
 mod After
-mod HashMaps
+mod Led
+mod Maps
 mod PuttingBack
 mod Stepping
 pub mod Fronts

@@ -1,6 +1,6 @@
 pub mod Calls
-pub mod IdentifierHash
 pub mod Laws
+pub mod Leads
 pub mod Row
 pub mod Rows
 pub mod Serving

@@ -8,22 +8,26 @@ ghost use Rattle.std.specs.FinMap as map;
 ghost use Rattle.fp_row.specs.contracts.rows.Rows.{the_row};
 ghost use Rattle.fp_row.specs.contracts.row.Row as row_type;
 ghost use Rattle.fp_row.specs.declared.row.Row.{Row};
-ghost use Rattle.fp_row.specs.Rows.{Closes, ClosesAt, IsAfter, count_due, entry_count, is_above, is_sent};
+ghost use Rattle.fp_row.specs.Leads.{from_above, key_in};
+ghost use Rattle.fp_row.specs.Rows.{Closes, ClosesAt, IsAfter, count_due, entry_count, is_sent};
 
-use crate::identifier_hash::IdentifierHasher;
 use crate::{Ending, Row};
 use fp_digits::Moment;
+use slab::Slab;
 use std::alloc::Global;
-use std::collections::HashMap;
-use std::hash::BuildHasherDefault;
+use std::collections::BTreeMap;
 use std::marker::Model;
+use std::ops::Bound;
 
 /// Rows, each under a local transaction identifier (ITU-T Q.773, 4.2.1.3), at most one under each. Contracts see them
 /// as a finite map.
 #[derive(Debug, Drop)]
 pub struct Rows {
-    // By hash, since identifiers come back in any order.
-    rows: HashMap<u32, Row, BuildHasherDefault<IdentifierHasher>>,
+    // Each row stays where it is while others come and go, until the slab grows. Its identifier is beside it: a row
+    // that is lent may be changed in any way.
+    rows: Slab<(u32, Row)>,
+    // Leads from each identifier to the key of its row.
+    index: BTreeMap<u32, usize>,
     alloc: Global,
 }
 
@@ -33,21 +37,31 @@ impl Model for Rows {
     ghost use Rattle.std.specs.Coded.{coded_ℕ};
     ghost use Rattle.fp_row.specs.contracts.row.Row as row_type;
     ghost use Rattle.fp_row.specs.declared.row.Row.{Row};
+    ghost use Rattle.fp_row.specs.Leads.{Leads, key_in, values_in};
 
     ghost Value = { map.FinMap nat_cmp Row };
 
     ghost coded = { map.code coded_ℕ row_type.the_row.coded };
 
-    ghost view = { λ rows. map.from_entries rows.rows.entries };
+    ghost view = { λ rows. values_in rows.rows };
+
+    ghost invariant = { λ rows. Leads (key_in rows.index) rows.rows };
 }
 
-/// Whether an identifier is above this one, as each is above `None`.
-fn is_above(local: Option<u32>, other: u32) -> bool
-    ensures { result ≡ is_above local other }
+/// The key that an index has for an identifier.
+fn key_in(index: &BTreeMap<u32, usize>, local: u32) -> Option<usize>
+    ensures { result ≡ key_in index.now local }
+{
+    index.get(&local).copied()
+}
+
+/// Where the identifiers above one begin, as all are above `None`.
+fn from_above(local: Option<u32>) -> Bound<u32>
+    ensures { result ≡ from_above local }
 {
     match local {
-        Some(local) => local < other,
-        None => true,
+        Some(local) => Bound::Excluded(local),
+        None => Bound::Unbounded,
     }
 }
 
@@ -75,7 +89,8 @@ impl Rows {
         ensures { result ≡ map.empty }
     {
         Rows {
-            rows: HashMap::with_hasher(alloc, BuildHasherDefault::new()),
+            rows: Slab::new(alloc),
+            index: BTreeMap::new(alloc),
             alloc,
         }
     }
@@ -99,17 +114,29 @@ impl Rows {
         ensures err { IfErr result (λ back. (back ≡ row) × (self.new ≡ self.old)) }
         ensures replaces { IsTrue (map.contains_key self.old local) → IsOk result }
     {
-        match self.rows.insert(local, row) {
-            Ok(_before) => Ok(()),
-            Err(refused) => Err(refused.value.1),
+        if let Some(key) = key_in(&self.index, local) {
+            self.rows[key].1 = row;
+            return Ok(());
         }
+        if self.rows.reserve(1).is_err() {
+            return Err(row);
+        }
+        let key = self.rows.vacant_key();
+        if self.index.insert(local, key).is_err() {
+            return Err(row);
+        }
+        self.rows.insert_reserved((local, row));
+        Ok(())
     }
 
     /// Gives the row under an identifier, if there is one.
     pub fn get(&self, local: u32) -> Option<&Row>
         ensures { option_copied result ≡ map.get self.now local }
     {
-        self.rows.get(&local)
+        let Some(key) = key_in(&self.index, local) else {
+            return None;
+        };
+        Some(&self.rows[key].1)
     }
 
     /// Lends the row under an identifier, to be changed, if there is one: what the reference holds in the end is then
@@ -118,7 +145,10 @@ impl Rows {
         ensures* writes_back { sem 𝓛 (LendsIf the_row row_type.the_row self.entry result (λ (w : Row). map.insert self.old local w) self.old) }
         ensures value { option_copied_mut result ≡ map.get self.old local }
     {
-        self.rows.get_mut(&local)
+        let Some(key) = key_in(&self.index, local) else {
+            return None;
+        };
+        Some(&mut self.rows[key].1)
     }
 
     /// Takes the row under an identifier out and hands it over, if there is one. Takes no memory.
@@ -126,7 +156,10 @@ impl Rows {
         ensures row { result ≡ map.get self.old local }
         ensures others { self.new ≡ map.remove self.old local }
     {
-        self.rows.remove(&local)
+        let Some(key) = self.index.remove(&local) else {
+            return None;
+        };
+        Some(self.rows.remove(key).1)
     }
 
     /// Closes each dialogue, and takes those off of which nothing is left. `sending` is the dialogue of which a frame
@@ -134,27 +167,29 @@ impl Rows {
     pub fn close_all(&mut self, sending: Option<u32>)
         ensures { (local : ℕ) → ClosesAt (is_sent sending local) (map.get self.old local) (map.get self.new local) }
     {
-        self.rows
-            .retain(|local, row| close(row, is_sent(sending, *local)));
+        self.rows.retain(|_key, entry| close(&mut entry.1, is_sent(sending, entry.0)));
+        let rows = &self.rows;
+        self.index.retain(|_local, key| rows.contains(*key));
     }
 
     /// Gives the least identifier above this one that has a row, or the least of all for `None`: `None` if there is
-    /// none. Goes through all of them.
+    /// none.
     pub fn after(&self, local: Option<u32>) -> Option<u32>
         ensures { IsAfter self.now local result }
     {
-        self.rows
-            .keys()
-            .copied()
-            .filter(|other| is_above(local, *other))
-            .min()
+        let mut above = self.index.range((from_above(local), Bound::Unbounded));
+        let Some((next, _key)) = above.next() else {
+            return None;
+        };
+        Some(*next)
     }
 
     /// How many of the dialogues are due at a moment.
     pub fn count_due(&self, moment: Moment) -> usize
         ensures { result ≡ count_due self.now moment }
     {
-        self.rows.values().filter(|row| row.is_due(moment)).count()
+        let due = self.rows.iter().filter(|entry| entry.1.1.is_due(moment));
+        due.count()
     }
 
     /// How many entries the dialogues keep: all that each of them accepted. Goes through all of them.
@@ -163,8 +198,8 @@ impl Rows {
         ensures { result ≡ entry_count self.now }
     {
         self.rows
-            .values()
-            .map(|row| row.accepted.len() as u64)
+            .iter()
+            .map(|entry| entry.1.1.accepted.len() as u64)
             .sum()
     }
 }

@@ -1,25 +1,62 @@
-use Rattle.std.proofs.Common.{is_some, refl, sym, ap, ◌∙◌}
-use Rattle.std.proofs.lemmas.Bool.{false≢true}
+use Rattle.std.proofs.Common.{◌≡◌, ℕ, Some, None, cond, eqb, inr, refl, rules, sym, ap, subst, ◌∙◌}
+use Rattle.std.specs.BTreeMap.{UpdatesBy}
 use Rattle.std.specs.FinMap as map
-use Rattle.fp_row.proofs.HashMaps.{get-map_of, put_there}
-use Rattle.fp_row.proofs.rows.Rows.insert.Goals.{in-Ok+in-Some-1, in-Ok+in-None-1, in-Err}
+use Rattle.std.specs.Ordering.{nat_cmp}
+use Rattle.slab.specs.Slab.{Updates}
+use Rattle.fp_row.specs.Leads.{Leads, key_in, values_in}
+use Rattle.fp_row.proofs.Led.{added, changed_at, leads_put, leads_same, leads_written, overwritten, unchanged, without, written}
 use Rattle.fp_row.proofs.rows.Rows.insert.Goals as goal
+use Rattle.fp_row.proofs.rows.Rows.insert.Goals.{After-insert_reserved}
+
+-- the identifier leads to an entry, whose row is written over
+there : (c : goal.After-drop-index_mut) → key_in c.self.inside.index c.args.local ≡ Some c.in-Some.key
+there c = sym c.key_in.ensures ∙ c.in-Some.is
+
+pub invariant_of-self : goal.invariant_of-self
+invariant_of-self c = leads_written _ _ c.self.invariant _ _ _ (there c) c.args.row (overwritten _ _ c.self.invariant _ _ (there c) _ c.index_mut.ensures.value c.args.row)
+
+pub returns-in-Some-clause-ok : goal.returns-in-Some-clause-ok
+returns-in-Some-clause-ok c =
+    written _ _ c.self.invariant _ _ _ (there c) c.args.row (overwritten _ _ c.self.invariant _ _ (there c) _ c.index_mut.ensures.value c.args.row)
+    ∙ ap (λ m. map.insert m c.args.local c.args.row) c.self.view_is
+
+-- it leads nowhere, and there is no memory for the slab
+pub invariant_of-self-then-is_err : goal.invariant_of-self-then-is_err
+invariant_of-self-then-is_err c = leads_same _ _ c.self.invariant _ _ (λ q. refl) (ap (λ s. s.slots) c.reserve.ensures.rest_kept)
+
+pub returns-then-is_err-clause-replaces : goal.returns-then-is_err-clause-replaces
+returns-then-is_err-clause-replaces c = λ has. absurd (without _ _ c.self.invariant _ c.self.view_is _ (sym c.key_in.ensures ∙ c.in_default.is) has)
+
+-- or for the index
+pub invariant_of-self-then-is_err-2 : goal.invariant_of-self-then-is_err-2
+invariant_of-self-then-is_err-2 c =
+    let same : c.insert.new.self.entries ≡ c.self.inside.index.entries = search rules in
+    leads_same _ _ c.self.invariant _ _ (unchanged c.self.inside.index c.insert.new.self same) (ap (λ s. s.slots) c.reserve.ensures.rest_kept)
+
+pub returns-then-is_err-2-clause-replaces : goal.returns-then-is_err-2-clause-replaces
+returns-then-is_err-2-clause-replaces c = λ has. absurd (without _ _ c.self.invariant _ c.self.view_is _ (sym c.key_in.ensures ∙ c.in_default.is) has)
+
+module _ (c : After-insert_reserved) where
+  absent : key_in c.self.inside.index c.args.local ≡ None
+  absent = sym c.key_in.ensures ∙ c.in_default.is
+
+  grown : Leads (key_in c.self.inside.index) c.reserve.new.self
+  grown = leads_same _ _ c.self.invariant _ _ (λ q. refl) (ap (λ s. s.slots) c.reserve.ensures.rest_kept)
+
+  -- the row is put where the index leads now
+  now : (q : ℕ) → key_in c.insert.new.self q ≡ cond (eqb q c.args.local) (Some c.vacant_key-key.result) (key_in c.self.inside.index q)
+  now =
+      let updates : UpdatesBy nat_cmp (nat_cmp c.args.local) c.self.inside.index c.insert.new.self (Some c.vacant_key-key.result) = search rules in
+      changed_at c.self.inside.index c.insert.new.self c.args.local _ updates
+
+  put : Updates c.reserve.new.self c.insert_reserved.new.self c.vacant_key-key.result (Some (c.args.local, c.args.row))
+  put = subst (λ key. Updates c.reserve.new.self c.insert_reserved.new.self key (Some (c.args.local, c.args.row))) (c.insert_reserved.ensures.key ∙ sym c.vacant_key-key.ensures.value) c.insert_reserved.ensures.updates
+
+pub invariant_of-self-2 : goal.invariant_of-self-2
+invariant_of-self-2 c = leads_put _ _ (grown c) _ _ _ _ (Some c.args.row) (now c) (put c) (inr (absent c, c.vacant_key-key.ensures.vacant))
 
 pub returns-clause-ok : goal.returns-clause-ok
 returns-clause-ok c =
-    let put = put_there c.self.inside.rows c.insert.new.self c.args.local c.args.row in
-    let same = ap (λ m. map.insert m c.args.local c.args.row) c.self.view_is in
-    elim c.match-insert.branch [
-      | in-Ok+in-Some-1 w ↦ rw w.result-is (put w.in-Ok.ensures.updates ∙ same)
-      | in-Ok+in-None-1 w ↦ rw w.result-is (put w.in-Ok.ensures.updates ∙ same)
-      | in-Err w ↦ rw w.result-is tt
-    ]
-
--- where it failed the identifier had no row
-pub returns-clause-replaces : goal.returns-clause-replaces
-returns-clause-replaces c = λ has.
-    elim c.match-insert.branch [
-      | in-Ok+in-Some-1 w ↦ rw w.result-is refl
-      | in-Ok+in-None-1 w ↦ rw w.result-is refl
-      | in-Err w ↦ absurd (false≢true (sym (ap is_some (sym (ap (λ m. map.get m c.args.local) c.self.view_is) ∙ get-map_of c.self.inside.rows.entries c.args.local ∙ w.in-Err.ensures.absent)) ∙ has))
-    ]
+    added _ _ (grown c) _ _ _ _ c.args.row (now c) (put c) (absent c) c.vacant_key-key.ensures.vacant
+    ∙ ap (λ s. map.insert (values_in s) c.args.local c.args.row) c.reserve.ensures.rest_kept
+    ∙ ap (λ m. map.insert m c.args.local c.args.row) c.self.view_is
