@@ -4,15 +4,15 @@ use Rattle.std.proofs.Common.{◌≡◌, ◌≢◌, ◌⊎◌, inl, inr, ℕ, ze
 use Rattle.std.proofs.lemmas.Bool.{eqb-true, false≢true}
 use Rattle.std.proofs.lemmas.Bool.Decides.{nat_tests}
 use Rattle.std.proofs.lemmas.Map.Entries.{lookup-filter-values, option_filter}
-use Rattle.std.proofs.lemmas.Map.Keys.{IsDistinct-from_sorted}
 use Rattle.std.proofs.lemmas.Option.{cond_some, same_Some}
-use Rattle.std.specs.BTreeMap.{BTreeMap, IsOrdered, UpdatesBy}
-use Rattle.std.specs.Cmp.{eq_by_cmp_equiv, nat_cmp_total}
+use Rattle.std.specs.HashMap.{HashMap, IsUnique, UpdatesBy}
+use Rattle.std.specs.Cmp.{nat_eq_equiv}
 use Rattle.std.specs.FinMap as map
 use Rattle.std.specs.List.{AllByRecursion, IsDistinct, filter}
 use Rattle.std.specs.Map.{keys_of, lookup}
 use Rattle.std.specs.Option.{option_map, option_map_or}
-use Rattle.std.specs.Ordering.{eq_by_cmp, is_eq, nat_cmp}
+use Rattle.std.specs.Ordering.{nat_cmp}
+use Rattle.std.specs.Prelude.{nat_eq}
 use Rattle.slab.specs.Slab.{CalledAt, RetainsFrom, Slab, Updates, entries_from, get, values, with_value}
 use Rattle.slab.proofs.SlabLemmas.{Updates-with_value}
 use Rattle.fp_row.specs.Leads.{Leads, key_in, values_in}
@@ -316,20 +316,21 @@ leads_empty key_of slab nowhere empty = record {
   to_each = λ key local value is. absurd (let clash = ap (λ slots. get_or slots key None) (sym empty) ∙ is in cc);
 }
 
--- what an index has for each identifier after a change at one
-pub changed_at : (before after : BTreeMap ℕ ℕ) (local : ℕ) (key : Option ℕ) → UpdatesBy nat_cmp (nat_cmp local) before after key → (q : ℕ) → key_in after q ≡ cond (eqb q local) key (key_in before q)
-changed_at before after local key updates q = updates.0 q ∙ ap (λ b. cond b key (key_in before q)) (turned local q)
-  where
-    turned : (l q : ℕ) → is_eq (nat_cmp l q) ≡ eqb q l
-    turned l q = grind (arith, nat_tests)
+module _ {S : Type 0} (before after : HashMap ℕ ℕ S) where
+  -- what an index has for each identifier after a change at one
+  pub changed_at : (local : ℕ) (key : Option ℕ) → UpdatesBy nat_eq (nat_eq local) before after key → (q : ℕ) → key_in after q ≡ cond (eqb q local) key (key_in before q)
+  changed_at local key updates q = updates.0 q ∙ ap (λ b. cond b key (key_in before q)) (turned local q)
+    where
+      turned : (l q : ℕ) → nat_eq l q ≡ eqb q l
+      turned l q = grind (arith, nat_tests)
 
--- where the values that pass a test stay
-pub kept_keys : (before after : BTreeMap ℕ ℕ) (p : ℕ → Bool) → IsOrdered nat_cmp before → after.entries ≡ filter (λ (e : ℕ × ℕ). p e.1) before.entries → (q : ℕ) → key_in after q ≡ option_filter p (key_in before q)
-kept_keys before after p ordered is q = ap (lookup (eq_by_cmp nat_cmp q)) is ∙ lookup-filter-values (eq_by_cmp_equiv nat_cmp_total) p q before.entries (IsDistinct-from_sorted nat_cmp _ ordered)
+  -- where the values that pass a test stay
+  pub kept_keys : (p : ℕ → Bool) → IsUnique nat_eq before → after.entries ≡ filter (λ (e : ℕ × ℕ). p e.1) before.entries → (q : ℕ) → key_in after q ≡ option_filter p (key_in before q)
+  kept_keys p unique is q = ap (lookup (nat_eq q)) is ∙ lookup-filter-values nat_eq_equiv p q before.entries unique
 
--- and where its entries stay
-pub unchanged : (before after : BTreeMap ℕ ℕ) → after.entries ≡ before.entries → (q : ℕ) → key_in after q ≡ key_in before q
-unchanged before after same q = ap (lookup (λ k. is_eq (nat_cmp q k))) same
+  -- and where its entries stay
+  pub unchanged : after.entries ≡ before.entries → (q : ℕ) → key_in after q ≡ key_in before q
+  unchanged same q = ap (lookup (nat_eq q)) same
 
 -- two functions of what is written through a reference that is lent agree
 pub lent : {N A B C : Type 0} {name : N} {f g : A → B} → ((w : A) → f w ≡ g w) → ◌≡◌ {A = (N × (A → B)) ⊎ C} (inl (name, f)) (inl (name, g))

@@ -1,4 +1,5 @@
 pub mod Calls
+pub mod IdentifierHash
 pub mod Laws
 pub mod Leads
 pub mod Row

@@ -33,6 +33,7 @@
 mod done;
 mod ending;
 mod heap_core;
+mod identifier_hash;
 mod laws;
 mod request_frame;
 mod request_frames;

@@ -8,16 +8,20 @@ ghost use Rattle.std.specs.FinMap as map;
 ghost use Rattle.fp_row.specs.contracts.rows.Rows.{the_row};
 ghost use Rattle.fp_row.specs.contracts.row.Row as row_type;
 ghost use Rattle.fp_row.specs.declared.row.Row.{Row};
-ghost use Rattle.fp_row.specs.Leads.{from_above, key_in};
-ghost use Rattle.fp_row.specs.Rows.{Closes, ClosesAt, IsAfter, count_due, entry_count, is_sent};
+ghost use Rattle.fp_row.specs.Leads.{key_in};
+ghost use Rattle.fp_row.specs.Rows.{Closes, ClosesAt, IsAfter, count_due, entry_count, is_above, is_sent};
 
+use crate::identifier_hash::IdentifierHasher;
 use crate::{Ending, Row};
 use fp_digits::Moment;
 use slab::Slab;
 use std::alloc::Global;
-use std::collections::BTreeMap;
+use std::collections::HashMap;
+use std::hash::BuildHasherDefault;
 use std::marker::Model;
-use std::ops::Bound;
+
+/// Leads from identifiers to slab keys.
+type Index = HashMap<u32, usize, BuildHasherDefault<IdentifierHasher>>;
 
 /// Rows, each under a local transaction identifier (ITU-T Q.773, 4.2.1.3), at most one under each. Contracts see them
 /// as a finite map.
@@ -27,7 +31,7 @@ pub struct Rows {
     // that is lent may be changed in any way.
     rows: Slab<(u32, Row)>,
     // Leads from each identifier to the key of its row.
-    index: BTreeMap<u32, usize>,
+    index: Index,
     alloc: Global,
 }
 
@@ -49,19 +53,19 @@ impl Model for Rows {
 }
 
 /// The key that an index has for an identifier.
-fn key_in(index: &BTreeMap<u32, usize>, local: u32) -> Option<usize>
+fn key_in(index: &Index, local: u32) -> Option<usize>
     ensures { result ≡ key_in index.now local }
 {
     index.get(&local).copied()
 }
 
-/// Where the identifiers above one begin, as all are above `None`.
-fn from_above(local: Option<u32>) -> Bound<u32>
-    ensures { result ≡ from_above local }
+/// Whether an identifier is above this one, as each is above `None`.
+fn is_above(local: Option<u32>, other: u32) -> bool
+    ensures { result ≡ is_above local other }
 {
     match local {
-        Some(local) => Bound::Excluded(local),
-        None => Bound::Unbounded,
+        Some(local) => local < other,
+        None => true,
     }
 }
 
@@ -90,7 +94,7 @@ impl Rows {
     {
         Rows {
             rows: Slab::new(alloc),
-            index: BTreeMap::new(alloc),
+            index: HashMap::with_hasher(alloc, BuildHasherDefault::new()),
             alloc,
         }
     }
@@ -177,11 +181,11 @@ impl Rows {
     pub fn after(&self, local: Option<u32>) -> Option<u32>
         ensures { IsAfter self.now local result }
     {
-        let mut above = self.index.range((from_above(local), Bound::Unbounded));
-        let Some((next, _key)) = above.next() else {
-            return None;
-        };
-        Some(*next)
+        self.index
+            .keys()
+            .copied()
+            .filter(|other| is_above(local, *other))
+            .min()
     }
 
     /// How many of the dialogues are due at a moment.

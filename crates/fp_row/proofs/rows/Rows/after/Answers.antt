@@ -1,25 +1,20 @@
-use Rattle.std.proofs.Common.{None, Some, subst}
-use Rattle.std.specs.declared.ops.Bound.TheVariants.{Unbounded}
-use Rattle.std.specs.BTreeMap.Range.{IsRangeOf}
-use Rattle.std.specs.Ordering.{nat_cmp}
+use Rattle.std.proofs.Common.{rules, tests, sym, ap, subst, ◌∙◌}
+use Rattle.std.proofs.lemmas.Iterator.Adapters.{option_map_id}
+use Rattle.std.proofs.lemmas.Iterator.Consumers.{YieldsList-from_copied, YieldsList-from_filter, YieldsList-from_rest, min_from_yields_List}
+use Rattle.std.specs.FinMap as map
 use Rattle.fp_row.specs.Leads.{key_in}
-use Rattle.fp_row.specs.Rows.{IsAfter}
-use Rattle.fp_row.proofs.After.{after_none, after_some}
+use Rattle.fp_row.specs.Rows.{is_above}
+use Rattle.fp_row.proofs.After.{IsNextOf, after_of, next_of}
 use Rattle.fp_row.proofs.Led.{has_value}
 use Rattle.fp_row.proofs.rows.Rows.after.Goals as goal
 
--- no key is in the range
-pub returns-in_default : goal.returns-in_default
-returns-in_default c =
-    let index = c.self.inside.index in
-    subst (λ m. IsAfter m c.args.local None) c.self.view_is
-    (after_none _ index (has_value (key_in index) c.self.inside.rows c.self.invariant) c.args.local c.range-above.result
-    (subst (λ b. IsRangeOf nat_cmp b Unbounded index c.range-above.result) c.from_above.ensures (c.range-above.ensures.in_range tt)) c.in_default.ensures.steps.0)
-
--- its first key
 pub returns : goal.returns
 returns c =
-    let index = c.self.inside.index in
-    subst (λ m. IsAfter m c.args.local (Some c.in-Some.next.now)) c.self.view_is
-    (after_some _ index (has_value (key_in index) c.self.inside.rows c.self.invariant) c.args.local c.range-above.result
-    (subst (λ b. IsRangeOf nat_cmp b Unbounded index c.range-above.result) c.from_above.ensures (c.range-above.ensures.in_range tt)) _ _ c.in-Some.ensures.steps)
+    let keys = c.keys.result in
+    let above = is_above c.args.local in
+    let least = min_from_yields_List _ c.min.result c.min.ensures.ran
+    (YieldsList-from_filter _ above (YieldsList-from_copied (YieldsList-from_rest keys cc)) c.filter.ensures.closure (λ x r q k. search (rules, tests)))
+    in
+    after_of c.args.self.now c.args.local keys
+    (λ q. sym (ap (λ m. map.contains_key m q) c.self.view_is) ∙ has_value (key_in c.self.inside.index) c.self.inside.rows c.self.invariant q ∙ c.keys.ensures.has q) c.min.result
+    (subst (IsNextOf above keys) (sym (sym (option_map_id c.min.result) ∙ least)) (next_of above keys))

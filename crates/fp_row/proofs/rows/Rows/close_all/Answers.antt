@@ -17,7 +17,7 @@ leaves : (c : goal.After-retain-2) (k : ℕ) → LeavesOf (Left c.args.sending) 
 leaves c k = slots_left (Left c.args.sending) _ _ (λ key v keep w next called. search rules) 0 _ _ c.retain.ensures.retained k
 
 now : (c : goal.After-retain-2) (q : ℕ) → key_in c.retain-2.new.self q ≡ option_filter (λ k. is_some (get c.retain.new.self k)) (key_in c.self.inside.index q)
-now c = kept_keys c.self.inside.index c.retain-2.new.self (λ k. is_some (get c.retain.new.self k)) c.retain-2.ensures.was_ordered (filter_same_pairs _ _ _ (λ k v b w g called. search (rules, tests)) _ _ c.retain-2.ensures.filtered)
+now c = kept_keys c.self.inside.index c.retain-2.new.self (λ k. is_some (get c.retain.new.self k)) c.retain-2.ensures.was_unique (filter_same_pairs _ _ _ (λ k v b w g called. search (rules, tests)) _ _ c.retain-2.ensures.filtered)
 
 pub invariant_of-self : goal.invariant_of-self
 invariant_of-self c = leads_left (Left c.args.sending) (λ q. refl) _ _ c.self.invariant _ c.retain.new.self (leaves c) (now c)

@@ -1,7 +1,7 @@
 use Rattle.std.proofs.Common.{◌≡◌, ℕ, Some, None, cond, eqb, inr, refl, rules, sym, ap, subst, ◌∙◌}
-use Rattle.std.specs.BTreeMap.{UpdatesBy}
+use Rattle.std.specs.HashMap.{UpdatesBy}
 use Rattle.std.specs.FinMap as map
-use Rattle.std.specs.Ordering.{nat_cmp}
+use Rattle.std.specs.Prelude.{nat_eq}
 use Rattle.slab.specs.Slab.{Updates}
 use Rattle.fp_row.specs.Leads.{Leads, key_in, values_in}
 use Rattle.fp_row.proofs.Led.{added, changed_at, leads_put, leads_same, leads_written, overwritten, unchanged, without, written}
@@ -46,7 +46,7 @@ module _ (c : After-insert_reserved) where
   -- the row is put where the index leads now
   now : (q : ℕ) → key_in c.insert.new.self q ≡ cond (eqb q c.args.local) (Some c.vacant_key-key.result) (key_in c.self.inside.index q)
   now =
-      let updates : UpdatesBy nat_cmp (nat_cmp c.args.local) c.self.inside.index c.insert.new.self (Some c.vacant_key-key.result) = search rules in
+      let updates : UpdatesBy nat_eq (nat_eq c.args.local) c.self.inside.index c.insert.new.self (Some c.vacant_key-key.result) = search rules in
       changed_at c.self.inside.index c.insert.new.self c.args.local _ updates
 
   put : Updates c.reserve.new.self c.insert_reserved.new.self c.vacant_key-key.result (Some (c.args.local, c.args.row))
