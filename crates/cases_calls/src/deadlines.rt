@@ -21,9 +21,6 @@
 //! | `pass COUNT` | nothing: this number of identifiers is given |
 //! | `link ID` | the link of an identifier |
 
-mod register;
-
-use crate::deadlines::register::Register;
 use crate::values::local_of;
 use anyhow::bail;
 use cases::first_word;
@@ -53,54 +50,55 @@ pub(crate) fn answer(
 
 /// Does to new deadlines what a text says.
 fn of_deadlines(alloc: Global, text: &str, out: &mut String) -> anyhow::Result<()> {
-    change_all(&mut Register::new(alloc)?, text, out)
+    let mut deadlines = Deadlines::new(alloc)?;
+    change_all(&mut deadlines, text, out)
 }
 
 /// Does to deadlines one thing after the other.
-fn change_all(register: &mut Register, text: &str, out: &mut String) -> anyhow::Result<()> {
+fn change_all(deadlines: &mut Deadlines, text: &str, out: &mut String) -> anyhow::Result<()> {
     for part in text.split(", ") {
-        change(register, part, out)?;
+        change(deadlines, part, out)?;
     }
     Ok(())
 }
 
 /// Does something to deadlines, and writes what that gives.
-fn change(register: &mut Register, text: &str, out: &mut String) -> anyhow::Result<()> {
+fn change(deadlines: &mut Deadlines, text: &str, out: &mut String) -> anyhow::Result<()> {
     let (word, rest) = first_word(text);
     match word {
-        "set" => set_of(register, rest),
-        "clear" => clear(register, rest),
-        "due" => push_due(register, rest, out),
-        "count" => push_count(register, out),
-        "fill" => fill(register, rest),
-        "drain" => drain(register, rest, out),
+        "set" => set_of(deadlines, rest),
+        "clear" => clear(deadlines, rest),
+        "due" => push_due(deadlines, rest, out),
+        "count" => push_count(deadlines, out),
+        "fill" => fill(deadlines, rest),
+        "drain" => drain(deadlines, rest, out),
         _ => bail!("no such case"),
     }
 }
 
 /// Gives an identifier the deadline that a text says.
-fn set_of(register: &mut Register, text: &str) -> anyhow::Result<()> {
+fn set_of(deadlines: &mut Deadlines, text: &str) -> anyhow::Result<()> {
     let (local, deadline) = first_word(text);
     let local = local_of(local)?;
-    register.set(local, deadline.parse()?)
+    set(deadlines, local, deadline.parse()?)
 }
 
 /// Takes away the deadline of an identifier.
-fn clear(register: &mut Register, local: &str) -> anyhow::Result<()> {
-    register.clear(local_of(local)?);
+fn clear(deadlines: &mut Deadlines, local: &str) -> anyhow::Result<()> {
+    deadlines.clear(local_of(local)?);
     Ok(())
 }
 
 /// Writes the identifier that is due at a moment.
-fn push_due(register: &Register, moment: &str, out: &mut String) -> anyhow::Result<()> {
+fn push_due(deadlines: &Deadlines, moment: &str, out: &mut String) -> anyhow::Result<()> {
     let moment = moment_of(moment)?;
-    push_local(register.due(moment), out)
+    push_local(deadlines.due(moment), out)
 }
 
 /// Writes how many have a deadline.
-fn push_count(register: &Register, out: &mut String) -> anyhow::Result<()> {
+fn push_count(deadlines: &Deadlines, out: &mut String) -> anyhow::Result<()> {
     push_blank(out)?;
-    write!(out, "{}", register.len())?;
+    write!(out, "{}", deadlines.len())?;
     Ok(())
 }
 
@@ -112,30 +110,39 @@ fn moment_of(text: &str) -> anyhow::Result<Moment> {
     }
 }
 
+/// Gives an identifier a deadline, if there is room for one more.
+fn set(deadlines: &mut Deadlines, local: u32, deadline: u64) -> anyhow::Result<()> {
+    if deadlines.len() >= Deadlines::MOST {
+        bail!("no room");
+    }
+    deadlines.set(local, deadline);
+    Ok(())
+}
+
 /// Gives so many identifiers a deadline each, later and later ones or earlier and earlier ones.
-fn fill(register: &mut Register, text: &str) -> anyhow::Result<()> {
+fn fill(deadlines: &mut Deadlines, text: &str) -> anyhow::Result<()> {
     let (count, order) = first_word(text);
     let count: u16 = count.parse()?;
     let rises = order == "rising";
     for index in 0..count {
         let deadline = if rises { index + 1 } else { count - index };
-        register.set(FIRST + u32::from(index), u64::from(deadline))?;
+        set(deadlines, FIRST + u32::from(index), u64::from(deadline))?;
     }
     Ok(())
 }
 
 /// The identifier that is due, which has no deadline any more.
-fn taken(register: &mut Register, moment: Moment) -> Option<u32> {
-    let local = register.due(moment)?;
-    register.clear(local);
+fn taken(deadlines: &mut Deadlines, moment: Moment) -> Option<u32> {
+    let local = deadlines.due(moment)?;
+    deadlines.clear(local);
     Some(local)
 }
 
 /// Takes away what is due until nothing is, and writes how many there were, the first and the last, and their order.
-fn drain(register: &mut Register, moment: &str, out: &mut String) -> anyhow::Result<()> {
+fn drain(deadlines: &mut Deadlines, moment: &str, out: &mut String) -> anyhow::Result<()> {
     let moment = moment_of(moment)?;
-    match taken(register, moment) {
-        Some(first) => push_drained(drain_all(register, moment, first), out),
+    match taken(deadlines, moment) {
+        Some(first) => push_drained(drain_all(deadlines, moment, first), out),
         None => push_local(None, out),
     }
 }
@@ -151,7 +158,7 @@ struct Drained {
 }
 
 /// What is taken away until nothing is due, the first of it before.
-fn drain_all(register: &mut Register, moment: Moment, first: u32) -> Drained {
+fn drain_all(deadlines: &mut Deadlines, moment: Moment, first: u32) -> Drained {
     let mut drained = Drained {
         count: 1,
         first,
@@ -160,7 +167,7 @@ fn drain_all(register: &mut Register, moment: Moment, first: u32) -> Drained {
         falls: true,
     };
     for _ in 0..Deadlines::MOST {
-        let Some(local) = taken(register, moment) else {
+        let Some(local) = taken(deadlines, moment) else {
             break;
         };
         drained = with_next(drained, local);

@@ -7,7 +7,6 @@ ghost use Rattle.fp_book.specs.Dialogues.{ClockedAt, EndsAt, ExtendsAt, GivesAt,
 ghost use Rattle.fp_row.specs.declared.row.Row.{Row};
 ghost use Rattle.fp_row.specs.Row.{is_ready};
 ghost use Rattle.fp_book.specs.Shelf.{ready_count};
-ghost use Rattle.fp_book.specs.Views.{deadline_at};
 
 use fp_digits::Moment;
 use fp_entry::Entries;
@@ -45,8 +44,6 @@ impl Left {
 /// What comes of a turn that a dialogue takes back, served.
 #[derive(Debug, Drop)]
 pub(crate) struct Served {
-    /// The deadline that the dialogue had.
-    pub(crate) deadline_before: Option<u64>,
     /// What becomes of its request.
     pub(crate) requested: Requested,
     /// What the other parts have to know of the dialogue.
@@ -56,8 +53,6 @@ pub(crate) struct Served {
 /// What comes of the entries that a dialogue accepts.
 #[derive(Clone, Copy, Debug)]
 pub(crate) struct Extended {
-    /// The deadline that the dialogue had.
-    pub(crate) deadline_before: Option<u64>,
     /// What the other parts have to know of the dialogue, and whether it has become ready.
     pub(crate) left: Left,
     /// Whether frames of it that wait are to be dropped.
@@ -69,21 +64,10 @@ pub(crate) struct Extended {
 pub(crate) struct Dropped {
     /// Whether something of it is left.
     pub(crate) is_held: bool,
-    /// The deadline that it had.
-    pub(crate) deadline_before: Option<u64>,
     /// Whether it was ready, so that it has a place in the order of service.
     pub(crate) was_ready: bool,
     /// Whether frames of it wait.
     pub(crate) frames: bool,
-}
-
-/// What comes of a Clock that a dialogue is given.
-#[derive(Clone, Copy, Debug)]
-pub(crate) struct GivenClock {
-    /// The deadline that the dialogue had. It has none until the Clock is served.
-    pub(crate) deadline_before: Option<u64>,
-    /// Whether it has become ready.
-    pub(crate) is_ready: bool,
 }
 
 /// Whether a dialogue has become ready, by whether it was.
@@ -126,7 +110,6 @@ pub(crate) fn take(rows: &mut Rows, local: u32, free: usize) -> Result<Turn, All
 pub(crate) fn give(rows: &mut Rows, done: Done) -> Result<Served, Done>
     ensures ok { IfOk result (λ served. GivesAt rows.old done served.requested served.left rows.new) }
     ensures err { IfErr result (λ back. (back ≡ done) × (rows.new ≡ rows.old)) }
-    ensures before { IfOk result (λ served. served.deadline_before ≡ deadline_at (get rows.old done.turn.local)) }
     ensures known { IsOk result ↔ (turn_of (get rows.old done.turn.local) ≡ Some done.turn) }
 {
     putting_back_changes_nothing();
@@ -134,18 +117,13 @@ pub(crate) fn give(rows: &mut Rows, done: Done) -> Result<Served, Done>
     let Some(row) = rows.get_mut(local) else {
         return Err(done);
     };
-    let deadline_before = row.deadline();
     let requested = match row.give(done) {
         Ok(requested) => requested,
         Err(foreign) => return Err(foreign),
     };
     let left = Left::of(row);
     keep(rows, local, left.is_held);
-    Ok(Served {
-        deadline_before,
-        requested,
-        left,
-    })
+    Ok(Served { requested, left })
 }
 
 /// Gives a turn that wasn't served back to its dialogue, which goes if nothing of it is left. A stale or foreign one
@@ -190,19 +168,16 @@ pub(crate) fn end(rows: &mut Rows, local: u32, ending: Ending, is_sending: bool)
     requires { IsTrue (contains_key rows.old local) }
     ensures ends { EndsAt rows.old local ending is_sending result.is_held rows.new }
     ensures dropped { (row : Row) → get rows.old local ≡ Some row → Drops row is_sending result }
-    ensures before { result.deadline_before ≡ deadline_at (get rows.old local) }
 {
     let Some(row) = rows.get_mut(local) else {
         unreachable!()
     };
-    let deadline_before = row.deadline();
     let was_ready = row.is_ready();
     let frames = row.end(ending, is_sending);
     let is_held = row.is_held();
     keep(rows, local, is_held);
     Dropped {
         is_held,
-        deadline_before,
         was_ready,
         frames,
     }
@@ -221,7 +196,6 @@ pub(crate) fn extend(
     requires { takes_more (get rows.old local) ≡ true }
     ensures ok { IfOk result (λ extended. ExtendsAt rows.old local entries ends is_sending extended.left rows.new) }
     ensures only { OnErr result (entries ≢ []) }
-    ensures before { IfOk result (λ extended. extended.deadline_before ≡ deadline_at (get rows.old local)) }
     ensures drops { IfOk result (λ extended. (row : Row) → get rows.old local ≡ Some row → extended.drops_frames ≡ (ends && drops_frames row is_sending)) }
     ensures err { OnErr result (rows.new ≡ rows.old) }
 {
@@ -230,7 +204,6 @@ pub(crate) fn extend(
         unreachable!()
     };
     let was_ready = row.is_ready();
-    let deadline_before = row.deadline();
     row.accept(entries)?;
     let drops_frames = if ends {
         row.end(Ending::ByPeer, is_sending)
@@ -244,11 +217,7 @@ pub(crate) fn extend(
         deadline: row.deadline(),
     };
     keep(rows, local, left.is_held);
-    Ok(Extended {
-        deadline_before,
-        left,
-        drops_frames,
-    })
+    Ok(Extended { left, drops_frames })
 }
 
 /// Opens a dialogue with these entries: this end knows it by `local`, its peer by `peer`, and it is the `birth`-th of
@@ -274,11 +243,11 @@ pub(crate) fn open(
     }
 }
 
-/// Gives a dialogue that is due a Clock of this moment. If memory runs out, nothing changes.
-pub(crate) fn clock(rows: &mut Rows, local: u32, moment: Moment) -> Result<GivenClock, AllocError>
+/// Gives a dialogue that is due a Clock of this moment, and says whether it has become ready. If memory runs out,
+/// nothing changes.
+pub(crate) fn clock(rows: &mut Rows, local: u32, moment: Moment) -> Result<bool, AllocError>
     requires { is_due_at (get rows.old local) moment ≡ true }
-    ensures ok { IfOk result (λ given. ClockedAt rows.old local moment given.is_ready rows.new) }
-    ensures before { IfOk result (λ given. given.deadline_before ≡ deadline_at (get rows.old local)) }
+    ensures ok { IfOk result (λ joins. ClockedAt rows.old local moment joins rows.new) }
     ensures err { OnErr result (rows.new ≡ rows.old) }
 {
     putting_back_changes_nothing();
@@ -286,10 +255,6 @@ pub(crate) fn clock(rows: &mut Rows, local: u32, moment: Moment) -> Result<Given
         unreachable!()
     };
     let was_ready = row.is_ready();
-    let deadline_before = row.deadline();
     row.accept_clock(moment)?;
-    Ok(GivenClock {
-        deadline_before,
-        is_ready: has_become_ready(row, was_ready),
-    })
+    Ok(has_become_ready(row, was_ready))
 }

@@ -11,7 +11,7 @@ ghost use Rattle.fp_book.specs.Receipt.{IsReceipt};
 ghost use Rattle.fp_book.specs.Shelf.{Sound};
 ghost use Rattle.fp_book.specs.Verdict.{HasItsPlaces, abort_of, begin_of, local_in, lost_of, message_of, more_of, no_dialogue_left, refused_of, too_many};
 
-use crate::serving::{change_deadline, end_serial_unless_held, join};
+use crate::serving::{end_serial_unless_held, join, set_deadline};
 use crate::verdict::Verdict;
 use crate::{
     Book, LoggedStep, Outbox, Posted, ReadyQueue, Receipt, dialogues, messages_keep_a_book_sound,
@@ -294,7 +294,7 @@ impl Book {
         self.births = birth;
         self.entries += count;
         self.totals.accepted += components as u64;
-        change_deadline(&mut self.deadlines, local, None, left.deadline);
+        set_deadline(&mut self.deadlines, local, left.deadline);
         join(&mut self.ready, local, left.is_ready);
         let posted = Posted::Opened(local);
         self.log.add(LoggedStep::Post {
@@ -331,9 +331,8 @@ impl Book {
         drop_frames_if(&mut self.outbox, local, extended.drops_frames);
         self.entries += count as u64;
         self.totals.accepted += components as u64;
-        let before = extended.deadline_before;
         end_serial_unless_held(&mut self.ids, local, extended.left.is_held);
-        change_deadline(&mut self.deadlines, local, before, extended.left.deadline);
+        set_deadline(&mut self.deadlines, local, extended.left.deadline);
         join(&mut self.ready, local, extended.left.is_ready);
         let posted = Posted::Accepted(count as u32);
         self.log.add(LoggedStep::Post {
@@ -360,7 +359,7 @@ impl Book {
             let is_sending = self.outbox.is_sending(local);
             let dropped = dialogues::end(&mut self.rows, local, Ending::Closed, is_sending);
             end_serial_unless_held(&mut self.ids, local, dropped.is_held);
-            self.deadlines.clear(local, dropped.deadline_before);
+            self.deadlines.clear(local);
             leave_if(&mut self.ready, local, dropped.was_ready);
             drop_frames_if(&mut self.outbox, local, dropped.frames);
         }

@@ -26,20 +26,14 @@ pub(crate) fn end_serial_unless_held(ids: &mut LocalIds, local: u32, is_held: bo
     }
 }
 
-/// Gives a dialogue a deadline in place of the one that it has, or takes that away. Takes no memory.
-pub(crate) fn change_deadline(
-    deadlines: &mut Deadlines,
-    local: u32,
-    before: Option<u64>,
-    deadline: Option<u64>,
-)
-    requires before { before ≡ get deadlines.old local }
-    requires room { HasRoom deadlines.old local }
+/// Gives a dialogue its deadline, or takes it away. Takes no memory.
+pub(crate) fn set_deadline(deadlines: &mut Deadlines, local: u32, deadline: Option<u64>)
+    requires { HasRoom deadlines.old local }
     ensures { deadlines.new ≡ with_deadline deadlines.old local deadline }
 {
     match deadline {
-        Some(deadline) => deadlines.set(local, before, deadline),
-        None => deadlines.clear(local, before),
+        Some(deadline) => deadlines.set(local, deadline),
+        None => deadlines.clear(local),
     }
 }
 
@@ -129,8 +123,7 @@ impl Book {
         self.turns -= count;
         self.totals.served += served_count as u64;
         end_serial_unless_held(&mut self.ids, local, served.left.is_held);
-        let before = served.deadline_before;
-        change_deadline(&mut self.deadlines, local, before, served.left.deadline);
+        set_deadline(&mut self.deadlines, local, served.left.deadline);
         join(&mut self.ready, local, served.left.is_ready);
         let given = queue(&mut self.outbox, local, birth, served.requested);
         self.log.add(LoggedStep::Give {

@@ -41,11 +41,11 @@ fn clock_first(
     let Some(local) = deadlines.due(moment) else {
         return Clocked::NoneDue;
     };
-    let Ok(given) = dialogues::clock(rows, local, moment) else {
+    let Ok(joins) = dialogues::clock(rows, local, moment) else {
         return Clocked::OutOfMemory;
     };
-    deadlines.clear(local, given.deadline_before);
-    join(ready, local, given.is_ready);
+    deadlines.clear(local);
+    join(ready, local, joins);
     Clocked::Given
 }
 

@@ -1,7 +1,7 @@
 -- Lanes that are joined to one list, and a timer more or less in one of them.
-use Rattle.fp_timers.proofs.Names.{All, All-append, AreApart, AreFew, Bool, FinMap, IsTimerAt, IsWith, List, None, Some, Timer, ap, append_assoc, arith, drop, drop-append-add, drop-append_seam, false, get, get_or-append-add, get_or-insert_at, get_or_default, insert, joined, len, length, length-append, length-insert, map_insert, map_remove, nat_cmp, refl, remove, set, set-get_or, set_split, subst, suc, sym, take, take-append_seam, timer_at, true, ℕ, ◌++◌, ◌+◌, ◌<◌, ◌∙◌, ◌∷◌, ◌≡◌, ◌≢◌, ◌≤◌}
+use Rattle.fp_timers.proofs.Names.{All, All-append, AreApart, AreFew, Bool, FinMap, IsAt, IsTimerAt, IsWith, List, None, Some, Timer, ap, append_assoc, arith, drop, drop-append-add, drop-append_seam, false, get, get_or-append-add, get_or-insert_at, get_or_default, insert, joined, len, length, length-append, length-insert, map_insert, map_remove, nat_cmp, refl, remove, set, set-get_or, set_split, subst, suc, sym, take, take-append_seam, timer_at, true, ℕ, ◌++◌, ◌+◌, ◌<◌, ◌∙◌, ◌∷◌, ◌≡◌, ◌≢◌, ◌≤◌}
 use Rattle.fp_timers.proofs.Lookups.{found}
-use Rattle.fp_timers.proofs.Maps.{IsAt, get-map_of, len-map_of, map_of, map_of-insert, map_of-remove, others}
+use Rattle.fp_timers.proofs.Maps.{get-map_of, len-map_of, map_of, map_of-insert, map_of-remove, others}
 use Rattle.fp_timers.proofs.Order.{past_end, rises_insert, rises_remove}
 
 -- a list without the timer at a place

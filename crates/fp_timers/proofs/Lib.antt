@@ -4,4 +4,5 @@ mod Lookups
 mod Maps
 mod Names
 mod Order
+mod Searches
 mod Times

@@ -1,5 +1,5 @@
 -- Timers, each of another identifier, as a finite map.
-use Rattle.fp_timers.proofs.Names.{AreApart, FinMap, HasRoom, List, None, Some, Timer, [], ap, arith, cases_lt, cond, contains_key, drop, entries, eq_by_cmp, eqb, false, find, from_entries, get, get-from_entries, get-insert, get-remove, get_or, get_or-remove_above, get_or-remove_below, get_or_default, inl, inr, insert, is_some, len, len-empty, len-insert, length, length-remove, map_insert, map_remove, nat_cmp, nat_cmp-IsAntisymmetric, nat_cmp_total, nat_tests, refl, remove, same_map, set, set-get_or, set_split, subst, suc, sym, take, take-append-drop, timer_at, ℕ, ◌++◌, ◌+◌, ◌<◌, ◌∙◌, ◌∷◌, ◌≡◌, ◌≢◌, ◌≤◌, ◌⊎◌}
+use Rattle.fp_timers.proofs.Names.{AreApart, FinMap, HasRoom, IsAt, IsInOrder, List, None, Some, Timer, [], ap, arith, cases_lt, cond, contains_key, drop, entries, eq_by_cmp, eqb, false, find, from_entries, get, get-from_entries, get-insert, get-remove, get_or, get_or-remove_above, get_or-remove_below, get_or_default, inl, inr, insert, is_some, len, len-empty, len-insert, length, length-remove, map_insert, map_remove, nat_cmp, nat_cmp-IsAntisymmetric, nat_cmp_total, nat_tests, refl, remove, same_map, set, set-get_or, set_split, subst, suc, sym, take, take-append-drop, timer_at, ℕ, ◌++◌, ◌+◌, ◌<◌, ◌∙◌, ◌∷◌, ◌≡◌, ◌≢◌, ◌≤◌, ◌⊎◌}
 use Rattle.fp_timers.proofs.Lookups.{deadline_in, deadline_in_absent, deadline_in_between}
 use Rattle.fp_timers.proofs.Order.{past_end}
 
@@ -57,10 +57,9 @@ len-map_of (t ∷ l) apart =
     ∙ ap (λ b. cond b (len (map_of l)) (len (map_of l) + 1)) new
     ∙ omega (arith, len-map_of l (λ i j lt in_range. apart (suc i) (suc j) (omega arith) (omega arith)))
 
--- the identifier's timer is at this place
-pub record IsAt (timers : List Timer) (local place : ℕ) : Type 0 where
-  pub in_range : place < length timers
-  pub has_local : (timer_at timers place).local ≡ local
+-- identifiers that rise differ
+pub apart_in_order : (l : List Timer) → IsInOrder l → AreApart l
+apart_in_order l sorted i j lt in_range e = omega (arith, sorted i j lt in_range)
 
 -- a timer among others, none of which is its identifier's
 map_of_between : (a b : List Timer) (t : Timer) → get (map_of (a ++ b)) t.local ≡ None → map_of (a ++ t ∷ b) ≡ map_insert (map_of (a ++ b)) t.local t.deadline
@@ -91,6 +90,10 @@ module _ (l : List Timer) (apart : AreApart l) (k : ℕ) where
     -- its timer is removed: the map has it no longer
     pub map_of-remove : map_of (remove l at) ≡ map_remove (map_of l) k
     map_of-remove = sym (ap (λ m. map_remove m k) whole ∙ same _ _ (λ q. grind (arith, nat_tests, removed (map_insert (map_of (remove l at)) (timer_at l at).local (timer_at l at).deadline) k q, inserted (map_of (remove l at)) (timer_at l at).local (timer_at l at).deadline q, none_other, is_at.has_local)))
+
+    -- its timer is written over: the map has the new deadline
+    pub map_of-set : (v : ℕ) → map_of (set l at (record { local = k; deadline = v })) ≡ map_insert (map_of l) k v
+    map_of-set v = placed (record { local = k; deadline = v }) refl ∙ ap (λ m. map_insert m k v) map_of-remove ∙ insert-remove (map_of l) k v
 
   module _ (absent : get (map_of l) k ≡ None) where
     -- no timer is the identifier's

@@ -1,4 +1,4 @@
--- Timers in the order of their deadlines, and what a search finds among them.
+-- Timers in the order of their local identifiers, or of their deadlines, and what a search finds among them.
 use Rattle.std.specs.Prelude.{◌≡◌, ◌≢◌, ℕ, ◌<◌, ◌≤◌, ◌==◌, nat_lt, Bool, false, true, ◌&&◌, ◌||◌, cond, List, [], ◌∷◌, ◌++◌, All, map, length, slice_index_or, Option, Some, None}
 use Rattle.fp_timers.specs.declared.timers.Timer.{Timer}
 
@@ -9,6 +9,10 @@ entries timers = map (λ timer. (timer.local, timer.deadline)) timers
 -- the timer at a place
 abbrev pub timer_at : List Timer → ℕ → Timer
 timer_at timers place = slice_index_or timers place (record { local = 0; deadline = 0 })
+
+-- the identifiers rise, so none comes twice
+abbrev pub IsInOrder : List Timer → Type 0
+IsInOrder timers = (i j : ℕ) → i < j → j < length timers → (timer_at timers i).local < (timer_at timers j).local
 
 -- the deadline is earlier, or the same with a smaller identifier
 abbrev pub comes_before : Timer → Timer → Bool
@@ -21,6 +25,12 @@ IsInTimeOrder timers = (i j : ℕ) → i < j → j < length timers → comes_bef
 -- no identifier comes twice
 abbrev pub AreApart : List Timer → Type 0
 AreApart timers = (i j : ℕ) → i < j → j < length timers → (timer_at timers i).local ≢ (timer_at timers j).local
+
+-- what a list by identifier keeps: its timers in order, at most 4,096, and memory for as many
+pub record IsKept (timers : List Timer) (capacity : ℕ) : Type 0 where
+  pub in_order : IsInOrder timers
+  pub most : length timers ≤ 4096
+  pub room : 4096 ≤ capacity
 
 -- what a lane keeps: its timers in the order of deadlines, and memory for 4,096
 pub record IsKeptInTime (timers : List Timer) (capacity : ℕ) : Type 0 where
@@ -58,6 +68,17 @@ earlier (Some timer) (Some other) = cond (comes_before other timer) (Some other)
 abbrev pub IsEarliestOf : List Timer → Option Timer → Type 0
 IsEarliestOf timers None = timers ≡ []
 IsEarliestOf timers (Some timer) = ((place : ℕ) × IsTimerAt timers timer place) × All (λ other. comes_before other timer ≡ false) timers
+
+-- the identifier's timer is at this place
+pub record IsAt (timers : List Timer) (local place : ℕ) : Type 0 where
+  pub in_range : place < length timers
+  pub has_local : (timer_at timers place).local ≡ local
+
+-- a timer of the identifier would go at this place: smaller identifiers before it, and greater ones from it on
+pub record IsGapFor (timers : List Timer) (local place : ℕ) : Type 0 where
+  pub in_range : place ≤ length timers
+  pub smaller_before : (i : ℕ) → i < place → (timer_at timers i).local < local
+  pub greater_after : (i : ℕ) → place ≤ i → i < length timers → local < (timer_at timers i).local
 
 -- the timer is, or would go, at this place in the order of deadlines: all that come before it are before this place
 pub record IsPlaceFor (timers : List Timer) (timer : Timer) (place : ℕ) : Type 0 where

@@ -39,13 +39,6 @@ impl Lane {
         })
     }
 
-    /// How many there are.
-    pub(crate) fn len(&self) -> usize
-        ensures { result ≡ length self.now }
-    {
-        self.timers.len()
-    }
-
     /// Adds the timer at the end, if it comes after all others, and reports whether it does. Takes no memory.
     pub(crate) fn push(&mut self, timer: Timer) -> bool
         requires { length self.old < Deadlines.MOST }

@@ -5,10 +5,11 @@
 //! since 1970-01-01T00:00:00Z, as a moment is, and may lie beyond the last moment. Memory for 4,096 deadlines is taken
 //! by [`Deadlines::new`], and none after it.
 //!
-//! Each deadline is in one of four lanes, each in the order of deadlines. A new one goes to the end of the first lane
-//! where it comes last. Deadlines that are set the same time ahead come in order, so they mostly share a lane, and one
-//! is seldom put between others. A change is handed the deadline that the identifier has, and looks at the ends of the
-//! lanes first, and searches by halves if it isn't there. [`Deadlines::due`] looks only at the first of each lane.
+//! Each deadline is in a list in the order of identifiers, and in one of four lanes, each in the order of deadlines. A
+//! new one goes to the end of the first lane where it comes last. Deadlines that are set the same time ahead come in
+//! order, so they mostly share a lane, and one is seldom put between others. A change looks at the end of the list and
+//! at the ends of the lanes first, and searches by halves if it isn't there. [`Deadlines::due`] looks only at the first
+//! of each lane.
 //!
 //! The layer above may rely on this: contracts see [`Deadlines`] as a finite map from identifier to deadline, which
 //! [`Deadlines::set`] and [`Deadlines::clear`] change at one identifier alone, and [`Deadlines::clear_all`] empties.
@@ -16,6 +17,8 @@
 //! that deadline is at or before the moment (`specs/Deadlines.antt`).
 #![tactic(auto)]
 
+mod by_deadline;
+mod by_local;
 mod deadlines;
 mod lane;
 mod laws;

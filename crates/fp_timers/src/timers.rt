@@ -1,7 +1,7 @@
-//! Timers, and where they go among others in the order of their deadlines.
+//! Timers, and where they go among others in the order of their identifiers or of their deadlines.
 
 ghost use Rattle.std.specs.Prelude.{◌≡◌, ◌≢◌, ◌<◌, ◌↔◌, All, None, false, length, IfErr, IfOk, IfSome, IsTrue};
-ghost use Rattle.fp_timers.specs.Timers.{IsInTimeOrder, IsPlaceFor, IsTimerAt, comes_before, earlier};
+ghost use Rattle.fp_timers.specs.Timers.{IsInOrder, IsAt, IsGapFor, IsInTimeOrder, IsPlaceFor, IsTimerAt, comes_before, earlier};
 
 use std::collections::VecDeque;
 
@@ -10,6 +10,24 @@ use std::collections::VecDeque;
 pub(crate) struct Timer {
     pub(crate) local: u32,
     pub(crate) deadline: u64,
+}
+
+/// The place of the identifier's timer, or, if it has none, the place at which one would go. Most are new identifiers,
+/// which come last.
+pub(crate) fn place_of(timers: &VecDeque<Timer>, local: u32) -> Result<usize, usize>
+    requires { IsInOrder timers.now.items }
+    ensures found { IfOk result (IsAt timers.now.items local) }
+    ensures missing { IfErr result (IsGapFor timers.now.items local) }
+{
+    if let Some(last) = timers.back() {
+        if last.local < local {
+            return Err(timers.len());
+        }
+        if last.local == local {
+            return Ok(timers.len() - 1);
+        }
+    }
+    timers.binary_search_by_key(&local, |timer| timer.local)
 }
 
 /// Whether the timer comes after all others in the order of their deadlines.

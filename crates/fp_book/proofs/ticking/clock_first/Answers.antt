@@ -2,10 +2,6 @@ use Rattle.fp_book.proofs.Names.{and_parts, is_ready, not, not-true, sym, ◌∙
 use Rattle.fp_book.proofs.Kept.{place_of_idle}
 use Rattle.fp_book.proofs.ticking.clock_first.Goals as goal
 
--- its deadline is that which it had
-pub clear-requires : goal.clear-requires
-clear-requires c = c.in-Ok.ensures.before ∙ sym (c.requires.timed c.in-Some.local)
-
 -- the dialogue wasn't ready, so there is a place for it
 pub join-requires : goal.join-requires
 join-requires c is =

@@ -17,12 +17,9 @@ extend-requires c = (can_extend (shelf_of c.self.inside) c.args.self.now c.args.
 pub end_serial_unless_held-requires : goal.end_serial_unless_held-requires
 end_serial_unless_held-requires c _ = let h = c.in-Ok.ensures.ok in given_of c.self.inside c.args.local h.before c.self.invariant h.was
 
--- its deadline is that which it had, and there is a place for it
-pub change_deadline-requires-clause-before : goal.change_deadline-requires-clause-before
-change_deadline-requires-clause-before c = c.in-Ok.ensures.before ∙ sym (c.self.invariant.timed c.args.local)
-
-pub change_deadline-requires-clause-room : goal.change_deadline-requires-clause-room
-change_deadline-requires-clause-room c = let h = c.in-Ok.ensures.ok in room_for _ _ _ h.before c.self.invariant.timed h.was c.self.invariant.sound.held
+-- there is a place for its deadline
+pub set_deadline-requires : goal.set_deadline-requires
+set_deadline-requires c = let h = c.in-Ok.ensures.ok in room_for _ _ _ h.before c.self.invariant.timed h.was c.self.invariant.sound.held
 
 -- and for it among those that are ready, if it has become so
 pub join-requires : goal.join-requires
@@ -46,7 +43,7 @@ after c = record c.self.inside {
   ids = c.end_serial_unless_held.new.ids;
   entries = c.self.inside.entries + c.len-count.result;
   rows = c.extend.new.rows;
-  deadlines = c.change_deadline.new.deadlines;
+  deadlines = c.set_deadline.new.deadlines;
   ready = c.join.new.ready;
   outbox = c.drop_frames_if.new.outbox;
   totals = record c.self.inside.totals { accepted = c.self.inside.totals.accepted + c.component_count-components.result };
@@ -80,7 +77,7 @@ extended c =
     (c.add.ensures ∙ ap (λ n. logged b.log (line.Post c.in-Message.arrival.table c.in-Message.arrival.moment c.in-Message.arrival.frame (Accepted n))) c.len-count.ensures))))
     (linked b.ids c.end_serial_unless_held.new.ids local left.is_held c.end_serial_unless_held.ensures ∙ k.links)
     (turns_by b.turns b.turns h k.turns (omega (arith, grown_out c.in-Message.incoming.entries ends (is_frame_of local b.outbox.out) h.before h.after h.does.0)))
-    (timed_by b.deadlines c.change_deadline.new.deadlines h k.timed (c.change_deadline.ensures ∙ ap (λ (x : Left). with_deadline b.deadlines local x.deadline) h.does.1))
+    (timed_by b.deadlines c.set_deadline.new.deadlines h k.timed (c.set_deadline.ensures ∙ ap (λ (x : Left). with_deadline b.deadlines local x.deadline) h.does.1))
 
 pub invariant_of-self-2 : goal.invariant_of-self-2
 invariant_of-self-2 c = (extended c).kept

@@ -28,14 +28,9 @@ end_serial_unless_held-requires c _ =
     let here : c.local-local.result ≡ c.args.done.turn.local = c.local-local.ensures ∙ ap (λ (turn : Turn). turn.local) c.turn.ensures in
     subst (IsGiven c.self.inside.ids) (sym here) (given_of c.self.inside c.args.done.turn.local h.before c.self.invariant h.was)
 
--- its deadline was that of the dialogue, and there is a place for it
-pub change_deadline-requires-clause-before : goal.change_deadline-requires-clause-before
-change_deadline-requires-clause-before c =
-    let here : c.local-local.result ≡ c.args.done.turn.local = c.local-local.ensures ∙ ap (λ (turn : Turn). turn.local) c.turn.ensures in
-    c.in-Ok.ensures.before ∙ sym (ap (get c.self.inside.deadlines) here ∙ c.self.invariant.timed c.args.done.turn.local)
-
-pub change_deadline-requires-clause-room : goal.change_deadline-requires-clause-room
-change_deadline-requires-clause-room c =
+-- there is a place for its deadline
+pub set_deadline-requires : goal.set_deadline-requires
+set_deadline-requires c =
     let h = c.in-Ok.ensures.ok in
     let here : c.local-local.result ≡ c.args.done.turn.local = c.local-local.ensures ∙ ap (λ (turn : Turn). turn.local) c.turn.ensures in
     subst (HasRoom c.self.inside.deadlines) (sym here)
@@ -64,7 +59,7 @@ abbrev after : goal.After-add → Inside
 after c = record c.self.inside {
   ids = c.end_serial_unless_held.new.ids;
   rows = c.give.new.rows;
-  deadlines = c.change_deadline.new.deadlines;
+  deadlines = c.set_deadline.new.deadlines;
   ready = c.join.new.ready;
   outbox = c.queue-given.new.outbox;
   turns = c.self.inside.turns - c.count-count.result;
@@ -107,8 +102,8 @@ given c =
     })
     (linked b.ids c.end_serial_unless_held.new.ids c.local-local.result left.is_held c.end_serial_unless_held.ensures ∙ c.self.invariant.links)
     (fewer_turns b c.count-count.result h c.self.invariant (count ∙ h.does.0.count) h.does.0.out)
-    (timed_by b.deadlines c.change_deadline.new.deadlines h c.self.invariant.timed
-    (c.change_deadline.ensures ∙ ap (λ l. with_deadline b.deadlines l left.deadline) here ∙ ap (λ (x : Left). with_deadline b.deadlines l x.deadline) h.does.1))
+    (timed_by b.deadlines c.set_deadline.new.deadlines h c.self.invariant.timed
+    (c.set_deadline.ensures ∙ ap (λ l. with_deadline b.deadlines l left.deadline) here ∙ ap (λ (x : Left). with_deadline b.deadlines l x.deadline) h.does.1))
 
 pub invariant_of-self-2 : goal.invariant_of-self-2
 invariant_of-self-2 c = (given c).kept

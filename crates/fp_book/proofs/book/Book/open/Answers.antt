@@ -8,17 +8,9 @@ use Rattle.fp_book.proofs.Sums.{inserted}
 use Rattle.fp_book.proofs.Turns.{components_few}
 use Rattle.fp_book.proofs.book.Book.open.Goals as goal
 
--- its identifier has no deadline yet
-pub change_deadline-requires-clause-before : goal.change_deadline-requires-clause-before
-change_deadline-requires-clause-before c =
-    let b = c.self.inside in
-    let gives = given_first b.ids.link b.ids.queue c.give.new.self.queue c.in-Some.local c.in-Some.ensures (ap (λ (i : LocalIds). i.queue) c.give.ensures.left) in
-    let same = gives.1 ∙ ap (λ link. identifier link gives.0) c.self.invariant.links in
-    sym (c.self.invariant.timed c.in-Some.local ∙ ap (λ l. deadline_at (map.get b.rows l)) same ∙ ap deadline_at (is_fresh (shelf_of b) gives.0 c.give.new.self.queue c.self.invariant.sound gives.2))
-
--- and there are fewer deadlines than places for them
-pub change_deadline-requires-clause-room : goal.change_deadline-requires-clause-room
-change_deadline-requires-clause-room c = room_for_new _ _ _ c.self.invariant.timed (can_open (shelf_of c.self.inside) c.args.self.now c.args.came c.args.peer c.self.view_is c.requires).rows
+-- there are fewer deadlines than places for them
+pub set_deadline-requires : goal.set_deadline-requires
+set_deadline-requires c = room_for_new _ _ _ c.self.invariant.timed (can_open (shelf_of c.self.inside) c.args.self.now c.args.came c.args.peer c.self.view_is c.requires).rows
 
 -- and fewer dialogues that are ready
 pub join-requires : goal.join-requires
@@ -37,7 +29,7 @@ after c = record c.self.inside {
   births = c.self.inside.births + 1;
   entries = c.self.inside.entries + c.len-count.result;
   rows = c.open.new.rows;
-  deadlines = c.change_deadline.new.deadlines;
+  deadlines = c.set_deadline.new.deadlines;
   ready = c.join.new.ready;
   totals = record c.self.inside.totals { accepted = c.self.inside.totals.accepted + c.component_count-components.result };
   log = c.add.new.self;
@@ -79,7 +71,7 @@ opened c =
     })
     (ap (λ (i : LocalIds). i.link) c.give.ensures.left ∙ k.links)
     (omega (arith, k.turns, ap (sum_of turns_of) rows, (inserted b.rows l _ h.after (is_fresh s serial rest k.sound gives.2)).sums turns_of, h.extends.out, h.opens.out))
-    (rw (h.rows, c.change_deadline.ensures, h.left_is) (timed_inserted b.deadlines b.rows local (map.get b.rows local) h.after refl k.timed))
+    (rw (h.rows, c.set_deadline.ensures, h.left_is) (timed_inserted b.deadlines b.rows local (map.get b.rows local) h.after refl k.timed))
 
 pub invariant_of-self-2 : goal.invariant_of-self-2
 invariant_of-self-2 c = (opened c).kept

@@ -14,10 +14,6 @@ end-dropped-requires c = is_there c.self.inside c.args.self.now c.args.came c.ar
 pub end_serial_unless_held-requires : goal.end_serial_unless_held-requires
 end_serial_unless_held-requires c _ = let h = c.end-dropped.ensures.ends in given_of c.self.inside c.in-Some.local h.before c.self.invariant h.was
 
--- its deadline is that which it had
-pub clear-requires : goal.clear-requires
-clear-requires c = c.end-dropped.ensures.before ∙ sym (c.self.invariant.timed c.in-Some.local)
-
 -- the parts of the book if it is closed
 closing : (c : goal.After-add) → ClosedAs c.self.inside c.match-closes.self-inside c.args.closes
 closing c =
@@ -25,7 +21,7 @@ closing c =
       | in-Some w ↦ rw (w.self-inside-is, w.in-Some.is) (
           let g = w.end-dropped.ensures.ends in
           one_closed c.self.inside w.in-Some.local w.end-dropped.result.is_held w.end_serial_unless_held.new.ids w.end-dropped.new.rows w.clear.new.self w.leave_if.new.ready w.drop_frames_if.new.outbox c.self.invariant
-          (subst (λ b. EndsAt c.self.inside.rows w.in-Some.local Closed b w.end-dropped.result.is_held w.end-dropped.new.rows) w.is_sending-is_sending.ensures g) w.end_serial_unless_held.ensures w.clear.ensures.removed
+          (subst (λ b. EndsAt c.self.inside.rows w.in-Some.local Closed b w.end-dropped.result.is_held w.end-dropped.new.rows) w.is_sending-is_sending.ensures g) w.end_serial_unless_held.ensures w.clear.ensures
           (left_queue (shelf_of c.self.inside) w.in-Some.local g.before w.is_sending-is_sending.result w.end-dropped.result w.leave_if.new.ready c.self.invariant.sound g.was
           (w.end-dropped.ensures.dropped g.before g.was) w.leave_if.ensures)
           (left_outbox (shelf_of c.self.inside) w.in-Some.local g.before w.is_sending-is_sending.result w.end-dropped.result w.drop_frames_if.new.outbox c.self.invariant.sound g.was

@@ -2,7 +2,7 @@ use Rattle.std.proofs.Common.{IsTrue}
 use Rattle.fp_timers.proofs.Names.{◌≢◌, sym, ◌∙◌}
 use Rattle.fp_timers.proofs.Lanes.{All-joined, few_without, in_first, in_fourth, in_second, in_third, room_without, somewhere, unless_false, view_without}
 use Rattle.fp_timers.proofs.Maps.{remove_absent}
-use Rattle.fp_timers.proofs.deadlines.Deadlines.clear.Goals as goal
+use Rattle.fp_timers.proofs.by_deadline.ByDeadline.remove.Goals as goal
 
 -- there is none to take away
 pub returns-in_default-clause-removed : goal.returns-in_default-clause-removed

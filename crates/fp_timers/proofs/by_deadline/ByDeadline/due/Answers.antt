@@ -1,6 +1,6 @@
 use Rattle.fp_timers.proofs.Names.{IsEarliestDue, IsEarliestOf, None, Some, arith, joined, subst}
 use Rattle.fp_timers.proofs.Dues.{earliest_joined, first_due, later_due, none_due}
-use Rattle.fp_timers.proofs.deadlines.Deadlines.due.Goals as goal
+use Rattle.fp_timers.proofs.by_deadline.ByDeadline.due.Goals as goal
 
 -- there is no timer
 pub returns-in_default : goal.returns-in_default

@@ -1,6 +1,6 @@
 use Rattle.fp_timers.proofs.Names.{arith, sym, ◌≢◌}
 use Rattle.fp_timers.proofs.Lanes.{All-fourth, few_with, fewer, in_first, in_fourth, in_second, in_third, length-joined, others_apart, view_with}
-use Rattle.fp_timers.proofs.deadlines.Deadlines.add.Goals as goal
+use Rattle.fp_timers.proofs.by_deadline.ByDeadline.add.Goals as goal
 
 -- each lane has room
 pub push-requires : goal.push-requires

@@ -1,0 +1,96 @@
+//! Timers in the order of their identifiers.
+
+ghost use Rattle.std.specs.Prelude.{◌≡◌, ◌≤◌, ℕ, IfOk};
+ghost use Rattle.std.specs.Ordering.{nat_cmp};
+ghost use Rattle.std.specs.FinMap as map;
+ghost use Rattle.fp_timers.specs.Deadlines.{HasRoom};
+
+use crate::Deadlines;
+use crate::timers::{Timer, place_of};
+use std::alloc::{AllocError, Global};
+use std::collections::VecDeque;
+use std::marker::Model;
+
+/// At most 4,096 timers in the order of their identifiers. Contracts see them as a finite map.
+#[derive(Debug, Drop)]
+pub(crate) struct ByLocal {
+    timers: VecDeque<Timer>,
+}
+
+impl Model for ByLocal {
+    ghost use Rattle.std.specs.Prelude.{ℕ};
+    ghost use Rattle.std.specs.Ordering.{nat_cmp};
+    ghost use Rattle.std.specs.VecDeque.{deque_capacity};
+    ghost use Rattle.std.specs.FinMap as map;
+    ghost use Rattle.std.specs.Coded.{coded_ℕ};
+    ghost use Rattle.fp_timers.specs.Timers.{entries, IsKept};
+
+    ghost Value = { map.FinMap nat_cmp ℕ };
+
+    ghost coded = { map.code coded_ℕ coded_ℕ };
+
+    ghost view = { λ own. map.from_entries (entries own.timers.items) };
+
+    ghost invariant = { λ own. IsKept own.timers.items (deque_capacity own.timers) };
+}
+
+impl ByLocal {
+    /// No timers, with memory for as many as there may be.
+    pub(crate) fn new(alloc: Global) -> Result<ByLocal, AllocError>
+        ensures { IfOk result (λ own. own ≡ map.empty) }
+    {
+        Ok(ByLocal {
+            timers: VecDeque::with_capacity(alloc, Deadlines::MOST)?,
+        })
+    }
+
+    /// How many there are.
+    pub(crate) fn len(&self) -> usize
+        ensures count { result ≡ map.len self.now }
+        ensures most { result ≤ Deadlines.MOST }
+    {
+        self.timers.len()
+    }
+
+    /// Puts the timer in place of its identifier's, and gives the deadline that the identifier had. Takes no memory.
+    pub(crate) fn set(&mut self, timer: Timer) -> Option<u64>
+        requires { HasRoom self.old timer.local }
+        ensures before { result ≡ map.get self.old timer.local }
+        ensures after { self.new ≡ map.insert self.old timer.local timer.deadline }
+    {
+        match place_of(&self.timers, timer.local) {
+            Ok(place) => {
+                let before = self.timers[place].deadline;
+                self.timers[place] = timer;
+                Some(before)
+            }
+            Err(place) => {
+                // There is room, so this takes no memory and succeeds.
+                drop(self.timers.insert(place, timer));
+                None
+            }
+        }
+    }
+
+    /// Takes the identifier's timer away, if it has one, and gives the deadline that it had. Takes no memory.
+    pub(crate) fn clear(&mut self, local: u32) -> Option<u64>
+        ensures before { result ≡ map.get self.old local }
+        ensures after { self.new ≡ map.remove self.old local }
+    {
+        match place_of(&self.timers, local) {
+            Ok(place) => {
+                let before = self.timers[place].deadline;
+                drop(self.timers.remove(place));
+                Some(before)
+            }
+            Err(_) => None,
+        }
+    }
+
+    /// Takes all timers away. Takes no memory.
+    pub(crate) fn clear_all(&mut self)
+        ensures { self.new ≡ map.empty }
+    {
+        self.timers.clear();
+    }
+}
