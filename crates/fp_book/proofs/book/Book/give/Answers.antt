@@ -1,4 +1,4 @@
-use Rattle.fp_book.proofs.Names.{GivesAt, GivesDone, get, HasRoom, Inside, IsGiven, Left, Turn, ap, arith, frames_in, free_with, gone_with, is_ready, joins, length, logged, more_served, shelf_of, subst, sym, waiting_in, with_deadline, with_dialogue, ◌++◌, ◌-◌, ◌∙◌, ◌≡◌}
+use Rattle.fp_book.proofs.Names.{GivesAt, GivesDone, HasRoom, Inside, IsGiven, Left, Turn, ap, arith, frames_in, free_with, gone_with, is_ready, joins, length, logged, more_served, shelf_of, subst, sym, waiting_in, with_deadline, with_dialogue, ◌++◌, ◌-◌, ◌∙◌, ◌≡◌}
 use Rattle.fp_book.specs.declared.line.LoggedStep.TheVariants as line
 use Rattle.fp_book.proofs.Kept.{Leaves, few_entries, few_served, leaves, out_few, place_to_join, place_to_queue, room_for, same_parts, timed_by}
 use Rattle.fp_book.proofs.Serials.{freed, given_of, linked}

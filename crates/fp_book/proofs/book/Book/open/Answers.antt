@@ -1,4 +1,4 @@
-use Rattle.fp_book.proofs.Names.{Follows, Inside, Left, LocalIds, Message, Open, Opened, Opens, OpensAt, OpensDialogue, Prepared, ap, arith, arrival_of, deadline_at, entries_in, identifier, inl, is_ready, joins, length, more_accepted, refl, shelf_of, subst, sum_of, sym, turns_of, verdict, ◌++◌, ◌+◌, ◌∙◌, ◌≡◌, ◌≤◌}
+use Rattle.fp_book.proofs.Names.{Follows, Inside, Left, LocalIds, Message, Open, Opened, Opens, OpensAt, OpensDialogue, Prepared, ap, arith, arrival_of, entries_in, identifier, inl, is_ready, joins, length, more_accepted, refl, shelf_of, subst, sum_of, sym, turns_of, verdict, ◌++◌, ◌+◌, ◌∙◌, ◌≡◌, ◌≤◌}
 use Rattle.std.specs.FinMap as map
 use Rattle.fp_book.proofs.Fits.{can_open}
 use Rattle.fp_book.proofs.Kept.{Leaves, leaves, place_for_new, room_for_new, same_parts, timed_inserted}
