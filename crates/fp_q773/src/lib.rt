@@ -72,7 +72,7 @@ pub use portions::write_component_portion;
 pub use problem::{
     GeneralProblem, InvokeProblem, Problem, ReturnErrorProblem, ReturnResultProblem,
 };
-pub use provider_abort::{AbortCause, write_abort};
+pub use provider_abort::{AbortCause, AbortOctets, write_abort};
 pub use reject::Reject;
 pub use return_error::{ReturnError, write_return_error};
 pub use return_result::ReturnResult;

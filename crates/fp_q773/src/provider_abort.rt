@@ -61,8 +61,11 @@ impl AbortCause {
     }
 }
 
-/// The octets of an Abort of the provider (Q.773, 4.2.1), in the canonical spelling: eight to eleven. Takes no memory.
-pub fn write_abort(destination: Tid, cause: AbortCause) -> Octets<11>
+/// The octets of an Abort of the provider: eight to eleven.
+pub type AbortOctets = Octets<11>;
+
+/// The octets of an Abort of the provider (Q.773, 4.2.1), in the canonical spelling. Takes no memory.
+pub fn write_abort(destination: Tid, cause: AbortCause) -> AbortOctets
     ensures { result ≡ canon (provider_abort (octets_of destination) (cause_code cause)) }
 {
     let identifier = destination.as_slice();
