@@ -10,6 +10,8 @@
 //! | `set ID MS` | nothing: the identifier has this deadline, in milliseconds since 1970 |
 //! | `clear ID` | nothing: the identifier has no deadline |
 //! | `due MS` | the identifier that is due at this moment, or `none` |
+//! | `first MS` | the first deadline, if it is due at this moment, as `ID MS`, or `none` |
+//! | `after ID MS MS` | the same of those that come after this deadline of this identifier: at the second moment |
 //! | `count` | how many have a deadline |
 //! | `fill COUNT rising` | nothing: so many identifiers from 20000001 on have the deadlines 1, 2, 3 .. |
 //! | `fill COUNT falling` | the same with the deadlines COUNT .. 3, 2, 1 |
@@ -26,7 +28,7 @@ use anyhow::bail;
 use cases::first_word;
 use fp_digits::Moment;
 use fp_tids::{LocalIds, link_of};
-use fp_timers::Deadlines;
+use fp_timers::{Deadlines, Timer};
 use std::alloc::Global;
 
 /// The first identifier that is given a deadline where many are.
@@ -69,6 +71,8 @@ fn change(deadlines: &mut Deadlines, text: &str, out: &mut String) -> anyhow::Re
         "set" => set_of(deadlines, rest),
         "clear" => clear(deadlines, rest),
         "due" => push_due(deadlines, rest, out),
+        "first" => push_first(deadlines, rest, out),
+        "after" => push_after(deadlines, rest, out),
         "count" => push_count(deadlines, out),
         "fill" => fill(deadlines, rest),
         "drain" => drain(deadlines, rest, out),
@@ -93,6 +97,34 @@ fn clear(deadlines: &mut Deadlines, local: &str) -> anyhow::Result<()> {
 fn push_due(deadlines: &Deadlines, moment: &str, out: &mut String) -> anyhow::Result<()> {
     let moment = moment_of(moment)?;
     push_local(deadlines.due(moment), out)
+}
+
+/// Writes the first deadline, if it is due at a moment.
+fn push_first(deadlines: &Deadlines, moment: &str, out: &mut String) -> anyhow::Result<()> {
+    let moment = moment_of(moment)?;
+    push_timer(deadlines.due_after(None, moment), out)
+}
+
+/// Writes the first deadline after another one, if it is due at a moment.
+fn push_after(deadlines: &Deadlines, text: &str, out: &mut String) -> anyhow::Result<()> {
+    let (local, rest) = first_word(text);
+    let (deadline, moment) = first_word(rest);
+    let last = Timer {
+        local: local_of(local)?,
+        deadline: deadline.parse()?,
+    };
+    let moment = moment_of(moment)?;
+    push_timer(deadlines.due_after(Some(last), moment), out)
+}
+
+/// Writes an identifier and its deadline, or `none`.
+fn push_timer(timer: Option<Timer>, out: &mut String) -> anyhow::Result<()> {
+    let Some(timer) = timer else {
+        return push_local(None, out);
+    };
+    push_local(Some(timer.local), out)?;
+    write!(out, " {}", timer.deadline)?;
+    Ok(())
 }
 
 /// Writes how many have a deadline.

@@ -60,9 +60,10 @@ pub use Rattle.fp_service.specs.Laws.{AsksOnceAtMost}
 pub use Rattle.fp_service.specs.declared.request.Request.{Request}
 pub use Rattle.fp_tids.specs.Identifiers.{AreSerials, IsGiven, LocalIds, all_serials, first_of, identifier, is_free, serial_of, with_returned}
 pub use Rattle.fp_tids.specs.Laws.{AllAreSerials, GivingLeavesSerials, ReturningKeepsSerials, SerialsAreShown, SerialsComeBackLast}
-pub use Rattle.fp_timers.specs.Deadlines.{HasRoom, IsEarliestDue}
+pub use Rattle.fp_timers.specs.Deadlines.{ComesAfter, HasRoom, IsEarliestDue, IsEarliestDueAfter}
+pub use Rattle.fp_timers.specs.declared.timers.Timer.{Timer}
 pub use Rattle.fp_book.specs.Calls.{Answers, ClocksAt, ClosesDialogue, ClosesOne, ComesFirst, Discards, Due, EndsDialogue, ExtendsDialogue, Follows, GivesDone, GoesDown, Hands, IsDue, OpensDialogue, PicksParcel, Posts, PutsTurnBack, Queues, Refuses, Sends, SendsAbort, SendsFrame, Takes, TakesTurn, Ticks, Unsends, abort_for, are_some, asks_for_memory, closed_answer, due_at, entries_in, is_idle, joins, more_accepted, one_sent, more_served, posted_line, posted_totals, waiting_in, without}
-pub use Rattle.fp_book.specs.Clocking.{AreAgreed, Clocking, ClocksFirst, Deadlines, IsDueIn, due_now, idle_among, is_among}
+pub use Rattle.fp_book.specs.Clocking.{AreAgreed, Clocking, ClocksNext, Deadlines, IsDueIn, Stays, due_now, idle_among, is_among}
 pub use Rattle.fp_book.specs.Dialogues.{AnsweredBy, Changes, EndsAt, ExtendsAt, GivesAt, Grows, HandsOutAt, OpensAt, PutsBackAt, SendsAt, Drops, drops_frames, is_due_at, is_unsent, left_as, request_count, takes_more, with_deadline}
 pub use Rattle.fp_book.specs.Holding.{IsQuiet, busy_count, is_busy}
 pub use Rattle.fp_book.specs.Laws.{DialoguesAreKeptInOrder, PostingKeepsSound, SerialsOfDialoguesComeBackLate, accounted, frames_under, is_told, told, turn_entries}

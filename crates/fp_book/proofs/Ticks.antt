@@ -1,5 +1,5 @@
 -- One dialogue that is due is given a Clock, and so each; what a book is then.
-use Rattle.fp_book.proofs.Names.{All, All-nil, All-push, AreAgreed, AreTimed, Bool, Clocking, ClocksAt, ClocksFirst, ComesFirst, Deadlines, Due, Entry, Extends, IsDue, IsDueIn, IsEarliestDue, List, LoggedStep, None, Option, Row, Shelf, Some, Ticks, [], add-zero, all_pairs_push, ap, append-nil, append_assoc, arith, cond, count_by, deadline_at, deadline_of, drop, drop-append-le, due_at, due_now, eq-eqb, eqb, eqb-false, false, false_from_ne_true, false≢true, filter, filter-append, has_clock, idle_among, inl, inr, is_admitted, is_among, is_clock, is_due, is_full, is_idle, is_ready, is_some, joins, le-leb, length, length-append, list_any-append, logged, lt-ltb, map, map-append, nat_cmp, nat_cmp_total, nat_eq, nat_le, nat_tests, next_due, not, one_if, option_map_or, or-false, or-true, refl, slice_index_or, subst, suc, sum_by-append, sum_of, sym, true, turns_of, unserved, zero, ℕ, ⊎_elim, ◌&&◌, ◌++◌, ◌+◌, ◌-◌, ◌<◌, ◌||◌, ◌∙◌, ◌∷◌, ◌≡◌, ◌≤◌, ◌⊎◌}
+use Rattle.fp_book.proofs.Names.{All, All-nil, All-push, AreAgreed, AreTimed, Bool, Clocking, ClocksAt, ClocksNext, ComesAfter, ComesFirst, Deadlines, Due, Entry, Extends, IsDue, IsDueIn, IsEarliestDue, IsEarliestDueAfter, List, LoggedStep, None, Option, Row, Shelf, Some, Stays, Ticks, Timer, [], add-zero, all_pairs_push, ap, append-nil, append_assoc, arith, cond, count_by, deadline_at, deadline_of, drop, drop-append-le, due_at, due_now, eq-eqb, eqb, eqb-false, false, false_from_ne_true, false≢true, filter, filter-append, has_clock, idle_among, inl, inr, is_admitted, is_among, is_clock, is_due, is_full, is_idle, is_ready, is_some, joins, le-leb, length, length-append, list_any-append, logged, lt-ltb, map, map-append, nat_cmp, nat_cmp_total, nat_eq, nat_le, nat_tests, next_due, not, one_if, option_map_or, or-false, or-true, refl, slice_index_or, subst, suc, sum_by-append, sum_of, sym, true, turns_of, unserved, zero, ℕ, ⊎_elim, ◌&&◌, ◌++◌, ◌+◌, ◌-◌, ◌<◌, ◌||◌, ◌∙◌, ◌∷◌, ◌≡◌, ◌≤◌, ◌⊎◌}
 use Rattle.std.specs.FinMap as map
 use Rattle.fp_book.proofs.Changes.{by_local, ready}
 use Rattle.fp_book.proofs.Sums.{Rows, len-sum, sum-zero, sums-le, zero_of, OneChanges, inserted}
@@ -10,13 +10,12 @@ use Rattle.fp_book.proofs.Kept.{deadline-here, deadline-other, timed_at}
 use Rattle.fp_book.proofs.Queue.{eqb_swap, length_joins}
 
 -- none was given a Clock yet
-pub begins : (moment : ℕ) (rows : Rows) (deadlines : Deadlines) (queue : List ℕ) → AreAgreed rows deadlines queue → Clocking moment rows queue rows deadlines queue 0
-begins moment rows deadlines queue k = record {
+abbrev none_given : (moment : ℕ) (rows : Rows) (deadlines : Deadlines) (queue : List ℕ) → AreAgreed rows deadlines queue → Clocking moment rows queue rows deadlines queue 0
+none_given moment rows deadlines queue k = record {
   due = [];
   in_order = λ i j d less within. absurd (omega (arith, within));
   are_due = All-nil (IsDueIn rows moment);
   added_is = refl;
-  behind = λ local deadline e. All-nil (λ d. ComesFirst d (deadline, local));
   cleared = λ local e. absurd (false≢true e);
   rows_are = λ local. refl;
   ready_is = sym (append-nil queue);
@@ -24,6 +23,36 @@ begins moment rows deadlines queue k = record {
   left = add-zero (sum_of (due_now moment) rows);
   turns = refl;
 }
+
+-- this number was given a Clock so far; each deadline that is left and comes after the last refused one comes after theirs
+pub record Trying (last : Option Timer) (moment : ℕ) (old : Rows) (was : List ℕ) (rows : Rows) (deadlines : Deadlines) (queue : List ℕ) (added : ℕ) : Type 0 where
+  pub so_far : Clocking moment old was rows deadlines queue added
+  pub come_after : (local deadline : ℕ) → map.get deadlines local ≡ Some deadline → ComesAfter last (deadline, local) → All (λ d. ComesFirst d (deadline, local)) so_far.due
+
+-- none was tried yet
+pub begins : (moment : ℕ) (rows : Rows) (deadlines : Deadlines) (queue : List ℕ) → AreAgreed rows deadlines queue → Trying None moment rows queue rows deadlines queue 0
+begins moment rows deadlines queue k = record {
+  so_far = none_given moment rows deadlines queue k;
+  come_after = λ local deadline e after. All-nil (λ d. ComesFirst d (deadline, local));
+}
+
+-- what comes after a deadline comes after those that come before it
+after_both : (last : Option Timer) (timer : Timer) (d : Due) → ComesAfter last (timer.deadline, timer.local) → ComesAfter (Some timer) d → ComesAfter last d
+after_both None timer d first then = tt
+after_both (Some last) timer d (inl less) (inl later) = inl (omega arith)
+after_both (Some last) timer d (inl less) (inr both) = inl (omega (arith, both.0))
+after_both (Some last) timer d (inr same) (inl later) = inl (omega (arith, same.0))
+after_both (Some last) timer d (inr same) (inr both) = inr (same.0 ∙ both.0, omega (arith, same.1, both.1))
+
+-- memory ran out for one, and nothing changed
+pub refused : (last : Option Timer) (timer : Timer) (moment : ℕ) (old : Rows) (was : List ℕ) (rows : Rows) (deadlines : Deadlines) (queue : List ℕ) (added : ℕ)
+    (rows_then : Rows) (deadlines_then : Deadlines) (queue_then : List ℕ)
+    → Trying last moment old was rows deadlines queue added → Stays rows deadlines queue rows_then deadlines_then queue_then × IsEarliestDueAfter deadlines last moment (Some timer)
+    → Trying (Some timer) moment old was rows_then deadlines_then queue_then added
+refused last timer moment old was rows deadlines queue added rows_then deadlines_then queue_then k g = rw (g.0.0, g.0.1, g.0.2) (record {
+  so_far = k.so_far;
+  come_after = λ local deadline e after. k.come_after local deadline e (after_both last timer (deadline, local) g.1.1 after);
+})
 
 -- no more are due than there are
 pub due_most : (moment : ℕ) (rows : Rows) → map.len rows ≤ 4096 → sum_of (due_now moment) rows ≤ 4096
@@ -41,18 +70,12 @@ has_some m local deadline zero is none =
 has_some m local deadline (suc n) is more = omega (arith, more)
 
 -- the one that is given a Clock had a deadline, and has none then
-pub fewer : (moment : ℕ) (rows : Rows) (deadlines : Deadlines) (queue : List ℕ) (rows_then : Rows) (deadlines_then : Deadlines) (queue_then : List ℕ)
-    → ClocksFirst moment rows deadlines queue rows_then deadlines_then queue_then → map.len deadlines_then < map.len deadlines
-fewer moment rows deadlines queue rows_then deadlines_then queue_then g =
+pub fewer : (last : Option Timer) (moment : ℕ) (rows : Rows) (deadlines : Deadlines) (queue : List ℕ) (rows_then : Rows) (deadlines_then : Deadlines) (queue_then : List ℕ)
+    → ClocksNext last moment rows deadlines queue rows_then deadlines_then queue_then → map.len deadlines_then < map.len deadlines
+fewer last moment rows deadlines queue rows_then deadlines_then queue_then g =
     let less : map.len deadlines_then ≡ map.len deadlines - 1 =
-    ap map.len g.deadlines_are ∙ map.len-remove nat_cmp_total deadlines g.local ∙ ap (λ o. cond (is_some o) (map.len deadlines - 1) (map.len deadlines)) g.first.1 in
-    omega (arith, less, has_some deadlines g.local g.first.0 (map.len deadlines) g.first.1 refl)
-
--- nothing changed
-pub same_still : (moment : ℕ) (old : Rows) (was : List ℕ) (rows : Rows) (deadlines : Deadlines) (queue : List ℕ) (added : ℕ) (rows_then : Rows) (deadlines_then : Deadlines) (queue_then : List ℕ)
-    → Clocking moment old was rows deadlines queue added → (rows_then ≡ rows) × (deadlines_then ≡ deadlines) × (queue_then ≡ queue)
-    → Clocking moment old was rows_then deadlines_then queue_then added
-same_still moment old was rows deadlines queue added rows_then deadlines_then queue_then k g = rw (g.0, g.1, g.2) k
+    ap map.len g.deadlines_are ∙ map.len-remove nat_cmp_total deadlines g.timer.local ∙ ap (λ o. cond (is_some o) (map.len deadlines - 1) (map.len deadlines)) g.first.0 in
+    omega (arith, less, has_some deadlines g.timer.local g.timer.deadline (map.len deadlines) g.first.0 refl)
 
 -- a book with other entries, dialogues, queue and log
 abbrev pub with_clocks : Shelf → ℕ → Rows → List ℕ → List LoggedStep → Shelf
@@ -77,7 +100,6 @@ ticks s moment added wanting rows deadlines queue log room k left logged_is =
       added_is = k.added_is;
       wanting_is = omega (arith, k.left, left, all);
       left = λ _. left;
-      behind = λ local deadline row there is. k.behind local deadline (k.agreed.timed local ∙ ap deadline_at there ∙ is);
       rows = k.rows_are;
       new_is =
           ap (λ xs. with_clocks s (s.entries + added) rows xs log) k.ready_is
@@ -96,7 +118,6 @@ none_ticks s moment full =
       added_is = refl;
       wanting_is = sym none;
       left = λ e. absurd (false≢true (sym e ∙ full));
-      behind = λ local deadline row there is. All-nil (λ d. ComesFirst d (deadline, local));
       rows = λ local. refl;
       new_is =
           ap (λ n. with_clocks s n s.rows s.ready s.log) (sym (add-zero s.entries))
@@ -110,7 +131,7 @@ not_due moment (Some deadline) later = let after : moment < deadline = later dea
 -- if no deadline is due no dialogue is
 pub none_found : (moment : ℕ) (rows : Rows) (deadlines : Deadlines) → AreTimed deadlines rows → IsEarliestDue deadlines moment None → 0 ≡ sum_of (due_now moment) rows
 none_found moment rows deadlines timed later =
-    let each : (q : ℕ) (row : Row) → map.get rows q ≡ Some row → due_now moment row ≡ 0 = λ q row was. not_due moment (deadline_of row) (λ deadline is. later q deadline (timed q ∙ ap deadline_at was ∙ is)) in
+    let each : (q : ℕ) (row : Row) → map.get rows q ≡ Some row → due_now moment row ≡ 0 = λ q row was. not_due moment (deadline_of row) (λ deadline is. later q deadline (timed q ∙ ap deadline_at was ∙ is) tt) in
     omega (arith, sums-le (due_now moment) zero_of zero_of zero_of rows rows (λ q none. none) (λ q row was. omega (arith, each q row was)), sum-zero rows)
 
 -- a dialogue that was given a Clock has one
@@ -161,15 +182,17 @@ comes_first : (deadline later l q : ℕ) → eqb q l ≡ false → (deadline < l
 comes_first deadline later l q ne by = ⊎_elim {C = ComesFirst (deadline, l) (later, q)} (λ less. inl less) (λ h. let le : l ≤ q = h.1 in inr (h.0, omega (arith, le, eqb-false q l ne))) by
 
 -- so one dialogue more was given a Clock
-pub one_more : (moment : ℕ) (old : Rows) (was : List ℕ) (rows : Rows) (deadlines : Deadlines) (queue : List ℕ) (added : ℕ) (rows_then : Rows) (deadlines_then : Deadlines) (queue_then : List ℕ)
-    → Clocking moment old was rows deadlines queue added → ClocksFirst moment rows deadlines queue rows_then deadlines_then queue_then
-    → Clocking moment old was rows_then deadlines_then queue_then (added + 1)
-one_more moment old was rows deadlines queue added rows_then deadlines_then queue_then k g =
-    let l = g.local in
+pub one_more : (last : Option Timer) (moment : ℕ) (old : Rows) (was : List ℕ) (rows : Rows) (deadlines : Deadlines) (queue : List ℕ) (added : ℕ)
+    (rows_then : Rows) (deadlines_then : Deadlines) (queue_then : List ℕ)
+    → Trying last moment old was rows deadlines queue added → ClocksNext last moment rows deadlines queue rows_then deadlines_then queue_then
+    → Trying last moment old was rows_then deadlines_then queue_then (added + 1)
+one_more last moment old was rows deadlines queue added rows_then deadlines_then queue_then t g =
+    let k = t.so_far in
+    let l = g.timer.local in
     let before = g.clocked.before in
     let after = g.clocked.after in
-    let deadline : ℕ = g.first.0 in
-    let got : map.get deadlines l ≡ Some deadline = g.first.1 in
+    let deadline : ℕ = g.timer.deadline in
+    let got : map.get deadlines l ≡ Some deadline = g.first.0 in
     let fresh : is_among l k.due ≡ false =
     false_from_ne_true (is_among l k.due) (λ is. let clash : None ≡ Some deadline = sym (k.cleared l is) ∙ got in absurd (cc)) in
     let stood : map.get old l ≡ Some before = sym (subst (λ b. ClocksAt b moment (map.get old l) (map.get rows l)) fresh (k.rows_are l)) ∙ g.clocked.was in
@@ -189,37 +212,39 @@ one_more moment old was rows deadlines queue added rows_then deadlines_then queu
     let due_after : due_now moment after ≡ 0 = ap (λ o. cond {A = ℕ} (option_map_or (λ t. nat_le t moment) o false) 1 0) gone in
     let out : turns_of after ≡ turns_of before = g.clocked.extends.out in
     record {
-      due = k.due ++ d ∷ [];
-      in_order = all_pairs_push ComesFirst k.due d k.in_order (k.behind l deadline got);
-      are_due = All-push (IsDueIn old moment) k.due d k.are_due (record { row = before; was = stood; deadline = deadline_is; now = now });
-      added_is = omega (arith, k.added_is, length-append k.due (d ∷ []));
-      behind = λ q later.
-          by_local q l (λ q. map.get deadlines_then q ≡ Some later → All (λ e. ComesFirst e (later, q)) (k.due ++ d ∷ []))
-          (λ e. absurd (let clash : None ≡ Some later = sym none ∙ e in cc))
-          (λ ne e.
-          let there : map.get deadlines q ≡ Some later = sym (same q ne) ∙ e in
-          All-push (λ e. ComesFirst e (later, q)) k.due d (k.behind q later there) (comes_first deadline later l q ne (g.first.3 q later there)));
-      cleared = λ q.
-          by_local q l (λ q. is_among q (k.due ++ d ∷ []) ≡ true → map.get deadlines_then q ≡ None)
-          (λ e. none)
-          (λ ne e. same q ne ∙ k.cleared q (sym (among_other q k.due d ne) ∙ e));
-      rows_are = λ q.
-          by_local q l (λ q. ClocksAt (is_among q (k.due ++ d ∷ [])) moment (map.get old q) (map.get rows_then q))
-          (clocks_here moment (is_among l (k.due ++ d ∷ [])) (map.get old l) (map.get rows_then l) before after (among_here k.due d) stood one.there g.clocked.extends)
-          (λ ne.
-          subst (λ b. ClocksAt b moment (map.get old q) (map.get rows_then q)) (sym (among_other q k.due d ne))
-          (subst (λ o. ClocksAt (is_among q k.due) moment (map.get old q) o) (sym (one.others q ne)) (k.rows_are q)));
-      ready_is =
-          g.ready_is
-          ∙ ap (λ xs. xs ++ joins l g.is_joining) k.ready_is
-          ∙ append_assoc was (idle_among old k.due) (joins l g.is_joining)
-          ∙ ap (λ b. was ++ (idle_among old k.due ++ joins l b)) joining
-          ∙ ap (λ xs. was ++ xs) (sym (idle_more old k.due d));
-      agreed = record {
-        timed = subst (λ m. AreTimed m rows_then) (sym g.deadlines_are) (timed_at deadlines rows rows_then l (Some before) (Some after) None k.agreed.timed one (sym gone));
-        held = omega (arith, k.agreed.held, one.sums (λ _. 1), len-sum rows, len-sum rows_then);
-        ready_length = omega (arith, k.agreed.ready_length, queued, more, one.sums ready);
+      so_far = record {
+        due = k.due ++ d ∷ [];
+        in_order = all_pairs_push ComesFirst k.due d k.in_order (t.come_after l deadline got g.first.1);
+        are_due = All-push (IsDueIn old moment) k.due d k.are_due (record { row = before; was = stood; deadline = deadline_is; now = now });
+        added_is = omega (arith, k.added_is, length-append k.due (d ∷ []));
+        cleared = λ q.
+            by_local q l (λ q. is_among q (k.due ++ d ∷ []) ≡ true → map.get deadlines_then q ≡ None)
+            (λ e. none)
+            (λ ne e. same q ne ∙ k.cleared q (sym (among_other q k.due d ne) ∙ e));
+        rows_are = λ q.
+            by_local q l (λ q. ClocksAt (is_among q (k.due ++ d ∷ [])) moment (map.get old q) (map.get rows_then q))
+            (clocks_here moment (is_among l (k.due ++ d ∷ [])) (map.get old l) (map.get rows_then l) before after (among_here k.due d) stood one.there g.clocked.extends)
+            (λ ne.
+            subst (λ b. ClocksAt b moment (map.get old q) (map.get rows_then q)) (sym (among_other q k.due d ne))
+            (subst (λ o. ClocksAt (is_among q k.due) moment (map.get old q) o) (sym (one.others q ne)) (k.rows_are q)));
+        ready_is =
+            g.ready_is
+            ∙ ap (λ xs. xs ++ joins l g.is_joining) k.ready_is
+            ∙ append_assoc was (idle_among old k.due) (joins l g.is_joining)
+            ∙ ap (λ b. was ++ (idle_among old k.due ++ joins l b)) joining
+            ∙ ap (λ xs. was ++ xs) (sym (idle_more old k.due d));
+        agreed = record {
+          timed = subst (λ m. AreTimed m rows_then) (sym g.deadlines_are) (timed_at deadlines rows rows_then l (Some before) (Some after) None k.agreed.timed one (sym gone));
+          held = omega (arith, k.agreed.held, one.sums (λ _. 1), len-sum rows, len-sum rows_then);
+          ready_length = omega (arith, k.agreed.ready_length, queued, more, one.sums ready);
+        };
+        left = omega (arith, k.left, due_before, due_after, one.sums (due_now moment));
+        turns = omega (arith, k.turns, out, one.sums turns_of);
       };
-      left = omega (arith, k.left, due_before, due_after, one.sums (due_now moment));
-      turns = omega (arith, k.turns, out, one.sums turns_of);
+      come_after = λ q later.
+          by_local q l (λ q. map.get deadlines_then q ≡ Some later → ComesAfter last (later, q) → All (λ e. ComesFirst e (later, q)) (k.due ++ d ∷ []))
+          (λ e then. absurd (let clash : None ≡ Some later = sym none ∙ e in cc))
+          (λ ne e then.
+          let there : map.get deadlines q ≡ Some later = sym (same q ne) ∙ e in
+          All-push (λ e. ComesFirst e (later, q)) k.due d (t.come_after q later there then) (comes_first deadline later l q ne (g.first.3 q later there then)));
     }

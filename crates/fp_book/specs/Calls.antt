@@ -50,6 +50,7 @@ use Rattle.fp_row.specs.declared.turn.Turn.{Turn}
 use Rattle.fp_row.specs.Calls.{Ends, Extends, Gives, HandsOut, Opens, PutsBack, SendsOne}
 use Rattle.fp_row.specs.Row.{deadline_of, is_due, is_ready, turn_out, has_turn_out}
 use Rattle.fp_tids.specs.Identifiers.{identifier}
+pub use Rattle.fp_timers.specs.Deadlines.{ComesFirst, Due}
 
 -- a dialogue that has become ready comes after the others
 abbrev pub joins : ℕ → Bool → List ℕ
@@ -219,14 +220,6 @@ pub record Unsends (old : Shelf) (parcel : Parcel) (new : Shelf) : Type 0 where
 
 -- TICK: each dialogue that is due is given a Clock
 
--- a deadline, and the identifier of the dialogue that has it
-abbrev pub Due : Type 0
-Due = ℕ × ℕ
-
--- the earlier deadline comes first, and the smaller identifier among equals
-abbrev pub ComesFirst : Due → Due → Type 0
-ComesFirst a b = (a.0 < b.0) ⊎ ((a.0 ≡ b.0) × (a.1 < b.1))
-
 -- whether a dialogue is given a Clock at a moment; none is, once the link has accepted 2^63 entries
 abbrev pub due_at : Shelf → ℕ → Row → Bool
 due_at s moment row = not (is_full s) && is_due row moment
@@ -257,9 +250,8 @@ pub record Ticks (old : Shelf) (moment added wanting : ℕ) (new : Shelf) : Type
   pub are_due : All (IsDue old moment) due
   pub added_is : added ≡ length due
   pub wanting_is : added + wanting ≡ sum_of (λ row. if due_at old moment row then 1 else 0) old.rows
-  -- those that are left are due still, and come after those
+  -- those that are left are due still
   pub left : is_full old ≡ false → wanting ≡ sum_of (λ row. if is_due row moment then 1 else 0) new.rows
-  pub behind : (local deadline : ℕ) (row : Row) → get new.rows local ≡ Some row → deadline_of row ≡ Some deadline → All (λ (d : Due). ComesFirst d (deadline, local)) due
   pub rows : (local : ℕ) → ClocksAt (list_any (λ (d : Due). d.1 == local) due) moment (get old.rows local) (get new.rows local)
   pub new_is : new ≡ record old {
     entries = old.entries + added;

@@ -1,5 +1,5 @@
 -- What becomes of the dialogues of a link, their deadlines and their queue while each that is due is given a Clock.
-use Rattle.std.specs.Prelude.{◌≡◌, ℕ, ◌+◌, ◌≤◌, ◌==◌, Bool, true, List, ◌++◌, Some, None, length, filter, map, if◌then◌else◌, All, AllPairs}
+use Rattle.std.specs.Prelude.{◌≡◌, ℕ, ◌+◌, ◌≤◌, ◌==◌, Bool, true, List, ◌++◌, Option, Some, None, length, filter, map, if◌then◌else◌, All, AllPairs}
 use Rattle.std.specs.List.{list_any}
 use Rattle.std.specs.Ordering.{nat_cmp}
 use Rattle.std.specs.FinMap.{FinMap, get, len, remove}
@@ -12,7 +12,8 @@ use Rattle.fp_book.specs.Totals.{sum_of}
 use Rattle.fp_book.specs.Views.{AreTimed}
 use Rattle.fp_row.specs.declared.row.Row.{Row}
 use Rattle.fp_row.specs.Row.{deadline_of, is_due, is_ready}
-use Rattle.fp_timers.specs.Deadlines.{IsEarliestDue}
+use Rattle.fp_timers.specs.Deadlines.{IsEarliestDueAfter}
+use Rattle.fp_timers.specs.declared.timers.Timer.{Timer}
 
 abbrev pub Deadlines : Type 0
 Deadlines = FinMap nat_cmp ℕ
@@ -31,20 +32,20 @@ pub record AreAgreed (rows : Rows) (deadlines : Deadlines) (ready : List ℕ) : 
 abbrev pub Stays : Rows → Deadlines → List ℕ → Rows → Deadlines → List ℕ → Type 0
 Stays rows deadlines ready rows_then deadlines_then ready_then = (rows_then ≡ rows) × (deadlines_then ≡ deadlines) × (ready_then ≡ ready)
 
--- the dialogue with the earliest deadline that is due is given a Clock
-pub record ClocksFirst (moment : ℕ) (rows : Rows) (deadlines : Deadlines) (ready : List ℕ) (rows_then : Rows) (deadlines_then : Deadlines) (ready_then : List ℕ) : Type 0 where
-  pub local : ℕ
+-- the dialogue with the earliest deadline after the last is due, and is given a Clock
+pub record ClocksNext (last : Option Timer) (moment : ℕ) (rows : Rows) (deadlines : Deadlines) (ready : List ℕ) (rows_then : Rows) (deadlines_then : Deadlines) (ready_then : List ℕ) : Type 0 where
+  pub timer : Timer
   pub is_joining : Bool
-  pub first : IsEarliestDue deadlines moment (Some local)
-  pub clocked : ClockedAt rows local moment is_joining rows_then
-  pub deadlines_are : deadlines_then ≡ remove deadlines local
-  pub ready_is : ready_then ≡ ready ++ joins local is_joining
+  pub first : IsEarliestDueAfter deadlines last moment (Some timer)
+  pub clocked : ClockedAt rows timer.local moment is_joining rows_then
+  pub deadlines_are : deadlines_then ≡ remove deadlines timer.local
+  pub ready_is : ready_then ≡ ready ++ joins timer.local is_joining
 
 -- one was, or nothing changed: none is due, or memory ran out for one
-abbrev pub ClocksIf : Clocked → ℕ → Rows → Deadlines → List ℕ → Rows → Deadlines → List ℕ → Type 0
-ClocksIf Given moment rows deadlines ready rows_then deadlines_then ready_then = ClocksFirst moment rows deadlines ready rows_then deadlines_then ready_then
-ClocksIf NoneDue moment rows deadlines ready rows_then deadlines_then ready_then = Stays rows deadlines ready rows_then deadlines_then ready_then × IsEarliestDue deadlines moment None
-ClocksIf OutOfMemory moment rows deadlines ready rows_then deadlines_then ready_then = Stays rows deadlines ready rows_then deadlines_then ready_then × (local : ℕ) × IsEarliestDue deadlines moment (Some local)
+abbrev pub ClocksIf : Clocked → Option Timer → ℕ → Rows → Deadlines → List ℕ → Rows → Deadlines → List ℕ → Type 0
+ClocksIf Given last moment rows deadlines ready rows_then deadlines_then ready_then = ClocksNext last moment rows deadlines ready rows_then deadlines_then ready_then
+ClocksIf NoneDue last moment rows deadlines ready rows_then deadlines_then ready_then = Stays rows deadlines ready rows_then deadlines_then ready_then × IsEarliestDueAfter deadlines last moment None
+ClocksIf (OutOfMemory timer) last moment rows deadlines ready rows_then deadlines_then ready_then = Stays rows deadlines ready rows_then deadlines_then ready_then × IsEarliestDueAfter deadlines last moment (Some timer)
 
 -- the dialogue is due, and this is its deadline
 pub record IsDueIn (rows : Rows) (moment : ℕ) (due : Due) : Type 0 where
@@ -68,8 +69,7 @@ pub record Clocking (moment : ℕ) (old : Rows) (was : List ℕ) (rows : Rows) (
   pub in_order : AllPairs ComesFirst due
   pub are_due : All (IsDueIn old moment) due
   pub added_is : added ≡ length due
-  -- each deadline that is left comes after theirs, and they have none
-  pub behind : (local deadline : ℕ) → get deadlines local ≡ Some deadline → All (λ d. ComesFirst d (deadline, local)) due
+  -- they have no deadline
   pub cleared : (local : ℕ) → is_among local due ≡ true → get deadlines local ≡ None
   pub rows_are : (local : ℕ) → ClocksAt (is_among local due) moment (get old local) (get rows local)
   pub ready_is : ready ≡ was ++ idle_among old due

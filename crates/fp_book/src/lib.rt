@@ -39,11 +39,11 @@
 //! of them up by hash. A deadline that comes, goes or changes is found at an end of a lane, or by halves, and then 16
 //! octets move for each one between its place and the nearer end of that lane: next to none for the oldest and the
 //! newest. A Begin for which the rows have to grow moves all of them. `tick` does so for each dialogue that is due, and
-//! looks at four deadlines if none is. `entry_count`, `down`, `unsent`, and a tick for which memory ran out, go through
-//! all dialogues. A message that is refused or ends its dialogue goes through the frames that wait only if one of them
-//! is that dialogue's, and through the order of service only if that dialogue is in it. Nothing else grows with what
-//! other dialogues have: an identifier is given by a count or from the front of a queue, and its serial goes to the
-//! back of that queue once the dialogue is no longer held.
+//! looks at four deadlines, twice, if none is. `entry_count`, `down`, `unsent`, and a tick for which memory ran out, go
+//! through all dialogues. A message that is refused or ends its dialogue goes through the frames that wait only if one
+//! of them is that dialogue's, and through the order of service only if that dialogue is in it. Nothing else grows with
+//! what other dialogues have: an identifier is given by a count or from the front of a queue, and its serial goes to
+//! the back of that queue once the dialogue is no longer held.
 //!
 //! [`Log`], [`Outbox`] and [`ReadyQueue`] are parts of a book, public so that worked cases can try each alone; the
 //! layers above use [`Log::MOST`] alone.

@@ -5,6 +5,6 @@
 pub struct Ticked {
     /// How many dialogues were given a Clock.
     pub added: u32,
-    /// How many that are due were left out because memory ran out. They stay due.
+    /// How many that are due were left out, because memory ran out for them or for eight before them. They stay due.
     pub wanting: u32,
 }

@@ -14,43 +14,90 @@ use crate::serving::join;
 use crate::{Book, Log, LoggedStep, ReadyQueue, Ticked, clocks_keep_a_book_sound, dialogues};
 use fp_digits::Moment;
 use fp_row::Rows;
-use fp_timers::Deadlines;
+use fp_timers::{Deadlines, Timer};
 
-/// What becomes of the dialogue that is due first.
+/// A tick ends after this number of refusals that follow each other.
+const MOST_REFUSALS: u32 = 8;
+
+/// What becomes of the first dialogue that is due after another.
 #[derive(Clone, Copy, Debug)]
 pub(crate) enum Clocked {
     /// It is given a Clock.
     Given,
     /// None is due.
     NoneDue,
-    /// Memory ran out for its Clock.
-    OutOfMemory,
+    /// Memory ran out for its Clock. This is its deadline.
+    OutOfMemory(Timer),
 }
 
-/// Gives the dialogue with the earliest deadline that is due at a moment a Clock, the one with the smallest identifier
-/// among those. If none is due, or memory runs out, nothing changes.
-fn clock_first(
+/// Gives a Clock to the first dialogue that is due at a moment and whose deadline comes after `last`, the first of all
+/// for `None`: the one with the earliest deadline, and with the smallest identifier among those. If none is due, or
+/// memory runs out, nothing changes.
+fn clock_next(
     rows: &mut Rows,
     deadlines: &mut Deadlines,
     ready: &mut ReadyQueue,
+    last: Option<Timer>,
     moment: Moment,
 ) -> Clocked
     requires { AreAgreed rows.old deadlines.old ready.old }
-    ensures clocks { ClocksIf result moment rows.old deadlines.old ready.old rows.new deadlines.new ready.new }
+    ensures clocks { ClocksIf result last moment rows.old deadlines.old ready.old rows.new deadlines.new ready.new }
 {
-    let Some(local) = deadlines.due(moment) else {
+    let Some(timer) = deadlines.due_after(last, moment) else {
         return Clocked::NoneDue;
     };
-    let Ok(joins) = dialogues::clock(rows, local, moment) else {
-        return Clocked::OutOfMemory;
+    let Ok(joins) = dialogues::clock(rows, timer.local, moment) else {
+        return Clocked::OutOfMemory(timer);
     };
-    deadlines.clear(local);
-    join(ready, local, joins);
+    deadlines.clear(timer.local);
+    join(ready, timer.local, joins);
     Clocked::Given
 }
 
 /// Gives each dialogue that is due at a moment a Clock, the one with the earliest deadline first, and the one with the
-/// smallest identifier among those. It ends if memory runs out: the others stay due, and are counted.
+/// smallest identifier among those. If memory runs out for one, it is left out. After [`MOST_REFUSALS`] of these that
+/// follow each other, all that come after them are left out. Returns how many were given a Clock.
+fn clock_each(
+    rows: &mut Rows,
+    deadlines: &mut Deadlines,
+    ready: &mut ReadyQueue,
+    moment: Moment,
+) -> u32
+    requires { AreAgreed rows.old deadlines.old ready.old }
+    ensures { Clocking moment rows.old ready.old rows.new deadlines.new ready.new result }
+{
+    let mut added: u32 = 0;
+    let mut refusals: u32 = 0;
+    let mut last = None;
+    while refusals < MOST_REFUSALS {
+        match clock_next(rows, deadlines, ready, last, moment) {
+            Clocked::Given => {
+                added += 1;
+                refusals = 0;
+            }
+            Clocked::NoneDue => return added,
+            Clocked::OutOfMemory(timer) => {
+                refusals += 1;
+                last = Some(timer);
+            }
+        }
+    }
+    added
+}
+
+/// How many dialogues are due at a moment. If no deadline is due, none is, and the dialogues aren't gone through.
+fn due_count(rows: &Rows, deadlines: &Deadlines, moment: Moment) -> u32
+    requires timed { AreTimed deadlines.now rows.now }
+    requires held { len rows.now ≤ 4096 }
+    ensures { result ≡ sum_of (due_now moment) rows.now }
+{
+    match deadlines.due(moment) {
+        Some(_) => rows.count_due(moment) as u32,
+        None => 0,
+    }
+}
+
+/// Gives each dialogue that is due at a moment a Clock, and counts these and those that are left out.
 fn clock_all(
     rows: &mut Rows,
     deadlines: &mut Deadlines,
@@ -61,17 +108,9 @@ fn clock_all(
     ensures clocks { Clocking moment rows.old ready.old rows.new deadlines.new ready.new result.added }
     ensures wanting { result.wanting ≡ sum_of (due_now moment) rows.new }
 {
-    let mut added: u32 = 0;
-    loop {
-        match clock_first(rows, deadlines, ready, moment) {
-            Clocked::Given => added += 1,
-            Clocked::NoneDue => return Ticked { added, wanting: 0 },
-            Clocked::OutOfMemory => {
-                let wanting = rows.count_due(moment) as u32;
-                return Ticked { added, wanting };
-            }
-        }
-    }
+    let added = clock_each(rows, deadlines, ready, moment);
+    let wanting = due_count(rows, deadlines, moment);
+    Ticked { added, wanting }
 }
 
 /// Logs a tick at which a dialogue was due.
@@ -90,8 +129,9 @@ fn log_tick(log: &mut Log, moment: Moment, ticked: Ticked)
 
 impl Book {
     /// Time goes by: each dialogue whose deadline is at or before this moment is given a Clock, the one with the
-    /// earliest deadline first, and the one with the smallest identifier among those. If memory runs out for one, it
-    /// and those after it are left out, and stay due. None is due once the link accepted [`Book::ALL_ENTRIES`].
+    /// earliest deadline first, and the one with the smallest identifier among those. If memory runs out for one, it is
+    /// left out and stays due, and the tick goes on to the next. After eight of these that follow each other, all that
+    /// come after them are left out, too. None is due once the link accepted [`Book::ALL_ENTRIES`].
     pub fn tick(&mut self, moment: Moment) -> Ticked
         ensures ticks { Ticks self.old moment result.added result.wanting self.new }
         ensures sound { Sound self.new }

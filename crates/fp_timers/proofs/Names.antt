@@ -1,9 +1,9 @@
 -- The names that the proofs of this crate use: of std and of `specs/`.
-pub use Rattle.fp_timers.specs.Deadlines.{HasRoom, IsEarliestDue}
-pub use Rattle.fp_timers.specs.Timers.{AreApart, AreFew, IsAt, IsEarliestOf, IsGapFor, IsInOrder, IsInTimeOrder, IsPlaceFor, IsTimerAt, IsWith, comes_before, earlier, entries, joined, timer_at}
+pub use Rattle.fp_timers.specs.Deadlines.{ComesAfter, HasRoom, IsEarliestDueAfter}
+pub use Rattle.fp_timers.specs.Timers.{AreApart, AreFew, IsAt, IsEarliestAfter, IsGapFor, IsInOrder, IsInTimeOrder, IsPlaceAfter, IsPlaceFor, IsTimerAt, IsWith, comes_before, earlier, entries, is_after, joined, timer_at}
 pub use Rattle.fp_timers.specs.declared.timers.Timer.{Timer}
-pub use Rattle.std.proofs.Common.{Bool, Err, IfErr, IfOk, List, None, Ok, OnErr, OnOk, Option, Result, Some, [], ap, arith, cond, drop, eqb, false, get_or, inl, inr, is_some, length, nat_lt, refl, rules, set, subst, suc, sym, take, true, zero, ℕ, ◌&&◌, ◌++◌, ◌+◌, ◌-◌, ◌<◌, ◌==◌, ◌∙◌, ◌∷◌, ◌≡◌, ◌≢◌, ◌≤◌, ◌⊎◌}
-pub use Rattle.std.proofs.lemmas.Bool.{and_parts, cases_lt, cases_order, eqb-true, ltb-true, or_cases}
+pub use Rattle.std.proofs.Common.{Bool, Err, IfErr, IfOk, List, None, Ok, OnErr, OnOk, Option, Result, Some, [], ap, arith, cond, drop, eqb, false, get_or, inl, inr, is_some, length, nat_lt, not, refl, rules, set, subst, suc, sym, take, true, zero, ℕ, ◌&&◌, ◌++◌, ◌+◌, ◌-◌, ◌<◌, ◌==◌, ◌∙◌, ◌∷◌, ◌≡◌, ◌≢◌, ◌≤◌, ◌⊎◌}
+pub use Rattle.std.proofs.lemmas.Bool.{and_parts, cases_lt, cases_order, eqb-true, ltb-true, not-false, not-true, or_cases}
 pub use Rattle.std.proofs.lemmas.Bool.Decides.{nat_tests}
 pub use Rattle.std.proofs.lemmas.Cmp.{ranked}
 pub use Rattle.std.proofs.lemmas.List.{get_or_default, set-get_or, set_split, take-append-drop}

@@ -1,5 +1,5 @@
 -- Timers in the order of their deadlines, and what a search finds among them.
-use Rattle.fp_timers.proofs.Names.{All, Bool, IsEarliestOf, IsInTimeOrder, IsPartitionedBy, IsPlaceFor, IsTimerAt, List, Some, Timer, ap, arith, cases_order, comes_before, false, get_or, get_or_default, inl, inr, length, nat_tests, refl, subst, sym, timer_at, true, ℕ, ◌-◌, ◌<◌, ◌∙◌, ◌≡◌, ◌≢◌, ◌⊎◌}
+use Rattle.fp_timers.proofs.Names.{All, Bool, IsEarliestAfter, IsInTimeOrder, IsPartitionedBy, IsPlaceAfter, IsPlaceFor, IsTimerAt, List, Option, Some, Timer, ap, arith, cases_order, comes_before, false, get_or, get_or_default, inl, inr, is_after, length, nat_tests, not, refl, subst, sym, timer_at, true, ℕ, ◌-◌, ◌<◌, ◌∙◌, ◌≡◌, ◌≢◌, ◌⊎◌}
 use Rattle.fp_timers.proofs.Order.{past_end}
 
 -- what comes before one that comes before a third comes before that
@@ -70,14 +70,35 @@ module _ (l : List Timer) (sorted : IsInTimeOrder l) (t : Timer) where
       let at_k : timer_at l k ≡ t = get_or_default l k past_end d lt ∙ e in
       none (subst (IsTimerAt l t) (sym (own_place place k is lt at_k)) (record { in_range = lt; is_timer = at_k }))
 
-  -- the first comes before all others
-  pub front_first : 0 < length l → t ≡ get_or l 0 t → IsEarliestOf l (Some t)
-  front_first some read = ((0, record { in_range = some; is_timer = first }), λ k d lt. ap (λ u. comes_before u t) (get_or_default l k d past_end lt) ∙ by k lt (cases_order 0 k))
-    where
-      first : timer_at l 0 ≡ t
-      first = sym (read ∙ get_or_default l 0 t past_end some)
+-- what comes before one that doesn't come after a timer doesn't either
+not_after_earlier : (last x y : Timer) → comes_before x y ≡ true → not (comes_before last y) ≡ true → not (comes_before last x) ≡ true
+not_after_earlier last x y p q = grind (arith, nat_tests)
 
-      by : (k : ℕ) → k < length l → (0 ≡ k) ⊎ ((0 < k) ⊎ (k < 0)) → comes_before (timer_at l k) t ≡ false
-      by k lt (inl e) = ap (λ n. comes_before (timer_at l n) t) (sym e) ∙ ap (λ u. comes_before u t) first ∙ comes_before-irrefl t
-      by k lt (inr (inl less)) = comes_before-asym t (timer_at l k) (ap (λ u. comes_before u (timer_at l k)) (sym first) ∙ sorted 0 k less lt)
-      by k lt (inr (inr less)) = absurd (omega arith)
+module _ (l : List Timer) (sorted : IsInTimeOrder l) where
+  -- those that don't come after a timer are at the front
+  pub parted_after : (last : Timer) → IsPartitionedBy (λ (x : Timer). not (comes_before last x)) l
+  parted_after last i j d le in_range before =
+      let at_i = get_or_default l i d past_end (omega arith) in
+      let at_j = get_or_default l j d past_end in_range in
+      rw at_i (by (cases_order i j) (rw at_j at before))
+    where
+      by : (i ≡ j) ⊎ ((i < j) ⊎ (j < i)) → not (comes_before last (timer_at l j)) ≡ true → not (comes_before last (timer_at l i)) ≡ true
+      by (inl e) h = rw e h
+      by (inr (inl lt)) h = not_after_earlier last (timer_at l i) (timer_at l j) (sorted i j lt in_range) h
+      by (inr (inr lt)) h = absurd (omega arith)
+
+  -- the first of those that come after the last comes before all others of them
+  pub earliest_after : (last : Option Timer) (t : Timer) (place : ℕ) → IsPlaceAfter l last place → place < length l → t ≡ get_or l place t → IsEarliestAfter last l (Some t)
+  earliest_after last t place is within read = (
+    (place, record { in_range = within; is_timer = here }),
+    ap (is_after last) (sym here) ∙ is.all_after place (omega arith) within,
+    λ k d lt. subst (λ u. is_after last u ≡ true → comes_before u t ≡ false) (sym (get_or_default l k d past_end lt)) (by k lt (cases_order place k)),
+  )
+    where
+      here : timer_at l place ≡ t
+      here = sym (read ∙ get_or_default l place t past_end within)
+
+      by : (k : ℕ) → k < length l → (place ≡ k) ⊎ ((place < k) ⊎ (k < place)) → is_after last (timer_at l k) ≡ true → comes_before (timer_at l k) t ≡ false
+      by k lt (inl e) after = ap (λ n. comes_before (timer_at l n) t) (sym e) ∙ ap (λ u. comes_before u t) here ∙ comes_before-irrefl t
+      by k lt (inr (inl less)) after = comes_before-asym t (timer_at l k) (ap (λ u. comes_before u (timer_at l k)) (sym here) ∙ sorted place k less lt)
+      by k lt (inr (inr less)) after = absurd (let clash : false ≡ true = sym (is.none_before k less) ∙ after in cc)

@@ -1,5 +1,5 @@
 -- Timers in the order of their local identifiers, or of their deadlines, and what a search finds among them.
-use Rattle.std.specs.Prelude.{◌≡◌, ◌≢◌, ℕ, ◌<◌, ◌≤◌, ◌==◌, nat_lt, Bool, false, true, ◌&&◌, ◌||◌, cond, List, [], ◌∷◌, ◌++◌, All, map, length, slice_index_or, Option, Some, None}
+use Rattle.std.specs.Prelude.{◌≡◌, ◌≢◌, ℕ, ◌<◌, ◌≤◌, ◌==◌, nat_lt, Bool, false, true, ◌&&◌, ◌||◌, cond, List, ◌∷◌, ◌++◌, All, map, length, slice_index_or, Option, Some, None}
 use Rattle.fp_timers.specs.declared.timers.Timer.{Timer}
 
 -- the identifiers, each with its deadline
@@ -64,10 +64,18 @@ earlier None other = other
 earlier (Some timer) None = Some timer
 earlier (Some timer) (Some other) = cond (comes_before other timer) (Some other) (Some timer)
 
--- the timer that comes before all others, if there is one
-abbrev pub IsEarliestOf : List Timer → Option Timer → Type 0
-IsEarliestOf timers None = timers ≡ []
-IsEarliestOf timers (Some timer) = ((place : ℕ) × IsTimerAt timers timer place) × All (λ other. comes_before other timer ≡ false) timers
+-- whether a timer comes after another one, the last; each does, if there is no last
+abbrev pub is_after : Option Timer → Timer → Bool
+is_after None timer = true
+is_after (Some last) timer = comes_before last timer
+
+-- the timer that comes before all others of those after the last, if there is one
+abbrev pub IsEarliestAfter : Option Timer → List Timer → Option Timer → Type 0
+IsEarliestAfter last timers None = All (λ other. is_after last other ≡ false) timers
+IsEarliestAfter last timers (Some timer) =
+    ((place : ℕ) × IsTimerAt timers timer place)
+    × (is_after last timer ≡ true)
+    × All (λ other. is_after last other ≡ true → comes_before other timer ≡ false) timers
 
 -- the identifier's timer is at this place
 pub record IsAt (timers : List Timer) (local place : ℕ) : Type 0 where
@@ -85,3 +93,9 @@ pub record IsPlaceFor (timers : List Timer) (timer : Timer) (place : ℕ) : Type
   pub in_range : place ≤ length timers
   pub earlier_before : (i : ℕ) → i < place → comes_before (timer_at timers i) timer ≡ true
   pub none_after : (i : ℕ) → place ≤ i → i < length timers → comes_before (timer_at timers i) timer ≡ false
+
+-- the timers that come after the last begin at this place
+pub record IsPlaceAfter (timers : List Timer) (last : Option Timer) (place : ℕ) : Type 0 where
+  pub in_range : place ≤ length timers
+  pub none_before : (i : ℕ) → i < place → is_after last (timer_at timers i) ≡ false
+  pub all_after : (i : ℕ) → place ≤ i → i < length timers → is_after last (timer_at timers i) ≡ true

@@ -3,7 +3,7 @@
 ghost use Rattle.std.specs.Prelude.{◌≡◌, ◌<◌, ℕ, None, IfOk};
 ghost use Rattle.std.specs.Ordering.{nat_cmp};
 ghost use Rattle.std.specs.FinMap as map;
-ghost use Rattle.fp_timers.specs.Deadlines.{HasRoom, IsEarliestDue};
+ghost use Rattle.fp_timers.specs.Deadlines.{HasRoom, IsEarliestDueAfter};
 
 use crate::Deadlines;
 use crate::lane::Lane;
@@ -96,19 +96,20 @@ impl ByDeadline {
         let _removed = self.fourth.remove(timer);
     }
 
-    /// The first timer's identifier, if its deadline is at or before the moment.
-    pub(crate) fn due(&self, moment: Moment) -> Option<u32>
-        ensures { IsEarliestDue self.now moment result }
+    /// The first timer that comes after `last`, the first of all for `None`, if its deadline is at or before the
+    /// moment.
+    pub(crate) fn due_after(&self, last: Option<Timer>, moment: Moment) -> Option<Timer>
+        ensures { IsEarliestDueAfter self.now last moment result }
     {
-        let late = earlier(self.third.front(), self.fourth.front());
-        let rest = earlier(self.second.front(), late);
-        let Some(first) = earlier(self.first.front(), rest) else {
+        let late = earlier(self.third.first_after(last), self.fourth.first_after(last));
+        let rest = earlier(self.second.first_after(last), late);
+        let Some(first) = earlier(self.first.first_after(last), rest) else {
             return None;
         };
         if first.deadline > moment.milliseconds() {
             return None;
         }
-        Some(first.local)
+        Some(first)
     }
 
     /// Takes all timers away. Takes no memory.

@@ -3,7 +3,7 @@
 ghost use Rattle.std.specs.Prelude.{◌≡◌, ◌≤◌, ℕ, IfOk};
 ghost use Rattle.std.specs.Ordering.{nat_cmp};
 ghost use Rattle.std.specs.FinMap as map;
-ghost use Rattle.fp_timers.specs.Deadlines.{HasRoom, IsEarliestDue};
+ghost use Rattle.fp_timers.specs.Deadlines.{HasRoom, IsEarliestDue, IsEarliestDueAfter};
 
 use crate::by_deadline::ByDeadline;
 use crate::by_local::ByLocal;
@@ -93,6 +93,16 @@ impl Deadlines {
     pub fn due(&self, moment: Moment) -> Option<u32>
         ensures { IsEarliestDue self.now moment result }
     {
-        self.by_deadline.due(moment)
+        let first = self.due_after(None, moment)?;
+        Some(first.local)
+    }
+
+    /// The first deadline that comes after `last`, the first of all for `None`, with its identifier, if it is at or
+    /// before the moment. The earlier deadline comes first, and the smaller identifier where several have it. `last`
+    /// needn't be there any more, and isn't given itself. Takes no memory.
+    pub fn due_after(&self, last: Option<Timer>, moment: Moment) -> Option<Timer>
+        ensures { IsEarliestDueAfter self.now last moment result }
+    {
+        self.by_deadline.due_after(last, moment)
     }
 }

@@ -1,10 +1,10 @@
 //! Some of the timers, in the order of their deadlines.
 
 ghost use Rattle.std.specs.Prelude.{◌≡◌, ◌≢◌, ◌<◌, [], length, false, IfOk, IsTrue, All};
-ghost use Rattle.fp_timers.specs.Timers.{IsEarliestOf, IsWith};
+ghost use Rattle.fp_timers.specs.Timers.{IsEarliestAfter, IsWith};
 
 use crate::Deadlines;
-use crate::timers::{Timer, comes_last, place_if_there, place_in_time};
+use crate::timers::{Timer, comes_last, place_after, place_if_there, place_in_time};
 use std::alloc::{AllocError, Global};
 use std::collections::VecDeque;
 use std::marker::Model;
@@ -76,11 +76,12 @@ impl Lane {
         true
     }
 
-    /// The first timer, if there is one.
-    pub(crate) fn front(&self) -> Option<Timer>
-        ensures { IsEarliestOf self.now result }
+    /// The first timer that comes after `last`, or the first of all for `None`.
+    pub(crate) fn first_after(&self, last: Option<Timer>) -> Option<Timer>
+        ensures { IsEarliestAfter last self.now result }
     {
-        let Some(first) = self.timers.front() else {
+        let place = place_after(&self.timers, last);
+        let Some(first) = self.timers.get(place) else {
             return None;
         };
         Some(*first)

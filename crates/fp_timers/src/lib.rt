@@ -9,12 +9,13 @@
 //! new one goes to the end of the first lane where it comes last. Deadlines that are set the same time ahead come in
 //! order, so they mostly share a lane, and one is seldom put between others. A change looks at the end of the list and
 //! at the ends of the lanes first, and searches by halves if it isn't there. [`Deadlines::due`] looks only at the first
-//! of each lane.
+//! of each lane. [`Deadlines::due_after`] searches each lane by halves, unless it is asked for the first of all.
 //!
 //! The layer above may rely on this: contracts see [`Deadlines`] as a finite map from identifier to deadline, which
 //! [`Deadlines::set`] and [`Deadlines::clear`] change at one identifier alone, and [`Deadlines::clear_all`] empties.
 //! [`Deadlines::due`] gives the identifier of the earliest deadline, the smallest where several have it, exactly where
-//! that deadline is at or before the moment (`specs/Deadlines.antt`).
+//! that deadline is at or before the moment. [`Deadlines::due_after`] gives the same of the deadlines that come after a
+//! [`Timer`] in this order (`specs/Deadlines.antt`).
 #![tactic(auto)]
 
 mod by_deadline;
@@ -25,4 +26,5 @@ mod laws;
 mod timers;
 
 pub use deadlines::Deadlines;
-pub use laws::earliest_due_is_one;
+pub use laws::{earliest_due_after_is_one, earliest_due_is_one};
+pub use timers::Timer;

@@ -1,15 +1,17 @@
 //! Timers, and where they go among others in the order of their identifiers or of their deadlines.
 
 ghost use Rattle.std.specs.Prelude.{◌≡◌, ◌≢◌, ◌<◌, ◌↔◌, All, None, false, length, IfErr, IfOk, IfSome, IsTrue};
-ghost use Rattle.fp_timers.specs.Timers.{IsInOrder, IsAt, IsGapFor, IsInTimeOrder, IsPlaceFor, IsTimerAt, comes_before, earlier};
+ghost use Rattle.fp_timers.specs.Timers.{IsInOrder, IsAt, IsGapFor, IsInTimeOrder, IsPlaceFor, IsPlaceAfter, IsTimerAt, comes_before, earlier};
 
 use std::collections::VecDeque;
 
-/// A local identifier and its deadline, in milliseconds.
+/// A local identifier and its deadline.
 #[derive(Clone, Copy, Debug)]
-pub(crate) struct Timer {
-    pub(crate) local: u32,
-    pub(crate) deadline: u64,
+pub struct Timer {
+    /// The local transaction identifier.
+    pub local: u32,
+    /// Its deadline, in milliseconds since 1970-01-01T00:00:00Z.
+    pub deadline: u64,
 }
 
 /// The place of the identifier's timer, or, if it has none, the place at which one would go. Most are new identifiers,
@@ -82,6 +84,18 @@ pub(crate) fn place_if_there(timers: &VecDeque<Timer>, timer: Timer) -> Option<u
         return Some(place);
     }
     None
+}
+
+/// The place of the first timer that comes after `last` in the order of their deadlines, or, if none does, how many
+/// there are. For `None` all come after it.
+pub(crate) fn place_after(timers: &VecDeque<Timer>, last: Option<Timer>) -> usize
+    requires { IsInTimeOrder timers.now.items }
+    ensures { IsPlaceAfter timers.now.items last result }
+{
+    let Some(last) = last else {
+        return 0;
+    };
+    timers.partition_point(|timer| !is_before(&last, timer))
 }
 
 /// Whether the timer is at this place.
