@@ -25,7 +25,7 @@ use Rattle.fp_row.specs.Calls.{ended_by}
 use Rattle.fp_row.specs.Row.{has_turn_out, is_admitted, is_closed, is_ready, waiting_of}
 use Rattle.fp_service.specs.Dialogue.{fresh, is_over}
 use Rattle.fp_tids.specs.Identifiers.{first_of, identifier, serial_of}
-use Rattle.fp_ask.specs.Solo.{Outcome, Dialogue, LinkState, Served, aborts, continued, discarded, ended, found, Job, jobs_for, left_by, newborn, opened, refused, serve_all, without}
+use Rattle.fp_ask.specs.Solo.{Outcome, Dialogue, LinkState, Served, aborts, continued, ended, found, Job, jobs_for, left_by, newborn, opened, outcome, serve_all, without}
 use Rattle.fp_ask.specs.Tied.{Came, Concerned, Concerns, Fit, GoesOn, IsServed, KeepsEnd, KeepsDialogues, Matches, Midway, Rest, Rows, Same, SameCounts, all_free, dialogue_of, frames_in, is_leaving, is_out, jobs_of, leaving, live, senders, times, waiting_at}
 use Rattle.fp_ask.proofs.OneSent.{no_jobs}
 use Rattle.fp_ask.proofs.Resting.{is_fresh, not_leaving, quiet, stands_nowhere}
@@ -66,15 +66,15 @@ stands_alone {s} {d = d} joining r one queue other ne = (
 )
 
 -- what comes of a message for which these are served, after these Aborts
-abbrev pub outcome : ℕ → ℕ → List ℕ → List AbortFrame → Served → Outcome
-outcome births entries free aborts served = record {
+abbrev pub outcome_after : ℕ → ℕ → List ℕ → List AbortFrame → Served → Outcome
+outcome_after births entries free aborts served = record {
   link = record { births = births; entries = entries; free = free ++ served.returned; dialogues = served.dialogues };
   frames = frames_in (record { aborts = aborts; frames = []; out = None }) ++ served.frames;
 }
 
 -- what is served then is served in the list
 midway_of : {s new : Shelf} {d : ℕ} {waiting : List Entry} {aborts : List AbortFrame} (births entries : ℕ) (free : List ℕ) (dialogues : List Dialogue) → Arrives s new d waiting aborts
-    → Same dialogues new.rows → all_free (Concerned.one d) new ≡ free → Midway new (outcome births entries free aborts (serve_all (jobs_for d waiting) dialogues))
+    → Same dialogues new.rows → all_free (Concerned.one d) new ≡ free → Midway new (outcome_after births entries free aborts (serve_all (jobs_for d waiting) dialogues))
 midway_of {d = d} births entries free dialogues a same is = record {
   dialogues = dialogues;
   same = same;
@@ -144,7 +144,7 @@ module _ {s new : Shelf} {peer : Tid} {came : Prepared} {answer : Posted} (r : R
       let free : times one.local w.dialogues ≡ 0 =
       stands_nowhere one.local w.dialogues (m.same one.local ∙ ap live (ap (fin.get s.rows) (sym local) ∙ is_fresh s o.serial o.rest r.served.fit.sound o.first)) in
       record {
-        midway = subst (λ n. Midway new (outcome (w.births + 1) (w.entries + length (entries_in came)) (drop 1 w.free) [] (serve_all (jobs_for n (entries_in came)) (one ∷ w.dialogues)))) local
+        midway = subst (λ n. Midway new (outcome_after (w.births + 1) (w.entries + length (entries_in came)) (drop 1 w.free) [] (serve_all (jobs_for n (entries_in came)) (one ∷ w.dialogues)))) local
             (midway_of (w.births + 1) (w.entries + length (entries_in came)) (drop 1 w.free) (one ∷ w.dialogues) opens_arrives (subst (λ (n : Shelf). Same (one ∷ w.dialogues) n.rows) (sym o.new_is) same)
             (opens_free ∙ sym (ap (drop 1) (m.free ∙ o.first))));
         births = ap (λ n. n + 1) m.births ∙ sym (ap (λ (x : Shelf). x.births) o.new_is);
@@ -220,7 +220,7 @@ ends_free free d ending ended after e = free_left free d after ∙ ap (λ b. fre
 
 -- what comes of a message for which nothing is served
 nothing_served : {new : Shelf} (births entries : ℕ) (free : List ℕ) (aborts : List AbortFrame) (dialogues : List Dialogue) (frames : List (List ℕ)) → map frame_octets aborts ≡ frames
-    → Midway new (outcome births entries free aborts (record { dialogues = dialogues; returned = []; frames = [] }))
+    → Midway new (outcome_after births entries free aborts (record { dialogues = dialogues; returned = []; frames = [] }))
     → Midway new (record { link = record { births = births; entries = entries; free = free; dialogues = dialogues }; frames = frames })
 nothing_served {new} births entries free aborts dialogues frames is m =
     subst (λ f. Midway new (record { link = record { births = births; entries = entries; free = free; dialogues = dialogues }; frames = f })) (append-nil _ ∙ append-nil _ ∙ is)
@@ -255,7 +255,7 @@ module _ {s new : Shelf} {d : ℕ} {came : Prepared} {answer : Posted} (r : Rest
       (found_without d w.dialogues ∙ sym (ends_gone Ending.ByPeer x.extended.ended x.after x.ends.ended)) (λ k ne. found_others d k w.dialogues ne) in
       record {
         midway = nothing_served w.births (w.entries + length (entries_in came)) (w.free ++ serial_of d ∷ []) [] then [] refl
-            (subst (λ v. Midway new (outcome w.births (w.entries + length (entries_in came)) (w.free ++ serial_of d ∷ []) [] v)) (serve_none d (waiting_of x.after) then (found_without d w.dialogues))
+            (subst (λ v. Midway new (outcome_after w.births (w.entries + length (entries_in came)) (w.free ++ serial_of d ∷ []) [] v)) (serve_none d (waiting_of x.after) then (found_without d w.dialogues))
             (midway_of w.births (w.entries + length (entries_in came)) (w.free ++ serial_of d ∷ []) then ends_arrives (subst (λ (n : Shelf). Same then n.rows) (sym x.new_is) same)
             (ap (all_free (Concerned.one d)) x.new_is ∙ ap (λ r. free_with s.free d x.after ++ own_serial d r) there.there
             ∙ ends_free s.free d Ending.ByPeer x.extended.ended x.after x.ends.ended ∙ ap (λ f. f ++ serial_of d ∷ []) (sym m.free))));
@@ -385,14 +385,6 @@ discards_leaves s new came answer r x = logged s s new None [] _ x.new_is (close
 
 -- WHATEVER IS DONE WITH IT
 
--- what is done with a message, over the list
-abbrev pub done : Verdict → LinkState → Prepared → Outcome
-done Discard w came = discarded w
-done (Refuse cause closes) w came = refused w cause closes (arrival_of came).ids.orig
-done (Open peer) w came = opened w (first_of 0 w.free) peer (arrival_of came).moment (entries_in came)
-done (Extend local false) w came = continued w local (entries_in came)
-done (Extend local true) w came = ended w local (entries_in came)
-
 -- it is ready to be served,
 pub follows_fit : (v : Verdict) (s new : Shelf) (came : Prepared) (answer : Posted) → Rest s → Sound new → Allowed s came v → Follows v s came answer new → Fit new
 follows_fit Discard s new came answer r sound can x = arrived_fit r sound (discards_leaves s new came answer r x).arrives
@@ -402,7 +394,8 @@ follows_fit (Extend local false) s new came answer r sound can x = arrived_fit r
 follows_fit (Extend local true) s new came answer r sound can x = arrived_fit r sound (ends_arrives r can x)
 
 -- and is described by the list
-pub follows_came : (v : Verdict) (s new : Shelf) (w : LinkState) (came : Prepared) (answer : Posted) → Rest s → Matches w s → Allowed s came v → Follows v s came answer new → Came (done v w came) new
+pub follows_came : (v : Verdict) (s new : Shelf) (w : LinkState) (came : Prepared) (answer : Posted) → Rest s → Matches w s → Allowed s came v → Follows v s came answer new
+    → Came (outcome w (arrival_of came).ids.orig (arrival_of came).moment (entries_in came) v) new
 follows_came Discard s new w came answer r m can x = leaves_came s new None [] w [] (discards_leaves s new came answer r x) refl m
 follows_came (Refuse cause closes) s new w came answer r m can x =
     let l = refuses_leaves s new cause closes came answer r x in leaves_came s new closes l.0 w (aborts cause (arrival_of came).ids.orig) l.1 l.2 m

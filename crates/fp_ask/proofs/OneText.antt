@@ -12,7 +12,7 @@ use Rattle.fp_records.specs.Table.{Contents}
 use Rattle.fp_ask.specs.Laws.{LinesHaveOneText}
 use Rattle.fp_ask.specs.Line.{Input, line_in, message, wait}
 use Rattle.fp_ask.specs.Lines.{Solo, State, Takes, Written, written_at}
-use Rattle.fp_ask.specs.Solo.{LinkState, came as came_of, is_read, misread, named, post}
+use Rattle.fp_ask.specs.Solo.{LinkState, is_read, post}
 
 -- an identifier is its octets
 tid_is : (o : Option Tid) → option_map octets_of o ≡ o
@@ -34,11 +34,12 @@ same_post w (Prepared.Message a i) (Prepared.Message b j) r t same =
     let ids = ids_are a.ids b.ids same.same_arrival.identifiers in
     let moment = same.same_arrival.moments in
     let incoming : i ≡ j = λ k. record { entries = same.same_reading.entries k; elements = same.same_reading.elements k } in
-    λ k. came_of w (ids k) (moment k) (incoming k) (ids k).kind (named w (ids k))
+    λ k. post w (Prepared.Message (record a { ids = ids k; moment = moment k }) (incoming k))
 same_post w (Prepared.Message a i) (Prepared.Refused b g) r t same = absurd same.same_reading
 same_post w (Prepared.Refused a f) (Prepared.Message b j) r t same = absurd same.same_reading
 same_post w (Prepared.Refused a f) (Prepared.Refused b g) r t same =
-    ap (λ (ids : Ids). misread w ids ids.kind (named w ids)) (ids_are a.ids b.ids same.same_arrival.identifiers)
+    let ids = ids_are a.ids b.ids same.same_arrival.identifiers in
+    λ k. post w (Prepared.Refused (record a { ids = ids k; moment = same.same_arrival.moments k }) f)
 same_post w (Prepared.Lost a) y r t same = absurd (false≢true r)
 same_post w x (Prepared.Lost b) r t same = absurd (false≢true t)
 

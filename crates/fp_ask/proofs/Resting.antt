@@ -1,17 +1,19 @@
 -- A book in which nothing waits.
-use Rattle.std.proofs.Common.{◌≡◌, ℕ, ◌≤◌, ◌+◌, Bool, true, false, cond, eqb, not, ◌&&◌, ◌||◌, nat_le, nat_lt, ◌^◌, Option, Some, None, is_some, List, [], ◌∷◌, ◌++◌, length, drop, refl, sym, ◌∙◌, ap, arith, append-nil, zero-add}
+use Rattle.std.proofs.Common.{◌≡◌, ℕ, ◌≤◌, Bool, true, false, cond, eqb, not, ◌&&◌, ◌||◌, nat_le, nat_lt, Option, Some, None, is_some, List, [], ◌∷◌, ◌++◌, length, drop, refl, sym, ◌∙◌, ap, arith, append-nil}
 use Rattle.std.specs.FinMap as fin
 use Rattle.std.specs.Option.{option_and_then, option_map_or}
 use Rattle.std.proofs.lemmas.Bool.{cond_both, eq-eqb, false≢true}
 use Rattle.std.proofs.lemmas.Bool.Decides.{nat_tests}
 use Rattle.std.proofs.lemmas.List.{length-take-le}
+use Rattle.fp_book.specs.declared.book.TheConstants.Book.{ALL_ENTRIES}
+use Rattle.fp_book.specs.Rules as book
 use Rattle.fp_book.specs.Shelf.{Shelf, Sound, of_row, ready_count, unsent_for}
-use Rattle.fp_book.specs.Verdict as book
 use Rattle.fp_book.proofs.Sums.{len-sum, removed, sum-none}
 use Rattle.fp_book.proofs.Changes.{turns_none}
 use Rattle.fp_entry.specs.declared.entry.Entry.{Entry}
+use Rattle.fp_entry.specs.declared.prepared.Prepared.{Prepared}
 use Rattle.fp_entry.specs.Entries.{place_count}
-use Rattle.fp_q773.specs.declared.ids.Ids.{Ids}
+use Rattle.fp_entry.specs.Prepared.{arrival_of}
 use Rattle.fp_q773.specs.Tid.{octets_of}
 use Rattle.fp_row.specs.declared.ending.Ending.{Ending}
 use Rattle.fp_row.specs.declared.row.Row.{Row}
@@ -19,7 +21,7 @@ use Rattle.fp_row.specs.Row.{frames_of, is_admitted, is_closed, is_ready, kept_o
 use Rattle.fp_row.proofs.Keeping.{queued_within, sent_within}
 use Rattle.fp_service.specs.Dialogue.{is_over}
 use Rattle.fp_tids.specs.Identifiers.{identifier, is_free}
-use Rattle.fp_ask.specs.Solo.{Dialogue, LinkState, found, going, is_full, named, no_dialogue_left}
+use Rattle.fp_ask.specs.Solo.{Dialogue, LinkState, facts, found, going, is_full, named, verdict}
 use Rattle.fp_ask.specs.Tied.{Matches, Rest, Rows, Same, is_leaving, is_out, live, dialogue_of, times}
 use Rattle.fp_ask.proofs.Rows.{none_waits}
 use Rattle.fp_ask.proofs.Dialogues.{by_number, count, none_if, swapped, times-cons, unit}
@@ -84,17 +86,17 @@ leaving_none (Some row) h = ap not (h row refl)
 pub not_leaving : (s : Shelf) → Rest s → (d : ℕ) → is_leaving (fin.get s.rows d) ≡ false
 not_leaving s r d = leaving_none (fin.get s.rows d) (λ row was. (quiet s r d row was).admitted)
 
--- THE TESTS OF A BOOK ARE THOSE OF THE LIST
+-- THE FACTS OF A BOOK ARE THOSE OF THE LIST
 
--- no entry takes a place
+-- no entry of a dialogue is unserved
 places_none : (s : Shelf) → Rest s → (d : ℕ) (o : Option Row) → fin.get s.rows d ≡ o → option_map_or places_taken o 0 ≡ 0
 places_none s r d None was = refl
 places_none s r d (Some row) was = ap place_count (quiet s r d row was).unserved
 
--- no entry has a place, so that those of the message count alone
-pub place_test : (s : Shelf) → Rest s → (d places : ℕ) → book.no_place_left (fin.get s.rows d) places ≡ nat_lt 64 places
-place_test s r d places =
-    ap (λ n. nat_lt 64 (n + places)) (places_none s r d (fin.get s.rows d) refl) ∙ ap (nat_lt 64) (zero-add places)
+-- nor of the one that a message names, if it names one
+unserved_none : (s : Shelf) → Rest s → (dialogue : Option ℕ) → option_map_or places_taken (option_and_then (fin.get s.rows) dialogue) 0 ≡ 0
+unserved_none s r None = refl
+unserved_none s r (Some d) = places_none s r d (fin.get s.rows d) refl
 
 -- a dialogue that is in no list isn't found,
 pub not_found : (d : ℕ) (dialogues : List Dialogue) → times d dialogues ≡ 0 → found d dialogues ≡ None
@@ -144,16 +146,12 @@ same_size (t ∷ dialogues) rows same all once =
     omega (arith, size, fewer_rows, len-sum rows, len-sum rest)
 
 -- as many dialogues go on as are held
-pub size_is : (s : Shelf) (w : LinkState) → Rest s → Matches w s → length w.dialogues ≡ fin.len s.rows
+size_is : (s : Shelf) (w : LinkState) → Rest s → Matches w s → length w.dialogues ≡ fin.len s.rows
 size_is s w r m = same_size w.dialogues s.rows m.same (λ d row was. (quiet s r d row was).admitted) m.once
 
 -- the link has accepted all that it accepts
 pub full_test : (s : Shelf) (w : LinkState) → Matches w s → is_full w ≡ book.is_full s
-full_test s w m = ap (λ n. nat_le (2 ^ 63) n) m.entries
-
--- no further dialogue
-pub dialogue_test : (s : Shelf) (w : LinkState) → Rest s → Matches w s → no_dialogue_left w ≡ book.no_dialogue_left s
-dialogue_test s w r m = λ i. nat_le 4096 (size_is s w r m i) || full_test s w m i
+full_test s w m = ap (nat_le ALL_ENTRIES) m.entries
 
 some_by : (b : Bool) (t : Dialogue) → is_some (cond b (Some t) None) ≡ b
 some_by b t = grind arith
@@ -170,8 +168,22 @@ named_by s w m None = refl
 named_by s w m (Some d) = going_test s w m d
 
 -- the dialogue that a message names
-pub named_test : (s : Shelf) (w : LinkState) → Matches w s → (ids : Ids) → named w ids ≡ book.named s ids
-named_test s w m ids = named_by s w m (option_and_then (λ tid. book.number_of (octets_of tid)) ids.dest)
+named_is : (s : Shelf) (w : LinkState) (came : Prepared) → Matches w s → named w came ≡ book.named s (arrival_of came).ids
+named_is s w came m = named_by s w m (option_and_then (λ tid. book.number_of (octets_of tid)) (arrival_of came).ids.dest)
+
+-- and the facts
+facts_are : (s : Shelf) (w : LinkState) (came : Prepared) → Rest s → Matches w s → facts w came ≡ book.facts_of s came
+facts_are s w came r m = λ i. record {
+  is_down = sym r.served.fit.up i;
+  names_one = is_some (named_is s w came m i);
+  unserved = sym (unserved_none s r (book.named s (arrival_of came).ids)) i;
+  entries = m.entries i;
+  held = size_is s w r m i;
+}
+
+-- so the same is done with the message
+pub verdict_is : (s : Shelf) (w : LinkState) (came : Prepared) → Rest s → Matches w s → verdict w came ≡ book.verdict s came
+verdict_is s w came r m = λ i. book.verdict_by (book.rule (facts_are s w came r m i) came) (named_is s w came m i) (arrival_of came).ids.orig
 
 -- no dialogue has the identifier of the next serial
 fresh_by : (s : Shelf) (serial : ℕ) (rest : List ℕ) (o : Option Row) → Sound s → s.free ≡ serial ∷ rest → fin.get s.rows (identifier s.link serial) ≡ o → o ≡ None

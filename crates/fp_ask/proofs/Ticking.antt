@@ -10,9 +10,9 @@ use Rattle.std.proofs.lemmas.List.Elements.{recursion_from_All}
 use Rattle.fp_book.specs.Calls.{ClocksAt, ComesFirst, IsDue, Ticks, is_idle}
 use Rattle.fp_book.specs.Calls as book
 use Rattle.fp_book.specs.Outbox.{Outbox, nothing}
+use Rattle.fp_book.specs.Rules as receipt
 use Rattle.fp_book.specs.Shelf.{Shelf, Sound}
 use Rattle.fp_book.specs.Totals.{sum_of}
-use Rattle.fp_book.specs.Verdict as verdicts
 use Rattle.fp_book.proofs.Sums.{amount, len-sum, sum-le}
 use Rattle.fp_entry.specs.declared.entry.Entry.{Entry}
 use Rattle.fp_entry.specs.declared.entry.EntryKind.{EntryKind}
@@ -226,7 +226,7 @@ module _ {s new : Shelf} {moment added wanting : ℕ} (r : Rest s) (t : Ticks s 
     order = in_order key moment w.dialogues m.once (λ k dialogue at. key_of k dialogue (fin.get s.rows k) refl at)
 
     -- the list has the same dialogues that are due
-    count_is : verdicts.is_full s ≡ false → (k : ℕ) (o : Option Row) → fin.get s.rows k ≡ o → count k (locals (due_at moment w.dialogues)) ≡ amount weight o
+    count_is : receipt.is_full s ≡ false → (k : ℕ) (o : Option Row) → fin.get s.rows k ≡ o → count k (locals (due_at moment w.dialogues)) ≡ amount weight o
     count_is full k None was = omega (arith, order.few k, stands_nowhere k w.dialogues (m.same k ∙ ap live was))
     count_is full k (Some row) was =
         let due : is_due row moment ≡ nat_le (next_due row.core) moment =

@@ -1,22 +1,21 @@
 -- What is sent for messages and for moments, one after another, over a plain list of dialogues and the queue of serials
 -- that may be given to the next ones. What one of them brings is served and answered before the next one comes.
-use Rattle.std.specs.Prelude.{ℕ, Bool, true, false, not, ◌+◌, ◌^◌, ◌==◌, ◌&&◌, ◌||◌, List, [], ◌∷◌, ◌++◌, Option, Some, None, is_some, drop, length, map, nat_le, nat_lt, if◌then◌else◌}
+use Rattle.std.specs.Prelude.{ℕ, Bool, true, false, not, ◌+◌, ◌==◌, ◌&&◌, ◌||◌, List, [], ◌∷◌, ◌++◌, Option, Some, None, is_some, drop, length, map, nat_le, nat_lt, if◌then◌else◌}
 use Rattle.std.specs.List.{filter, find}
 use Rattle.std.specs.Option.{option_and_then}
 use Rattle.fp_ber.specs.Canon.{canon}
-use Rattle.fp_book.specs.Lines.{number_of}
+use Rattle.fp_book.specs.Limits.{all_entries}
+use Rattle.fp_book.specs.declared.rules.Facts.{Facts}
+use Rattle.fp_book.specs.declared.verdict.Verdict.{Verdict}
+use Rattle.fp_book.specs.declared.verdict.Verdict.TheVariants.{Discard, Refuse, Open, Extend}
+use Rattle.fp_book.specs.Rules.{entries_in, is_lost, number_of, rule, verdict_by}
 use Rattle.fp_entry.specs.declared.entry.Entry.{Entry}
 use Rattle.fp_entry.specs.declared.entry.EntryKind.TheVariants.{Clock}
-use Rattle.fp_entry.specs.declared.incoming.Incoming.{Incoming}
 use Rattle.fp_entry.specs.declared.prepared.Prepared.{Prepared}
-use Rattle.fp_entry.specs.declared.prepared.Prepared.TheVariants.{Message, Refused, Lost}
-use Rattle.fp_entry.specs.Entries.{entry_at, place_count}
+use Rattle.fp_entry.specs.Entries.{entry_at}
+use Rattle.fp_entry.specs.Prepared.{arrival_of}
 use Rattle.fp_frames.specs.Frame.{framed}
-use Rattle.fp_q773.specs.declared.ids.Ids.{Ids}
-use Rattle.fp_q773.specs.declared.kind.Kind.{Kind}
-use Rattle.fp_q773.specs.declared.kind.Kind.TheVariants.{Unidirectional, Begin, End, Continue, Abort, Unknown}
 use Rattle.fp_q773.specs.declared.provider_abort.AbortCause.{AbortCause}
-use Rattle.fp_q773.specs.declared.provider_abort.AbortCause.TheVariants as cause
 use Rattle.fp_q773.specs.Tid.{Tid, octets_of}
 use Rattle.fp_q773.specs.ProviderAbort.{cause_code, provider_abort}
 use Rattle.fp_reply.specs.Reply.{frame_of}
@@ -189,81 +188,45 @@ ended w local entries = record {
   frames = [];
 }
 
--- WHICH MESSAGES ARE REFUSED
+-- WHAT IS DONE WITH A MESSAGE
 
 -- the dialogue that this end knows by an identifier, if it goes on
 abbrev pub going : LinkState → ℕ → Option ℕ
 going w local = if is_some (found local w.dialogues) then Some local else None
 
--- the dialogue that a destination identifier names: its four octets are this end's identifier
-abbrev pub named : LinkState → Ids → Option ℕ
-named w ids = option_and_then (going w) (option_and_then (λ tid. number_of (octets_of tid)) ids.dest)
+-- the dialogue that a message names: the four octets of its destination are this end's identifier
+abbrev pub named : LinkState → Prepared → Option ℕ
+named w came = option_and_then (going w) (option_and_then (λ tid. number_of (octets_of tid)) (arrival_of came).ids.dest)
 
--- 2^63 entries were accepted, or more
-abbrev pub is_full : LinkState → Bool
-is_full w = nat_le (2 ^ 63) w.entries
+-- the facts of the rules of receipt: the link is up, and every entry that was accepted was served
+abbrev pub facts : LinkState → Prepared → Facts
+facts w came = record {
+  is_down = false;
+  names_one = is_some (named w came);
+  unserved = 0;
+  entries = w.entries;
+  held = length w.dialogues;
+}
 
--- 4,096 dialogues go on, or no entry may be accepted
-abbrev pub no_dialogue_left : LinkState → Bool
-no_dialogue_left w = nat_le 4096 (length w.dialogues) || is_full w
+-- what is done with a message by these rules
+abbrev pub verdict : LinkState → Prepared → Verdict
+verdict w came = verdict_by (rule (facts w came) came) (named w came) (arrival_of came).ids.orig
 
--- more than 64 entries that take a place
-abbrev pub too_many_entries : Incoming → Bool
-too_many_entries incoming = nat_lt 64 (place_count incoming.entries)
-
--- more than 16 elements in the component portion
-abbrev pub too_many : Incoming → Bool
-too_many incoming = nat_lt 16 incoming.elements
-
--- a Begin
-abbrev pub begun : LinkState → Option Tid → ℕ → Incoming → Outcome
-begun w None moment incoming = discarded w
-begun w (Some sender) moment incoming =
-    if too_many incoming || (no_dialogue_left w || too_many_entries incoming)
-    then refused w (Some cause.ResourceLimitation) None (Some sender)
-    else opened w (first_of 0 w.free) sender moment incoming.entries
-
--- a Continue or an End of a dialogue that goes on is refused
-abbrev pub is_too_much : LinkState → Incoming → Bool
-is_too_much w incoming = too_many incoming || (too_many_entries incoming || is_full w)
-
--- a readable message, of a kind, that names a dialogue that goes on, or none
-abbrev pub came : LinkState → Ids → ℕ → Incoming → Kind → Option ℕ → Outcome
-came w ids moment incoming Unidirectional dialogue = discarded w
-came w ids moment incoming Begin dialogue = begun w ids.orig moment incoming
-came w ids moment incoming Continue None = refused w (Some cause.UnrecognizedTransactionIdentifier) None ids.orig
-came w ids moment incoming Continue (Some local) =
-    if is_too_much w incoming then refused w (Some cause.ResourceLimitation) (Some local) ids.orig
-    else continued w local incoming.entries
-came w ids moment incoming End None = discarded w
-came w ids moment incoming End (Some local) =
-    if is_too_much w incoming then refused w (Some cause.ResourceLimitation) (Some local) ids.orig
-    else ended w local incoming.entries
-came w ids moment incoming Abort None = discarded w
-came w ids moment incoming Abort (Some local) = ended w local incoming.entries
-came w ids moment incoming Unknown dialogue = discarded w
-
--- octets that are no message that is taken, of a kind, that name a dialogue that goes on, or none
-abbrev pub misread : LinkState → Ids → Kind → Option ℕ → Outcome
-misread w ids Unidirectional dialogue = discarded w
-misread w ids Begin dialogue = refused w (Some cause.BadlyFormattedTransactionPortion) dialogue ids.orig
-misread w ids End dialogue = refused w (Some cause.BadlyFormattedTransactionPortion) dialogue ids.orig
-misread w ids Continue dialogue = refused w (Some cause.BadlyFormattedTransactionPortion) dialogue ids.orig
-misread w ids Abort dialogue = refused w (Some cause.BadlyFormattedTransactionPortion) dialogue ids.orig
-misread w ids Unknown dialogue = refused w (Some cause.UnrecognizedMessageType) dialogue ids.orig
+-- what comes of it, if the message has this sender, came at this moment and brings these entries
+abbrev pub outcome : LinkState → Option Tid → ℕ → List Entry → Verdict → Outcome
+outcome w sender moment entries Discard = discarded w
+outcome w sender moment entries (Refuse cause dialogue) = refused w cause dialogue sender
+outcome w sender moment entries (Open peer) = opened w (first_of 0 w.free) peer moment entries
+outcome w sender moment entries (Extend local false) = continued w local entries
+outcome w sender moment entries (Extend local true) = ended w local entries
 
 -- whether the message was read, and not lost because memory ran out
 abbrev pub is_read : Prepared → Bool
-is_read (Message arrival incoming) = true
-is_read (Refused arrival fault) = true
-is_read (Lost arrival) = false
+is_read came = not (is_lost came)
 
--- What comes of a message that was read from a frame, or refused. No clause asks about one that was lost because memory
--- ran out.
+-- what comes of a message; no clause asks about one that was lost because memory ran out
 abbrev pub post : LinkState → Prepared → Outcome
-post w (Message arrival incoming) = came w arrival.ids arrival.moment incoming arrival.ids.kind (named w arrival.ids)
-post w (Refused arrival fault) = misread w arrival.ids arrival.ids.kind (named w arrival.ids)
-post w (Lost arrival) = discarded w
+post w came = outcome w (arrival_of came).ids.orig (arrival_of came).moment (entries_in came) (verdict w came)
 
 -- WHAT COMES OF A MOMENT
 
@@ -292,6 +255,10 @@ due_at moment (dialogue ∷ dialogues) =
 -- each of them gets one Clock
 abbrev pub clocks : ℕ → List Due → List Job
 clocks moment dues = map (λ (due : Due). record { local = due.local; entry = entry_at moment Clock }) dues
+
+-- the link has accepted 2^63 entries
+abbrev pub is_full : LinkState → Bool
+is_full w = nat_le all_entries w.entries
 
 -- what comes of a moment
 abbrev pub tick : LinkState → ℕ → Outcome

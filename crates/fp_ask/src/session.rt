@@ -7,7 +7,7 @@ ghost use Rattle.fp_ask.specs.Tied.{Came, Fit, Follows, GoesOn, IsOfFrame, Match
 
 use crate::SentFrame;
 use crate::engine::{send_waiting, serve_waiting};
-use fp_book::{Book, Line, read_messages_have_few_entries};
+use fp_book::{Book, Line};
 use fp_digits::Moment;
 use fp_entry::Prepared;
 use std::alloc::{AllocError, Global};
@@ -87,7 +87,6 @@ impl Session {
         ensures follows { IfOk result (λ frames. IsOfFrame came
             → Follows (λ w. post w came) self.old self.new frames.items) }
     {
-        read_messages_have_few_entries();
         if !was_read(&came) {
             return Err(AllocError);
         }

@@ -1,6 +1,5 @@
 -- What a link counts once a message was posted, and what its receipt says.
-use Rattle.fp_book.proofs.Names.{AbortCause, Answers, Arrival, Bool, ClosesOne, Continue, Discard, Entry, Extend, Follows, IsReceipt, Kind, List, Lost, None, Open, Option, Posted, Posts, Prepared, Receipt, Refuse, Shelf, Some, Tid, Totals, Verdict, [], accepted_components, ap, are_some, arrival_of, asks_for_memory, closed_answer, cond_both, false, false≢true, inl, inr, lost_of, named, posted_totals, refl, subst, sym, treated_as, true, verdict, ℕ, ⊎_elim, ◌∙◌, ◌∷◌, ◌≡◌, ◌≢◌}
-use Rattle.fp_book.proofs.Lines.{first_line_decides}
+use Rattle.fp_book.proofs.Names.{AbortCause, Answers, Arrival, Bool, ClosesOne, Continue, Discard, Entry, Extend, Follows, IsReceipt, Kind, List, Lost, None, Open, Option, Posted, Posts, Prepared, Receipt, Refuse, Rule, Shelf, Some, Tid, Totals, Verdict, [], accepted_components, ap, are_some, arrival_of, asks_for_memory, closed_answer, cond_both, facts_with, false, first_that_fits, false≢true, inl, inr, named, posted_totals, refl, rules_up, subst, sym, treated_as, true, verdict, verdict_by, ℕ, ⊎_elim, ◌∙◌, ◌∷◌, ◌≡◌, ◌≢◌}
 use Rattle.fp_entry.specs.declared.prepared.Prepared.TheVariants as prepared
 
 -- whether a message is accepted
@@ -49,15 +48,15 @@ followed (Extend local false) old came answer new g = ap (λ (s : Shelf). s.tota
 followed (Extend local true) old came answer new g = ap (λ (s : Shelf). s.totals) g.new_is ∙ sym (ap (posted_totals old.totals came) g.answer_is)
 
 -- what was lost isn't accepted
-pub lost_by : (kind : Kind) (dialogue : Option ℕ) → accepts (lost_of kind dialogue) ≡ false
-lost_by Continue None = refl
-lost_by Continue (Some local) = refl
-lost_by kind dialogue = refl
+lost_by : (s : Shelf) (arrival : Arrival) (kind : Kind) (o : Option ℕ) (sender : Option Tid) → accepts (verdict_by (first_that_fits (rules_up (facts_with s o) (prepared.Lost arrival) kind)) o sender) ≡ false
+lost_by s arrival Continue None sender = refl
+lost_by s arrival Continue (Some local) sender = refl
+lost_by s arrival kind o sender = refl
 
 pub lost_away : (s : Shelf) (arrival : Arrival) → accepts (verdict s (prepared.Lost arrival)) ≡ false
 lost_away s arrival =
-    subst (λ v. accepts v ≡ false) (first_line_decides s (prepared.Lost arrival))
-    (cond_both s.is_down Discard (lost_of arrival.ids.kind (named s arrival.ids)) (λ v. accepts v ≡ false) (λ _. refl) (λ _. lost_by arrival.ids.kind (named s arrival.ids)))
+    let o = named s arrival.ids in
+    cond_both s.is_down Rule.Discard (first_that_fits (rules_up (facts_with s o) (prepared.Lost arrival) arrival.ids.kind)) (λ rule. accepts (verdict_by rule o arrival.ids.orig) ≡ false) (λ _. refl) (λ _. lost_by s arrival arrival.ids.kind o arrival.ids.orig)
 
 -- the answer says what is counted
 pub posted_counts : (old : Shelf) (came : Prepared) (answer : Posted) (new : Shelf) → Posts old came answer new → new.totals ≡ posted_totals old.totals came answer

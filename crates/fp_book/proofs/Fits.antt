@@ -1,7 +1,6 @@
 -- What the verdict on a message has made sure of.
-use Rattle.fp_book.proofs.Names.{Abort, Arrival, Begin, Bool, Continue, Discard, End, Extend, Ids, Incoming, Kind, Lost, Message, None, Open, Option, Prepared, Refuse, Refused, Shelf, Some, Tid, Unidirectional, Verdict, abort_of, ap, arith, arrived, begin_of, cond, cond_both, entries_in, eqb-false, false, inl, inr, is_admitted, is_full, leb-false, length, lost_of, ltb-false, message_of, more_of, named, nat_eq, nat_le, nat_lt, no_dialogue_left, no_place_left, number_of, octets_of, option_and_then, option_map_or, or_parts, place_count, refl, refused_of, subst, too_many, true, verdict, ℕ, ⊤, ◌<◌, ◌^◌, ◌||◌, ◌∙◌, ◌≡◌, ◌≢◌, ◌≤◌, ◌⊎◌}
+use Rattle.fp_book.proofs.Names.{Abort, Arrival, Begin, Bool, Continue, Discard, End, Extend, Fault, Ids, Incoming, Kind, Lost, Message, None, Open, Option, Prepared, Refuse, Refused, Rule, Shelf, Some, Tid, Unidirectional, Verdict, ap, arith, arrival_of, cond, cond_both, entries_in, eqb-false, facts_with, false, first_that_fits, inl, inr, is_admitted, is_full, lacks_room, leb-false, leb-true, length, ltb-false, named, nat_eq, nat_le, nat_lt, not, not-true, number_of, octets_of, option_and_then, option_map_or, or_parts, place_count, refl, rules_up, subst, too_many, true, verdict, verdict_by, ℕ, ⊤, ◌+◌, ◌<◌, ◌^◌, ◌||◌, ◌∙◌, ◌≡◌, ◌≢◌, ◌≤◌, ◌⊎◌}
 use Rattle.std.specs.FinMap as map
-use Rattle.fp_book.proofs.Lines.{first_line_decides}
 use Rattle.fp_book.proofs.Tells.{names_by}
 use Rattle.fp_q773.specs.declared.provider_abort.AbortCause.TheVariants as cause
 
@@ -46,81 +45,89 @@ Allowed s came (Open peer) = CanOpen s came
 Allowed s came (Extend local false) = CanAccept s local came
 Allowed s came (Extend local true) = CanEnd s local came
 
-none_closed : (s : Shelf) → s.is_down ≡ false → CanRefuse s None
-none_closed s up = record { up = up; known = λ local e. absurd (cc) }
+-- what a rule may rely on
+abbrev AllowedRule : Shelf → Prepared → Rule → Type 0
+AllowedRule s came Rule.Open = CanOpen s came
+AllowedRule s came (Rule.Extend false) = CanGrow s came
+AllowedRule s came (Rule.Extend true) = (length (entries_in came) ≤ 17) × (((s.entries < 2 ^ 63) × (length (entries_in came) ≤ 17)) ⊎ (length (entries_in came) ≤ 1))
+AllowedRule s came rule = ⊤
 
-lost_fits : (s : Shelf) (came : Prepared) → s.is_down ≡ false → (kind : Kind) (dialogue : Option ℕ) → IsKnown s dialogue → Allowed s came (lost_of kind dialogue)
-lost_fits s came up Unidirectional dialogue known = tt
-lost_fits s came up Begin dialogue known = none_closed s up
-lost_fits s came up Continue None known = none_closed s up
-lost_fits s came up Continue (Some local) known = record { up = up; known = known }
-lost_fits s came up kind dialogue known = record { up = up; known = known }
+lost_fits : (s : Shelf) (o : Option ℕ) (arrival : Arrival) (kind : Kind) → AllowedRule s (Lost arrival) (first_that_fits (rules_up (facts_with s o) (Lost arrival) kind))
+lost_fits s None arrival Unidirectional = tt
+lost_fits s None arrival kind = tt
+lost_fits s (Some local) arrival Unidirectional = tt
+lost_fits s (Some local) arrival kind = tt
 
-refused_fits : (s : Shelf) (came : Prepared) → s.is_down ≡ false → (kind : Kind) (dialogue : Option ℕ) → IsKnown s dialogue → Allowed s came (refused_of kind dialogue)
-refused_fits s came up Unidirectional dialogue known = tt
-refused_fits s came up kind dialogue known = record { up = up; known = known }
+refused_fits : (s : Shelf) (o : Option ℕ) (arrival : Arrival) (fault : Fault) (kind : Kind) → AllowedRule s (Refused arrival fault) (first_that_fits (rules_up (facts_with s o) (Refused arrival fault) kind))
+refused_fits s o arrival fault Unidirectional = tt
+refused_fits s o arrival fault kind = tt
 
-few_entries : (arrival : Arrival) (incoming : Incoming) → too_many incoming ≡ false → length (entries_in (Message arrival incoming)) ≤ 17
-few_entries arrival incoming e =
-    ltb-false 17 (length incoming.entries) (or_parts (nat_lt 16 incoming.elements) (nat_lt 17 (length incoming.entries)) e).1
+-- a message for which room doesn't lack
+can_grow : (s : Shelf) (o : Option ℕ) (arrival : Arrival) (incoming : Incoming) → lacks_room (facts_with s o) (Message arrival incoming) ≡ false → CanGrow s (Message arrival incoming)
+can_grow s o arrival incoming e =
+    let places = nat_lt 64 ((facts_with s o).unserved + place_count incoming.entries) in
+    let a : (too_many incoming ≡ false) × ((places || is_full s) ≡ false) = or_parts (too_many incoming) (places || is_full s) e in
+    let b : (places ≡ false) × (is_full s ≡ false) = or_parts places (is_full s) a.1 in
+    let long : nat_lt 17 (length incoming.entries) ≡ false = (or_parts (nat_lt 16 incoming.elements) (nat_lt 17 (length incoming.entries)) a.0).1 in
+    record { few = ltb-false 17 (length incoming.entries) long; room = leb-false (2 ^ 63) s.entries b.1 }
 
-begin_fits : (s : Shelf) (arrival : Arrival) (incoming : Incoming) → s.is_down ≡ false → (peer : Option Tid) → Allowed s (Message arrival incoming) (begin_of s peer incoming)
-begin_fits s arrival incoming up None = tt
-begin_fits s arrival incoming up (Some peer) =
-    let none = no_place_left None (place_count incoming.entries) in
-    let lacks = too_many incoming || (no_dialogue_left s || none) in
-    let away : Verdict = Refuse (Some cause.ResourceLimitation) None in
-    cond_both (nat_eq (length incoming.entries) 0) Discard (cond lacks away (Open peer)) (Allowed s (Message arrival incoming)) (λ _. tt) (λ some.
-    cond_both lacks away (Open peer) (Allowed s (Message arrival incoming)) (λ _. none_closed s up) (λ e.
-    let a : (too_many incoming ≡ false) × ((no_dialogue_left s || none) ≡ false) = or_parts (too_many incoming) (no_dialogue_left s || none) e in
-    let b : (no_dialogue_left s ≡ false) × (none ≡ false) = or_parts (no_dialogue_left s) none a.1 in
-    let c : (nat_le 4096 (map.len s.rows) ≡ false) × (is_full s ≡ false) = or_parts (nat_le 4096 (map.len s.rows)) (is_full s) b.0 in
-    record {
-      up = up;
-      grow = record { few = few_entries arrival incoming a.0; room = leb-false (2 ^ 63) s.entries c.1 };
-      rows = leb-false 4096 (map.len s.rows) c.0;
-      some = let other : length incoming.entries ≢ 0 = eqb-false (length incoming.entries) 0 some in omega (arith, other);
-    }))
+begin_fits : (s : Shelf) (o : Option ℕ) (arrival : Arrival) (incoming : Incoming) → s.is_down ≡ false → AllowedRule s (Message arrival incoming) (first_that_fits (rules_up (facts_with s o) (Message arrival incoming) Begin))
+begin_fits s o arrival incoming up =
+    let came : Prepared = Message arrival incoming in
+    let lacks = lacks_room (facts_with s o) came in
+    let held = nat_le 4096 (map.len s.rows) in
+    let away : Rule = Rule.Refuse (Some cause.ResourceLimitation) in
+    let some = not (nat_eq (length incoming.entries) 0) in
+    cond_both (lacks || held) away (cond some Rule.Open Rule.Discard) (AllowedRule s came) (λ _. tt) (λ e.
+    cond_both some Rule.Open Rule.Discard (AllowedRule s came) (λ any.
+    let a : (lacks ≡ false) × (held ≡ false) = or_parts lacks held e in
+    record { up = up; grow = can_grow s o arrival incoming a.0; rows = leb-false 4096 (map.len s.rows) a.1; some = let other : length incoming.entries ≢ 0 = eqb-false (length incoming.entries) 0 (not-true (nat_eq (length incoming.entries) 0) any) in omega (arith, other) })
+    (λ _. tt))
 
--- a Continue or an End that is taken
-more_fits : (s : Shelf) (local : ℕ) (arrival : Arrival) (incoming : Incoming) → CanRefuse s (Some local) → (ends : Bool) → (CanGrow s (Message arrival incoming) → Allowed s (Message arrival incoming) (Extend local ends))
-    → Allowed s (Message arrival incoming) (more_of s local ends incoming)
-more_fits s local arrival incoming closed ends fits =
-    let none = no_place_left (map.get s.rows local) (place_count incoming.entries) in
-    cond_both (too_many incoming || (none || is_full s)) (Refuse (Some cause.ResourceLimitation) (Some local)) (Extend local ends) (Allowed s (Message arrival incoming)) (λ _. closed) (λ e.
-    let a : (too_many incoming ≡ false) × ((none || is_full s) ≡ false) = or_parts (too_many incoming) (none || is_full s) e in
-    let b : (none ≡ false) × (is_full s ≡ false) = or_parts none (is_full s) a.1 in
-    fits (record { few = few_entries arrival incoming a.0; room = leb-false (2 ^ 63) s.entries b.1 }))
+-- a Continue or an End that names a dialogue
+more_fits : (s : Shelf) (o : Option ℕ) (arrival : Arrival) (incoming : Incoming) (taken : Rule) → (CanGrow s (Message arrival incoming) → AllowedRule s (Message arrival incoming) taken)
+    → AllowedRule s (Message arrival incoming) (cond (lacks_room (facts_with s o) (Message arrival incoming) || false) (Rule.Refuse (Some cause.ResourceLimitation)) taken)
+more_fits s o arrival incoming taken fits =
+    let lacks = lacks_room (facts_with s o) (Message arrival incoming) in
+    cond_both (lacks || false) (Rule.Refuse (Some cause.ResourceLimitation)) taken (AllowedRule s (Message arrival incoming)) (λ _. tt) (λ e. fits (can_grow s o arrival incoming (or_parts lacks false e).0))
 
-abort_fits : (s : Shelf) (local : ℕ) (arrival : Arrival) (incoming : Incoming) → CanRefuse s (Some local)
-    → Allowed s (Message arrival incoming) (abort_of local incoming)
-abort_fits s local arrival incoming closed =
-    cond_both (nat_lt 1 (length incoming.entries)) (Refuse None (Some local)) (Extend local true) (Allowed s (Message arrival incoming)) (λ _. closed)
-    (λ e. let one : length incoming.entries ≤ 1 = ltb-false 1 (length incoming.entries) e in record { admitted = closed.known local refl; few = omega (arith, one); limit = inr one })
+message_fits : (s : Shelf) (o : Option ℕ) (arrival : Arrival) (incoming : Incoming) (kind : Kind) → s.is_down ≡ false
+    → AllowedRule s (Message arrival incoming) (first_that_fits (rules_up (facts_with s o) (Message arrival incoming) kind))
+message_fits s o arrival incoming Begin up = begin_fits s o arrival incoming up
+message_fits s None arrival incoming kind up = tt
+message_fits s (Some local) arrival incoming Continue up = more_fits s (Some local) arrival incoming (Rule.Extend false) (λ grow. grow)
+message_fits s (Some local) arrival incoming End up = more_fits s (Some local) arrival incoming (Rule.Extend true) (λ grow. (grow.few, inl (grow.room, grow.few)))
+message_fits s (Some local) arrival incoming Abort up =
+    cond_both (nat_le (length incoming.entries) 1) (Rule.Extend true) Rule.Discard (AllowedRule s (Message arrival incoming))
+    (λ e. let one : length incoming.entries ≤ 1 = leb-true (length incoming.entries) 1 e in (omega (arith, one), inr one)) (λ _. tt)
+message_fits s (Some local) arrival incoming kind up = tt
 
-message_fits : (s : Shelf) (arrival : Arrival) (incoming : Incoming) → s.is_down ≡ false → (kind : Kind) (dialogue : Option ℕ)
-    → IsKnown s dialogue → Allowed s (Message arrival incoming) (message_of s arrival.ids incoming kind dialogue)
-message_fits s arrival incoming up Begin dialogue known = begin_fits s arrival incoming up arrival.ids.orig
-message_fits s arrival incoming up Continue None known = none_closed s up
-message_fits s arrival incoming up Continue (Some local) known = more_fits s local arrival incoming (record { up = up; known = known }) false (λ grow. record { admitted = known local refl; few = grow.few; room = grow.room })
-message_fits s arrival incoming up End None known = tt
-message_fits s arrival incoming up End (Some local) known = more_fits s local arrival incoming (record { up = up; known = known }) true (λ grow. record { admitted = known local refl; few = grow.few; limit = inl (grow.room, grow.few) })
-message_fits s arrival incoming up Abort None known = tt
-message_fits s arrival incoming up Abort (Some local) known = abort_fits s local arrival incoming (record { up = up; known = known })
-message_fits s arrival incoming up kind dialogue known = tt
+up_fits : (s : Shelf) (o : Option ℕ) (came : Prepared) (kind : Kind) → s.is_down ≡ false → AllowedRule s came (first_that_fits (rules_up (facts_with s o) came kind))
+up_fits s o (Lost arrival) kind up = lost_fits s o arrival kind
+up_fits s o (Refused arrival fault) kind up = refused_fits s o arrival fault kind
+up_fits s o (Message arrival incoming) kind up = message_fits s o arrival incoming kind up
+
+-- so for the dialogue that the message names
+fits_by : (s : Shelf) (came : Prepared) (rule : Rule) (o : Option ℕ) (sender : Option Tid) → s.is_down ≡ false → IsKnown s o → AllowedRule s came rule → Allowed s came (verdict_by rule o sender)
+fits_by s came Rule.Discard o sender up known fits = tt
+fits_by s came (Rule.Refuse cause) o sender up known fits = record { up = up; known = known }
+fits_by s came Rule.Open o None up known fits = tt
+fits_by s came Rule.Open o (Some peer) up known fits = fits
+fits_by s came (Rule.Extend ends) None sender up known fits = tt
+fits_by s came (Rule.Extend false) (Some local) sender up known fits = record { admitted = known local refl; few = fits.few; room = fits.room }
+fits_by s came (Rule.Extend true) (Some local) sender up known fits = record { admitted = known local refl; few = fits.0; limit = fits.1 }
 
 -- a message names an admitted dialogue, or none
 named_known : (s : Shelf) (ids : Ids) → IsKnown s (named s ids)
 named_known s ids local e = (names_by s (option_and_then (λ (tid : Tid). number_of (octets_of tid)) ids.dest) local e).takes
 
-arrived_fits : (s : Shelf) (came : Prepared) → s.is_down ≡ false → Allowed s came (arrived s came)
-arrived_fits s (Lost arrival) up = lost_fits s (Lost arrival) up arrival.ids.kind (named s arrival.ids) (named_known s arrival.ids)
-arrived_fits s (Refused arrival fault) up = refused_fits s (Refused arrival fault) up arrival.ids.kind (named s arrival.ids) (named_known s arrival.ids)
-arrived_fits s (Message arrival incoming) up = message_fits s arrival incoming up arrival.ids.kind (named s arrival.ids) (named_known s arrival.ids)
-
 -- each verdict has made sure of what it may rely on
 pub verdict_allowed : (s : Shelf) (came : Prepared) → Allowed s came (verdict s came)
-verdict_allowed s came = subst (Allowed s came) (first_line_decides s came) (cond_both s.is_down Discard (arrived s came) (Allowed s came) (λ _. tt) (λ up. arrived_fits s came up))
+verdict_allowed s came =
+    let ids = (arrival_of came).ids in
+    let o = named s ids in
+    let others = first_that_fits (rules_up (facts_with s o) came ids.kind) in
+    cond_both s.is_down Rule.Discard others (λ rule. Allowed s came (verdict_by rule o ids.orig)) (λ _. tt) (λ up. fits_by s came others o ids.orig up (named_known s ids) (up_fits s o came ids.kind up))
 
 -- so a dialogue that accepts a message takes it, and it has few entries
 extend_by : (s : Shelf) (came : Prepared) (local : ℕ) (ends : Bool) → Allowed s came (Extend local ends) → (option_map_or is_admitted (map.get s.rows local) false ≡ true) × (length (entries_in came) ≤ 17)

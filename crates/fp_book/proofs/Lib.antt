@@ -14,7 +14,7 @@ mod Fresh
 mod Grows
 mod Headline
 pub mod Kept
-pub mod Lines
+mod Reading
 mod LowerLaws
 pub mod Posts
 pub mod Queue

@@ -1,12 +1,54 @@
 -- What the verdict on a message says of it.
-use Rattle.fp_book.proofs.Names.{Abort, AbortCause, Answers, Begin, Bool, ClosesOne, Continue, Discard, End, Extend, Follows, Ids, Incoming, Kind, Lost, Message, None, Open, Option, Posted, Prepared, Refuse, Refused, Shelf, Some, Tid, Unidirectional, Verdict, abort_for, abort_of, admitted, ap, arrival_of, arrived, begin_of, cond, cond_both, false, inl, inr, is_admitted, is_full, length, logged, lost_of, message_of, more_of, named, nat_eq, nat_lt, no_dialogue_left, no_place_left, number_of, octets_of, option_and_then, option_map_or, place_count, posted_line, refl, refused_of, subst, sym, too_many, true, verdict, ℕ, ⊤, ◌||◌, ◌∙◌, ◌≡◌, ◌⊎◌}
+use Rattle.fp_book.proofs.Names.{Abort, AbortCause, Answers, Arrival, Begin, Bool, ClosesOne, Continue, Discard, End, Extend, Facts, Fault, Follows, Ids, Incoming, Kind, Lost, Message, None, Open, Option, Posted, Prepared, Refuse, Refused, Rule, Shelf, Some, Tid, Unidirectional, Verdict, abort_for, admitted, ap, arrival_of, cond, cond_both, facts_of, false, first_that_fits, inl, inr, is_admitted, lacks_room, length, logged, named, nat_eq, nat_le, not, option_and_then, option_map_or, posted_line, refl, rule, rules_up, subst, true, verdict, verdict_by, ℕ, ⊤, ◌||◌, ◌∙◌, ◌≡◌, ◌⊎◌}
 use Rattle.std.specs.FinMap as map
-use Rattle.fp_book.proofs.Lines.{first_line_decides}
 use Rattle.fp_q773.specs.declared.provider_abort.AbortCause.TheVariants as cause
 
 -- a Begin has no destination
 abbrev pub BeginsAnew : Ids → Type 0
 BeginsAnew ids = ids.kind ≡ Begin → ids.dest ≡ None
+
+-- what a rule says of the kind of its message
+abbrev OfKind : Kind → Rule → Type 0
+OfKind kind (Rule.Extend false) = kind ≡ Continue
+OfKind kind (Rule.Extend true) = (kind ≡ End) ⊎ (kind ≡ Abort)
+OfKind kind rule = ⊤
+
+lost_of_kind : (f : Facts) (arrival : Arrival) (kind : Kind) → OfKind kind (first_that_fits (rules_up f (Lost arrival) kind))
+lost_of_kind f arrival Continue = cond_both (not f.names_one) (Rule.Refuse (Some cause.UnrecognizedTransactionIdentifier)) (Rule.Refuse (Some cause.ResourceLimitation)) (OfKind Continue) (λ _. tt) (λ _. tt)
+lost_of_kind f arrival kind = tt
+
+refused_of_kind : (f : Facts) (arrival : Arrival) (fault : Fault) (kind : Kind) → OfKind kind (first_that_fits (rules_up f (Refused arrival fault) kind))
+refused_of_kind f arrival fault Unidirectional = tt
+refused_of_kind f arrival fault kind = tt
+
+-- a Continue or an End that isn't refused extends its dialogue
+taken_of_kind : (f : Facts) (came : Prepared) (kind : Kind) (unnamed taken : Rule) → OfKind kind unnamed → OfKind kind taken
+    → OfKind kind (cond (not f.names_one) unnamed (cond (lacks_room f came || false) (Rule.Refuse (Some cause.ResourceLimitation)) taken))
+taken_of_kind f came kind unnamed taken u t =
+    let more = cond (lacks_room f came || false) (Rule.Refuse (Some cause.ResourceLimitation)) taken in
+    cond_both (not f.names_one) unnamed more (OfKind kind) (λ _. u) (λ _. cond_both (lacks_room f came || false) (Rule.Refuse (Some cause.ResourceLimitation)) taken (OfKind kind) (λ _. tt) (λ _. t))
+
+message_of_kind : (f : Facts) (arrival : Arrival) (incoming : Incoming) (kind : Kind) → OfKind kind (first_that_fits (rules_up f (Message arrival incoming) kind))
+message_of_kind f arrival incoming Begin =
+    let lacks = lacks_room f (Message arrival incoming) || nat_le 4096 f.held in
+    let opens = cond (not (nat_eq (length incoming.entries) 0)) Rule.Open Rule.Discard in
+    cond_both lacks (Rule.Refuse (Some cause.ResourceLimitation)) opens (OfKind Begin) (λ _. tt) (λ _. cond_both (not (nat_eq (length incoming.entries) 0)) Rule.Open Rule.Discard (OfKind Begin) (λ _. tt) (λ _. tt))
+message_of_kind f arrival incoming Continue = taken_of_kind f (Message arrival incoming) Continue (Rule.Refuse (Some cause.UnrecognizedTransactionIdentifier)) (Rule.Extend false) tt refl
+message_of_kind f arrival incoming End = taken_of_kind f (Message arrival incoming) End Rule.Discard (Rule.Extend true) tt (inl refl)
+message_of_kind f arrival incoming Abort =
+    let one = cond (nat_le (length incoming.entries) 1) (Rule.Extend true) Rule.Discard in
+    cond_both (not f.names_one) Rule.Discard one (OfKind Abort) (λ _. tt) (λ _. cond_both (nat_le (length incoming.entries) 1) (Rule.Extend true) Rule.Discard (OfKind Abort) (λ _. inr refl) (λ _. tt))
+message_of_kind f arrival incoming kind = tt
+
+up_of_kind : (f : Facts) (came : Prepared) (kind : Kind) → OfKind kind (first_that_fits (rules_up f came kind))
+up_of_kind f (Lost arrival) kind = lost_of_kind f arrival kind
+up_of_kind f (Refused arrival fault) kind = refused_of_kind f arrival fault kind
+up_of_kind f (Message arrival incoming) kind = message_of_kind f arrival incoming kind
+
+rule_of_kind : (f : Facts) (came : Prepared) → OfKind (arrival_of came).ids.kind (rule f came)
+rule_of_kind f came =
+    let kind = (arrival_of came).ids.kind in
+    cond_both f.is_down Rule.Discard (first_that_fits (rules_up f came kind)) (OfKind kind) (λ _. tt) (λ _. up_of_kind f came kind)
 
 -- what is said: of a refusal, the dialogue that is named; of a Begin, its sender; of what is accepted, the dialogue
 -- that is named, and whether its peer ends it
@@ -17,56 +59,21 @@ TellsOf ids kind dialogue (Open peer) = ids.orig ≡ Some peer
 TellsOf ids kind dialogue (Extend local false) = (dialogue ≡ Some local) × (kind ≡ Continue)
 TellsOf ids kind dialogue (Extend local true) = (dialogue ≡ Some local) × ((kind ≡ End) ⊎ (kind ≡ Abort))
 
-lost_tells : (ids : Ids) (kind : Kind) (dialogue : Option ℕ) → (kind ≡ Begin → dialogue ≡ None) → TellsOf ids kind dialogue (lost_of kind dialogue)
-lost_tells ids Unidirectional dialogue anew = tt
-lost_tells ids Begin dialogue anew = sym (anew refl)
-lost_tells ids Continue None anew = refl
-lost_tells ids Continue (Some local) anew = refl
-lost_tells ids kind dialogue anew = refl
-
-refused_tells : (ids : Ids) (kind : Kind) (dialogue : Option ℕ) → TellsOf ids kind dialogue (refused_of kind dialogue)
-refused_tells ids Unidirectional dialogue = tt
-refused_tells ids kind dialogue = refl
-
-begin_tells : (s : Shelf) (ids : Ids) (incoming : Incoming) (orig : Option Tid) (dialogue : Option ℕ) → ids.orig ≡ orig → dialogue ≡ None → TellsOf ids Begin dialogue (begin_of s orig incoming)
-begin_tells s ids incoming None dialogue orig none = tt
-begin_tells s ids incoming (Some peer) dialogue orig none =
-    let lacks = too_many incoming || (no_dialogue_left s || no_place_left None (place_count incoming.entries)) in
-    let away : Verdict = Refuse (Some cause.ResourceLimitation) None in
-    cond_both (nat_eq (length incoming.entries) 0) Discard (cond lacks away (Open peer)) (TellsOf ids Begin dialogue) (λ _. tt) (λ _. cond_both lacks away (Open peer) (TellsOf ids Begin dialogue) (λ _. sym none) (λ _. orig))
-
-more_tells : (s : Shelf) (ids : Ids) (incoming : Incoming) (kind : Kind) (local : ℕ) (ends : Bool) → TellsOf ids kind (Some local) (Extend local ends) → TellsOf ids kind (Some local) (more_of s local ends incoming)
-more_tells s ids incoming kind local ends extends =
-    cond_both (too_many incoming || (no_place_left (map.get s.rows local) (place_count incoming.entries) || is_full s)) (Refuse (Some cause.ResourceLimitation) (Some local)) (Extend local ends) (TellsOf ids kind (Some local)) (λ _. refl) (λ _. extends)
-
-abort_tells : (ids : Ids) (incoming : Incoming) (local : ℕ) → TellsOf ids Abort (Some local) (abort_of local incoming)
-abort_tells ids incoming local = cond_both (nat_lt 1 (length incoming.entries)) (Refuse None (Some local)) (Extend local true) (TellsOf ids Abort (Some local)) (λ _. refl) (λ _. (refl, inr refl))
-
-message_tells : (s : Shelf) (ids : Ids) (incoming : Incoming) (kind : Kind) (dialogue : Option ℕ) → (kind ≡ Begin → dialogue ≡ None) → TellsOf ids kind dialogue (message_of s ids incoming kind dialogue)
-message_tells s ids incoming Begin dialogue anew = begin_tells s ids incoming ids.orig dialogue refl (anew refl)
-message_tells s ids incoming Continue None anew = refl
-message_tells s ids incoming Continue (Some local) anew = more_tells s ids incoming Continue local false (refl, refl)
-message_tells s ids incoming End None anew = tt
-message_tells s ids incoming End (Some local) anew = more_tells s ids incoming End local true (refl, inl refl)
-message_tells s ids incoming Abort None anew = tt
-message_tells s ids incoming Abort (Some local) anew = abort_tells ids incoming local
-message_tells s ids incoming kind dialogue anew = tt
-
--- a message without a destination names none
-pub anew_named : (s : Shelf) (ids : Ids) → BeginsAnew ids → ids.kind ≡ Begin → named s ids ≡ None
-anew_named s ids anew is = ap (λ dest. option_and_then (admitted s.rows) (option_and_then (λ (tid : Tid). number_of (octets_of tid)) dest)) (anew is)
+told_by : (ids : Ids) (kind : Kind) (rule : Rule) (dialogue : Option ℕ) (sender : Option Tid) → OfKind kind rule → ids.orig ≡ sender → TellsOf ids kind dialogue (verdict_by rule dialogue sender)
+told_by ids kind Rule.Discard dialogue sender fits orig = tt
+told_by ids kind (Rule.Refuse cause) dialogue sender fits orig = refl
+told_by ids kind Rule.Open dialogue None fits orig = tt
+told_by ids kind Rule.Open dialogue (Some peer) fits orig = orig
+told_by ids kind (Rule.Extend ends) None sender fits orig = tt
+told_by ids kind (Rule.Extend false) (Some local) sender fits orig = (refl, fits)
+told_by ids kind (Rule.Extend true) (Some local) sender fits orig = (refl, fits)
 
 abbrev pub Tells : Shelf → Prepared → Verdict → Type 0
 Tells s came v = TellsOf (arrival_of came).ids (arrival_of came).ids.kind (named s (arrival_of came).ids) v
 
-arrived_tells : (s : Shelf) (came : Prepared) → BeginsAnew (arrival_of came).ids → Tells s came (arrived s came)
-arrived_tells s (Lost arrival) anew = lost_tells arrival.ids arrival.ids.kind (named s arrival.ids) (anew_named s arrival.ids anew)
-arrived_tells s (Refused arrival fault) anew = refused_tells arrival.ids arrival.ids.kind (named s arrival.ids)
-arrived_tells s (Message arrival incoming) anew = message_tells s arrival.ids incoming arrival.ids.kind (named s arrival.ids) (anew_named s arrival.ids anew)
-
 -- what each verdict says
-pub verdict_tells : (s : Shelf) (came : Prepared) → BeginsAnew (arrival_of came).ids → Tells s came (verdict s came)
-verdict_tells s came anew = subst (Tells s came) (first_line_decides s came) (cond_both s.is_down Discard (arrived s came) (Tells s came) (λ _. tt) (λ up. arrived_tells s came anew))
+pub verdict_tells : (s : Shelf) (came : Prepared) → Tells s came (verdict s came)
+verdict_tells s came = let ids = (arrival_of came).ids in told_by ids ids.kind (rule (facts_of s came) came) (named s ids) ids.orig (rule_of_kind (facts_of s came) came) refl
 
 -- a message names a dialogue by its number, if that dialogue takes messages
 pub record Names (s : Shelf) (o : Option ℕ) (local : ℕ) : Type 0 where

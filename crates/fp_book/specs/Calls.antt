@@ -20,8 +20,8 @@ use Rattle.fp_book.specs.declared.taken.Taken.TheVariants.{Turn as ATurn, Nothin
 use Rattle.fp_book.specs.declared.totals.Totals.{Totals}
 use Rattle.fp_book.specs.declared.verdict.Verdict.{Verdict}
 use Rattle.fp_book.specs.declared.verdict.Verdict.TheVariants.{Discard, Refuse, Open, Extend}
-pub use Rattle.fp_book.specs.Lines.{entries_in}
-use Rattle.fp_book.specs.Lines.{is_full, verdict}
+pub use Rattle.fp_book.specs.Rules.{entries_in}
+use Rattle.fp_book.specs.Rules.{is_full, verdict}
 use Rattle.fp_book.specs.Log.{Drains, logged}
 use Rattle.fp_book.specs.Outbox.{Outbox, IsNext, nothing, waiting_frames, with_nothing_out, without_frames_of}
 use Rattle.fp_book.specs.Parcel.{birth_of}
@@ -398,7 +398,7 @@ asks_for_memory (Refuse cause closes) came = false
 asks_for_memory (Open peer) came = true
 asks_for_memory (Extend local ends) came = are_some (entries_in came)
 
--- The first matching line applies; or, if a message would be accepted, an allocation failed, and the message is treated
+-- The first matching rule applies; or, if a message would be accepted, an allocation failed, and the message is treated
 -- as one that was lost.
 abbrev pub Posts : Shelf → Prepared → Posted → Shelf → Type 0
 Posts old came answer new =

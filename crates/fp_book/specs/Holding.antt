@@ -4,11 +4,10 @@ use Rattle.std.specs.Prelude.{◌≡◌, ℕ, ◌&&◌, ◌||◌, not, Bool, tru
 use Rattle.std.specs.FinMap.{get}
 use Rattle.fp_book.specs.declared.verdict.Verdict.{Verdict}
 use Rattle.fp_book.specs.declared.verdict.Verdict.TheVariants.{Extend, Open, Refuse}
-use Rattle.fp_book.specs.Lines.{is_begin, is_full, verdict}
+use Rattle.fp_book.specs.Rules.{is_begin, is_full, too_many, verdict}
 use Rattle.fp_book.specs.Outbox.{nothing}
 use Rattle.fp_book.specs.Shelf.{Shelf, one_if, places_held, turns_of}
 use Rattle.fp_book.specs.Totals.{sum_of}
-use Rattle.fp_book.specs.Verdict.{too_many}
 use Rattle.fp_entry.specs.declared.prepared.Prepared.{Prepared}
 use Rattle.fp_entry.specs.declared.prepared.Prepared.TheVariants.{Message}
 use Rattle.fp_entry.specs.Prepared.{arrival_of}

@@ -3,14 +3,15 @@ pub mod Clocking
 pub mod Dialogues
 pub mod Holding
 pub mod Laws
-pub mod Lines
+pub mod Limits
 pub mod Log
+pub mod Named
 pub mod Outbox
 pub mod Parcel
 pub mod ReadyQueue
 pub mod Receipt
+pub mod Rules
 pub mod Sending
 pub mod Shelf
 pub mod Totals
-pub mod Verdict
 pub mod Views

@@ -4,7 +4,7 @@ use Rattle.fp_book.specs.declared.answers.Posted.{Posted}
 use Rattle.fp_book.specs.declared.answers.Posted.TheVariants.{Opened, Accepted, Aborted, Ended, Discarded}
 use Rattle.fp_book.specs.declared.answers.Receipt.{Receipt}
 use Rattle.fp_book.specs.Calls.{Follows, asks_for_memory}
-use Rattle.fp_book.specs.Lines.{verdict}
+use Rattle.fp_book.specs.Rules.{verdict}
 use Rattle.fp_book.specs.Shelf.{Shelf}
 use Rattle.fp_entry.specs.declared.prepared.Prepared.{Prepared}
 use Rattle.fp_entry.specs.declared.prepared.Prepared.TheVariants.{Lost}

@@ -1,15 +1,18 @@
 //! When a message is held back, and when a link is quiet. Nothing here takes memory.
 
-ghost use Rattle.std.specs.Prelude.{◌≡◌, ◌↔◌, IsTrue, nat_lt};
+ghost use Rattle.std.specs.Prelude.{◌≡◌, ◌↔◌, false, IfErr, IfOk, IsOk, IsTrue, nat_lt};
+ghost use Rattle.fp_book.specs.Calls.{Posts, posted_totals};
 ghost use Rattle.fp_book.specs.Holding.{IsQuiet, busy_count, entries_kept, gets_room, holds_back, is_owed_an_abort, lacks_only_room};
-ghost use Rattle.fp_book.specs.Lines.{verdict};
+ghost use Rattle.fp_book.specs.Receipt.{IsReceipt};
+ghost use Rattle.fp_book.specs.Rules.{verdict};
 ghost use Rattle.fp_book.specs.Shelf.{Sound};
 
-use crate::Book;
-use crate::posting::too_many;
+use crate::rules::too_many;
 use crate::verdict::Verdict;
+use crate::{Book, Receipt, messages_keep_a_book_sound};
 use fp_entry::Prepared;
 use fp_q773::Kind;
+use std::alloc::Global;
 
 impl Book {
     /// From how many places for frames that are held no message is taken: seven eighths of them.
@@ -53,6 +56,23 @@ impl Book {
         }
     }
 
+    /// Whether a message that has this verdict is held back.
+    fn is_held_back(&self, found: &Verdict, came: &Prepared) -> bool
+        requires { found.now ≡ verdict self.now came.now }
+        ensures { result ≡ holds_back self.now came.now }
+    {
+        if self.is_down {
+            return false;
+        }
+        if self.places_held() >= Self::MANY_PLACES && found.is_taken() {
+            return true;
+        }
+        if self.is_owed_an_abort(found, came) && self.outbox.has_all_aborts() {
+            return true;
+        }
+        found.is_over_a_limit() && self.lacks_only_room(came) && self.gets_room(came)
+    }
+
     /// Whether a message is better posted later: posted now it would be refused, or what it brings would wait, for a
     /// cause that goes away as turns are served and frames are sent. On a link that is up, a message is held back
     ///
@@ -68,17 +88,30 @@ impl Book {
         ensures value { result ≡ holds_back self.now came.now }
         ensures sound { Sound self.now }
     {
-        if self.is_down {
-            return false;
+        let found = self.verdict(came);
+        self.is_held_back(&found, came)
+    }
+
+    /// Takes a message, or refuses it, as [`Book::post_with_receipt`], unless it is held back ([`Book::holds_back`]):
+    /// then it comes back, and nothing changes. The message is judged once.
+    pub fn post_unless_held_back(
+        &mut self,
+        alloc: Global,
+        came: Prepared,
+    ) -> Result<Receipt, Prepared>
+        ensures posted { IfOk result (λ receipt. IsReceipt self.old came receipt self.new) }
+        ensures posts { IfOk result (λ receipt. Posts self.old came receipt.posted self.new) }
+        ensures totals { IfOk result (λ receipt. self.new.totals ≡ posted_totals self.old.totals came receipt.posted) }
+        ensures back { IfErr result (λ back. (back ≡ came) × (self.new ≡ self.old)) }
+        ensures known { IsOk result ↔ (holds_back self.old came ≡ false) }
+        ensures sound { Sound self.new }
+    {
+        messages_keep_a_book_sound();
+        let found = self.verdict(&came);
+        if self.is_held_back(&found, &came) {
+            return Err(came);
         }
-        let verdict = self.verdict(came);
-        if self.places_held() >= Self::MANY_PLACES && verdict.is_taken() {
-            return true;
-        }
-        if self.is_owed_an_abort(&verdict, came) && self.outbox.has_all_aborts() {
-            return true;
-        }
-        verdict.is_over_a_limit() && self.lacks_only_room(came) && self.gets_room(came)
+        Ok(self.receive(alloc, found, came))
     }
 
     /// Whether nothing is left to be served or sent: no turn is out, no dialogue is ready, and no frame and no Abort of

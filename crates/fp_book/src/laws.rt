@@ -2,7 +2,7 @@
 //! how dialogues are kept.
 
 ghost use Rattle.fp_book.specs.Laws.{BirthsAreDistinct, DialoguesAreKeptInOrder, EachStepIsAccountedFor, GivingKeepsSound, GoingDownKeepsSound, PickingKeepsSound, PostingKeepsSound, PuttingBackKeepsSound, SendingKeepsSound, SerialsOfDialoguesComeBackLate, TakingKeepsSound, TickingKeepsSound, ToldStepsStay, UnsendingKeepsSound};
-ghost use Rattle.fp_book.specs.Lines.{ReadMessagesHaveFewEntries, SevenLinesDecide};
+ghost use Rattle.fp_book.specs.Rules.{ReadMessagesHaveFewEntries};
 
 use fp_q773::{identifiers_are_those_of_the_message, ids_are_one};
 use fp_row::rows_keep_their_order;
@@ -68,12 +68,10 @@ pub fn clocks_keep_a_book_sound()
 }
 
 /// A message that was read has a known tag, a Begin an originating identifier and at least one entry, an Abort one
-/// entry, and any has at most one entry more than its component portion has elements. So the tests that a book makes
-/// besides the seven lines, such as that for a Begin without entries, which is discarded, change nothing: on a frame
-/// that was prepared the seven alone decide.
+/// entry, and any has at most one entry more than its component portion has elements. So what the rules of receipt ask
+/// of entries besides their number of places, as that a Begin has one, changes nothing for a frame that was prepared.
 pub fn read_messages_have_few_entries()
-    ensures few { ReadMessagesHaveFewEntries }
-    ensures seven { SevenLinesDecide }
+    ensures { ReadMessagesHaveFewEntries }
 {
     identifiers_are_those_of_the_message();
     ids_are_one();

@@ -54,10 +54,10 @@
 //! that its served entries request (its [`Row`](fp_row::Row) keeps the rest of it); each dialogue that is ready is once
 //! in the order of service; all limits; and no total is below the sum over the dialogues that are held. Each call says
 //! of the whole shelf what it is then (`specs/Calls.antt`), so that the totals are the sums over the dialogues held and
-//! those gone. A message gets what the first line of `specs/Lines.antt` that fits it says. That a stale or foreign turn
+//! those gone. A message gets what the first rule of `specs/Rules.antt` that fits it says. That a stale or foreign turn
 //! or parcel comes back, and the right one never, is said by the clauses named `known`. Laws say what follows:
 //!
-//! * [`read_messages_have_few_entries`]: on a frame that was prepared seven of those lines alone decide.
+//! * [`read_messages_have_few_entries`]: a message that was read brings an entry for each element at most, and one more.
 //! * [`births_are_distinct`]: no two dialogues that are held have the same birth.
 //! * [`serials_of_dialogues_come_back_late`]: the serial of a dialogue is given again after 126,976 others at least.
 //! * [`dialogues_are_kept_in_order`]: of each dialogue that is held the entries served, the one that is out and those
@@ -77,6 +77,7 @@ mod outbox;
 mod parcel;
 mod posting;
 mod ready_queue;
+mod rules;
 mod sending;
 mod sending_out;
 mod serving;
@@ -100,6 +101,7 @@ pub use log::Log;
 pub use outbox::Outbox;
 pub use parcel::{Parcel, Picked};
 pub use ready_queue::ReadyQueue;
+pub use rules::{Facts, Rule};
 pub use status::Status;
 pub use taken::Taken;
 pub use ticked::Ticked;

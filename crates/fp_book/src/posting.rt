@@ -5,19 +5,20 @@ ghost use Rattle.fp_book.specs.declared.verdict.Verdict.TheVariants as verdicts;
 ghost use Rattle.fp_entry.specs.declared.prepared.Prepared.TheVariants as prepared;
 ghost use Rattle.fp_book.specs.Calls.{without, abort_for, Discards, Follows, Posts, Refuses, posted_line, posted_totals};
 ghost use Rattle.fp_book.specs.Dialogues.{AnsweredBy};
-ghost use Rattle.fp_book.specs.Lines.{is_full, named, number_of, verdict};
+ghost use Rattle.fp_book.specs.Rules.{facts_with, is_full, named, verdict};
 ghost use Rattle.fp_book.specs.Outbox.{without_frames_of};
 ghost use Rattle.fp_book.specs.Receipt.{IsReceipt};
 ghost use Rattle.fp_book.specs.Shelf.{Sound};
-ghost use Rattle.fp_book.specs.Verdict.{HasItsPlaces, abort_of, begin_of, local_in, lost_of, message_of, more_of, no_dialogue_left, refused_of, too_many};
+ghost use Rattle.fp_book.specs.Named.{HasItsPlaces, local_in};
 
+use crate::rules::Facts;
 use crate::serving::{end_serial_unless_held, join, set_deadline};
 use crate::verdict::Verdict;
 use crate::{
     Book, LoggedStep, Outbox, Posted, ReadyQueue, Receipt, dialogues, messages_keep_a_book_sound,
 };
 use fp_entry::{Arrival, Incoming, Prepared};
-use fp_q773::{AbortCause, Ids, Kind, Tid};
+use fp_q773::{AbortCause, Ids, Tid};
 use fp_reply::abort_frame;
 use fp_row::Ending;
 use std::alloc::Global;
@@ -38,58 +39,6 @@ fn local_in(dialogue: Option<Named>) -> Option<u32>
         Some(dialogue) => Some(dialogue.local),
         None => None,
     }
-}
-
-/// What is to be done with a message that was lost: memory ran out for it.
-fn lost_of(kind: Kind, dialogue: Option<u32>) -> Verdict
-    ensures { result ≡ lost_of kind dialogue }
-{
-    let (cause, closes) = match kind {
-        Kind::Unidirectional => return Verdict::Discard,
-        Kind::Begin => (Some(AbortCause::ResourceLimitation), None),
-        Kind::Continue => match dialogue {
-            None => (Some(AbortCause::UnrecognizedTransactionIdentifier), None),
-            Some(_) => (Some(AbortCause::ResourceLimitation), dialogue),
-        },
-        Kind::End | Kind::Abort => (None, dialogue),
-        Kind::Unknown => (Some(AbortCause::UnrecognizedMessageType), dialogue),
-    };
-    Verdict::Refuse { cause, closes }
-}
-
-/// What is to be done with octets that are no message that is taken.
-fn refused_of(kind: Kind, dialogue: Option<u32>) -> Verdict
-    ensures { result ≡ refused_of kind dialogue }
-{
-    let cause = match kind {
-        Kind::Unidirectional => return Verdict::Discard,
-        Kind::Unknown => AbortCause::UnrecognizedMessageType,
-        _ => AbortCause::BadlyFormattedTransactionPortion,
-    };
-    Verdict::Refuse {
-        cause: Some(cause),
-        closes: dialogue,
-    }
-}
-
-/// What is to be done with an Abort of an admitted dialogue.
-fn abort_of(local: u32, incoming: &Incoming) -> Verdict
-    ensures { result ≡ abort_of local incoming.now }
-{
-    if incoming.entries.len() > 1 {
-        return Verdict::Refuse {
-            cause: None,
-            closes: Some(local),
-        };
-    }
-    Verdict::Extend { local, ends: true }
-}
-
-/// Whether a message holds more elements in its component portion than are taken.
-pub(crate) fn too_many(incoming: &Incoming) -> bool
-    ensures { result ≡ too_many incoming.now }
-{
-    incoming.elements > Book::MOST_ELEMENTS || incoming.entries.len() > Book::MOST_ELEMENTS + 1
 }
 
 /// The line of the log for what was posted.
@@ -181,92 +130,33 @@ impl Book {
         Some(Named { local, places })
     }
 
-    /// Whether no further dialogue may be opened.
-    fn no_dialogue_left(&self) -> bool
-        ensures { result ≡ no_dialogue_left self.now }
+    /// What decides what is done with a message that names this admitted dialogue, or none.
+    fn facts(&self, named: Option<Named>) -> Facts
+        requires { IfSome named (HasItsPlaces self.now) }
+        ensures facts { result ≡ facts_with self.now (local_in named) }
+        ensures sound { Sound self.now }
     {
-        self.rows.len() >= Self::MOST_DIALOGUES || self.is_full()
-    }
-
-    /// What is to be done with a Begin.
-    fn begin_of(&self, peer: Option<Tid>, incoming: &Incoming) -> Verdict
-        ensures { result ≡ begin_of self.now peer incoming.now }
-    {
-        let Some(peer) = peer else {
-            return Verdict::Discard;
-        };
-        if incoming.entries.is_empty() {
-            return Verdict::Discard;
-        }
-        if too_many(incoming)
-            || self.no_dialogue_left()
-            || incoming.entries.place_count() > Self::MOST_ENTRIES
-        {
-            return Verdict::Refuse {
-                cause: Some(AbortCause::ResourceLimitation),
-                closes: None,
-            };
-        }
-        Verdict::Open { peer }
-    }
-
-    /// What is to be done with a Continue or an End of an admitted dialogue.
-    fn more_of(&self, dialogue: Named, ends: bool, incoming: &Incoming) -> Verdict
-        requires { HasItsPlaces self.now dialogue }
-        ensures { result ≡ more_of self.now dialogue.local ends incoming.now }
-    {
-        let Named { local, places } = dialogue;
-        let places = places.saturating_add(incoming.entries.place_count());
-        if too_many(incoming) || places > Self::MOST_ENTRIES || self.is_full() {
-            return Verdict::Refuse {
-                cause: Some(AbortCause::ResourceLimitation),
-                closes: Some(local),
-            };
-        }
-        Verdict::Extend { local, ends }
-    }
-
-    /// What is to be done with a readable message, which names this admitted dialogue or none.
-    fn message_of(&self, ids: &Ids, incoming: &Incoming, dialogue: Option<Named>) -> Verdict
-        requires { IfSome dialogue (HasItsPlaces self.now) }
-        ensures { result ≡ message_of self.now ids.now incoming.now ids.now.kind (local_in dialogue) }
-    {
-        match ids.kind {
-            Kind::Unidirectional | Kind::Unknown => Verdict::Discard,
-            Kind::Begin => self.begin_of(ids.orig, incoming),
-            Kind::Continue => match dialogue {
-                Some(dialogue) => self.more_of(dialogue, false, incoming),
-                None => Verdict::Refuse {
-                    cause: Some(AbortCause::UnrecognizedTransactionIdentifier),
-                    closes: None,
-                },
+        Facts {
+            is_down: self.is_down,
+            names_one: named.is_some(),
+            unserved: match named {
+                Some(dialogue) => dialogue.places,
+                None => 0,
             },
-            Kind::End => match dialogue {
-                Some(dialogue) => self.more_of(dialogue, true, incoming),
-                None => Verdict::Discard,
-            },
-            Kind::Abort => match dialogue {
-                Some(dialogue) => abort_of(dialogue.local, incoming),
-                None => Verdict::Discard,
-            },
+            entries: self.entries,
+            held: self.rows.len(),
         }
     }
 
-    /// What is to be done with what came: what the first matching rule of receipt says.
+    /// What is to be done with what came: what the first rule of receipt says that fits it.
     pub(crate) fn verdict(&self, came: &Prepared) -> Verdict
         ensures value { result ≡ verdict self.now came.now }
         ensures sound { Sound self.now }
     {
         let ids = &came.arrival().ids;
-        if self.is_down {
-            return Verdict::Discard;
-        }
-        let dialogue = self.named(ids);
-        match came {
-            Prepared::Message { incoming, .. } => self.message_of(ids, incoming, dialogue),
-            Prepared::Refused { .. } => refused_of(ids.kind, local_in(dialogue)),
-            Prepared::Lost { .. } => lost_of(ids.kind, local_in(dialogue)),
-        }
+        let named = self.named(ids);
+        let rule = self.facts(named).rule(came);
+        Verdict::of(rule, local_in(named), ids.orig)
     }
 
     /// Opens a dialogue for a Begin. If memory runs out, the Begin is treated as lost.
@@ -391,12 +281,12 @@ impl Book {
         }
     }
 
-    /// Does with a message what the first matching rule of receipt says.
-    fn receive(&mut self, alloc: Global, came: Prepared) -> Receipt
-        ensures receipt { IsReceipt self.old came result self.new }
-        ensures sound { Sound self.old }
+    /// Does with a message what its verdict says.
+    pub(crate) fn receive(&mut self, alloc: Global, found: Verdict, came: Prepared) -> Receipt
+        requires { found ≡ verdict self.old came }
+        ensures { IsReceipt self.old came result self.new }
     {
-        match self.verdict(&came) {
+        match found {
             Verdict::Open { peer } => self.open(alloc, peer, came),
             Verdict::Extend { local, ends } => self.extend(local, ends, came),
             Verdict::Refuse { cause, closes } => {
@@ -411,18 +301,17 @@ impl Book {
     /// 1. The link is down: `Discarded`.
     /// 2. It is a Unidirectional: `Discarded`.
     /// 3. Memory ran out as it was read: cause 4 for a Begin and for a Continue of an admitted dialogue, cause 1 for
-    ///    another Continue, none for an End or an Abort; the admitted dialogue is closed. An unknown tag: as line 4.
+    ///    another Continue, none for an End or an Abort; the admitted dialogue is closed. An unknown tag: as in rule 4.
     /// 4. Octets that are no message that is taken: cause 0 for an unknown tag, else 2; the admitted dialogue is
     ///    closed.
     /// 5. A Continue, an End or an Abort that names no admitted dialogue: cause 1 for a Continue, else `Discarded`.
     /// 6. A Begin, a Continue or an End with more than 16 elements in its component portion, for which no further
     ///    dialogue may be held, with which more than 64 entries of the dialogue would wait, or after the last entry
     ///    that the link takes: cause 4, and the dialogue is closed. If memory runs out as a message is accepted, it
-    ///    gets what line 3 says.
+    ///    gets what rule 3 says.
     /// 7. Else `Opened` or `Accepted`.
     ///
-    /// Before rule 6 the book has a test of its own: a Begin without entries is discarded. No message that was read is
-    /// one.
+    /// A Begin without entries that is over no limit of rule 6 is discarded. No message that was read is one.
     ///
     /// If a cause is named, the sender gave its identifier, and fewer than 64 Aborts of the provider wait, one more
     /// waits, and the answer is `Aborted`; else it is `Ended` if a dialogue was closed, and `Discarded` if none was.
@@ -444,6 +333,7 @@ impl Book {
         ensures sound { Sound self.new }
     {
         messages_keep_a_book_sound();
-        self.receive(alloc, came)
+        let found = self.verdict(&came);
+        self.receive(alloc, found, came)
     }
 }

@@ -2,7 +2,9 @@
 
 ghost use Rattle.std.specs.Prelude.{◌≡◌};
 ghost use Rattle.fp_book.specs.Holding.{is_over_a_limit, is_taken, names_a_cause};
+ghost use Rattle.fp_book.specs.Rules.{verdict_by};
 
+use crate::rules::Rule;
 use fp_q773::{AbortCause, Tid};
 
 /// What is to be done with a message that is posted, by the dialogues that there are.
@@ -32,6 +34,28 @@ pub enum Verdict {
 }
 
 impl Verdict {
+    /// What a rule says for the dialogue that a message names, if it names one, and for the identifier by which its
+    /// sender knows the dialogue.
+    pub(crate) fn of(rule: Rule, dialogue: Option<u32>, sender: Option<Tid>) -> Verdict
+        ensures { result ≡ verdict_by rule dialogue sender }
+    {
+        match rule {
+            Rule::Discard => Verdict::Discard,
+            Rule::Refuse { cause } => Verdict::Refuse {
+                cause,
+                closes: dialogue,
+            },
+            Rule::Open => match sender {
+                Some(peer) => Verdict::Open { peer },
+                None => Verdict::Discard,
+            },
+            Rule::Extend { ends } => match dialogue {
+                Some(local) => Verdict::Extend { local, ends },
+                None => Verdict::Discard,
+            },
+        }
+    }
+
     /// Whether it is a refusal that names a cause.
     pub(crate) fn names_a_cause(&self) -> bool
         ensures { result ≡ names_a_cause self.now }

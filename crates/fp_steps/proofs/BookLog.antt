@@ -1,5 +1,5 @@
 -- What a book logs of a step is what its history tells of it.
-use Rattle.fp_steps.proofs.Names.{get_or_from_slice_get, is_some, slice_index_or, AreInPlace, LAST_INDEX, [], cases_Bool, nat_le, placed, slice_get, table_at, told, told_from, unwrap_or, ⊎_elim, ⊤, Arrival, Bool, Content, Contents, Event, IsArrival, IsCame, IsLost, IsRead, List, LoggedStep, MakesOf, None, Option, Output, Posted, Prepared, Shelf, Some, Sound, Step, Tied, ap, birth_out, cond, false, followed_log, length, log_with, logged, nat_eq, not, option_map, out, parcel_birth, posted_line, refl, subst, sym, told_message, true, written, ℕ, ◌+◌, ◌∙◌, ◌≡◌}
+use Rattle.fp_steps.proofs.Names.{get_or_from_slice_get, is_some, slice_index_or, AreInPlace, LAST_INDEX, [], cases_Bool, nat_le, placed, slice_get, table_at, told, told_from, unwrap_or, ⊎_elim, ⊤, Arrival, Bool, Content, Contents, Event, IsArrival, IsCame, IsLost, IsRead, List, LoggedStep, MakesOf, None, Option, Output, Posted, Prepared, Shelf, Some, Sound, Step, Tied, ap, birth_out, cond, false, followed_log, length, log_with, logged, nat_eq, not, option_map, parcel_birth, posted_line, refl, subst, sym, told_message, true, written, ℕ, ◌+◌, ◌∙◌, ◌≡◌}
 use Rattle.fp_book.specs.Log as book
 use Rattle.fp_steps.proofs.Cases.{Cases, by_made, read_by}
 use Rattle.fp_steps.proofs.HeldDialogues.{by_option}

@@ -1,5 +1,5 @@
 -- What is made of a book, by cases: each step with the answers that it may have.
-use Rattle.fp_steps.proofs.Names.{BeginsAnew, Content, Contents, Done, Follows, Given, GivesDone, GoesDown, IsRead, IsReadBy, IsSome, List, LoggedStep, MakesOf, None, Option, Output, Parcel, PicksParcel, Posted, PostsTo, Prepared, PutsTurnBack, Sends, Shelf, Some, Step, TakesTurn, Ticks, Turn, Unsends, [], arrival_of, components_in, get, length, nothing, parcel_local as local_of, parcel_octets as octets_of, places_held, posted_totals, refl, subst, sym, turn_of, verdict, ℕ, ⊤, ◌≡◌, ◌≢◌, ◌≤◌}
+use Rattle.fp_steps.proofs.Names.{Content, Contents, Done, Follows, Given, GivesDone, GoesDown, IsRead, IsReadBy, IsSome, List, LoggedStep, MakesOf, None, Option, Output, Parcel, PicksParcel, Posted, PostsTo, Prepared, PutsTurnBack, Sends, Shelf, Some, Step, TakesTurn, Ticks, Turn, Unsends, [], components_in, get, length, nothing, parcel_local as local_of, parcel_octets as octets_of, places_held, posted_totals, refl, subst, sym, turn_of, verdict, ℕ, ⊤, ◌≡◌, ◌≢◌, ◌≤◌}
 
 -- a step that posts a message
 abbrev pub IsPost : Step → Type 0
@@ -16,10 +16,6 @@ pub record ReadBy (table : Option Contents) (contexts : List (List ℕ)) (octets
 pub read_by : (table : Option Contents) (contexts : List (List ℕ)) (octets : List ℕ) (moment : ℕ) (came : Prepared) → IsReadBy table contexts octets moment (Some came) → ReadBy table contexts octets moment came
 read_by None contexts octets moment came is = absurd is
 read_by (Some contents) contexts octets moment came is = record { contents = contents; is = refl; read = is }
-
--- what came, if it is a Begin, has no destination
-abbrev pub IsAnew : Option Prepared → Type 0
-IsAnew came = (p : Prepared) → came ≡ Some p → BeginsAnew (arrival_of p).ids
 
 pub record Cases (P : Step → Output → Type 0) (came : Option Prepared) (old new : Shelf) : Type 0 where
   pub posted : (step : Step) → IsPost step → (p : Prepared) (answer : Posted) (components : ℕ) → came ≡ Some p → components ≡ components_in answer p → Follows (verdict old p) old p answer new → new.totals ≡ posted_totals old.totals p answer → P step (Output.Posted answer components)

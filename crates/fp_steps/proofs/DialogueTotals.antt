@@ -1,6 +1,6 @@
 -- Each step adds to the totals of its book, and to the sums over all dialogues, what its output tells.
-use Rattle.fp_steps.proofs.Names.{AbortCause, AddUp, AreFew, Bool, Clock, Content, Entry, Event, Follows, Headline, List, MakesOf, None, Option, Output, Posted, Prepared, Request, Row, RowsKeepTheirOrder, Sends, Shelf, Some, Sound, Step, Story, Tells, Tid, Tied, Totals, Verdict, [], abort_for, accepted, accepted_in, add-one, answer_by, ap, arith, arrival_of, births, births_after, cases_Bool, component_count, components_came, components_in, cond, course, destination, entries_in, entry_at, eqb, eqb-false, eqb-true, false, first_identifier, for_one, frame_for, frame_of, frames_of, handed, is_from_component, is_none, is_sent, length, length-append, length-map, more_accepted, named, ne_eqb, no_totals, not, numbers_from, octets_of, opened_by, opened_in, opened_with, option_map, out, outputs_of, plus, position_in, positions, posted_totals, receiver, refl, requests_of, sent, sent_by, sent_in, served, served_by, story, subst, suc, sum-le, sum_by-append, sum_of, sum_to, sym, totals_of, totals_over, true, untold, verdict, verdict_tells, zero, ℕ, ⊎_elim, ⊤, ◌++◌, ◌+◌, ◌<◌, ◌^◌, ◌∙◌, ◌∷◌, ◌≡◌, ◌≤◌}
-use Rattle.fp_steps.proofs.Cases.{Cases, by_made, IsAnew}
+use Rattle.fp_steps.proofs.Names.{AbortCause, AddUp, AreFew, Bool, Clock, Content, Entry, Event, Follows, Headline, List, MakesOf, None, Option, Output, Posted, Prepared, Request, Row, RowsKeepTheirOrder, Sends, Shelf, Some, Sound, Step, Story, Tells, Tid, Tied, Totals, Verdict, [], abort_for, accepted, accepted_in, add-one, ap, arith, arrival_of, births, births_after, cases_Bool, component_count, components_came, components_in, cond, course, destination, entries_in, entry_at, eqb, eqb-false, eqb-true, false, first_identifier, for_one, frame_for, frame_of, frames_of, handed, is_from_component, is_none, is_sent, length, length-append, length-map, more_accepted, named, ne_eqb, no_totals, not, numbers_from, octets_of, opened_by, opened_in, opened_with, option_map, out, outputs_of, plus, position_in, positions, posted_totals, receiver, refl, refused_by, requests_of, sent, sent_by, sent_in, served, served_by, story, subst, suc, sum-le, sum_by-append, sum_of, sum_to, sym, totals_of, totals_over, true, untold, verdict, verdict_tells, zero, ℕ, ⊎_elim, ⊤, ◌++◌, ◌+◌, ◌<◌, ◌^◌, ◌∙◌, ◌∷◌, ◌≡◌, ◌≤◌}
+use Rattle.fp_steps.proofs.Cases.{Cases, by_made}
 use Rattle.fp_steps.proofs.HeldDialogues.{event, for_other, for_own, held_of, length-numbers_from, none_named, not_abort}
 use Rattle.fp_steps.proofs.MessageAnswers.{answer_is, answer_of}
 use Rattle.fp_steps.proofs.OutputTotals.{added, local_in, make, none_more, one_if, plus_none, same, totals_next}
@@ -180,7 +180,7 @@ message h step came answer components old new r count grows =
     }
 
 -- no dialogue receives a refused message
-refused : (h : List Event) (came : Prepared) (abort : Option (Tid × AbortCause)) (b : Bool) → Receives h came (answer_by abort b)
+refused : (h : List Event) (came : Prepared) (abort : Option (Tid × AbortCause)) (b : Bool) → Receives h came (refused_by abort b)
 refused h came None true = tt
 refused h came None false = tt
 refused h came (Some (peer, cause)) b = tt
@@ -204,8 +204,8 @@ receives came answer new waiting next (Verdict.Extend local true) t told g =
 abbrev CountsBy : List Event → Option Prepared → Shelf → Shelf → Step → Output → Type 0
 CountsBy h came old new step output = Counts h (event step came output) old new
 
-counts : {h : List Event} (came : Option Prepared) {old : Shelf} (new : Shelf) → IsAnew came → Tied h old → Sound old → Cases (CountsBy h came old new) came old new
-counts {h} came {old} new anew t k =
+counts : {h : List Event} (came : Option Prepared) {old : Shelf} (new : Shelf) → Tied h old → Sound old → Cases (CountsBy h came old new) came old new
+counts {h} came {old} new t k =
     let none : (step : Step) (output : Output) → new.totals ≡ old.totals → added h (event step came output) ≡ no_totals → shares (births (event step came output ∷ h)) h (event step came output) ≡ no_totals → CountsBy h came old new step output =
     λ step output. quiet h (event step came output) old new in
     let stays : new ≡ old → new.totals ≡ old.totals = ap (λ (s : Shelf). s.totals) in
@@ -216,7 +216,7 @@ counts {h} came {old} new anew t k =
           let next = first_identifier old.link old.free in
           let says = answer_is old new p answer v g in
           subst (λ c. Counts h (event step c (Output.Posted answer components)) old new) (sym is)
-          (message h step p answer components old new (subst (Receives h p) (sym says) (receives p answer new waiting next v t (verdict_tells old p (anew p is)) g)) count totals);
+          (message h step p answer components old new (subst (Receives h p) (sym says) (receives p answer new waiting next v t (verdict_tells old p) g)) count totals);
       none_posted = λ step posting nothing same. none step Output.Nothing (stays same) refl empty;
       ticked = λ moment many wanting zero g. ticked h came moment many wanting old new (ap (λ (s : Shelf). s.totals) g.new_is);
       took = λ turn g. none Step.Take (Output.Took turn.local turn.position (length turn.entries)) (ap (λ (s : Shelf). s.totals) g.new_is) refl empty;
@@ -266,10 +266,10 @@ few_counted law {s} k =
     }
 
 -- a step more, after a history whose totals the book has
-pub add_up_next : RowsKeepTheirOrder → {h : List Event} (e : Event) {old new : Shelf} → IsAnew e.came → Tied h old → Sound old → MakesOf e.step e.came e.output old new → Sound new
+pub add_up_next : RowsKeepTheirOrder → {h : List Event} (e : Event) {old new : Shelf} → Tied h old → Sound old → MakesOf e.step e.came e.output old new → Sound new
     → Headline h → Headline (e ∷ h) → AddUp (outputs_of h) h → old.totals ≡ totals_of (outputs_of h) → AddUp (outputs_of (e ∷ h)) (e ∷ h) × (new.totals ≡ totals_of (outputs_of (e ∷ h)))
-add_up_next law {h} e {old} {new} anew t sound_old g sound held holds k was =
-    let c : Counts h e old new = by_made _ e.step e.output (counts e.came new anew t sound_old) g in
+add_up_next law {h} e {old} {new} t sound_old g sound held holds k was =
+    let c : Counts h e old new = by_made _ e.step e.output (counts e.came new t sound_old) g in
     let more : totals_of (outputs_of (e ∷ h)) ≡ plus (totals_of (outputs_of h)) (added h e) = totals_next h e in
     let counted : new.totals ≡ totals_of (outputs_of (e ∷ h)) = c.counted ∙ ap (λ t. plus t (added h e)) was ∙ sym more in
     let all : sums (births (e ∷ h)) (e ∷ h) ≡ plus (sums (births h) h) (added h e) = sums_next h e (t.later (births h + 1) (omega arith)) ∙ ap (plus (sums (births h) h)) c.shared in (

@@ -41,7 +41,7 @@ mod SumsOverBirths
 mod HeldCount
 -- which serials may be given then
 mod FreeSerials
--- a message, by the first line that fits
+-- a message, by the rules of receipt
 mod MessageAnswers
 -- each step, by its cases
 mod StepAnswers

@@ -1,12 +1,12 @@
 -- The totals of a history that retells lines are what can be counted in those.
 use Rattle.fp_steps.proofs.Names.{AllAnswered, Beginning, Bool, Contents, Event, Handed, IfSome, IsAnswer, IsCame, IsLost, IsNext, LAST_INDEX, List, LoggedStep, None, Option, Output, Posted, Prepared, QueuedFrame, Retells, RetoldLinesAreCounted, Some, Step, Totals, [], aborts_waiting, added_by, answer_to, ap, arith, began_with, beginning, birth_out, birth_under, components_in, cond, count_by, eq-eqb, eqb, false, false≢true, length, named, nat_le, nat_tests, not, option_map, option_map_or, out, out_after, plus, positions, refl, subst, sum_by, sum_by-cons, sym, told, told_back, told_message, told_tick, true, waiting, ℕ, ⊤, ◌+◌, ◌<◌, ◌∙◌, ◌∷◌, ◌≡◌}
-use Rattle.fp_steps.specs.Counted.{accepted_by, accepted_in, entries_served, is_sent_frame, totals_in}
+use Rattle.fp_steps.specs.Counted.{accepted_by, accepted_by_line, entries_served, is_sent_frame, totals_in}
 use Rattle.fp_steps.proofs.OpenedDialogues.{local_named, picked_is}
 use Rattle.fp_steps.proofs.OutputTotals.{added, local_in, make, one_if, same, totals_next}
 
 -- what is counted of a line, whose message was prepared to this
 abbrev counted : LoggedStep → Option Prepared → Totals
-counted line came = make (accepted_in line came) (entries_served line) (one_if (is_sent_frame line))
+counted line came = make (accepted_by_line line came) (entries_served line) (one_if (is_sent_frame line))
 
 -- a line counts what its output adds, where this is out to be sent
 abbrev Counts : Option Handed → Option Prepared → Output → LoggedStep → Type 0

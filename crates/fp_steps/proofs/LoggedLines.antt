@@ -1,10 +1,9 @@
 -- What a book logs of a step, and what the history tells of it.
-use Rattle.fp_steps.proofs.Names.{LAST_INDEX, cond_some, nat_le, placed, ⊤, first_step, option_to_list, Bool, ClocksAt, Content, Due, Err, Event, FramesBorn, IfOk, IsOut, List, LoggedStep, MakesOf, None, Ok, Option, Output, PicksParcel, Posted, Prepared, PutsTurnBack, Result, Row, Sends, Shelf, Some, Sound, Step, Ticks, Tied, Turn, Waiting, [], ap, append-nil, arith, being_sent, birth_out, birth_picked, birth_under, cases_Bool, cond, eqb, eqb-true, false, filter, followed_log, get, handed, is_idle, is_written, known_turn, length, list_any, local_if_out, local_of, log_with, logged, map_list, named, nat_cmp-IsAntisymmetric, nat_eq, nat_lt, nat_tests, nil_from_length, not, option_map, option_map_or, out, parcel_birth, parcel_local, positions, posted_line, refl, same_Some, same_map, step_of, subst, sym, tick_in, told, told_back, told_from, told_message, told_tick, true, unsent_frames, written, ℕ, ⊎_elim, ◌++◌, ◌+◌, ◌∙◌, ◌∷◌, ◌≡◌}
+use Rattle.fp_steps.proofs.Names.{LAST_INDEX, cond_some, nat_le, placed, ⊤, first_step, option_to_list, Bool, ClocksAt, Content, Due, Err, Event, FramesBorn, IfOk, IsOut, List, LoggedStep, MakesOf, None, Ok, Option, Output, PicksParcel, Posted, Prepared, PutsTurnBack, Result, Row, Sends, Shelf, Some, Sound, Step, Ticks, Tied, Turn, Waiting, [], ap, append-nil, arith, being_sent, birth_out, birth_picked, birth_under, cases_Bool, cond, eqb, eqb-true, false, filter, followed_log, get, handed, is_idle, is_written, known_turn, length, list_any, local_if_out, local_of, log_with, logged, map_list, named, nat_cmp-IsAntisymmetric, nat_eq, nat_lt, nat_tests, nil_from_length, not, option_map, option_map_or, parcel_birth, parcel_local, positions, posted_line, refl, same_Some, same_map, step_of, subst, sym, tick_in, told, told_back, told_from, told_message, told_tick, true, unsent_frames, written, ℕ, ⊎_elim, ◌++◌, ◌+◌, ◌∙◌, ◌∷◌, ◌≡◌}
 use Rattle.std.specs.Cmp.{nat_cmp_total}
 use Rattle.fp_book.specs.Log as book
-use Rattle.fp_steps.proofs.Cases.{Cases, IsPost, by_made}
+use Rattle.fp_steps.proofs.Cases.{Cases, by_made}
 use Rattle.fp_steps.proofs.HeldDialogues.{Held, count_tied, held_of, not_abort}
-use Rattle.fp_steps.proofs.StepAnswers.{sent_out}
 use Rattle.fp_steps.proofs.TieAtParcels.{held, out_there}
 use Rattle.fp_steps.proofs.TieAtTurns.{place_of}
 

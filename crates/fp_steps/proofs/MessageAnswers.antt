@@ -1,6 +1,5 @@
--- Each message is answered as its history tells: by the first line that fits.
-use Rattle.fp_steps.proofs.Names.{AbortCause, Answers, Bool, Contents, Entry, Event, Follows, Freed, IsCame, IsLost, IsPrepared, IsTied, Kind, Lined, List, None, Option, Output, Posted, Prepared, Row, RowsKeepTheirOrder, SevenLinesDecide, Shelf, Some, Sound, Step, Tid, Tied, TiedAt, Verdict, [], abort_for, aborts_waiting, addressee, admits, admitted, answer_by, answer_to, answers_by, ap, arrival_of, begun, births, cases_Bool, components_in, cond, entries_in, entry_count, false, first_answer, first_identifier, first_lines, first_that_fits, frame_octets, get, going_on, held, inl, inr, is_admitted, is_begin, is_down, is_none, last_lines, len, length, length-map, map_list, named, named_in, none-some, of_row, opened_with, option_and_then, option_map_or, refl, refused, row_unserved, same_Some, seven_lines, story, subst, sym, table_at, taking, true, unserved_in, unserved_of, verdict, ℕ, ⊎_elim, ◌++◌, ◌∙◌, ◌∷◌, ◌≡◌, ◌⊎◌}
-use Rattle.fp_steps.proofs.Cases.{read_by}
+-- Each message is answered as its history tells: by the rules of receipt.
+use Rattle.fp_steps.proofs.Names.{AbortCause, Answers, Bool, Contents, Event, Follows, Freed, IsLost, IsPrepared, IsTied, Lined, List, None, Option, Output, Posted, Prepared, Row, RowsKeepTheirOrder, Rule, Shelf, Some, Sound, Tid, Tied, TiedAt, Verdict, [], abort_for, aborts_waiting, addressee, admits, admitted, answer_by, answer_to, ap, arrival_of, births, cases_Bool, components_in, cond, entries_in, facts_in, facts_with, false, first_identifier, first_that_fits, frame_octets, free, get, held, inl, inr, is_admitted, is_down, is_none, is_some, len, length, length-map, named, named_in, none-some, opened_with, option_and_then, option_map_or, place_count, places_taken, refl, refused, refused_by, rule, rules_up, story, subst, sym, taking, true, unserved, verdict, verdict_by, ℕ, ⊎_elim, ◌∙◌, ◌≡◌, ◌⊎◌}
 use Rattle.fp_steps.proofs.HeldCount.{held_is}
 use Rattle.fp_steps.proofs.HeldDialogues.{row_named, unserved_tied}
 use Rattle.fp_steps.proofs.TieAtMessages.{named_admits, number_in}
@@ -13,7 +12,7 @@ answer_of waiting next came (Verdict.Refuse named closes) = refused waiting came
 answer_of waiting next came (Verdict.Open peer) = opened_with next
 answer_of waiting next came (Verdict.Extend local ends) = Posted.Accepted (length (entries_in came))
 
-refused_is : (s : Shelf) (closes : Option ℕ) (abort : Option (Tid × AbortCause)) (answer : Posted) (answered : Shelf) → Answers s closes abort answer answered → answer ≡ answer_by abort (is_none closes)
+refused_is : (s : Shelf) (closes : Option ℕ) (abort : Option (Tid × AbortCause)) (answer : Posted) (answered : Shelf) → Answers s closes abort answer answered → answer ≡ refused_by abort (is_none closes)
 refused_is s None None answer answered g = g.0
 refused_is s (Some local) None answer answered g = g.0
 refused_is s closes (Some (peer, named)) answer answered g = g.0
@@ -24,29 +23,6 @@ answer_is old new came answer (Verdict.Refuse named closes) g = refused_is g.clo
 answer_is old new came answer (Verdict.Open peer) g = g.answer_is ∙ sym (ap (λ fs. opened_with (first_identifier old.link fs)) g.first)
 answer_is old new came answer (Verdict.Extend local false) g = g.answer_is
 answer_is old new came answer (Verdict.Extend local true) g = g.answer_is
-
--- so the first line that fits says it
-abbrev answered_line : ℕ → Option ℕ → Prepared → Bool × Verdict → Bool × Posted
-answered_line waiting next came line = (line.0, answer_of waiting next came line.1)
-
-first_by : (waiting : ℕ) (next : Option ℕ) (came : Prepared) (b : Bool) (v w : Verdict) → answer_of waiting next came (cond b v w) ≡ cond b (answer_of waiting next came v) (answer_of waiting next came w)
-first_by waiting next came true v w = refl
-first_by waiting next came false v w = refl
-
-first_is : (waiting : ℕ) (next : Option ℕ) (came : Prepared) (lines : List (Bool × Verdict)) → answer_of waiting next came (first_that_fits lines) ≡ first_answer (map_list (answered_line waiting next came) lines)
-first_is waiting next came [] = refl
-first_is waiting next came (line ∷ lines) =
-    first_by waiting next came line.0 line.1 (first_that_fits lines) ∙ ap (λ a. cond line.0 (answer_of waiting next came line.1) a) (first_is waiting next came lines)
-
-opened_by : (waiting : ℕ) (next : Option ℕ) (came : Prepared) (o : Option Tid) → answer_of waiting next came (option_map_or (λ peer. Verdict.Open peer) o Verdict.Discard) ≡ option_map_or (λ (peer : Tid). opened_with next) o Posted.Discarded
-opened_by waiting next came None = refl
-opened_by waiting next came (Some peer) = refl
-
--- the lines of the book are the same, by what they ask for
-same_lines : (s : Shelf) (came : Prepared) (kind : Kind) (o : Option ℕ) (waiting : ℕ) (next : Option ℕ) → map_list (answered_line waiting next came) (first_lines s came kind o ++ last_lines s came kind o)
-    ≡ answers_by s.is_down waiting (is_none o) (is_none (going_on kind o)) (unserved_in s (going_on kind o)) s.entries (len s.rows) (answer_of waiting next came (option_map_or (λ peer. Verdict.Open peer) (arrival_of came).ids.orig Verdict.Discard)) came kind
-same_lines s came kind None waiting next = refl
-same_lines s came kind (Some local) waiting next = refl
 
 -- which dialogue a message names, by its birth and by its identifier
 
@@ -95,66 +71,73 @@ named_both : {h : List Event} {s : Shelf} (n : Option ℕ) → Tied h s
 named_both None t = inl (refl, refl)
 named_both {h} (Some local) t = named_at local (named h local) t refl
 
--- what the lines ask for of it
-record Asks (h : List Event) (s : Shelf) (kind : Kind) (o p : Option ℕ) : Type 0 where
-  names : is_none o ≡ is_none p
-  anew : is_none (going_on kind o) ≡ is_none (going_on kind p)
-  entries : unserved_in s (going_on kind o) ≡ unserved_of h (going_on kind p)
+-- the facts of a book are those of its history
+same_facts : {h : List Event} {s : Shelf} (o p : Option ℕ) → Tied h s → is_down h ≡ s.is_down → held h ≡ len s.rows → is_some o ≡ is_some p
+    → option_map_or places_taken (option_and_then (get s.rows) o) 0 ≡ option_map_or (λ d. place_count (unserved h d)) p 0 → facts_with s o ≡ facts_in h p
+same_facts {h} {s} o p t down many names places =
+    λ i. record { is_down = sym down i; names_one = names i; unserved = places i; entries = sym t.entries_are i; held = sym many i }
 
-asks_none : (h : List Event) (s : Shelf) (b : Bool) → unserved_in s (cond b None None) ≡ unserved_of h (cond b None None)
-asks_none h s true = refl
-asks_none h s false = refl
+-- and what a rule is answered is the same
+record Agrees (h : List Event) (s : Shelf) (o p : Option ℕ) : Type 0 where
+  none : is_none o ≡ is_none p
+  facts : facts_with s o ≡ facts_in h p
+  extends : (link : ℕ) (came : Prepared) (waiting : ℕ) (next : Option ℕ) (ends : Bool) → answer_of waiting next came (verdict_by (Rule.Extend ends) o (arrival_of came).ids.orig) ≡ answer_by link h came p (Rule.Extend ends)
 
-asks_some : (h : List Event) (s : Shelf) (local : ℕ) {d : ℕ} {row : Row} (b : Bool) → get s.rows local ≡ Some row → IsTied d (story h d) row
-    → (is_none (cond b None (Some local)) ≡ is_none (cond b None (Some d))) × (unserved_in s (cond b None (Some local)) ≡ unserved_of h (cond b None (Some d)))
-asks_some h s local true was k = (refl, refl)
-asks_some h s local false was k = (refl, ap (of_row row_unserved) was ∙ sym (unserved_tied h k))
-
-asks : {h : List Event} {s : Shelf} (came : Prepared) → Tied h s → Asks h s (arrival_of came).ids.kind (named_in s (arrival_of came).ids) (addressee h came)
-asks {h} {s} came t =
-    let kind = (arrival_of came).ids.kind in
+agrees : {h : List Event} {s : Shelf} (came : Prepared) → Tied h s → Lined h s → held h ≡ len s.rows → Agrees h s (named_in s (arrival_of came).ids) (addressee h came)
+agrees {h} {s} came t l many =
     ⊎_elim
-    (λ none. subst (λ o. Asks h s kind o (addressee h came)) (sym none.0)
-    (subst (λ p. Asks h s kind None p) (sym none.1) (record { names = refl; anew = refl; entries = asks_none h s (is_begin kind) })))
-    (λ both. subst (λ o. Asks h s kind o (addressee h came)) (sym both.is)
-    (subst (λ p. Asks h s kind (Some both.local) p) (sym both.also)
-    (let so = asks_some h s both.local (is_begin kind) both.was both.tied in record { names = refl; anew = so.0; entries = so.1 })))
+    (λ neither. subst (λ o. Agrees h s o (addressee h came)) (sym neither.0)
+    (subst (λ p. Agrees h s None p) (sym neither.1) (record { none = refl; facts = same_facts None None t l.down many refl refl; extends = λ link came waiting next ends. refl })))
+    (λ both. subst (λ o. Agrees h s o (addressee h came)) (sym both.is)
+    (subst (λ p. Agrees h s (Some both.local) p) (sym both.also)
+    (record {
+      none = refl;
+      facts = same_facts (Some both.local) (Some both.birth) t l.down many refl (ap (λ o. option_map_or places_taken o 0) both.was ∙ sym (ap place_count (unserved_tied h both.tied)));
+      extends = λ link came waiting next ends. refl;
+    })))
     (named_both (number_in came) t)
 
--- where the link is down nothing is answered
-down_first : (down : Bool) (waiting : ℕ) (names_none begins_anew : Bool) (unserved : List Entry) (entries held : ℕ) (begun : Posted) (came : Prepared) (kind : Kind) → down ≡ true
-    → first_answer (answers_by down waiting names_none begins_anew unserved entries held begun came kind) ≡ Posted.Discarded
-down_first down waiting names_none begins_anew unserved entries held begun came kind is = ap (λ d. first_answer (answers_by d waiting names_none begins_anew unserved entries held begun came kind)) is
+opened_by : (waiting : ℕ) (next : Option ℕ) (came : Prepared) (dialogue : Option ℕ) (o : Option Tid) → answer_of waiting next came (verdict_by Rule.Open dialogue o) ≡ option_map_or (λ (peer : Tid). opened_with next) o Posted.Discarded
+opened_by waiting next came dialogue None = refl
+opened_by waiting next came dialogue (Some peer) = refl
+
+rule_answered : {h : List Event} {s : Shelf} (came : Prepared) (o p : Option ℕ) (r : Rule) → Tied h s → Sound s → Lined h s → free h ≡ s.free → Agrees h s o p
+    → answer_of (length s.outbox.aborts) (first_identifier s.link s.free) came (verdict_by r o (arrival_of came).ids.orig) ≡ answer_by s.link h came p r
+rule_answered came o p Rule.Discard t k l freed a = refl
+rule_answered {h} {s} came o p (Rule.Refuse named) t k l freed a =
+    let aborts : length s.outbox.aborts ≡ length (aborts_waiting h) = sym (length-map s.outbox.aborts frame_octets) ∙ ap length (sym (aborts_wait t k l)) in
+    λ i. refused (aborts i) came named (a.none i)
+rule_answered {h} {s} came o p Rule.Open t k l freed a =
+    opened_by (length s.outbox.aborts) (first_identifier s.link s.free) came o (arrival_of came).ids.orig
+    ∙ ap (λ fs. option_map_or (λ (peer : Tid). opened_with (first_identifier s.link fs)) (arrival_of came).ids.orig Posted.Discarded) (sym freed)
+rule_answered {h} {s} came o p (Rule.Extend ends) t k l freed a = a.extends s.link came (length s.outbox.aborts) (first_identifier s.link s.free) ends
 
 -- what a message is answered
-pub answered_so : {h : List Event} {s : Shelf} (came : Prepared) → Tied h s → Sound s → Lined h s → Freed h s → held h ≡ len s.rows → verdict s came ≡ first_that_fits (seven_lines s came)
+pub answered_so : {h : List Event} {s : Shelf} (came : Prepared) → Tied h s → Sound s → Lined h s → Freed h s → held h ≡ len s.rows
     → answer_of (length s.outbox.aborts) (first_identifier s.link s.free) came (verdict s came) ≡ answer_to s.link h came
-answered_so {h} {s} came t k l f many seven =
-    let kind = (arrival_of came).ids.kind in let waiting = length s.outbox.aborts in
-    let next = first_identifier s.link s.free in let o = named_in s (arrival_of came).ids in
-    let p = addressee h came in let a : Asks h s kind o p = asks came t in
-    let aborts : waiting ≡ length (aborts_waiting h) = sym (length-map s.outbox.aborts frame_octets) ∙ ap length (sym (aborts_wait t k l)) in
-    let mine = answer_of waiting next came (option_map_or (λ peer. Verdict.Open peer) (arrival_of came).ids.orig Verdict.Discard) in
-    let start : answer_of waiting next came (verdict s came) ≡ first_answer (answers_by s.is_down waiting (is_none o) (is_none (going_on kind o)) (unserved_in s (going_on kind o)) s.entries (len s.rows) mine came kind) =
-    ap (answer_of waiting next came) seven ∙ first_is waiting next came (seven_lines s came) ∙ ap first_answer (same_lines s came kind o waiting next) in
+answered_so {h} {s} came t k l f many =
+    let o = named_in s (arrival_of came).ids in
+    let p = addressee h came in
+    let a : Agrees h s o p = agrees came t l many in
+    let waiting = length s.outbox.aborts in
+    let next = first_identifier s.link s.free in
+    let others = first_that_fits (rules_up (facts_with s o) came (arrival_of came).ids.kind) in
+    let same : rule (facts_with s o) came ≡ rule (facts_in h p) came = ap (λ f. rule f came) a.facts in
     ⊎_elim
-    (λ down. start ∙ down_first s.is_down waiting (is_none o) (is_none (going_on kind o)) (unserved_in s (going_on kind o)) s.entries (len s.rows) mine came kind down
-    ∙ sym (down_first (is_down h) (length (aborts_waiting h)) (is_none p) (is_none (going_on kind p)) (unserved_of h (going_on kind p)) (entry_count h) (held h) (begun s.link h came) came kind (l.down ∙ down)))
-    (λ up.
-    let opens : mine ≡ begun s.link h came =
-    opened_by waiting next came (arrival_of came).ids.orig ∙ ap (λ fs. option_map_or (λ (peer : Tid). opened_with (first_identifier s.link fs)) (arrival_of came).ids.orig Posted.Discarded) (sym (f up))
-    in
-    start ∙ (λ i. first_answer (answers_by (sym l.down i) (aborts i) (a.names i) (a.anew i) (a.entries i) (sym t.entries_are i) (sym many i) (opens i) came kind)))
+    (λ down.
+    let none : rule (facts_with s o) came ≡ Rule.Discard = ap (λ b. cond b Rule.Discard others) down in
+    ap (λ r. answer_of waiting next came (verdict_by r o (arrival_of came).ids.orig)) none ∙ sym (ap (answer_by s.link h came p) (sym same ∙ none)))
+    (λ up. rule_answered came o p (rule (facts_with s o) came) t k l (f up) a ∙ ap (answer_by s.link h came p) same)
     (cases_Bool s.is_down)
 
 -- EACH MESSAGE
 
--- the seven lines decide on what a step posts
-abbrev pub Decided : Option Prepared → Type 0
-Decided came = (s : Shelf) (p : Prepared) → came ≡ Some p → verdict s p ≡ first_that_fits (seven_lines s p)
-
-decided_as : (p : Prepared) → ((s : Shelf) → verdict s p ≡ first_that_fits (seven_lines s p)) → Decided (Some p)
-decided_as p all s q same = subst (λ q. verdict s q ≡ first_that_fits (seven_lines s q)) (same_Some p q same) (all s)
+pub posted_is : RowsKeepTheirOrder → {h : List Event} {old : Shelf} (new : Shelf) (p : Prepared) (answer : Posted) (components : ℕ) → Tied h old → Sound old → Lined h old → Freed h old
+    → components ≡ components_in answer p → Follows (verdict old p) old p answer new → Output.Posted answer components ≡ Output.Posted (answer_to old.link h p) (components_in (answer_to old.link h p) p)
+posted_is law {h} {old} new p answer components t k l f count g =
+    let so : answer ≡ answer_to old.link h p = answer_is old new p answer (verdict old p) g ∙ answered_so p t k l f (held_is law t k l) in
+    let many : components ≡ components_in (answer_to old.link h p) p = count ∙ ap (λ a. components_in a p) so in
+    λ i. Output.Posted (so i) (many i)
 
 -- one that wasn't read is prepared so by the first table, whatever its records are
 abbrev pub no_records : Contents
@@ -163,20 +146,3 @@ no_records = record { index = 0; key = 0; rule_count = 0; closed_count = 0; reco
 pub lost_prepared : (contexts : List (List ℕ)) (octets : List ℕ) (moment : ℕ) (p : Prepared) → IsLost octets moment p → IsPrepared no_records contexts octets moment p
 lost_prepared contexts octets moment (Prepared.Lost arrival) is = record { is_arrival = is.0; by_table = is.1; is_reading = tt }
 lost_prepared contexts octets moment p is = absurd is
-
-pub decided : SevenLinesDecide → (tables : List Contents) (contexts : List (List ℕ)) (step : Step) (came : Option Prepared) → IsCame tables contexts step came → Decided came
-decided seven tables contexts step None is = λ s p same. absurd (cc)
-decided seven tables contexts (Step.Post table frame moment) (Some p) is =
-    let r = read_by (table_at tables table) contexts frame moment p is in decided_as p (λ s. seven r.contents contexts frame moment s p r.read.0)
-decided seven tables contexts (Step.Lost frame moment) (Some p) is = decided_as p (λ s. seven no_records contexts frame moment s p (lost_prepared contexts frame moment p is))
-decided seven tables contexts step (Some p) is = absurd is
-
-pub posted_is : RowsKeepTheirOrder → {h : List Event} {old : Shelf} (new : Shelf) (p : Prepared) (answer : Posted) (components : ℕ) → Tied h old → Sound old → Lined h old → Freed h old
-    → verdict old p ≡ first_that_fits (seven_lines old p)
-    → components ≡ components_in answer p → Follows (verdict old p) old p answer new → Output.Posted answer components ≡ Output.Posted (answer_to old.link h p) (components_in (answer_to old.link h p) p)
-posted_is law {h} {old} new p answer components t k l f seven count g =
-    let waiting = length old.outbox.aborts in let next = first_identifier old.link old.free in
-    let is : answer ≡ answer_of waiting next p (verdict old p) = answer_is old new p answer (verdict old p) g in
-    let so : answer ≡ answer_to old.link h p = is ∙ answered_so p t k l f (held_is law t k l) seven in
-    let many : components ≡ components_in (answer_to old.link h p) p = count ∙ ap (λ a. components_in a p) so in
-    λ i. Output.Posted (so i) (many i)

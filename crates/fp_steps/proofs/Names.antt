@@ -16,10 +16,10 @@ pub use mathlib.Core.List.{IsPrefix}
 pub use Rattle.fp_book.proofs.Changes.{NotHeld, by_held, by_local, count, count_is, left_by, not_held, ready, turns_none}
 pub use Rattle.fp_book.proofs.Queue.{count-append, count-cons, count_without_other, count_without_own}
 pub use Rattle.fp_book.proofs.Sums.{OneChanges, Rows, amount, get-removed, inserted, kept, left_of, len-sum, removed, sum-le, sum-none, sum-remove}
-pub use Rattle.fp_book.proofs.Tells.{BeginsAnew, Tells, followed_log, names_by, unnamed_by, verdict_tells}
+pub use Rattle.fp_book.proofs.Tells.{Tells, followed_log, names_by, unnamed_by, verdict_tells}
 pub use Rattle.fp_book.proofs.Turns.{frames_at}
 pub use Rattle.fp_book.specs.Calls.{Answers, ClocksAt, ClosesOne, ComesFirst, Discards, Due, EndsDialogue, ExtendsDialogue, Follows, GivesDone, GoesDown, IsDue, OpensDialogue, PicksParcel, PutsTurnBack, Refuses, Sends, TakesTurn, Ticks, Unsends, abort_for, due_at, entries_in, given_of, is_idle, joins, more_accepted, posted_line, posted_totals, turn_of, waiting_in, without}
-pub use Rattle.fp_book.specs.Lines.{SevenLinesDecide, admitted, first_lines, first_that_fits, going_on, is_begin, is_full as book_is_full, is_lost, last_lines, named as named_in, number_of, seven_lines, unserved_in, verdict}
+pub use Rattle.fp_book.specs.Rules.{admitted, entries_in, facts_of, facts_with, first_that_fits, is_full as book_is_full, is_lost, named as named_in, number_of, rule, rules_up, verdict, verdict_by}
 pub use Rattle.fp_book.specs.Log.{logged as book_logged}
 pub use Rattle.fp_book.specs.Outbox.{IsNext as BookNext, Outbox, being_sent, is_of_other, nothing, places_out, unsent_frames, waiting_frames}
 pub use Rattle.fp_book.specs.Parcel.{birth_of as parcel_birth, local_of as parcel_local, octets_of as parcel_octets}
@@ -34,9 +34,10 @@ pub use Rattle.fp_book.specs.declared.parcel.Content.{Content}
 pub use Rattle.fp_book.specs.declared.parcel.Parcel.{Parcel}
 pub use Rattle.fp_book.specs.declared.parcel.Waiting.{Waiting}
 pub use Rattle.fp_book.specs.declared.totals.Totals.{Totals}
+pub use Rattle.fp_book.specs.declared.rules.Rule.{Rule}
 pub use Rattle.fp_book.specs.declared.verdict.Verdict.{Verdict}
 pub use Rattle.fp_entry.specs.Arrival.{IsArrival, SameArrival}
-pub use Rattle.fp_entry.specs.Entries.{component_count, entry_at, is_clock, is_from_component}
+pub use Rattle.fp_entry.specs.Entries.{component_count, entry_at, is_clock, is_from_component, place_count}
 pub use Rattle.fp_entry.specs.Prepared.{Answers as SameAnswers, IsLost, IsPrepared, SameIncoming, arrival_of, components_of as components_came}
 pub use Rattle.fp_entry.specs.declared.arrival.Arrival.{Arrival}
 pub use Rattle.fp_entry.specs.declared.entry.Entry.{Entry}
@@ -54,7 +55,7 @@ pub use Rattle.fp_row.proofs.Waiting.{waiting_ready}
 pub use Rattle.fp_row.specs.Calls.{Ends, Extends, IsSame, ended_by, frames_in, requested_of}
 pub use Rattle.fp_row.specs.Laws.{KeepsOrder, RowsKeepTheirOrder}
 pub use Rattle.fp_row.specs.Rows.{ClosesAt}
-pub use Rattle.fp_row.specs.Row.{entries_out as row_entries_out, frames_of, has_clock, is_admitted, is_closed, is_due as row_is_due, is_held, is_ready as row_is_ready, kept_of, queued_of, requests_of, sent_of, served_of, start_of, turn_of as row_turn_of, turn_out as row_turn, unserved as row_unserved, waits as row_waits}
+pub use Rattle.fp_row.specs.Row.{entries_out as row_entries_out, frames_of, has_clock, is_admitted, is_closed, is_due as row_is_due, is_held, is_ready as row_is_ready, kept_of, places_taken, queued_of, requests_of, sent_of, served_of, start_of, turn_of as row_turn_of, turn_out as row_turn, unserved as row_unserved, waits as row_waits}
 pub use Rattle.fp_row.specs.Turn.{birth_of as turn_birth, frames_for as turn_frames, frames_under, most_entries, served_in as turn_served}
 pub use Rattle.fp_row.specs.declared.done.Done.{Done}
 pub use Rattle.fp_row.specs.declared.ending.Ending.{Ending}
@@ -75,7 +76,7 @@ pub use Rattle.fp_steps.specs.History.{AtEachMoment, Event, IsCame, IsNone, IsRe
 pub use Rattle.fp_steps.specs.Idle.{IdleIsDone}
 pub use Rattle.fp_steps.specs.Laws.{AreInPlace, AnswersAreOne, HeadlineHolds, LinesAreRetoldOnce, RetoldLinesAreCounted, RunsAreOne, SentAlike, log_with}
 pub use Rattle.fp_steps.specs.Lined.{ByAge, Freed, Lined, Sorted, as_waiting}
-pub use Rattle.fp_steps.specs.Lines.{addressee, answer_by, answer_to, answers_by, begun, components_in, first_answer, opened_with, refused, taking, unserved_of}
+pub use Rattle.fp_steps.specs.Messages.{addressee, answer_by, answer_to, begun, components_in, facts_in, opened_with, refused, refused_by, taking}
 pub use Rattle.fp_steps.specs.Log.{NamesThen, back_by, back_in, first_of as first_step, moves, name_in, name_of, names_in, others, others_if, place_if, place_in, place_of as table_place, place_or, placed, sending_after, step_in, tick_in, told_by, told_from, told_where, turns_after}
 pub use Rattle.fp_steps.specs.LogLines.{HasPlace, IsLine, IsLog}
 pub use Rattle.fp_steps.specs.Makes.{MakesOf, MakesStep, PostsTo}

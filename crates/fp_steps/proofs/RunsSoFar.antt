@@ -1,15 +1,14 @@
 -- A step after a history that leads to the book, and a run so far.
-use Rattle.fp_steps.proofs.Names.{AddUp, AllAnswered, AtEachMoment, Contents, Event, FollowsHistory as Follows, Freed, Headline, HeadlineHolds, HistoryTells as Tells, IdentifiersHold, IdleIsDone, IsAfter, IsAnswer, IsCame, LeadsTo, Lined, List, LoggedStep, MakesOf, MakesStep, None, Option, Output, Prepared, Retells, RowsKeepTheirOrder, Runs, SevenLinesDecide, Shelf, Some, Sound, Step, Tied, [], ap, cond_some, empty_shelf, is_written, length, lines_told, logged, map_list as map, option_to_list, outputs_of, refl, reverse_onto, rules, slice_index_or, subst, sym, take, take_more, told, told_from, totals_of, written, ℕ, ◌++◌, ◌+◌, ◌<◌, ◌∙◌, ◌∷◌, ◌≡◌}
+use Rattle.fp_steps.proofs.Names.{AddUp, AllAnswered, AtEachMoment, Contents, Event, FollowsHistory as Follows, Freed, Headline, HeadlineHolds, HistoryTells as Tells, IdentifiersHold, IdleIsDone, IsAfter, IsAnswer, IsCame, LeadsTo, Lined, List, LoggedStep, MakesOf, MakesStep, None, Option, Output, Prepared, Retells, RowsKeepTheirOrder, Runs, Shelf, Some, Sound, Step, Tied, [], ap, cond_some, empty_shelf, is_written, length, lines_told, logged, map_list as map, option_to_list, outputs_of, refl, reverse_onto, rules, slice_index_or, subst, sym, take, take_more, told, told_from, totals_of, written, ℕ, ◌++◌, ◌+◌, ◌<◌, ◌∙◌, ◌∷◌, ◌≡◌}
 use Rattle.fp_steps.specs.declared.stepped.Stepped.{Stepped}
 use Rattle.fp_steps.proofs.DialogueTotals.{add_up_next, none_few}
 use Rattle.fp_steps.proofs.IdleDone.{idle_is_done, idle_none}
 use Rattle.fp_steps.proofs.BookLog.{line_is}
 use Rattle.fp_steps.proofs.FreeSerials.{Freed-makes, identifiers_hold}
 use Rattle.fp_steps.proofs.LoggedLines.{line_step, unwritten_is}
-use Rattle.fp_steps.proofs.MessageAnswers.{decided}
 use Rattle.fp_steps.proofs.OutputTotals.{outputs_more}
 use Rattle.fp_steps.proofs.StepAnswers.{answer_made, link_made}
-use Rattle.fp_steps.proofs.TieKept.{Tied-makes, Tied-none, came_anew, headline, headline_none}
+use Rattle.fp_steps.proofs.TieKept.{Tied-makes, Tied-none, headline, headline_none}
 use Rattle.fp_steps.proofs.WaitingKept.{Lined-makes, Lined-none}
 
 -- what holds at each moment holds at the last
@@ -31,24 +30,23 @@ record Made (tables : List Contents) (contexts : List (List ℕ)) (step : Step) 
   is_came : IsCame tables contexts step came
   makes : MakesOf step came output old new
 
-next : RowsKeepTheirOrder → SevenLinesDecide → {tables : List Contents} {contexts : List (List ℕ)} {step : Step} {came : Option Prepared} {output : Output} {old new : Shelf} → Made tables contexts step came output old new
+next : RowsKeepTheirOrder → {tables : List Contents} {contexts : List (List ℕ)} {step : Step} {came : Option Prepared} {output : Output} {old new : Shelf} → Made tables contexts step came output old new
     → {h : List Event} → LeadsTo tables contexts h old → Next tables contexts h step came output old new
-next law seven {tables} {contexts} {step} {came} {output} {old} {new} m {h} f =
+next law {tables} {contexts} {step} {came} {output} {old} {new} m {h} f =
     let e : Event = record { step = step; came = came; output = output } in
-    let anew = came_anew tables contexts step came m.is_came in
-    let tied : Tied (e ∷ h) new = Tied-makes law e new anew f.tied m.sound m.makes in
+    let tied : Tied (e ∷ h) new = Tied-makes law e new f.tied m.sound m.makes in
     let link : new.link ≡ old.link = link_made step came output new m.sound m.makes in
     let answer : IsAnswer new.link h step came output =
-    subst (λ n. IsAnswer n h step came output) (sym link) (answer_made law step came output new f.tied m.sound f.lined f.freed (decided seven tables contexts step came m.is_came) m.makes)
+    subst (λ n. IsAnswer n h step came output) (sym link) (answer_made law step came output new f.tied m.sound f.lined f.freed m.makes)
     in
-    let lined : Lined (e ∷ h) new = Lined-makes e anew f.tied m.sound f.lined m.makes tied m.then in
+    let lined : Lined (e ∷ h) new = Lined-makes e f.tied m.sound f.lined m.makes tied m.then in
     let freed : Freed (e ∷ h) new =
     Freed-makes law e new (record { tied = f.tied; sound = m.sound; lined = f.lined }) f.freed m.makes (record { tied = tied; sound = m.then; lined = lined })
     in
     let first : Headline (e ∷ h) = headline law _ _ tied m.then lined in
     let own : IdentifiersHold (e ∷ h) = identifiers_hold law (record { tied = tied; sound = m.then; lined = lined }) freed in
     let sums : AddUp (outputs_of (e ∷ h)) (e ∷ h) × (new.totals ≡ totals_of (outputs_of (e ∷ h))) =
-    add_up_next law e anew f.tied m.sound m.makes m.then (at_the_end h f.moments) first f.adds_up f.counted
+    add_up_next law e f.tied m.sound m.makes m.then (at_the_end h f.moments) first f.adds_up f.counted
     in
     let is : told_from new.log step output ≡ told h step output = line_is tables contexts step came output new f.tied m.sound m.empty m.is_came m.makes in
     let answers : AllAnswered new.link h = subst (λ n. AllAnswered n h) (sym link) f.answers in
@@ -67,11 +65,11 @@ the_written None line e = absurd (cc)
 the_written (Some step) line e = ap Some (cond_some (is_written step) step line e).1
 
 -- with the line of one step more, if it is written
-retold_by : RowsKeepTheirOrder → SevenLinesDecide → {tables : List Contents} {contexts : List (List ℕ)} {step : Step} {came : Option Prepared} {output : Output} {old new : Shelf} → Made tables contexts step came output old new
+retold_by : RowsKeepTheirOrder → {tables : List Contents} {contexts : List (List ℕ)} {step : Step} {came : Option Prepared} {output : Output} {old new : Shelf} → Made tables contexts step came output old new
     → (lines : List LoggedStep) (o : Option LoggedStep) → Retelling tables contexts lines old → written (told_from new.log step output) ≡ o → Retelling tables contexts (option_to_list o ++ lines) new
-retold_by law seven {tables} {contexts} {step} {came} {output} {old} {new} m lines None k is = subst (Retelling tables contexts lines) (sym (unwritten_is step came output old new m.makes m.empty is)) k
-retold_by law seven {tables} {contexts} {step} {came} {output} {old} {new} m lines (Some line) k is =
-    let n : Next tables contexts k.retold step came output old new = next law seven m k.leads in
+retold_by law {tables} {contexts} {step} {came} {output} {old} {new} m lines None k is = subst (Retelling tables contexts lines) (sym (unwritten_is step came output old new m.makes m.empty is)) k
+retold_by law {tables} {contexts} {step} {came} {output} {old} {new} m lines (Some line) k is =
+    let n : Next tables contexts k.retold step came output old new = next law m k.leads in
     let tells : told k.retold step output ≡ Some line = sym n.line_is ∙ the_written (told_from new.log step output) line is in
     record {
       retold = record { step = step; came = came; output = output } ∷ k.retold;
@@ -91,13 +89,13 @@ emptied tables contexts h s log f =
     record { leads = of h f.leads; retold = f.retold; retold_leads = of f.retold f.retold_leads; retells = f.retells }
 
 -- a step follows the history, and then its line is dropped
-pub followed : RowsKeepTheirOrder → SevenLinesDecide → {tables : List Contents} {contexts : List (List ℕ)} (step : Step) (made : Stepped) {old mid : Shelf} (new : Shelf) → Sound old → old.log ≡ [] → Sound mid → MakesStep tables contexts old step made.output mid
+pub followed : RowsKeepTheirOrder → {tables : List Contents} {contexts : List (List ℕ)} (step : Step) (made : Stepped) {old mid : Shelf} (new : Shelf) → Sound old → old.log ≡ [] → Sound mid → MakesStep tables contexts old step made.output mid
     → made.line ≡ told_from mid.log step made.output → new ≡ record mid { log = new.log } → {h : List Event} → IsAfter tables contexts h old → Follows tables contexts h step made new
-followed law seven {tables} {contexts} step made {old} {mid} new sound empty then (came, is, makes) line dropped {h} f =
+followed law {tables} {contexts} step made {old} {mid} new sound empty then (came, is, makes) line dropped {h} f =
     let m : Made tables contexts step came made.output old mid = record { sound = sound; empty = empty; then = then; is_came = is; makes = makes } in
-    let n : Next tables contexts h step came made.output old mid = next law seven m f.leads in
+    let n : Next tables contexts h step came made.output old mid = next law m f.leads in
     let r : Retelling tables contexts (option_to_list (logged h step made.output) ++ lines_told h) mid =
-    retold_by law seven m (lines_told h) (logged h step made.output) (record { retold = f.retold; leads = f.retold_leads; retells = f.retells }) (ap written n.line_is)
+    retold_by law m (lines_told h) (logged h step made.output) (record { retold = f.retold; leads = f.retold_leads; retells = f.retells }) (ap written n.line_is)
     in
     subst (Follows tables contexts h step made) (sym dropped) (record {
       came = came;

@@ -2,7 +2,7 @@
 use Rattle.fp_steps.proofs.Names.{Bool, ByAge, Freed, Content, Done, Ending, Event, Given, GivesDone, Handed, IsAnswer, IsLongestReady, IsNext, IsOut, IsPosted, IsTied, KeepsOrder, Lined, List, MakesOf, None, Option, Outbox, Output, PicksParcel, Prepared, PutsTurnBack, QueuedFrame, Request, Row, RowsKeepTheirOrder, Sends, Shelf, Some, Sorted, Sound, Step, TakesTurn, Ticks, Tied, TiedAt, Turn, Waiting, [], aborts_waiting, amount, ap, arith, as_waiting, births, cond, core_of, count, count-cons, count_out, cut, due_at, ending, eqb, eqb-false, false, false_from_ne_true, frame_octets, frame_of, gave, get, given_for, given_of, handed, how_many, if_out, is_closed, is_due, is_over, is_ready, is_sending, is_some, known_turn, length, length-map, local_of, map_list, min, most_entries, named, nat_lt, nat_tests, ne_eqb, next_served, not, octets_of, one_if, option_map, option_map_or, out, parcel_local, parcel_octets, places, places_held, places_out, positions, put_back, refl, requested_of, requests, row_at, row_turn, same_Some, story, subst, sum_of, sym, take, ticked, true, turn_of, turn_out, turns_of, unserved, waiting, waiting_ready, ℕ, ◌-◌, ◌<◌, ◌||◌, ◌∙◌, ◌∷◌, ◌≡◌, ◌≢◌}
 use Rattle.fp_steps.proofs.Cases.{Cases, IsPost, by_made}
 use Rattle.fp_steps.proofs.HeldDialogues.{Held, by_option, core_tied, count_tied, held_at, held_of, not_abort, row_named, unserved_tied}
-use Rattle.fp_steps.proofs.MessageAnswers.{Decided, posted_is}
+use Rattle.fp_steps.proofs.MessageAnswers.{posted_is}
 use Rattle.fp_steps.proofs.QueueInOrder.{InQueue, all_at, in_queue, queued_at, ready_at, ready_held, ready_is, first_in}
 use Rattle.fp_steps.proofs.SumsOverBirths.{sum_is}
 use Rattle.fp_steps.proofs.TieAtParcels.{out_there}
@@ -173,12 +173,12 @@ posted_answer link h (Step.Post table frame moment) came output posting is = is
 posted_answer link h (Step.Lost frame moment) came output posting is = is
 posted_answer link h step came output posting is = absurd posting
 
-answers : RowsKeepTheirOrder → {h : List Event} (came : Option Prepared) {old : Shelf} (new : Shelf) → Tied h old → Sound old → Lined h old → Freed h old → Decided came
+answers : RowsKeepTheirOrder → {h : List Event} (came : Option Prepared) {old : Shelf} (new : Shelf) → Tied h old → Sound old → Lined h old → Freed h old
     → Cases (λ step output. IsAnswer old.link h step came output) came old new
-answers law {h} came {old} new t k l f d = record {
+answers law {h} came {old} new t k l f = record {
   posted = λ step posting p answer components is count g totals.
       posted_answer old.link h step came (Output.Posted answer components) posting
-      (subst (λ c. IsPosted old.link h c (Output.Posted answer components)) (sym is) (posted_is law new p answer components t k l f (d old p is) count g));
+      (subst (λ c. IsPosted old.link h c (Output.Posted answer components)) (sym is) (posted_is law new p answer components t k l f count g));
   none_posted = λ step posting none same. posted_answer old.link h step came Output.Nothing posting (subst (λ c. IsPosted old.link h c Output.Nothing) (sym none) refl);
   ticked = λ moment added wanting none g. ticked_is t none g;
   took = λ turn g. (longest_is t k l g, (let room : places_held old < 8192 = g.room in omega (arith, room, places_are t k l)));
@@ -199,8 +199,8 @@ answers law {h} came {old} new t k l f d = record {
   down = λ g. refl;
 }
 
-pub answer_made : RowsKeepTheirOrder → {h : List Event} (step : Step) (came : Option Prepared) (output : Output) {old : Shelf} (new : Shelf) → Tied h old → Sound old → Lined h old → Freed h old → Decided came → MakesOf step came output old new → IsAnswer old.link h step came output
-answer_made law {h} step came output {old} new t k l f d g = by_made (λ step output. IsAnswer old.link h step came output) step output (answers law came new t k l f d) g
+pub answer_made : RowsKeepTheirOrder → {h : List Event} (step : Step) (came : Option Prepared) (output : Output) {old : Shelf} (new : Shelf) → Tied h old → Sound old → Lined h old → Freed h old → MakesOf step came output old new → IsAnswer old.link h step came output
+answer_made law {h} step came output {old} new t k l f g = by_made (λ step output. IsAnswer old.link h step came output) step output (answers law came new t k l f) g
 
 -- the link is the same
 

@@ -1,7 +1,6 @@
 -- Each step keeps the tie between a book and its history, and the tie gives the headline.
-use Rattle.fp_steps.proofs.Names.{AbortsTied, Arrival, BeginsAnew, Contents, Event, Follows, Headline, IsArrival, IsCame, IsGone, IsLost, IsStraight, Kind, Lined, List, MakesOf, None, Option, Output, Posted, Prepared, Row, RowsKeepTheirOrder, Shelf, Some, Sound, Step, Story, Tells, Tid, Tied, TiedAt, Verdict, [], abort_out, aborts, aborts_sent, add-zero, ap, arith, arrival_of, births, dialogue_held, empty_shelf, entry_count, false, false≢true, get, get-empty, inl, inr, is_ending, nat_cmp, nat_le, nat_lt, nat_tests, none-some, octets_of, opened_in, option_map, out, refl, row_at, row_of, same_Some, story, subst, sym, table_at, true, untold, verdict, verdict_tells, ℕ, ⊎_elim, ◌&&◌, ◌++◌, ◌+◌, ◌||◌, ◌∙◌, ◌∷◌, ◌≡◌}
-use Rattle.fp_q773.specs.Ids.{AreIds, AreIdsIn}
-use Rattle.fp_steps.proofs.Cases.{Cases, by_made, IsAnew, read_by}
+use Rattle.fp_steps.proofs.Names.{AbortsTied, Event, Follows, Headline, IsGone, IsStraight, Lined, List, MakesOf, None, Option, Output, Posted, Prepared, Row, RowsKeepTheirOrder, Shelf, Some, Sound, Step, Story, Tells, Tied, TiedAt, Verdict, [], abort_out, aborts, aborts_sent, add-zero, ap, arith, births, dialogue_held, empty_shelf, entry_count, false, false≢true, get, get-empty, is_ending, nat_cmp, nat_le, nat_lt, nat_tests, none-some, opened_in, out, refl, row_at, row_of, story, subst, sym, true, untold, verdict, verdict_tells, ℕ, ⊎_elim, ◌&&◌, ◌++◌, ◌+◌, ◌||◌, ◌∙◌, ◌∷◌, ◌≡◌}
+use Rattle.fp_steps.proofs.Cases.{Cases, by_made}
 use Rattle.fp_steps.proofs.FreeSerials.{held_apart}
 use Rattle.fp_steps.proofs.HeldDialogues.{event, stays, straight_tied}
 use Rattle.fp_steps.proofs.OpenedDialogues.{opened_none}
@@ -29,8 +28,8 @@ made_by law step came answer components new (Verdict.Extend local false) t k tol
 made_by law step came answer components new (Verdict.Extend local true) t k told g =
     Tied-ends law step components t told.0 (⊎_elim (λ kind. ap is_ending kind) (λ kind. ap is_ending kind) told.1) g
 
-made : RowsKeepTheirOrder → {h : List Event} (came : Option Prepared) {old : Shelf} (new : Shelf) → Tied h old → Sound old → IsAnew came → Cases (λ step output. Tied (event step came output ∷ h) new) came old new
-made law {h} came {old} new t k anew =
+made : RowsKeepTheirOrder → {h : List Event} (came : Option Prepared) {old : Shelf} (new : Shelf) → Tied h old → Sound old → Cases (λ step output. Tied (event step came output ∷ h) new) came old new
+made law {h} came {old} new t k =
     let none : (step : Step) → new ≡ old → Tied (event step came Output.Nothing ∷ h) new = λ step same.
     let e = event step came Output.Nothing in
     still e new t same refl refl refl refl refl (λ d. stays e h d refl refl refl refl refl refl refl)
@@ -40,7 +39,7 @@ made law {h} came {old} new t k anew =
     record {
       posted = λ step posting p answer components is count g totals.
           subst (λ c. Tied (event step c (Output.Posted answer components) ∷ h) new) (sym is)
-          (made_by law step p answer components new (verdict old p) t k (verdict_tells old p (anew p is)) g);
+          (made_by law step p answer components new (verdict old p) t k (verdict_tells old p) g);
       none_posted = λ step posting empty same. none step same;
       ticked = λ moment added wanting none g. Tied-ticks came t none g;
       took = λ turn g. Tied-takes came t g;
@@ -60,37 +59,9 @@ made law {h} came {old} new t k anew =
       down = λ g. Tied-down law came t g;
     }
 
--- a Begin has no destination
-
-no_octets : (o : Option Tid) → option_map octets_of o ≡ None → o ≡ None
-no_octets None e = refl
-no_octets (Some tid) e = absurd (cc)
-
-anew_in : (kind : Kind) (contents : List ℕ) (orig dest : Option (List ℕ)) → AreIdsIn kind contents orig dest → kind ≡ Kind.Begin → dest ≡ None
-anew_in kind contents orig dest ids is = let g : AreIdsIn Kind.Begin contents orig dest = subst (λ k. AreIdsIn k contents orig dest) is ids in g.1
-
-anew_by : (octets : List ℕ) (kind : Kind) (orig dest : Option (List ℕ)) → AreIds octets kind orig dest → kind ≡ Kind.Begin → dest ≡ None
-anew_by [] kind orig dest ids is = ids.2
-anew_by (first ∷ octets) kind orig dest (told, inl found) is = anew_in kind found.0 orig dest found.3 is
-anew_by (first ∷ octets) kind orig dest (told, inr none) is = none.2
-
-pub anew : {octets : List ℕ} {moment : ℕ} {arrival : Arrival} → IsArrival octets moment arrival → BeginsAnew arrival.ids
-anew {octets} {arrival} is begin = no_octets arrival.ids.dest (anew_by octets arrival.ids.kind (option_map octets_of arrival.ids.orig) (option_map octets_of arrival.ids.dest) is.has_ids begin)
-
-lost_arrival : (octets : List ℕ) (moment : ℕ) (came : Prepared) → IsLost octets moment came → IsArrival octets moment (arrival_of came)
-lost_arrival octets moment (Prepared.Lost arrival) is = is.0
-lost_arrival octets moment came is = absurd is
-
-pub came_anew : (tables : List Contents) (contexts : List (List ℕ)) (step : Step) (came : Option Prepared) → IsCame tables contexts step came → IsAnew came
-came_anew tables contexts step None is p same = absurd (cc)
-came_anew tables contexts (Step.Post table frame moment) (Some came) is p same =
-    subst (λ (q : Prepared). BeginsAnew (arrival_of q).ids) (same_Some came p same) (anew (read_by (table_at tables table) contexts frame moment came is).read.0.is_arrival)
-came_anew tables contexts (Step.Lost frame moment) (Some came) is p same = subst (λ (q : Prepared). BeginsAnew (arrival_of q).ids) (same_Some came p same) (anew (lost_arrival frame moment came is))
-came_anew tables contexts step (Some came) is p same = absurd is
-
 -- each step keeps the tie
-pub Tied-makes : RowsKeepTheirOrder → {h : List Event} (e : Event) {old : Shelf} (new : Shelf) → IsAnew e.came → Tied h old → Sound old → MakesOf e.step e.came e.output old new → Tied (e ∷ h) new
-Tied-makes law {h} e new anew t k g = by_made (λ step output. Tied (event step e.came output ∷ h) new) e.step e.output (made law e.came new t k anew) g
+pub Tied-makes : RowsKeepTheirOrder → {h : List Event} (e : Event) {old : Shelf} (new : Shelf) → Tied h old → Sound old → MakesOf e.step e.came e.output old new → Tied (e ∷ h) new
+Tied-makes law {h} e new t k g = by_made (λ step output. Tied (event step e.came output ∷ h) new) e.step e.output (made law e.came new t k) g
 
 -- a book on which nothing came yet is tied to no history
 

@@ -1,5 +1,5 @@
 -- Which identifier the dialogue of a turn has that is out.
-use Rattle.fp_steps.proofs.Names.{AllByRecursion, Bool, Event, Holds, IsOut, KeepsOrder, List, None, Option, Parcel, Row, RowsKeepTheirOrder, Shelf, Some, Tied, TiedAt, Turn, [], ap, append_assoc, births, cases_Bool, cond, eq-eqb, eqb, eqb-true, false, false_from_ne_true, false≢true, filter, filter-append, find, get, known_turn, local_if_out, local_of, nat_lt, nat_tests, option_map, option_to_list, refl, row_at, row_turn, same_Some, story, subst, sym, true, turn_birth, turn_local, turn_of, turn_out, turns_at, ℕ, ⊎_elim, ◌++◌, ◌∙◌, ◌∷◌, ◌≡◌}
+use Rattle.fp_steps.proofs.Names.{AllByRecursion, Bool, Event, Holds, IsOut, KeepsOrder, List, None, Option, Parcel, Row, RowsKeepTheirOrder, Shelf, Some, Tied, TiedAt, Turn, [], ap, append_assoc, births, cases_Bool, cond, eq-eqb, eqb, eqb-true, false, false_from_ne_true, false≢true, filter, filter-append, find, get, known_turn, local_if_out, local_of, nat_lt, option_map, option_to_list, refl, row_at, row_turn, same_Some, story, subst, sym, true, turn_birth, turn_local, turn_of, turn_out, turns_at, ℕ, ⊎_elim, ◌++◌, ◌∙◌, ◌∷◌, ◌≡◌}
 use Rattle.fp_row.specs.Row.{has_turn_out}
 use Rattle.fp_steps.proofs.HeldDialogues.{Held, by_option, held_of, row_there}
 

@@ -13,15 +13,15 @@ use Rattle.fp_steps.specs.declared.step.Step.TheVariants as steps
 use Rattle.fp_steps.specs.Accepted.{core_of, is_due, positions}
 use Rattle.fp_steps.specs.Births.{births, how_many, local_of, named}
 use Rattle.fp_steps.specs.History.{Event}
-use Rattle.fp_steps.specs.Lines.{answer_to, components_in}
+use Rattle.fp_steps.specs.Messages.{answer_to, components_in}
 use Rattle.fp_steps.specs.Sending.{Handed, out}
 use Rattle.fp_steps.specs.Turns.{IsReadyBefore, is_ready, next_served, turn_out, unserved}
 use Rattle.fp_steps.specs.Waiting.{QueuedFrame, aborts_waiting, is_sending, places, waiting}
 
 -- POST, LOST
 
--- the first line that fits says what is answered; the components are those of a message that is accepted; a message by
--- a table that wasn't handed in doesn't come
+-- the first rule of receipt that fits says what is answered; the components are those of a message that is accepted; a
+-- message by a table that wasn't handed in doesn't come
 abbrev pub IsPosted : ℕ → List Event → Option Prepared → Output → Type 0
 IsPosted link h None output = output ≡ outputs.Nothing
 IsPosted link h (Some came) output = output ≡ outputs.Posted (answer_to link h came) (components_in (answer_to link h came) came)

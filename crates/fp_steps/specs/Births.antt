@@ -3,7 +3,7 @@ use Rattle.std.specs.Prelude.{ℕ, ◌+◌, ◌==◌, Bool, false, List, [], ◌
 use Rattle.std.specs.Option.{option_and_then, option_map_or}
 use Rattle.fp_book.specs.declared.answers.Posted.{Posted}
 use Rattle.fp_book.specs.declared.answers.Posted.TheVariants.{Opened, Accepted, Aborted, Ended, Discarded}
-use Rattle.fp_book.specs.Lines.{number_of}
+use Rattle.fp_book.specs.Rules.{number_of}
 use Rattle.fp_entry.specs.declared.prepared.Prepared.{Prepared}
 use Rattle.fp_entry.specs.Prepared.{arrival_of}
 use Rattle.fp_q773.specs.Tid.{octets_of}

@@ -29,15 +29,15 @@ accepted_by (Aborted cause) came = 0
 accepted_by Ended came = 0
 accepted_by Discarded came = 0
 
-abbrev pub accepted_in : LoggedStep → Option Prepared → ℕ
-accepted_in (line.Post table moment message answer) came = accepted_by answer came
-accepted_in _ came = 0
+abbrev pub accepted_by_line : LoggedStep → Option Prepared → ℕ
+accepted_by_line (line.Post table moment message answer) came = accepted_by answer came
+accepted_by_line _ came = 0
 
 -- of all messages of these lines, as a history has what each was prepared to
 abbrev pub accepted_along : List LoggedStep → List Event → ℕ
 accepted_along [] h = 0
 accepted_along (line ∷ lines) [] = 0
-accepted_along (line ∷ lines) (e ∷ h) = accepted_along lines h + accepted_in line e.came
+accepted_along (line ∷ lines) (e ∷ h) = accepted_along lines h + accepted_by_line line e.came
 
 abbrev pub totals_in : List LoggedStep → List Event → Totals
 totals_in lines h = record {

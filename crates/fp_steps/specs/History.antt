@@ -6,7 +6,7 @@ use Rattle.fp_entry.specs.declared.prepared.Prepared.{Prepared}
 use Rattle.fp_entry.specs.Prepared.{IsLost, IsPrepared}
 use Rattle.fp_records.specs.Table.{Contents}
 use Rattle.fp_records.specs.declared.table.TheConstants.Table.{LAST_INDEX}
-use Rattle.fp_book.specs.Lines.{is_lost}
+use Rattle.fp_book.specs.Rules.{is_lost}
 use Rattle.fp_steps.specs.declared.output.Output.{Output}
 use Rattle.fp_steps.specs.declared.step.Step.{Step}
 use Rattle.fp_steps.specs.declared.step.Step.TheVariants.{Post, Lost, Tick, Take, Give, PutBack, Pick, Sent, Unsent, Down}

@@ -9,7 +9,7 @@ pub mod Turns
 pub mod Waiting
 pub mod Serials
 -- what each step is answered
-pub mod Lines
+pub mod Messages
 pub mod Answers
 -- what its log tells of each step
 pub mod Told

@@ -8,7 +8,7 @@ use Rattle.fp_book.specs.Calls.{Follows, GivesDone, GoesDown, PicksParcel, PutsT
 use Rattle.fp_book.specs.Outbox.{nothing}
 use Rattle.fp_book.specs.Parcel.{local_of, octets_of}
 use Rattle.fp_book.specs.Shelf.{Shelf, places_held}
-use Rattle.fp_book.specs.Lines.{verdict}
+use Rattle.fp_book.specs.Rules.{verdict}
 use Rattle.fp_entry.specs.declared.prepared.Prepared.{Prepared}
 use Rattle.fp_row.specs.declared.done.Done.{Done}
 use Rattle.fp_row.specs.declared.turn.Turn.{Turn}
@@ -17,7 +17,7 @@ use Rattle.fp_steps.specs.declared.output.Output.TheVariants as outputs
 use Rattle.fp_steps.specs.declared.step.Step.{Step}
 use Rattle.fp_steps.specs.declared.step.Step.TheVariants as steps
 use Rattle.fp_steps.specs.History.{IsCame}
-use Rattle.fp_steps.specs.Lines.{components_in}
+use Rattle.fp_steps.specs.Messages.{components_in}
 use Rattle.fp_records.specs.Table.{Contents}
 
 -- a message is posted by its verdict, and its components are told, if it is accepted; nothing is done where none comes

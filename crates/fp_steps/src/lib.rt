@@ -8,7 +8,7 @@
 //! `specs/Headline.antt`.
 //!
 //! Each output is the answer that the history before its step tells (`specs/Answers.antt`): by the lines for messages
-//! (`specs/Lines.antt`), by the turns that are out and the dialogues that are ready (`specs/Turns.antt`), by what waits
+//! (`specs/Messages.antt`), by the turns that are out and the dialogues that are ready (`specs/Turns.antt`), by what waits
 //! to be sent and how much is held (`specs/Waiting.antt`), and by the serials that may be given (`specs/Serials.antt`).
 //! There is no token and no row in these. A dialogue is named by its birth, in log lines too; steps and outputs name it
 //! by its local transaction identifier, which names the dialogue that was opened with it last.

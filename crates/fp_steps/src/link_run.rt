@@ -16,7 +16,7 @@ use crate::log::{place_of, told_tick};
 use crate::parts::local_in;
 use crate::{Output, Step, Stepped};
 use fp_apdu::Name;
-use fp_book::{Book, Line, LoggedStep, Totals, read_messages_have_few_entries};
+use fp_book::{Book, Line, LoggedStep, Totals};
 use fp_records::Table;
 use fp_row::rows_keep_their_order;
 use fp_tids::LocalIds;
@@ -168,7 +168,6 @@ impl LinkRun {
         ensures unwritten { IfOk result (λ made. written made.line ≡ None → self.new ≡ record self.old { log = self.new.log }) }
     {
         rows_keep_their_order();
-        read_messages_have_few_entries();
         let made = self.engine.make(alloc, tables, contexts, step);
         let first = take_line(&mut self.engine.book, &mut self.lines);
         empty_log(&mut self.engine.book, &mut self.lines);

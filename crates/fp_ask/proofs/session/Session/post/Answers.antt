@@ -13,4 +13,4 @@ serve_and_send-requires c =
 pub returns-clause-follows : goal.returns-clause-follows
 returns-clause-follows c = IfOk-weaker c.serve_and_send.result _ _ (λ frames goes of w m. goes (post w c.args.came)
     (posted_came (subst Rest (sym c.self.view_is) c.requires.rest) c.post_with_receipt-receipt.ensures.receipt c.if-receipt.false w
-    c.read_messages_have_few_entries.ensures.few of (subst (Matches w) (sym c.self.view_is) m) (sym c.if-not-was_read.ensures))) c.serve_and_send.ensures.goes_on
+    (subst (Matches w) (sym c.self.view_is) m))) c.serve_and_send.ensures.goes_on

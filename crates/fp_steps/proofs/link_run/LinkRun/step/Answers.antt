@@ -13,7 +13,7 @@ pub returns-clause-follows : goal.returns-clause-follows
 returns-clause-follows c = λ h f.
     let makes = subst (λ (s : Shelf). MakesStep c.args.tables.now c.args.contexts.now s c.args.step.now c.in_ok-output.output c.make-made.new.self.book) c.self.view_is c.in_ok-output.ensures.makes in
     let line = line_from c.make-made.new.self.book.log c.args.step.now c.in_ok-output.output c.take_line-first.ensures.first c.told_from-line.ensures in
-    followed c.rows_keep_their_order.ensures c.read_messages_have_few_entries.ensures.seven c.args.step.now (record { output = c.in_ok-output.output; line = c.told_from-line.result })
+    followed c.rows_keep_their_order.ensures c.args.step.now (record { output = c.in_ok-output.output; line = c.told_from-line.result })
     c.empty_log.new.book (subst Sound c.self.view_is c.self.invariant.sound) (subst (λ (s : Shelf). s.log ≡ []) c.self.view_is c.self.invariant.log) c.make-made.ensures.sound makes line
     (rest_then c.make-made.new.self.book c.take_line-first.new.book c.empty_log.new.book c.take_line-first.ensures.rest c.empty_log.ensures.rest) f
 
