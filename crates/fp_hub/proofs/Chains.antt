@@ -1,8 +1,8 @@
 -- Steps that are made one after another.
-use Rattle.std.proofs.Common.{◌≡◌, ℕ, ◌+◌, ◌<◌, ◌≤◌, ◌⊎◌, ◌||◌, Bool, true, false, List, [], ◌∷◌, ◌++◌, Option, Some, None, IsSome, MatchOption, map, length, slice_index_or, Bor, inl, inr, refl, sym, ◌∙◌, ap, subst, arith, append_assoc, length-append}
+use Rattle.std.proofs.Common.{◌≡◌, ℕ, ◌+◌, ◌≤◌, ◌⊎◌, ◌||◌, Bool, true, false, List, [], ◌∷◌, ◌++◌, Option, Some, None, MatchOption, map, length, inl, inr, refl, sym, ◌∙◌, ap, subst, arith, append_assoc, length-append}
 use Rattle.std.specs.List.{list_any}
 use Rattle.std.specs.Option.{option_to_list}
-use Rattle.std.proofs.lemmas.Bool.{false≢true}
+use Rattle.std.proofs.lemmas.Bool.{false≢true, true_from_ne_false}
 use Rattle.std.proofs.lemmas.List.{map-append, nil_from_length}
 use Rattle.std.proofs.lemmas.List.Folds.{list_any-append}
 use Rattle.fp_book.specs.Calls.{Posts, TakesTurn}
@@ -85,28 +85,19 @@ posts_front made old new came left before after aborted posting most stops =
       aborted_is = posting.aborted_is;
     }
 
--- there is no first message
-pub none_first : (s : Shelf) (count : ℕ) (left : List Prepared) (first : Option (Bor Prepared)) (long : ℕ) → (0 < long → IsSome first)
-    → long ≡ length left → first ≡ None → StopsPosting s count left
-none_first s count [] first long some is none = tt
-none_first s count (next ∷ later) None long some is none = absurd (false≢true (some (omega (arith, is))))
-none_first s count (next ∷ later) (Some first) long some is none = absurd (cc)
-
--- the first message is held back
-pub held_first : (s : Shelf) (count : ℕ) (left : List Prepared) (first : Prepared) → first ≡ slice_index_or left 0 first → holds_back s first ≡ true
-    → StopsPosting s count left
-held_first s count [] first at held = tt
-held_first s count (next ∷ later) first at held = inr (subst (λ m. holds_back s m ≡ true) at held)
+-- the next message is held back, and put back to the front
+pub held_front : (made : ℕ) (old mid new : Shelf) (came rest left later : List Prepared) (before between after : Shares) (aborted : Bool) (next back : Prepared)
+    → Posting made old mid came rest before between aborted → made ≤ 64 → rest ≡ next ∷ later → left ≡ back ∷ later
+    → (back ≡ next) × (new ≡ mid) × (after ≡ between) → (holds_back mid next ≡ false → false ≡ true) → PostsFront old new came left before after aborted
+held_front made old mid new came rest left later before between after aborted next back posting most is put same held =
+    rw (put ∙ ap (λ m. m ∷ later) same.0 ∙ sym is) (rw same.1 (rw same.2
+    (posts_front made old mid came rest before between aborted posting most
+    (rw is (inr (true_from_ne_false (holds_back mid next) (λ free. false≢true (held free))))))))
 
 -- there were as many as may be
 pub all_posted : (s : Shelf) (count : ℕ) (left : List Prepared) → count ≡ 64 → StopsPosting s count left
 all_posted s count [] all = tt
 all_posted s count (next ∷ later) all = inl all
-
--- the first message isn't held back
-pub free_first : (s : Shelf) (items rest : List Prepared) (first next : Prepared) → first ≡ slice_index_or items 0 first → items ≡ next ∷ rest
-    → holds_back s first ≡ false → holds_back s next ≡ false
-free_first s items rest first next at is free = subst (λ m. holds_back s m ≡ false) (at ∙ ap (λ l. slice_index_or l 0 first) is) free
 
 -- nothing was left of a list
 pub none_left : {X : Type 0} (old new : List X) (first : Option X) (count later : ℕ) (Q : X → Type 0) → old ≡ option_to_list first ++ new → first ≡ None

@@ -151,7 +151,8 @@ impl<A: Ledger, B: Ledger, C: Ledger> Hub<A, B, C> {
     }
 
     /// Posts a message, as [`Hub::post`], unless it is held back ([`Book::holds_back`](fp_book::Book::holds_back)):
-    /// then it comes back, and nothing changes; [`Hub::await_room`] waits until it may be posted.
+    /// then it comes back, and nothing changes; [`Hub::await_room`] waits until it may be posted. Each message of
+    /// [`Hub::post_front`] is posted so, by the same call of [`Kept`].
     pub fn post_unless_held_back<R: Wait>(
         &self,
         rt: &R,

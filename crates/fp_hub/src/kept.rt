@@ -29,11 +29,10 @@ use std::sync::ledger::{Blank, Ledger};
 /// entries that it served and the frames that it sent. Its type keeps that the totals of these three are those of the
 /// book. Contracts see it as its book.
 ///
-/// A call with the name of one of the book's is that call, and says of the book what that says;
-/// [`Kept::post_unless_held_back`] is two of them, and [`Kept::post_front`], [`Kept::return_front`],
-/// [`Kept::take_share`], [`Kept::give_and_take`] and [`Kept::sent_and_next`] are several, a bounded number of them.
-/// Those that are lent the seat of the calling thread compare it with the totals, and what the book counts in such a
-/// call, the seat's share counts too.
+/// A call with the name of one of the book's is that call, and says of the book what that says; [`Kept::post_front`],
+/// [`Kept::return_front`], [`Kept::take_share`], [`Kept::give_and_take`] and [`Kept::sent_and_next`] are several, a
+/// bounded number of them. Those that are lent the seat of the calling thread compare it with the totals, and what the
+/// book counts in such a call, the seat's share counts too.
 #[derive(Drop)]
 pub struct Kept<A: Ledger, B: Ledger, C: Ledger> {
     book: Book,
@@ -127,8 +126,8 @@ impl<A: Ledger, B: Ledger, C: Ledger> Kept<A, B, C> {
         receipt.posted
     }
 
-    /// Posts a message, as [`Book::post`], unless it is held back ([`Book::holds_back`]): then it comes back, and
-    /// nothing changes.
+    /// Posts a message, unless it is held back, as [`Book::post_unless_held_back`]: then it comes back, and nothing
+    /// changes. The message is judged once.
     pub fn post_unless_held_back(
         &mut self,
         alloc: Global,
@@ -144,10 +143,10 @@ impl<A: Ledger, B: Ledger, C: Ledger> Kept<A, B, C> {
         ensures within { Within seat.old self.old.totals }
     {
         self.compare(seat);
-        if self.book.holds_back(&came) {
-            return Err(came);
-        }
-        Ok(self.post(alloc, seat, came))
+        let receipt = self.book.post_unless_held_back(alloc, came)?;
+        let count = u64::from(receipt.components);
+        self.accepted.add(&mut seat.accepted, count);
+        Ok(receipt.posted)
     }
 
     /// Whether a message is held back, as [`Book::holds_back`].

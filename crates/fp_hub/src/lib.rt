@@ -7,11 +7,12 @@
 //! * [`Hub`] is the book of one link under its lock. Each of its ten calls that change the book, [`Hub::post`],
 //!   [`tick`](Hub::tick), [`take`](Hub::take), [`give`](Hub::give), [`put_back`](Hub::put_back), [`pick`](Hub::pick),
 //!   [`sent`](Hub::sent), [`unsent`](Hub::unsent), [`down`](Hub::down) and [`drain`](Hub::drain), takes the lock once,
-//!   makes the one call of the book of that name, and releases it. [`Hub::post_unless_held_back`] asks the book whether
-//!   it holds the message back, and posts it in the same hold of the lock.
-//! * Three calls make several of these steps in one hold, a bounded number of them, each by the book's call of its
-//!   name: [`Hub::post_front`] posts messages of one read, [`Hub::give_and_take`] takes back turns and hands out the
-//!   share of a worker, and [`Hub::sent_and_next`] takes back a parcel and hands out the next one.
+//!   makes the one call of the book of that name, and releases it. So does [`Hub::post_unless_held_back`], by the
+//!   book's call that judges a message once, and posts it unless it is held back.
+//! * Three calls make several of these steps in one hold, a bounded number of them, each by one call of the book:
+//!   [`Hub::post_front`] posts messages of one read, each unless it is held back, [`Hub::give_and_take`] takes back
+//!   turns and hands out the share of a worker, and [`Hub::sent_and_next`] takes back a parcel and hands out the next
+//!   one.
 //! * [`Kept`] is what the lock keeps: the book, and the books of three ledgers (of components accepted, entries served
 //!   and frames sent), whose totals its type keeps equal to the book's.
 //! * `Hold` (`src/hold.rt`) is the lock while it is held. Its release publishes whether the log is filling, or nearly

@@ -45,8 +45,8 @@ fn either(one: bool, other: bool) -> bool
 
 impl<A: Ledger, B: Ledger, C: Ledger> Kept<A, B, C> {
     /// Posts messages from the front of a list in their order, each as [`Kept::post_unless_held_back`]: 64 at most, and
-    /// none from the first on that is held back. The others stay in the list. Returns whether an Abort of the provider
-    /// answers one of them.
+    /// none from the first on that is held back. That one goes back to the front, for which the list has room, and the
+    /// others stay in the list. Returns whether an Abort of the provider answers one of them.
     pub fn post_front(
         &mut self,
         alloc: Global,
@@ -60,17 +60,16 @@ impl<A: Ledger, B: Ledger, C: Ledger> Kept<A, B, C> {
         self.compare(seat);
         let mut has_aborted = false;
         for _count in 0..MOST_POSTS {
-            let Some(next) = came.front() else {
-                return has_aborted;
-            };
-            if self.holds_back(next) {
-                return has_aborted;
-            }
             let Some(next) = came.pop_front() else {
                 return has_aborted;
             };
-            let answer = self.post(alloc, seat, next);
-            has_aborted = either(has_aborted, is_aborted(answer));
+            match self.post_unless_held_back(alloc, seat, next) {
+                Ok(answer) => has_aborted = either(has_aborted, is_aborted(answer)),
+                Err(held_back) => {
+                    came.push_front_reserved(held_back);
+                    return has_aborted;
+                }
+            }
         }
         has_aborted
     }
