@@ -5,6 +5,7 @@ use Rattle.std.specs.Io.KnownBytes.{Appends, Consumes}
 use Rattle.std.proofs.KnownBytes.{Appends-nil, Appends-trans, Consumes-whole}
 use Rattle.std.proofs.lemmas.List.Elements.{All-weaker}
 use Rattle.fp_records.specs.Table.{Contents}
+use Rattle.fp_streams.specs.Ends.{CountsWrites, WriterSays}
 use Rattle.fp_streams.specs.Following as follow
 use Rattle.fp_streams.specs.Following.{Follows, IsLine, Reaches, TakesAll, TakesLast, Took, after_line, ended}
 use Rattle.fp_streams.specs.Line.{BeginsLong, IsOneLine, last_line, lines_of}
@@ -13,7 +14,7 @@ use Rattle.fp_streams.specs.Reads.{joined}
 use Rattle.fp_streams.specs.Write.{AppendsFront}
 use Rattle.fp_streams.specs.declared.fault.LinesFault.{LinesFault}
 use Rattle.fp_ask.specs.Answering.{IsAt, RefusesOne, Taker, TakesOne, Writes}
-use Rattle.fp_ask.specs.Asked.{AnswersAll, Breaks, CountsWrites, Stops, StopsIn, WriterSays, asked_of, fault_of}
+use Rattle.fp_ask.specs.Asked.{AnswersAll, Breaks, Stops, StopsIn, asked_of, cause_of, fault_of}
 use Rattle.fp_ask.specs.declared.fault.AskFault.{AskFault}
 use Rattle.fp_ask.specs.declared.refusal.Refusal.{Refusal}
 use Rattle.fp_ask.specs.Line.{line_in}
@@ -294,7 +295,7 @@ lent d = (d.writer, d.fine)
 -- after one that was refused, by its fault
 refused : {S : Type 0} (seen : S → Taker) {moment : ℕ} (number : ℕ) {old new : S} {octets : List ℕ} {taken : List (List ℕ)} (refusal : Refusal)
     → IsAt (at_start moment) (seen old).answerer → follow.Declines (takes_of seen) (refuses_of seen) 8192 old new octets taken refusal
-    → Lent (WriterSays (fault_of (LinesFault.Refused number refusal))) (seen old) (seen new)
+    → Lent (λ o n. WriterSays o n (cause_of (fault_of (LinesFault.Refused number refusal)))) (seen old) (seen new)
 refused seen number Refusal.BadLine at d = let done = reached seen at d.reaches in (d.refused.writer ∙ done.writer, d.refused.failures ∙ done.fine)
 refused seen number Refusal.WriteFault at d =
     let done = reached seen at d.reaches in (d.refused.writer ∙ done.writer, λ is. d.refused.failures (is ∙ sym done.fine))
@@ -303,7 +304,7 @@ refused seen number Refusal.Memory at d = let done = reached seen at d.reaches i
 -- and after a run
 pub writer_is : {S A : Type 0} (seen : S → Taker) {moment reads : ℕ} {had left : Option (List ℕ)} {before after : Option (List (List ℕ))} {old new : S} (result : Result A (LinesFault Refusal))
     → IsAt (at_start moment) (seen old).answerer → Follows (takes_of seen) (refuses_of seen) 8192 reads had left before after old new result
-    → Lent (CountsWrites (asked_of result)) (seen old) (seen new)
+    → Lent (CountsWrites cause_of (asked_of result)) (seen old) (seen new)
 writer_is seen (Ok done) at f = lent (all_done seen at f.lines)
 writer_is seen (Err (LinesFault.TooLong number)) at f = lent (reached seen at f.lines.2.reaches)
 writer_is seen (Err (LinesFault.Refused number refusal)) at f = refused seen number refusal at f.lines.2.0

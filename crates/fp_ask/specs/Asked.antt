@@ -1,12 +1,9 @@
 -- How far the lines of an input were answered, and why no further.
-use Rattle.std.specs.Prelude.{◌≡◌, ◌≢◌, ℕ, ◌+◌, ◌<◌, List, [], ◌∷◌, ◌++◌, Option, Some, Result, Ok, Err, IfSome, MatchResult, length}
-use Rattle.std.specs.List.{All}
+use Rattle.std.specs.Prelude.{◌≡◌, ℕ, ◌+◌, List, [], ◌∷◌, ◌++◌, Option, Some, Result, Ok, Err, IfSome, length}
 use Rattle.std.specs.Io.KnownBytes.{Appends, Consumes}
 use Rattle.fp_records.specs.Table.{Contents}
-use Rattle.fp_streams.specs.Following.{MayBeAtEnd}
-use Rattle.fp_streams.specs.Grows.{Grows}
+use Rattle.fp_streams.specs.Ends.{Cause, limit_reached, maybe_at_end, reader_failed, writer_failed}
 use Rattle.fp_streams.specs.Line.{lines_of}
-use Rattle.fp_streams.specs.Reads.{IsEnd, IsPiece, joined}
 use Rattle.fp_streams.specs.Write.{AppendsFront}
 use Rattle.fp_streams.specs.declared.fault.LinesFault.{LinesFault}
 use Rattle.fp_streams.specs.declared.fault.LinesFault.TheVariants as faults
@@ -73,38 +70,12 @@ StopsIn contents contexts moment left old new Memory input = Breaks contents con
 abbrev pub Stops : Contents → List (List ℕ) → ℕ → Option (List ℕ) → Option (List ℕ) → Option (List ℕ) → Option (List ℕ) → AskFault → Type 0
 Stops contents contexts moment had left old new fault = IfSome had (StopsIn contents contexts moment left old new fault)
 
--- how many reads were made, by the fault
-abbrev pub ReadsStop : ℕ → ℕ → Option (List ℕ) → List (List ℕ) → AskFault → Type 0
-ReadsStop reads count left last (BadLine number) = MayBeAtEnd reads count left last
-ReadsStop reads count left last ReadFault = (last ≡ []) × (count < reads)
-ReadsStop reads count left last WriteFault = MayBeAtEnd reads count left last
-ReadsStop reads count left last TurnLimit = (last ≡ []) × (count ≡ reads)
-ReadsStop reads count left last Memory = MayBeAtEnd reads count left last
-
--- pieces were read, and perhaps the end of the input
-pub record Reads {A : Type 0} (reads : ℕ) (had left : Option (List ℕ)) (before after : Option (List (List ℕ))) (result : Result A AskFault) : Type 0 where
-  pub pieces : List (List ℕ)
-  pub sizes : All (IsPiece 4096) pieces
-  pub last : List (List ℕ)
-  pub read : Grows before after (pieces ++ last)
-  pub consumed : Consumes had left (joined pieces)
-  pub stop : MatchResult result (λ _. IsEnd reads (length pieces) left last) (ReadsStop reads (length pieces) left last)
-
--- the failures of the reader: it failed exactly if that is the fault
-abbrev pub ReaderSays : AskFault → ℕ → ℕ → Type 0
-ReaderSays ReadFault old new = new ≢ old
-ReaderSays _ old new = new ≡ old
-
-abbrev pub CountsReads : {A : Type 0} → Result A AskFault → ℕ → ℕ → Type 0
-CountsReads result old new = MatchResult result (λ _. new ≡ old) (λ fault. ReaderSays fault old new)
-
--- and those of the writer
-abbrev pub WriterSays : AskFault → ℕ → ℕ → Type 0
-WriterSays WriteFault old new = new ≢ old
-WriterSays _ old new = new ≡ old
-
-abbrev pub CountsWrites : {A : Type 0} → Result A AskFault → ℕ → ℕ → Type 0
-CountsWrites result old new = MatchResult result (λ _. new ≡ old) (λ fault. WriterSays fault old new)
+-- what a fault says of the reader and the writer
+abbrev pub cause_of : AskFault → Cause
+cause_of ReadFault = reader_failed
+cause_of WriteFault = writer_failed
+cause_of TurnLimit = limit_reached
+cause_of _ = maybe_at_end
 
 -- the result of `ask`, from that of `follow_lines`
 abbrev pub fault_of : LinesFault Refusal → AskFault

@@ -3,8 +3,9 @@
 ghost use Rattle.std.specs.Prelude.{◌≡◌, IfErr, IfSome, OnOk};
 ghost use Rattle.std.specs.Io.KnownBytes.{IsAtEnd};
 ghost use Rattle.fp_ask.specs.Answering.{IsAt, RefusesOne, TakesOne, seen};
-ghost use Rattle.fp_ask.specs.Asked.{AnswersAll, CountsReads, CountsWrites, Reads, Stops};
+ghost use Rattle.fp_ask.specs.Asked.{AnswersAll, Stops, cause_of};
 ghost use Rattle.fp_ask.specs.Lines.{at_start};
+ghost use Rattle.fp_streams.specs.Ends.{CountsReads, CountsWrites, Reads};
 
 use crate::AskFault;
 use crate::answerer::Answerer;
@@ -64,10 +65,10 @@ impl<W: LinkWrite> Answering<'_, W> {
         ensures stopped { IfErr result (Stops self.old.table.now self.old.contexts.now moment
             (R.remaining reader.old) (R.remaining reader.new)
             (W.contents self.old.writer.now) (W.contents self.new.writer.now)) }
-        ensures within { Reads most_reads (R.remaining reader.old) (R.remaining reader.new)
+        ensures within { Reads cause_of most_reads (R.remaining reader.old) (R.remaining reader.new)
             (R.pieces reader.old) (R.pieces reader.new) result }
-        ensures reads { CountsReads result (R.failures reader.old) (R.failures reader.new) }
-        ensures writes { CountsWrites result
+        ensures reads { CountsReads cause_of result (R.failures reader.old) (R.failures reader.new) }
+        ensures writes { CountsWrites cause_of result
             (W.failures self.old.writer.now) (W.failures self.new.writer.now) }
     {
         line_feeds_end_lines();

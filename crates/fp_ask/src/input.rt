@@ -2,7 +2,8 @@
 
 ghost use Rattle.std.specs.Prelude.{IfErr, IfSome, OnOk};
 ghost use Rattle.std.specs.Io.KnownBytes.{IsAtEnd};
-ghost use Rattle.fp_ask.specs.Asked.{AnswersAll, CountsReads, CountsWrites, Reads, Stops};
+ghost use Rattle.fp_ask.specs.Asked.{AnswersAll, Stops, cause_of};
+ghost use Rattle.fp_streams.specs.Ends.{CountsReads, CountsWrites, Reads};
 
 use crate::AskFault;
 use crate::answerer::Answerer;
@@ -37,10 +38,10 @@ pub fn ask<R: LinkRead, W: LinkWrite>(
         (AnswersAll table.now contexts.now moment (W.contents writer.old) (W.contents writer.new))) }
     ensures stopped { IfErr result (Stops table.now contexts.now moment
         (R.remaining reader.old) (R.remaining reader.new) (W.contents writer.old) (W.contents writer.new)) }
-    ensures within { Reads most_reads (R.remaining reader.old) (R.remaining reader.new)
+    ensures within { Reads cause_of most_reads (R.remaining reader.old) (R.remaining reader.new)
         (R.pieces reader.old) (R.pieces reader.new) result }
-    ensures reads { CountsReads result (R.failures reader.old) (R.failures reader.new) }
-    ensures writes { CountsWrites result (W.failures writer.old) (W.failures writer.new) }
+    ensures reads { CountsReads cause_of result (R.failures reader.old) (R.failures reader.new) }
+    ensures writes { CountsWrites cause_of result (W.failures writer.old) (W.failures writer.new) }
 {
     let Ok(mut answerer) = Answerer::new(alloc, moment) else {
         return Err(AskFault::Memory);

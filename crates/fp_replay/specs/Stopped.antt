@@ -1,6 +1,5 @@
 -- How far a log was replayed, and why no further.
-use Rattle.std.specs.Prelude.{◌≡◌, ◌≢◌, ℕ, ◌+◌, ◌<◌, ◌≤◌, Bool, true, false, nat_lt, List, [], ◌∷◌, ◌++◌, Option, Some, None, Result, IfSome, MatchResult, length, ⊤}
-use Rattle.std.specs.List.{All}
+use Rattle.std.specs.Prelude.{◌≡◌, ◌≢◌, ℕ, ◌+◌, ◌<◌, ◌≤◌, Bool, true, false, nat_lt, List, ◌∷◌, ◌++◌, Option, Some, None, IfSome, length, ⊤}
 use Rattle.std.specs.Io.KnownBytes.{Appends, Consumes, Keeps}
 use Rattle.fp_book.specs.declared.line.Line.{Line}
 use Rattle.fp_book.specs.declared.line.Line.TheVariants.{Step}
@@ -14,10 +13,8 @@ use Rattle.fp_steps.specs.Retold.{step_of}
 use Rattle.fp_steps.specs.Told.{told}
 use Rattle.fp_steps.specs.declared.output.Output.{Output}
 use Rattle.fp_steps.specs.declared.step.Step.{Step as MadeStep}
-use Rattle.fp_streams.specs.Following.{MayBeAtEnd}
-use Rattle.fp_streams.specs.Grows.{Grows}
+use Rattle.fp_streams.specs.Ends.{Cause, limit_reached, maybe_at_end, reader_failed, writer_failed_at_end}
 use Rattle.fp_streams.specs.Line.{IsOneLine}
-use Rattle.fp_streams.specs.Reads.{IsEnd, IsPiece, joined}
 use Rattle.fp_streams.specs.Write.{AppendsFront}
 use Rattle.fp_replay.specs.Format.{text_of}
 use Rattle.fp_replay.specs.Replayed.{Fits, IsReplayed, IsRetold, log_text}
@@ -129,37 +126,9 @@ abbrev pub IsUnwritten : Option (List ℕ) → Option (List ℕ) → ReplayFault
 IsUnwritten old new WriteFault = ⊤
 IsUnwritten old new _ = Keeps old new
 
--- how many reads were made, by the fault
-abbrev pub ReadsStop : ℕ → ℕ → Option (List ℕ) → List (List ℕ) → ReplayFault → Type 0
-ReadsStop reads count left last (BadLine number) = MayBeAtEnd reads count left last
-ReadsStop reads count left last (Gap number) = MayBeAtEnd reads count left last
-ReadsStop reads count left last (Disagrees number) = MayBeAtEnd reads count left last
-ReadsStop reads count left last ReadFault = (last ≡ []) × (count < reads)
-ReadsStop reads count left last WriteFault = IsEnd reads count left last
-ReadsStop reads count left last TurnLimit = (last ≡ []) × (count ≡ reads)
-ReadsStop reads count left last Memory = MayBeAtEnd reads count left last
-
--- pieces were read, and perhaps the end of the input
-pub record Reads {A : Type 0} (reads : ℕ) (had left : Option (List ℕ)) (before after : Option (List (List ℕ))) (result : Result A ReplayFault) : Type 0 where
-  pub pieces : List (List ℕ)
-  pub sizes : All (IsPiece 4096) pieces
-  pub last : List (List ℕ)
-  pub read : Grows before after (pieces ++ last)
-  pub consumed : Consumes had left (joined pieces)
-  pub stop : MatchResult result (λ _. IsEnd reads (length pieces) left last) (ReadsStop reads (length pieces) left last)
-
--- the failures of the reader: it failed exactly if the fault is ReadFault
-abbrev pub ReaderSays : ReplayFault → ℕ → ℕ → Type 0
-ReaderSays ReadFault old new = new ≢ old
-ReaderSays _ old new = new ≡ old
-
-abbrev pub CountsReads : {A : Type 0} → Result A ReplayFault → ℕ → ℕ → Type 0
-CountsReads result old new = MatchResult result (λ _. new ≡ old) (λ fault. ReaderSays fault old new)
-
--- those of the writer: it failed exactly if the fault is WriteFault
-abbrev pub WriterSays : ReplayFault → ℕ → ℕ → Type 0
-WriterSays WriteFault old new = new ≢ old
-WriterSays _ old new = new ≡ old
-
-abbrev pub CountsWrites : {A : Type 0} → Result A ReplayFault → ℕ → ℕ → Type 0
-CountsWrites result old new = MatchResult result (λ _. new ≡ old) (λ fault. WriterSays fault old new)
+-- what a fault says of the reader and the writer
+abbrev pub cause_of : ReplayFault → Cause
+cause_of ReadFault = reader_failed
+cause_of WriteFault = writer_failed_at_end
+cause_of TurnLimit = limit_reached
+cause_of _ = maybe_at_end

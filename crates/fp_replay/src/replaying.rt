@@ -3,8 +3,9 @@
 ghost use Rattle.std.specs.Prelude.{◌≡◌, [], IfErr, IfOk, IfSome, OnOk, string_bytes};
 ghost use Rattle.std.specs.Io.KnownBytes.{IsAtEnd};
 ghost use Rattle.fp_replay.specs.Replayed.{IsReplayed};
-ghost use Rattle.fp_replay.specs.Stopped.{CountsReads, CountsWrites, Halts, IsUnwritten, Reads, Replays, Stops};
+ghost use Rattle.fp_replay.specs.Stopped.{Halts, IsUnwritten, Replays, Stops, cause_of};
 ghost use Rattle.fp_replay.specs.Taking.{refuses, takes};
+ghost use Rattle.fp_streams.specs.Ends.{CountsReads, CountsWrites, Reads};
 
 use crate::ReplayFault;
 use crate::links::Links;
@@ -44,10 +45,10 @@ pub fn replay<R: LinkRead, W: LinkWrite>(
     ensures stopped { IfErr result (Stops tables.now contexts.now
         (R.remaining reader.old) (R.remaining reader.new) (W.contents writer.old) (W.contents writer.new)) }
     ensures unwritten { IfErr result (IsUnwritten (W.contents writer.old) (W.contents writer.new)) }
-    ensures within { Reads most_reads (R.remaining reader.old) (R.remaining reader.new)
+    ensures within { Reads cause_of most_reads (R.remaining reader.old) (R.remaining reader.new)
         (R.pieces reader.old) (R.pieces reader.new) result }
-    ensures reads { CountsReads result (R.failures reader.old) (R.failures reader.new) }
-    ensures writes { CountsWrites result (W.failures writer.old) (W.failures writer.new) }
+    ensures reads { CountsReads cause_of result (R.failures reader.old) (R.failures reader.new) }
+    ensures writes { CountsWrites cause_of result (W.failures writer.old) (W.failures writer.new) }
 {
     let mut replaying = Replaying {
         alloc,
@@ -107,9 +108,9 @@ impl Replaying<'_> {
             (λ input. IsReplayed self.old.tables.now self.old.contexts.now input (string_bytes report))) }
         ensures halted { IfErr result (Halts self.old.tables.now self.old.contexts.now
             (R.remaining reader.old) (R.remaining reader.new)) }
-        ensures within { Reads most_reads (R.remaining reader.old) (R.remaining reader.new)
+        ensures within { Reads cause_of most_reads (R.remaining reader.old) (R.remaining reader.new)
             (R.pieces reader.old) (R.pieces reader.new) result }
-        ensures reads { CountsReads result (R.failures reader.old) (R.failures reader.new) }
+        ensures reads { CountsReads cause_of result (R.failures reader.old) (R.failures reader.new) }
     {
         match follow_lines(self.alloc, MOST_OCTETS, most_reads, reader, self) {
             Ok(()) => self.links.report(self.alloc),

@@ -4,7 +4,8 @@ ghost use Rattle.std.specs.Prelude.{◌≡◌, IfErr, IfOk, OnErr, OnOk, string_
 ghost use Rattle.std.specs.Io.KnownBytes.{Appends};
 ghost use Rattle.fp_replay.specs.Replayed.{report_line};
 ghost use Rattle.fp_replay.specs.declared.replay_fault.ReplayFault.TheVariants.{WriteFault};
-ghost use Rattle.fp_replay.specs.Stopped.{CountsWrites};
+ghost use Rattle.fp_replay.specs.Stopped.{cause_of};
+ghost use Rattle.fp_streams.specs.Ends.{CountsWrites};
 ghost use Rattle.fp_streams.specs.Write.{AppendsFront};
 
 use crate::ReplayFault;
@@ -31,7 +32,7 @@ pub(crate) fn write_report<W: LinkWrite>(report: &str, writer: &mut W) -> Result
     ensures written { OnOk result (Appends (W.contents writer.old) (W.contents writer.new) report.now) }
     ensures front { OnErr result (AppendsFront (W.contents writer.old) (W.contents writer.new) report.now) }
     ensures fault { IfErr result (λ fault. fault ≡ WriteFault) }
-    ensures failure { CountsWrites result (W.failures writer.old) (W.failures writer.new) }
+    ensures failure { CountsWrites cause_of result (W.failures writer.old) (W.failures writer.new) }
 {
     if write_all(writer, report.as_bytes()).is_err() || writer.flush().is_err() {
         return Err(ReplayFault::WriteFault);

@@ -7,10 +7,11 @@ use Rattle.std.proofs.lemmas.List.Concat.{flat_map-append}
 use Rattle.std.proofs.lemmas.List.Elements.{All-append, All-cons, All-nil}
 use Rattle.std.specs.Prelude.{MatchResult}
 use Rattle.std.proofs.lemmas.Bool.{false≢true}
+use Rattle.fp_streams.specs.Ends.{ReadsEnd, ReadsStop}
 use Rattle.fp_streams.specs.Feeding.{Ends, Feeds, FeedStops, RefusesLast, fault_at}
-use Rattle.fp_streams.specs.Following.{Begins, Follows, IsLine, Reaches, ReadsStop, Stops, TakesAll, TakesLast, after_line}
+use Rattle.fp_streams.specs.Following.{Begins, Follows, IsLine, Reaches, Stops, TakesAll, TakesLast, after_line, cause_of}
 use Rattle.fp_streams.specs.Grows.{Grows}
-use Rattle.fp_streams.specs.Reads.{IsEnd, IsPiece, joined}
+use Rattle.fp_streams.specs.Reads.{IsPiece, joined}
 use Rattle.fp_streams.specs.declared.fault.LinesFault.{LinesFault}
 use Rattle.fp_streams.specs.declared.fault.LinesFault.TheVariants as faults
 use Rattle.fp_streams.specs.declared.following.Stop.{Stop}
@@ -146,7 +147,7 @@ stops_more takes refuses most left old new later all octets first second Memory 
 }
 
 -- the reads then
-reads_then : {F : Type 0} (reads made : ℕ) (left : Option (List ℕ)) (number : ℕ) (stop : Stop F) → made ≤ reads → ReadsStop reads made left [] (fault_at number stop)
+reads_then : {F : Type 0} (reads made : ℕ) (left : Option (List ℕ)) (number : ℕ) (stop : Stop F) → made ≤ reads → ReadsStop reads made left [] (cause_of (fault_at number stop))
 reads_then reads made left number TooLong within = (refl, within)
 reads_then reads made left number (Refused fault) within = inl (refl, within)
 reads_then reads made left number Memory within = (refl, within)
@@ -163,14 +164,14 @@ stopped {A = A} takes refuses most reads made had left before after old new late
       last = [];
       read = subst (Grows before after) (sym (append-nil r.pieces)) r.read;
       consumed = r.consumed;
-      stop = subst (λ m. ReadsStop reads m left [] (fault_at (now + 1) stop)) (sym r.count) (reads_then reads made left (now + 1) stop within);
+      stop = subst (λ m. ReadsStop reads m left [] (cause_of (fault_at (now + 1) stop))) (sym r.count) (reads_then reads made left (now + 1) stop within);
       lines = stops_more takes refuses most left old new later (joined r.pieces) octets r.lines lines stop (now + 1) r.reaches (omega (arith, n, taken_is, size)) ends;
     })
 
 -- what is so of the reads, and of the lines, is so of following
 follows : {S F A : Type 0} (takes : S → Bool → List ℕ → S → Type 0) (refuses : S → Bool → List ℕ → F → S → Type 0) (most reads made : ℕ) (had left next : Option (List ℕ)) (before after later : Option (List (List ℕ))) (old new final : S) (taken : ℕ) (begun : List ℕ) (last : List (List ℕ)) (result : Result A (LinesFault F))
     → (r : Reading takes most made had left before after old new taken begun) → Consumes left next [] → Grows after later last
-    → MatchResult result (λ _. IsEnd reads made next last) (ReadsStop reads made next last)
+    → ReadsEnd cause_of reads made next last result
     → MatchResult result (λ _. TakesAll takes most old final (joined r.pieces)) (Stops takes refuses most next old final (joined r.pieces))
     → Follows takes refuses most reads had next before later old final result
 follows takes refuses most reads made had left next before after later old new final taken begun last result r consumed read stop lines = record {
@@ -179,7 +180,7 @@ follows takes refuses most reads made had left next before after later old new f
   last = last;
   read = told_more before after later r.pieces last r.read read;
   consumed = subst (Consumes had next) (append-nil (joined r.pieces)) (Consumes-trans had left next (joined r.pieces) [] r.consumed consumed);
-  stop = subst (λ m. MatchResult result (λ _. IsEnd reads m next last) (ReadsStop reads m next last)) (sym r.count) stop;
+  stop = subst (λ m. ReadsEnd cause_of reads m next last result) (sym r.count) stop;
   lines = lines;
 }
 

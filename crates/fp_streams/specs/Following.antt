@@ -1,10 +1,11 @@
 -- Lines that are taken one after another while they are read, and why no more was taken.
-use Rattle.std.specs.Prelude.{◌≡◌, ◌≢◌, ℕ, ◌+◌, ◌<◌, ◌≤◌, ◌⊎◌, Bool, true, false, List, [], ◌∷◌, ◌++◌, Option, Result, MatchResult, length}
+use Rattle.std.specs.Prelude.{◌≡◌, ℕ, ◌+◌, ◌<◌, ◌≤◌, Bool, true, false, List, [], ◌∷◌, ◌++◌, Option, Result, MatchResult, length}
 use Rattle.std.specs.List.{All, flat_map}
 use Rattle.std.specs.Io.KnownBytes.{Consumes, IsAtEnd}
+use Rattle.fp_streams.specs.Ends.{Cause, ReadsEnd, before_end, limit_reached, maybe_at_end, reader_failed}
 use Rattle.fp_streams.specs.Grows.{Grows}
 use Rattle.fp_streams.specs.Line.{IsOneLine}
-use Rattle.fp_streams.specs.Reads.{IsEnd, IsPiece, joined}
+use Rattle.fp_streams.specs.Reads.{IsPiece, joined}
 use Rattle.fp_streams.specs.declared.fault.LinesFault.{LinesFault}
 use Rattle.fp_streams.specs.declared.fault.LinesFault.TheVariants.{Memory, ReadFault, Refused, TooLong, TurnLimit}
 
@@ -104,17 +105,12 @@ Stops takes refuses most left old new octets ReadFault = Begins takes most old n
 Stops takes refuses most left old new octets TurnLimit = Begins takes most old new octets
 Stops takes refuses most left old new octets Memory = Breaks takes most old new octets
 
--- no read was made after those that gave octets, or one more, which found the end
-abbrev pub MayBeAtEnd : ℕ → ℕ → Option (List ℕ) → List (List ℕ) → Type 0
-MayBeAtEnd reads count left last = ((last ≡ []) × (count ≤ reads)) ⊎ IsEnd reads count left last
-
--- how many reads were made, by the fault
-abbrev pub ReadsStop : {F : Type 0} → ℕ → ℕ → Option (List ℕ) → List (List ℕ) → LinesFault F → Type 0
-ReadsStop reads count left last (TooLong number) = (last ≡ []) × (count ≤ reads)
-ReadsStop reads count left last (Refused number fault) = MayBeAtEnd reads count left last
-ReadsStop reads count left last ReadFault = (last ≡ []) × (count < reads)
-ReadsStop reads count left last TurnLimit = (last ≡ []) × (count ≡ reads)
-ReadsStop reads count left last Memory = (last ≡ []) × (count ≤ reads)
+-- what a fault says of the reader
+abbrev pub cause_of : {F : Type 0} → LinesFault F → Cause
+cause_of (Refused number fault) = maybe_at_end
+cause_of ReadFault = reader_failed
+cause_of TurnLimit = limit_reached
+cause_of _ = before_end
 
 -- Pieces were read, and perhaps the end of the input. The lines of what was read were taken in their order: all of them,
 -- or those before the fault.
@@ -124,16 +120,5 @@ pub record Follows {S F A : Type 0} (takes : S → Bool → List ℕ → S → T
   pub last : List (List ℕ)
   pub read : Grows before after (pieces ++ last)
   pub consumed : Consumes had left (joined pieces)
-  pub stop : MatchResult result (λ _. IsEnd reads (length pieces) left last) (ReadsStop reads (length pieces) left last)
+  pub stop : ReadsEnd cause_of reads (length pieces) left last result
   pub lines : MatchResult result (λ _. TakesAll takes most old new (joined pieces)) (Stops takes refuses most left old new (joined pieces))
-
--- the failures of the reader: it failed exactly if the fault is ReadFault
-abbrev pub FailedBy : {F : Type 0} → ℕ → ℕ → LinesFault F → Type 0
-FailedBy old new (TooLong number) = new ≡ old
-FailedBy old new (Refused number fault) = new ≡ old
-FailedBy old new ReadFault = new ≢ old
-FailedBy old new TurnLimit = new ≡ old
-FailedBy old new Memory = new ≡ old
-
-abbrev pub ReaderFailed : {F A : Type 0} → Result A (LinesFault F) → ℕ → ℕ → Type 0
-ReaderFailed result old new = MatchResult result (λ _. new ≡ old) (FailedBy old new)

@@ -1,4 +1,5 @@
 pub mod Device
+pub mod Ends
 pub mod Feeding
 pub mod Following
 pub mod Grows

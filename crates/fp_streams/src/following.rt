@@ -1,8 +1,9 @@
 //! The lines of a reader, each taken before the next one is looked for.
 
 ghost use Rattle.std.specs.Prelude.{◌≡◌, ◌<◌, ◌≤◌, ◌+◌, ◌^◌, ◌++◌, Some, MatchResult, length, slice_get, take};
+ghost use Rattle.fp_streams.specs.Ends.{CountsReads};
 ghost use Rattle.fp_streams.specs.Feeding.{FeedStops, Feeds, RefusesLast, fault_at};
-ghost use Rattle.fp_streams.specs.Following.{Follows, IsLine, ReaderFailed, TakesLast};
+ghost use Rattle.fp_streams.specs.Following.{Follows, IsLine, TakesLast, cause_of};
 ghost use Rattle.fp_streams.specs.Line.{IsOneLine};
 
 use crate::{LinesFault, LinkRead, TakesLine};
@@ -27,7 +28,7 @@ pub fn follow_lines<R: LinkRead, T: TakesLine>(
     ensures follows { Follows T.takes T.refuses most_octets most_reads
         (R.remaining reader.old) (R.remaining reader.new) (R.pieces reader.old) (R.pieces reader.new)
         taker.old taker.new result }
-    ensures failure { ReaderFailed result (R.failures reader.old) (R.failures reader.new) }
+    ensures failure { CountsReads cause_of result (R.failures reader.old) (R.failures reader.new) }
 {
     let mut room = [0; MOST_READ];
     let mut following = Following {

@@ -4,7 +4,8 @@ ghost use Rattle.std.specs.Prelude.{◌≡◌, ◌≤◌, is_ok, if◌then◌els
 ghost use Rattle.std.specs.Io.KnownBytes.{IsAtEnd};
 ghost use Rattle.fp_replay.specs.Stopped as stopped;
 ghost use Rattle.fp_replay.specs.Stopped.{IsUnwritten, Replays};
-ghost use Rattle.fp_ask.specs.Asked.{AnswersAll, CountsReads, CountsWrites, Reads, Stops};
+ghost use Rattle.fp_ask.specs.Asked.{AnswersAll, Stops, cause_of};
+ghost use Rattle.fp_streams.specs.Ends.{CountsReads, CountsWrites, Reads};
 
 use crate::check::check;
 use crate::command::{Asked, asked_by, moment_of};
@@ -293,9 +294,10 @@ fn answer_lines<R: Read, W: Write>(
     ensures stopped { IfErr result (Stops table.now contexts.now moment
         (R.remaining reader.old.device) (R.remaining reader.new.device)
         (W.contents writer.old.device) (W.contents writer.new.device)) }
-    ensures within { Reads TURNS (R.remaining reader.old.device) (R.remaining reader.new.device) None None result }
-    ensures reads { CountsReads result reader.old.failed reader.new.failed }
-    ensures writes { CountsWrites result writer.old.failed writer.new.failed }
+    ensures within { Reads cause_of TURNS
+        (R.remaining reader.old.device) (R.remaining reader.new.device) None None result }
+    ensures reads { CountsReads cause_of result reader.old.failed reader.new.failed }
+    ensures writes { CountsWrites cause_of result writer.old.failed writer.new.failed }
 {
     ask(alloc, table, contexts, moment, TURNS, reader, writer)
 }
@@ -315,9 +317,10 @@ fn replay_lines<R: Read, W: Write>(
         (R.remaining reader.old.device) (R.remaining reader.new.device)
         (W.contents writer.old.device) (W.contents writer.new.device)) }
     ensures unwritten { IfErr result (IsUnwritten (W.contents writer.old.device) (W.contents writer.new.device)) }
-    ensures within { stopped.Reads TURNS (R.remaining reader.old.device) (R.remaining reader.new.device) None None result }
-    ensures reads { stopped.CountsReads result reader.old.failed reader.new.failed }
-    ensures writes { stopped.CountsWrites result writer.old.failed writer.new.failed }
+    ensures within { Reads stopped.cause_of TURNS
+        (R.remaining reader.old.device) (R.remaining reader.new.device) None None result }
+    ensures reads { CountsReads stopped.cause_of result reader.old.failed reader.new.failed }
+    ensures writes { CountsWrites stopped.cause_of result writer.old.failed writer.new.failed }
 {
     replay(alloc, tables, contexts, TURNS, reader, writer)
 }
