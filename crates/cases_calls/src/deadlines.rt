@@ -4,6 +4,7 @@
 //! |---|---|
 //! | `deadlines DONE, DONE, ..` | what is done to new deadlines, one after the other: what each gives that gives something |
 //! | `local-ids LINK DONE, ..` | the same, done to the identifiers of a link, 0 to 7, of which none was given yet |
+//! | `turns LINK COUNT` | so many identifiers of a link are given, each once the one before came back: the last of them, and the next |
 //!
 //! | Done to deadlines | What it gives |
 //! |---|---|
@@ -23,11 +24,14 @@
 //! | `pass COUNT` | nothing: this number of identifiers is given |
 //! | `link ID` | the link of an identifier |
 
+ghost use Rattle.std.specs.Prelude.{◌<◌, IfOk};
+ghost use Rattle.fp_tids.specs.Identifiers.{AreSerials};
+
 use crate::values::local_of;
 use anyhow::bail;
 use cases::first_word;
 use fp_digits::Moment;
-use fp_tids::{LocalIds, link_of};
+use fp_tids::{LocalIds, link_of, serials_are_distinct};
 use fp_timers::{Deadlines, Timer};
 use std::alloc::Global;
 
@@ -44,6 +48,7 @@ pub(crate) fn answer(
     let written = match kind {
         "deadlines" => of_deadlines(alloc, rest, out),
         "local-ids" => of_local_ids(alloc, rest, out),
+        "turns" => of_turns(alloc, rest, out),
         _ => return Ok(false),
     };
     written?;
@@ -241,14 +246,47 @@ fn order_text(rises: bool, falls: bool) -> &'static str {
     }
 }
 
-/// Does to the identifiers of a link what a text says. None of them was given yet.
-fn of_local_ids(alloc: Global, text: &str, out: &mut String) -> anyhow::Result<()> {
-    let (link, rest) = first_word(text);
-    let link: u8 = link.parse()?;
+/// The link of this number.
+fn link_in(text: &str) -> anyhow::Result<u8>
+    ensures { IfOk result (λ link. link < LocalIds.LINKS) }
+{
+    let link: u8 = text.parse()?;
     if link >= LocalIds::LINKS {
         bail!("no link");
     }
-    use_all(&mut LocalIds::new(alloc, link)?, rest, out)
+    Ok(link)
+}
+
+/// Does to the identifiers of a link what a text says. None of them was given yet.
+fn of_local_ids(alloc: Global, text: &str, out: &mut String) -> anyhow::Result<()> {
+    let (link, rest) = first_word(text);
+    let mut ids = LocalIds::new(alloc, link_in(link)?)?;
+    use_all(&mut ids, rest, out)
+}
+
+/// Gives identifiers of a link, each once the one before came back, and writes the last of them and the next.
+fn of_turns(alloc: Global, text: &str, out: &mut String) -> anyhow::Result<()> {
+    let (link, count) = first_word(text);
+    let mut ids = LocalIds::new(alloc, link_in(link)?)?;
+    let count: u32 = count.parse()?;
+    serials_are_distinct();
+    let mut last = None;
+    for _ in 0..count {
+        last = turn(&mut ids);
+    }
+    push_local(last, out)?;
+    push_local(ids.next(), out)
+}
+
+/// The next identifier is given, and its serial comes back.
+fn turn(ids: &mut LocalIds) -> Option<u32>
+    requires { AreSerials ids.old.queue }
+    ensures { AreSerials ids.new.queue }
+{
+    serials_are_distinct();
+    let local = ids.give()?;
+    ids.end(local);
+    Some(local)
 }
 
 /// Does to identifiers one thing after the other.

@@ -10,6 +10,7 @@
 //!   fails or is slow.
 //! * `program`: runs of `scp serve` from the words of a command line, over the files of a folder of their own: the
 //!   order of the faults, and the links and the log that the words ask for.
+//! * `tables`: records that are replaced as often as they can be.
 //! * `client`, `memory` and `talk` serve both: connections, the outputs of a run, and what clients say.
 #![tactic(auto)]
 
@@ -21,5 +22,7 @@ mod links;
 mod memory;
 #[cfg(test)]
 mod program;
+#[cfg(test)]
+mod tables;
 #[cfg(test)]
 mod talk;
