@@ -26,7 +26,7 @@ use Rattle.fp_steps.specs.declared.step.Step.{Step as MadeStep}
 use Rattle.fp_steps.specs.declared.step.Step.TheVariants as made
 use Rattle.fp_replay.specs.Format.{IsLine, text_of}
 use Rattle.fp_replay.specs.OfRuns.{LogsOfRunsAreReplayed, file_of}
-use Rattle.fp_replay.specs.Replayed.{AllFit, HasTable, IsInPlace, links_in, log_text, report_line, report_of, steps_of, totals_along, totals_in}
+use Rattle.fp_replay.specs.Replayed.{AllFit, HasTable, IsInPlace, links_in, log_text, report_line, report_of, steps_of, totals_along, totals_after}
 use Rattle.fp_replay.proofs.OneLog.{same_report}
 
 -- the lines of a run, the newest first: its steps, and after them the head
@@ -185,9 +185,9 @@ logs_replayed tables contexts link steps outputs log run is_log =
     let are : AllByRecursion IsLine (log_of link h) = subst (AllByRecursion IsLine) log_so is_log.in_range in
     let totals : ℕ → Totals = totals_along (only link retold.history) in
     let before : report_of link (λ before. totals_of []) ≡ report_of link totals =
-    same_report link (λ before. totals_of []) totals (λ other below. sym (ap (λ b. totals_in (cond b retold.history [])) (ne_eqb link other (λ e. omega (arith, e, below))))) in
+    same_report link (λ before. totals_of []) totals (λ other below. sym (ap (λ b. totals_after (cond b retold.history [])) (ne_eqb link other (λ e. omega (arith, e, below))))) in
     let own : totals_of outputs ≡ totals link =
-    ap totals_of (sym run.tells.outputs_are) ∙ sym retold.totals ∙ sym (ap (λ b. totals_in (cond b retold.history [])) (eq-eqb link link refl)) in
+    ap totals_of (sym run.tells.outputs_are) ∙ sym retold.totals ∙ sym (ap (λ b. totals_after (cond b retold.history [])) (eq-eqb link link refl)) in
     record {
       lines = lines;
       begun = omega (arith, length-append (map (Step link) (lines_told h)) (Head (link + 1) ∷ []));

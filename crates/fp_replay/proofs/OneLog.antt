@@ -20,7 +20,7 @@ use Rattle.fp_steps.specs.declared.step.Step.TheVariants as steps
 use Rattle.fp_replay.specs.Format.{IsLine, text_of}
 use Rattle.fp_replay.specs.Laws.{TextIsOfOneLine}
 use Rattle.fp_replay.specs.Once.{FaultIsOne, IsFaultIn, ReplayedHasNoFault, ReportCountsLines, ReportIsOne, counted_along}
-use Rattle.fp_replay.specs.Replayed.{AllFit, Fits, IsReplayed, IsRetold, links_in, log_text, report_line, report_of, steps_of, totals_along, totals_in}
+use Rattle.fp_replay.specs.Replayed.{AllFit, Fits, IsReplayed, IsRetold, links_in, log_text, report_line, report_of, steps_of, totals_along, totals_after}
 use Rattle.fp_replay.specs.Stopped.{BadAt, Differs, DiffersBy, HasOtherLine, Reaches, StepAt, is_gap}
 use Rattle.fp_replay.specs.declared.replay_fault.ReplayFault.{ReplayFault}
 use Rattle.fp_replay.specs.declared.replay_fault.ReplayFault.TheVariants.{BadLine, Gap, Disagrees}
@@ -290,7 +290,7 @@ report_is_one one once tables contexts input x y a b =
     let lines = one_list one tables contexts input x y a b in
     let links : links_in a.lines ≡ links_in b.lines = ap links_in lines in
     a.report_is
-    ∙ same_report (links_in a.lines) (totals_along a.good.history) (totals_along b.good.history) (λ link below. ap totals_in
+    ∙ same_report (links_in a.lines) (totals_along a.good.history) (totals_along b.good.history) (λ link below. ap totals_after
     (once tables contexts link (steps_of link b.lines) (a.good.history link) (b.good.history link)
     (subst (λ l. Retells tables contexts link (steps_of link l) (a.good.history link)) lines (a.good.retells link below))
     (b.good.retells link (omega (arith, links, below)))))

@@ -58,8 +58,8 @@ pub record IsRetold (tables : List Contents) (contexts : List (List ℕ)) (lines
   pub retells : (link : ℕ) → link < links_in lines → Retells tables contexts link (steps_of link lines) (history link)
 
 -- the totals of a history
-abbrev pub totals_in : List Event → Totals
-totals_in h = totals_of (outputs_of h)
+abbrev pub totals_after : List Event → Totals
+totals_after h = totals_of (outputs_of h)
 
 -- the line of a link in the report
 abbrev pub report_line : ℕ → Totals → List ℕ
@@ -74,7 +74,7 @@ report_of (suc link) totals = report_of link totals ++ report_line link (totals 
 
 -- the totals of the links' histories
 abbrev pub totals_along : (ℕ → List Event) → ℕ → Totals
-totals_along history link = totals_in (history link)
+totals_along history link = totals_after (history link)
 
 -- the input is a log, from its head on, whose lines are retold, and this is the report of its links
 pub record IsReplayed (tables : List Contents) (contexts : List (List ℕ)) (input report : List ℕ) : Type 0 where

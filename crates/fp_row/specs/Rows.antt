@@ -39,12 +39,13 @@ PuttingBackChangesNothing = (rows : FinMap nat_cmp Row) (local : ℕ) (row : Row
 
 -- DOWN: all dialogues are ended from outside
 
--- a dialogue that was held is ended, and stays where something of it is left
+-- a dialogue is closed, and stays if something of it is left
 pub record Closes (sending : Bool) (row : Row) (left : Option Row) : Type 0 where
   pub after : Row
   pub ends : Ends Closed sending row after
   pub left_is : left ≡ (if is_held after then Some after else None)
 
+-- so is any under an identifier, if one is there
 abbrev pub ClosesAt : Bool → Option Row → Option Row → Type 0
 ClosesAt sending None left = left ≡ None
 ClosesAt sending (Some row) left = Closes sending row left

@@ -28,7 +28,7 @@ pub fn turns_are_served_by_the_step()
     entries_ask_once_at_most();
 }
 
-/// What [`Rows::after`](crate::Rows::after) answers is one identifier, or none.
+/// The contract of [`Rows::after`](crate::Rows::after) allows one answer alone.
 #[tactic(auto, using(crate::proofs::After::after_is_one))]
 pub fn after_is_one()
     ensures { AfterIsOne }

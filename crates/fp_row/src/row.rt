@@ -208,7 +208,7 @@ impl Row {
         Some(self.core.next_due())
     }
 
-    /// Whether it is given a Clock at a moment.
+    /// Whether it is due at a moment: it has a deadline, at or before that moment.
     pub fn is_due(&self, moment: Moment) -> bool
         ensures { result ≡ is_due self.now moment }
     {
@@ -218,9 +218,9 @@ impl Row {
         }
     }
 
-    /// Puts the entries of a message after the others, and says so. A dialogue that isn't admitted takes none, and
-    /// nothing changes; nor does it if memory runs out, which it never does for no entries. In both cases the entries
-    /// are gone. A caller that hands in the peer's end or abort also ends the dialogue ([`Row::end`]).
+    /// Puts the entries of a message after the others, and answers true. If the dialogue isn't admitted, it answers
+    /// false; then, and if memory runs out, nothing changes, and the entries are lost. For no entries memory never runs
+    /// out. A caller that hands in the peer's end or abort also ends the dialogue ([`Row::end`]).
     pub fn accept(&mut self, entries: Entries) -> Result<bool, AllocError>
         ensures ok { IfOk result (λ taken. (taken ≡ is_admitted self.old) × Accepts taken self.old entries self.new) }
         ensures err { OnErr result (self.new ≡ self.old) }

@@ -111,8 +111,8 @@ impl Rows {
         self.rows.len()
     }
 
-    /// Puts a row under an identifier, in place of any that was there: then it takes no memory. If memory runs
-    /// out, the row is handed back, and nothing changes.
+    /// Puts a row under an identifier. If one was there, it is replaced, and no memory is taken. If memory runs out,
+    /// the row comes back in `Err`, and nothing changes.
     pub fn insert(&mut self, local: u32, row: Row) -> Result<(), Row>
         ensures ok { OnOk result (self.new ≡ map.insert self.old local row) }
         ensures err { IfErr result (λ back. (back ≡ row) × (self.new ≡ self.old)) }
@@ -143,8 +143,8 @@ impl Rows {
         Some(&self.rows[key].1)
     }
 
-    /// Lends the row under an identifier, to be changed, if there is one: what the reference holds in the end is then
-    /// under the identifier.
+    /// Lends the row under an identifier, if there is one, to be changed. What it is when the loan ends stays under the
+    /// identifier.
     pub fn get_mut(&mut self, local: u32) -> Option<&mut Row>
         ensures* writes_back { sem 𝓛 (LendsIf the_row row_type.the_row self.entry result (λ (w : Row). map.insert self.old local w) self.old) }
         ensures value { option_copied_mut result ≡ map.get self.old local }
@@ -166,8 +166,8 @@ impl Rows {
         Some(self.rows.remove(key).1)
     }
 
-    /// Closes each dialogue, and takes those off of which nothing is left. `sending` is the dialogue of which a frame
-    /// is being sent, if one is. Takes no memory.
+    /// Closes every dialogue, and removes those of which nothing is left. `sending` is the dialogue whose frame is being
+    /// sent, if one is. Takes no memory.
     pub fn close_all(&mut self, sending: Option<u32>)
         ensures { (local : ℕ) → ClosesAt (is_sent sending local) (map.get self.old local) (map.get self.new local) }
     {
@@ -176,8 +176,8 @@ impl Rows {
         self.index.retain(|_local, key| rows.contains(*key));
     }
 
-    /// Gives the least identifier above this one that has a row, or the least of all for `None`: `None` if there is
-    /// none.
+    /// The least identifier above `local` that has a row; for `None` the least of all. `None` if there is none. Goes
+    /// through all rows.
     pub fn after(&self, local: Option<u32>) -> Option<u32>
         ensures { IsAfter self.now local result }
     {
@@ -188,7 +188,7 @@ impl Rows {
             .min()
     }
 
-    /// How many of the dialogues are due at a moment.
+    /// How many of the dialogues are due at a moment. Goes through all of them.
     pub fn count_due(&self, moment: Moment) -> usize
         ensures { result ≡ count_due self.now moment }
     {
