@@ -1,5 +1,5 @@
 -- Serials in their order, and the queue of those that may be given.
-use Rattle.std.proofs.Common.{Bool, List, Option, Some, [], ap, arith, drop, eqb, false, length, nat_lt, option_map, refl, slice_get, subst, suc, sym, take, true, zero, ℕ, ⊎_elim, ◌++◌, ◌+◌, ◌-◌, ◌<◌, ◌∙◌, ◌∷◌, ◌≡◌, ◌≤◌, ◌||◌, ◌^◌, append_assoc}
+use Rattle.std.proofs.Common.{Bool, List, Option, Some, [], ap, arith, drop, eqb, false, length, nat_lt, option_map, refl, slice_get, subst, suc, sym, take, true, zero, ℕ, ⊎_elim, ◌++◌, ◌%◌, ◌*◌, ◌+◌, ◌-◌, ◌<◌, ◌∙◌, ◌∷◌, ◌≡◌, ◌≤◌, ◌||◌, ◌^◌, append_assoc}
 use Rattle.std.proofs.Math.Nat.{mod-eq_of_lt, mul-add-mod_self_right}
 use Rattle.std.proofs.lemmas.Bool.{cases_Bool, eq-eqb, eqb-true, false≢true, or_cases, or_left, or_parts, or_right}
 use Rattle.std.proofs.lemmas.Bool.Decides.{nat_tests}
@@ -8,7 +8,7 @@ use Rattle.std.proofs.lemmas.List.Folds.{list_any-append}
 use Rattle.std.proofs.lemmas.List.FromFn.{length-range_with_len}
 use Rattle.std.proofs.lemmas.Map.Steps.{length-le_from_distinct_below}
 use Rattle.std.specs.List.{AllByRecursion, IsDistinct, range_with_len}
-use Rattle.fp_tids.specs.Identifiers.{AreSerials, IsKept, LocalIds, all_serials, first_of, identifier, is_free, serial_of, serials_above}
+use Rattle.fp_tids.specs.Identifiers.{AreSerials, IsKept, LocalIds, all_serials, base_of, first_of, identifier, is_free, serial_of, serials_above}
 use Rattle.fp_tids.specs.Laws.{AllAreSerials, GivingLeavesSerials, ReturningKeepsSerials, SerialsComeBackLast}
 
 -- numbers in their order, from one on
@@ -162,16 +162,17 @@ fresh_front fresh returned few = ap (λ xs. xs ++ returned) (above_next fresh fe
 pub none_fresh : (fresh : ℕ) (returned : List ℕ) → 131072 ≤ fresh → serials_above fresh ++ returned ≡ returned
 none_fresh fresh returned all = ap (λ xs. xs ++ returned) (above_last fresh all)
 
-pub first_is : (link : ℕ) (serials : List ℕ) (first : Option ℕ) → slice_get serials 0 ≡ first → option_map (identifier link) first ≡ first_of link serials
-first_is link [] first is = ap (option_map (identifier link)) (sym is)
-first_is link (serial ∷ serials) first is = ap (option_map (identifier link)) (sym is)
+pub first_is : (base : ℕ) (serials : List ℕ) (first : Option ℕ) → slice_get serials 0 ≡ first → option_map (identifier base) first ≡ first_of base serials
+first_is base [] first is = ap (option_map (identifier base)) (sym is)
+first_is base (serial ∷ serials) first is = ap (option_map (identifier base)) (sym is)
 
 -- what the type keeps
 
-pub kept_new : (link capacity : ℕ) (returned : List ℕ) → link < 8 → returned ≡ [] → capacity ≡ 131072 → IsKept link 0 returned capacity
+pub kept_new : (link tag capacity : ℕ) (returned : List ℕ) → link < 8 → tag ≤ 4094 → returned ≡ [] → capacity ≡ 131072 → IsKept link tag 0 returned capacity
 unfolding IsDistinct
-kept_new link capacity returned lt none room = record {
+kept_new link tag capacity returned lt most none room = record {
   links = lt;
+  tags = most;
   most = omega arith;
   distinct = subst (IsDistinct eqb) (sym none) tt;
   given = λ q is. absurd (false≢true (sym (ap (is_free q) none) ∙ is));
@@ -185,9 +186,9 @@ was_given fresh serial returned most absent =
     (not_above fresh serial most parts.0, parts.1)
 
 -- so there is a place for it, with those that came back
-pub room_for : (link fresh serial capacity : ℕ) (returned : List ℕ) → IsKept link fresh returned capacity → 0 < serial → serial ≤ 131072 → is_free serial (serials_above fresh ++ returned) ≡ false → length returned < capacity
+pub room_for : (link tag fresh serial capacity : ℕ) (returned : List ℕ) → IsKept link tag fresh returned capacity → 0 < serial → serial ≤ 131072 → is_free serial (serials_above fresh ++ returned) ≡ false → length returned < capacity
 unfolding IsDistinct
-room_for link fresh serial capacity returned k some most absent =
+room_for link tag fresh serial capacity returned k some most absent =
     let given = was_given fresh serial returned most absent in
     let few : length (serial ∷ returned) ≤ fresh =
     few_below fresh (serial ∷ returned) (absent_all serial returned given.1, k.distinct) (λ q is.
@@ -198,12 +199,13 @@ room_for link fresh serial capacity returned k some most absent =
     in
     omega (arith, few, k.most, k.places)
 
-pub kept_returned : (link fresh serial capacity then : ℕ) (returned : List ℕ) → IsKept link fresh returned capacity → 0 < serial → serial ≤ 131072 → is_free serial (serials_above fresh ++ returned) ≡ false → then ≡ capacity
-    → IsKept link fresh (returned ++ serial ∷ []) then
-kept_returned link fresh serial capacity then returned k some most absent same =
+pub kept_returned : (link tag fresh serial capacity then : ℕ) (returned : List ℕ) → IsKept link tag fresh returned capacity → 0 < serial → serial ≤ 131072 → is_free serial (serials_above fresh ++ returned) ≡ false → then ≡ capacity
+    → IsKept link tag fresh (returned ++ serial ∷ []) then
+kept_returned link tag fresh serial capacity then returned k some most absent same =
     let given = was_given fresh serial returned most absent in
     record {
       links = k.links;
+      tags = k.tags;
       most = k.most;
       distinct = distinct_back serial returned given.1 k.distinct;
       given = λ q is. among_back q serial returned (λ n. (0 < n) × (n ≤ fresh)) (k.given q) (some, given.0) is;
@@ -211,10 +213,11 @@ kept_returned link fresh serial capacity then returned k some most absent same =
     }
 
 -- the front one of those that came back is given
-pub kept_taken : (link fresh serial capacity then : ℕ) (returned rest : List ℕ) → IsKept link fresh returned capacity → returned ≡ serial ∷ rest → then ≡ capacity → IsKept link fresh rest then
+pub kept_taken : (link tag fresh serial capacity then : ℕ) (returned rest : List ℕ) → IsKept link tag fresh returned capacity → returned ≡ serial ∷ rest → then ≡ capacity → IsKept link tag fresh rest then
 unfolding IsDistinct
-kept_taken link fresh serial capacity then returned rest k is same = record {
+kept_taken link tag fresh serial capacity then returned rest k is same = record {
   links = k.links;
+  tags = k.tags;
   most = k.most;
   distinct = (subst (IsDistinct eqb) is k.distinct).1;
   given = λ q there. k.given q (ap (is_free q) is ∙ or_right (eqb q serial) (is_free q rest) there);
@@ -222,24 +225,27 @@ kept_taken link fresh serial capacity then returned rest k is same = record {
 }
 
 -- it is a serial
-pub taken_within : (link fresh serial capacity : ℕ) (returned rest : List ℕ) → IsKept link fresh returned capacity → returned ≡ serial ∷ rest → serial ≤ 131072
-taken_within link fresh serial capacity returned rest k is =
+pub taken_within : (link tag fresh serial capacity : ℕ) (returned rest : List ℕ) → IsKept link tag fresh returned capacity → returned ≡ serial ∷ rest → serial ≤ 131072
+taken_within link tag fresh serial capacity returned rest k is =
     let within : serial ≤ fresh = (k.given serial (ap (is_free serial) is ∙ or_left (eqb serial serial) (is_free serial rest) (eq-eqb serial serial refl))).1 in
     omega (arith, within, k.most)
 
-pub first_within : (link fresh serial capacity : ℕ) (returned : List ℕ) → IsKept link fresh returned capacity → slice_get returned 0 ≡ Some serial → serial ≤ 131072
-first_within link fresh serial capacity [] k is = absurd (cc)
-first_within link fresh serial capacity (x ∷ xs) k is =
+pub first_within : (link tag fresh serial capacity : ℕ) (returned : List ℕ) → IsKept link tag fresh returned capacity → slice_get returned 0 ≡ Some serial → serial ≤ 131072
+first_within link tag fresh serial capacity [] k is = absurd (cc)
+first_within link tag fresh serial capacity (x ∷ xs) k is =
     let same : x ≡ serial = cc in
-    taken_within link fresh serial capacity (x ∷ xs) xs k (ap (λ y. y ∷ xs) same)
+    taken_within link tag fresh serial capacity (x ∷ xs) xs k (ap (λ y. y ∷ xs) same)
 
 -- an identifier shows its serial
-pub shown : (link serial local : ℕ) → serial ≤ 131072 → local ≡ identifier link serial → serial_of local ≡ serial
-shown link serial local most is = ap serial_of is ∙ mul-add-mod_self_right link (2 ^ 29) serial ∙ mod-eq_of_lt (omega (arith, most))
+pub shown : (link tag serial local : ℕ) → 0 < serial → serial ≤ 131072 → local ≡ identifier (base_of link tag) serial → serial_of local ≡ serial
+shown link tag serial local some most is =
+    let inside : local - 1 ≡ (link * 4096 + tag) * 2 ^ 17 + (serial - 1) = omega (arith, some, is) in
+    ap (λ n. n % 2 ^ 17 + 1) inside ∙ ap (λ n. n + 1) (mul-add-mod_self_right (link * 4096 + tag) (2 ^ 17) (serial - 1) ∙ mod-eq_of_lt (omega (arith, some, most)))
+    ∙ omega (arith, some)
 
 -- what contracts see
-pub new_view : (link : ℕ) → ◌≡◌ {A = LocalIds} (record { link = link; queue = serials_above 0 ++ [] }) (record { link = link; queue = all_serials })
-new_view link = ap (λ queue. record { link = link; queue = queue }) (append-nil (serials_above 0))
+pub new_view : (link tag : ℕ) → ◌≡◌ {A = LocalIds} (record { link = link; tag = tag; queue = serials_above 0 ++ [] }) (record { link = link; tag = tag; queue = all_serials })
+new_view link tag = ap (λ queue. record { link = link; tag = tag; queue = queue }) (append-nil (serials_above 0))
 
-pub returned_view : (link : ℕ) (front back : List ℕ) (serial : ℕ) → ◌≡◌ {A = LocalIds} (record { link = link; queue = front ++ (back ++ serial ∷ []) }) (record { link = link; queue = (front ++ back) ++ serial ∷ [] })
-returned_view link front back serial = ap (λ queue. record { link = link; queue = queue }) (sym (append_assoc front back (serial ∷ [])))
+pub returned_view : (link tag : ℕ) (front back : List ℕ) (serial : ℕ) → ◌≡◌ {A = LocalIds} (record { link = link; tag = tag; queue = front ++ (back ++ serial ∷ []) }) (record { link = link; tag = tag; queue = (front ++ back) ++ serial ∷ [] })
+returned_view link tag front back serial = ap (λ queue. record { link = link; tag = tag; queue = queue }) (sym (append_assoc front back (serial ∷ [])))

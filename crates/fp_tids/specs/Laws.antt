@@ -1,20 +1,36 @@
 -- What holds of all local identifiers.
 use Rattle.std.specs.Prelude.{◌≡◌, ℕ, ◌^◌, ◌<◌, ◌≤◌, List, [], ◌∷◌, ◌++◌, length, take, false}
-use Rattle.fp_tids.specs.Identifiers.{AreSerials, all_serials, identifier, is_free, last_serial, link_of, serial_of}
+use Rattle.fp_tids.specs.Identifiers.{AreSerials, all_serials, base_of, identifier, is_free, last_serial, last_tag, link_of, serial_of}
 
--- different links or serials have different identifiers
+-- a link, a tag and a serial have an identifier
+pub record HasIdentifier (link tag serial : ℕ) : Type 0 where
+  pub links : link < 8
+  pub tags : tag ≤ last_tag
+  pub least : 0 < serial
+  pub most : serial ≤ last_serial
+
+-- identifiers of two links, of two tags or of two serials never meet
 abbrev pub IdentifiersAreDistinct : Type 0
 IdentifiersAreDistinct =
-    (k l m n : ℕ) → k < 8 → l < 8 → m < 2 ^ 29 → n < 2 ^ 29
-    → identifier k m ≡ identifier l n → (k ≡ l) × (m ≡ n)
+    (k l s t m n : ℕ) → HasIdentifier k s m → HasIdentifier l t n → identifier (base_of k s) m ≡ identifier (base_of l t) n
+    → (k ≡ l) × (s ≡ t) × (m ≡ n)
 
 -- each shows its link
 abbrev pub LinksAreShown : Type 0
-LinksAreShown = (link serial : ℕ) → serial < 2 ^ 29 → link_of (identifier link serial) ≡ link
+LinksAreShown =
+    (link tag serial : ℕ) → HasIdentifier link tag serial → link_of (identifier (base_of link tag) serial) ≡ link
 
 -- each shows its serial
 abbrev pub SerialsAreShown : Type 0
-SerialsAreShown = (link serial : ℕ) → serial < 2 ^ 29 → serial_of (identifier link serial) ≡ serial
+SerialsAreShown =
+    (link tag serial : ℕ) → 0 < serial → serial ≤ last_serial
+    → serial_of (identifier (base_of link tag) serial) ≡ serial
+
+-- each is above 0 and has 32 bits
+abbrev pub IdentifiersHave32Bits : Type 0
+IdentifiersHave32Bits =
+    (link tag serial : ℕ) → HasIdentifier link tag serial
+    → (0 < identifier (base_of link tag) serial) × (identifier (base_of link tag) serial < 2 ^ 32)
 
 -- all serials are serials, none of them twice, and there are 131,072 of them
 abbrev pub AllAreSerials : Type 0

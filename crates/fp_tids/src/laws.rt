@@ -1,10 +1,12 @@
 //! What holds of all local identifiers.
 
-ghost use Rattle.fp_tids.specs.Laws.{AllAreSerials, GivingLeavesSerials, IdentifiersAreDistinct, LinksAreShown, ReturningKeepsSerials, SerialsAreShown, SerialsComeBackLast};
+ghost use Rattle.fp_tids.specs.Laws.{AllAreSerials, GivingLeavesSerials, IdentifiersAreDistinct, IdentifiersHave32Bits, LinksAreShown, ReturningKeepsSerials, SerialsAreShown, SerialsComeBackLast};
 
-/// Different links or different serials have different identifiers, and each shows its link and its serial.
+/// The identifiers of two links, of two tags or of two serials never meet. Each has 32 bits, and shows its link and its
+/// serial.
 pub fn identifiers_are_distinct()
     ensures distinct { IdentifiersAreDistinct }
+    ensures bits { IdentifiersHave32Bits }
     ensures links { LinksAreShown }
     ensures serials { SerialsAreShown }
 {}

@@ -1,22 +1,26 @@
-//! The local identifiers of one link.
+//! The local identifiers of one link in one run.
 
-ghost use Rattle.std.specs.Prelude.{◌≡◌, ◌<◌, [], ◌∷◌, ◌++◌, IfOk};
+ghost use Rattle.std.specs.Prelude.{◌≡◌, ◌<◌, ◌≤◌, ◌+◌, ◌^◌, [], ◌∷◌, ◌++◌, IfOk};
 ghost use Rattle.std.specs.VecDeque.{deque_capacity, deque_len};
 ghost use Rattle.std.specs.List.{slice_get};
-ghost use Rattle.fp_tids.specs.Identifiers.{IsGiven, all_serials, link_of, next_of, with_returned, without_next};
+ghost use Rattle.fp_tids.specs.Identifiers.{IsGiven, all_serials, base_of, last_serial, link_of, next_of, with_returned, without_next};
 
 use std::alloc::{AllocError, Global};
 use std::collections::VecDeque;
 use std::marker::Model;
 
-/// 2^29: one more than the largest serial that fits an identifier.
+/// 2^29: how far the identifiers of two links that follow each other are apart.
 const LINK_STEP: u32 = 0x2000_0000;
 
-/// The local identifiers of one link. Contracts see the link, and the queue of the serials that may be given, the next
-/// one first.
+/// 2^17: how far those of two tags that follow each other are apart.
+const TAG_STEP: u32 = 0x2_0000;
+
+/// The local identifiers of one link in one run. Contracts see the link, the tag of the run, and the queue of the serials
+/// that may be given, the next one first.
 #[derive(Debug, Drop)]
 pub struct LocalIds {
     link: u8,
+    tag: u16,
     // How many serials were given for the first time: those from 1 on. The others are the front of the queue.
     fresh: u32,
     // The serials that came back, the oldest first: the rest of the queue.
@@ -31,9 +35,19 @@ impl Model for LocalIds {
 
     ghost Value = { ids.LocalIds };
 
-    ghost view = { λ own. record { link = own.link; queue = serials_above own.fresh ++ own.returned.items } };
+    ghost view = { λ own. record { link = own.link; tag = own.tag; queue = serials_above own.fresh ++ own.returned.items } };
 
-    ghost invariant = { λ own. IsKept own.link own.fresh own.returned.items (deque_capacity own.returned) };
+    ghost invariant = { λ own. IsKept own.link own.tag own.fresh own.returned.items (deque_capacity own.returned) };
+}
+
+/// What the serials of a link, 0 to 7, and a tag, 0 to 4,094, are added to.
+fn base_of(link: u8, tag: u16) -> u32
+    requires links { link < LocalIds.LINKS }
+    requires tags { tag ≤ LocalIds.LAST_TAG }
+    ensures base { result ≡ base_of link tag }
+    ensures room { result + last_serial < 2 ^ 32 }
+{
+    u32::from(link) * LINK_STEP + u32::from(tag) * TAG_STEP
 }
 
 /// The serial that came back first, if one did.
@@ -59,13 +73,28 @@ impl LocalIds {
     /// How many serials a link has: 1 to 131,072.
     pub const SERIALS: u32 = 131_072;
 
-    /// Those of a link, 0 to 7, of which none was given yet, with memory for all that may come back.
+    /// The last tag.
+    pub const LAST_TAG: u16 = 4_094;
+
+    /// Those of a link, 0 to 7, in a run without a tag: its tag is 0. None was given yet, and there is memory for all
+    /// that may come back.
     pub fn new(alloc: Global, link: u8) -> Result<LocalIds, AllocError>
         requires { link < Self.LINKS }
-        ensures { IfOk result (λ ids. ids ≡ record { link = link; queue = all_serials }) }
+        ensures { IfOk result (λ ids. ids ≡ record { link = link; tag = 0; queue = all_serials }) }
+    {
+        Self::with_tag(alloc, link, 0)
+    }
+
+    /// Those of a link, 0 to 7, in a run with this tag, 0 to 4,094. None was given yet, and there is memory for all that
+    /// may come back.
+    pub fn with_tag(alloc: Global, link: u8, tag: u16) -> Result<LocalIds, AllocError>
+        requires links { link < Self.LINKS }
+        requires tags { tag ≤ Self.LAST_TAG }
+        ensures { IfOk result (λ ids. ids ≡ record { link = link; tag = tag; queue = all_serials }) }
     {
         Ok(LocalIds {
             link,
+            tag,
             fresh: 0,
             returned: VecDeque::with_capacity(alloc, Self::SERIALS as usize)?,
         })
@@ -76,13 +105,14 @@ impl LocalIds {
     pub fn next(&self) -> Option<u32>
         ensures { result ≡ next_of self.now }
     {
+        let base = base_of(self.link, self.tag);
         if self.fresh < Self::SERIALS {
-            return Some(u32::from(self.link) * LINK_STEP + (self.fresh + 1));
+            return Some(base + (self.fresh + 1));
         }
         let Some(serial) = first(&self.returned) else {
             return None;
         };
-        Some(u32::from(self.link) * LINK_STEP + serial)
+        Some(base + serial)
     }
 
     /// Gives the identifier of the front serial, `None` if there is none. Takes no memory.
@@ -90,24 +120,25 @@ impl LocalIds {
         ensures next { result ≡ next_of self.old }
         ensures left { self.new ≡ without_next self.old }
     {
+        let base = base_of(self.link, self.tag);
         if self.fresh < Self::SERIALS {
             self.fresh += 1;
-            return Some(u32::from(self.link) * LINK_STEP + self.fresh);
+            return Some(base + self.fresh);
         }
         let Some(serial) = self.returned.pop_front() else {
             return None;
         };
-        Some(u32::from(self.link) * LINK_STEP + serial)
+        Some(base + serial)
     }
 
     /// The dialogue of this identifier is held no longer: its serial comes back, after all others. The identifier is
-    /// one of this very link, it was given, and its serial didn't come back yet: the caller knows that, and nothing
-    /// tests it here. Takes no memory.
+    /// one of this very link and tag, it was given, and its serial didn't come back yet: the caller knows that, and
+    /// nothing tests it here. Takes no memory.
     pub fn end(&mut self, local: u32)
         requires { IsGiven self.old local }
         ensures { self.new ≡ with_returned self.old local }
     {
-        put_last(&mut self.returned, local % LINK_STEP);
+        put_last(&mut self.returned, (local - 1) % TAG_STEP + 1);
     }
 }
 
