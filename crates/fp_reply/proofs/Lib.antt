@@ -1,3 +1,4 @@
 pub mod Frames
 pub mod Nesting
 pub mod Sending
+pub mod Sizes

@@ -3,30 +3,23 @@ use Rattle.std.proofs.Common.{ℕ, ◌≤◌, List, [], ◌∷◌, map, Option, 
 use Rattle.std.proofs.Math.Nat.{max-le}
 use Rattle.std.specs.Prelude.{⊤}
 use Rattle.fp_ber.specs.Tree.{HasTags, InRange, Tree, nesting, nesting_of_all}
-use Rattle.fp_q773.specs.Problem.{problem_of}
-use Rattle.fp_q773.specs.Value.{ComponentValue, ProblemValue, tagged}
-use Rattle.fp_q773.specs.Written.{component_tree, component_trees, portions_trees, problem_tree, written}
+use Rattle.fp_q773.specs.declared.problem.Problem.TheVariants as problems
+use Rattle.fp_q773.specs.Value.{ComponentValue}
+use Rattle.fp_q773.specs.Written.{component_tree, component_trees, portions_trees, written}
 use Rattle.fp_reply.specs.Reply.{acceptance_portion, component_value, reply}
 use Rattle.fp_service.specs.declared.component.Component.{Component}
-use Rattle.fp_service.specs.declared.component.Component.TheVariants.{Invoke, ReturnError, Reject}
+use Rattle.fp_service.specs.declared.component.Component.TheVariants.{Invoke, Reject}
 use Rattle.fp_service.specs.declared.instruction.Instruction.TheVariants as instructions
-use Rattle.fp_service.specs.declared.request.AbortPortion.TheVariants.{Absent, Abrt, NoName, NoVersion}
+use Rattle.fp_service.specs.declared.request.AbortPortion.TheVariants.{Absent}
 use Rattle.fp_service.specs.declared.request.Request.{Request}
 use Rattle.fp_service.specs.declared.request.Request.TheVariants as requests
-
-nested_problem : (p : ProblemValue) → nesting (problem_tree p) ≤ 1
-nested_problem (tagged group code) = omega arith
 
 -- at most eight of a component, and of components one after another
 nested_component : (c : Component) → nesting (component_tree (component_value c)) ≤ 8
 nested_component (Invoke identifier (instructions.Connect destination)) = omega arith
-nested_component (Invoke identifier (instructions.ReleaseCall cause)) = omega arith
-nested_component (Invoke identifier instructions.RequestReportBcsmEvent) = omega arith
-nested_component (Invoke identifier instructions.Continue) = omega arith
-nested_component (Invoke identifier instructions.ActivityTest) = omega arith
-nested_component (ReturnError identifier error) = omega arith
-nested_component (Reject None problem) = let inside = nested_problem (problem_of problem) in omega (arith, inside)
-nested_component (Reject (Some identifier) problem) = let inside = nested_problem (problem_of problem) in omega (arith, inside)
+nested_component (Reject None (problems.General p)) = omega arith
+nested_component (Reject (Some identifier) (problems.General p)) = omega arith
+nested_component other = omega arith
 
 nested_components : (cs : List Component) → nesting_of_all (component_trees (map component_value cs)) ≤ 8
 nested_components [] = omega arith
@@ -58,9 +51,7 @@ nested (requests.End acceptance components) local peer =
     let portions = nested_portions (acceptance_portion acceptance) (map component_value components) (nested_acceptance acceptance) (nested_components components) in
     omega (arith, portions)
 nested (requests.Abort Absent) local peer = omega arith
-nested (requests.Abort Abrt) local peer = omega arith
-nested (requests.Abort (NoName name)) local peer = omega arith
-nested (requests.Abort (NoVersion name)) local peer = omega arith
+nested other local peer = omega arith
 
 -- so it is in range, if its tags are in range
 pub reply_in_range : (request : Request) (local : ℕ) (peer : List ℕ) → HasTags (written (reply request local peer)) → InRange (written (reply request local peer))

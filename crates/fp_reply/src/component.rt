@@ -1,15 +1,14 @@
 //! The components of a message.
 
-ghost use Rattle.std.specs.Prelude.{◌≡◌, ◌++◌, None, OnOk, map};
+ghost use Rattle.std.specs.Prelude.{◌≡◌, ◌++◌, OnOk, map};
 ghost use Rattle.fp_ber.specs.Canon.{canon, canon_of_all};
-ghost use Rattle.fp_q773.specs.Value as value;
 ghost use Rattle.fp_q773.specs.Written.{component_tree, component_trees, portion_trees};
 ghost use Rattle.fp_q773.specs.Writable.{only};
 ghost use Rattle.fp_reply.specs.Part.{AreComponents, IsArgument, IsComponent};
 ghost use Rattle.fp_reply.specs.Reply.{argument_of, component_value};
 
 use fp_ber::Writer;
-use fp_inap::{write_connect, write_release, write_request_report};
+use fp_inap::{OperationError, write_connect, write_release, write_request_report};
 use fp_q773::{Code, Reject, write_component_portion, write_invoke, write_return_error};
 use fp_service::{Component, Instruction};
 use std::alloc::AllocError;
@@ -17,7 +16,7 @@ use std::alloc::AllocError;
 /// Puts the argument of the operation of an instruction; Continue and ActivityTest have none.
 fn write_argument(instruction: &Instruction, out: &mut Writer) -> Result<(), AllocError>
     ensures exact { OnOk result (out.new ≡ canon_of_all (only (argument_of instruction.now)) ++ out.old) }
-    ensures argument { OnOk result (IsArgument (argument_of instruction.now)) }
+    ensures argument { OnOk result (IsArgument instruction.now) }
 {
     match instruction {
         Instruction::Connect(destination) => write_connect(destination.as_slice(), out),
@@ -34,7 +33,7 @@ fn write_instruction(
     out: &mut Writer,
 ) -> Result<(), AllocError>
     ensures exact { OnOk result (out.new ≡ canon (component_tree (component_value (Component.Invoke identifier instruction.now))) ++ out.old) }
-    ensures component { OnOk result (IsComponent (component_value (Component.Invoke identifier instruction.now))) }
+    ensures component { OnOk result (IsComponent (Component.Invoke identifier instruction.now)) }
 {
     let start = out.len();
     write_argument(instruction, out)?;
@@ -42,26 +41,28 @@ fn write_instruction(
     write_invoke(identifier, None, code, start, out)
 }
 
-/// Puts the ReturnError of the error with this code, which has no parameter.
-fn write_error(identifier: i8, code: i32, out: &mut Writer) -> Result<(), AllocError>
-    ensures exact { OnOk result (out.new ≡ canon (component_tree (value.return_error identifier (value.local code) None)) ++ out.old) }
-    ensures component { OnOk result (IsComponent (value.return_error identifier (value.local code) None)) }
+/// Puts the ReturnError of an error, which has no parameter.
+#[tactic(auto, using(crate::proofs::Sending::error_sent))]
+fn write_error(identifier: i8, error: OperationError, out: &mut Writer) -> Result<(), AllocError>
+    ensures exact { OnOk result (out.new ≡ canon (component_tree (component_value (Component.ReturnError identifier error))) ++ out.old) }
+    ensures component { OnOk result (IsComponent (Component.ReturnError identifier error)) }
 {
     let start = out.len();
-    write_return_error(identifier, Code::Local(code), start, out)
+    let code = Code::Local(error.code());
+    write_return_error(identifier, code, start, out)
 }
 
 /// Puts a component.
 fn write_component(component: &Component, out: &mut Writer) -> Result<(), AllocError>
     ensures exact { OnOk result (out.new ≡ canon (component_tree (component_value component.now)) ++ out.old) }
-    ensures component { OnOk result (IsComponent (component_value component.now)) }
+    ensures component { OnOk result (IsComponent component.now) }
 {
     match component {
         Component::Invoke {
             identifier,
             instruction,
         } => write_instruction(*identifier, instruction, out),
-        Component::ReturnError { identifier, error } => write_error(*identifier, error.code(), out),
+        Component::ReturnError { identifier, error } => write_error(*identifier, *error, out),
         Component::Reject {
             identifier,
             problem,
@@ -78,7 +79,7 @@ fn write_component(component: &Component, out: &mut Writer) -> Result<(), AllocE
 /// Puts components, one after another.
 fn write_all(components: &[Component], out: &mut Writer) -> Result<(), AllocError>
     ensures exact { OnOk result (out.new ≡ canon_of_all (component_trees (map component_value components.now)) ++ out.old) }
-    ensures components { OnOk result (AreComponents (map component_value components.now)) }
+    ensures components { OnOk result (AreComponents components.now) }
 {
     'components: for index in (0..components.len()).rev() {
         write_component(&components[index], out)?;
@@ -89,7 +90,7 @@ fn write_all(components: &[Component], out: &mut Writer) -> Result<(), AllocErro
 /// Puts the component portion of a message, if there are components.
 pub(crate) fn write_components(components: &[Component], out: &mut Writer) -> Result<(), AllocError>
     ensures exact { OnOk result (out.new ≡ canon_of_all (portion_trees (map component_value components.now)) ++ out.old) }
-    ensures components { OnOk result (AreComponents (map component_value components.now)) }
+    ensures components { OnOk result (AreComponents components.now) }
 {
     if components.is_empty() {
         return Ok(());

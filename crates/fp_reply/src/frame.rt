@@ -14,9 +14,12 @@ use std::alloc::{AllocError, Global};
 /// The number of octets of the head of a frame.
 pub(crate) const HEAD: usize = 4;
 
-/// The most octets of a frame, the head included: a bound, with six octets counted for each tag and length, the longest
-/// name and two of the longest arguments. Frames are shorter.
-pub const MOST_OCTETS: usize = 335;
+/// The most octets of a frame, the head included: its message has at most 219. The longest one is a Continue with an
+/// AARE of a name of 64 octets, an Invoke of RequestReportBCSMEvent, and an Invoke of Connect to 15 digits.
+///
+/// A message of MTP has room for 272 octets. A unitdata message (UDT) of SCCP (ITU-T Q.713, 4.10) with two addresses of
+/// 18 octets fits it, if its data has at most 224 octets. So each message that is sent fits one.
+pub const MOST_OCTETS: usize = 223;
 
 /// The octets that are sent for a request of the service logic (Q.773, 4.2): the head of a frame, and after it the
 /// message in canonical spelling.
@@ -35,7 +38,7 @@ pub fn bytes_of(
     // The frame is read as the message of the request.
     ensures says { IfOk result (λ octets. IsFrameOf octets.items (reply request.now local (octets_of peer.now))) }
 
-    // A frame is short.
+    // The message fits a unitdata message of SCCP.
     ensures most { IfOk result (λ octets. length octets.items ≤ MOST_OCTETS) }
 {
     canonical_spelling_spells();

@@ -5,7 +5,7 @@ ghost use Rattle.fp_ber.specs.Canon.{canon, canon_of_all};
 ghost use Rattle.fp_q773.specs.Grammar.{IsMessage};
 ghost use Rattle.fp_q773.specs.Tid.{octets_of, octets_of_number};
 ghost use Rattle.fp_q773.specs.Value as value;
-ghost use Rattle.fp_q773.specs.Written.{portions_trees, written};
+ghost use Rattle.fp_q773.specs.Written.{component_trees, portions_trees, written};
 ghost use Rattle.fp_reply.specs.Part.{AreComponents, CanBeSent, IsDialoguePortion, IsSpelled};
 ghost use Rattle.fp_reply.specs.Reply.{abort_portion, acceptance_portion, component_value, reply};
 
@@ -31,8 +31,8 @@ fn write_portions(
     ensures exact { OnOk result (out.new
         ≡ canon_of_all (portions_trees (acceptance_portion acceptance) (map component_value components.now)) ++ out.old) }
     ensures dialogue { OnOk result (IsDialoguePortion (acceptance_portion acceptance)) }
-    ensures components { OnOk result (AreComponents (map component_value components.now)) }
-    ensures most { OnOk result (length components.now ≤ 2) }
+    ensures components { OnOk result (AreComponents components.now) }
+    ensures size { OnOk result (length (canon_of_all (component_trees (map component_value components.now))) ≤ 101) }
 {
     write_components(components.as_slice(), out)?;
     write_acceptance(acceptance, out)

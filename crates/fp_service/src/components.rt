@@ -1,11 +1,13 @@
 //! The components of a message that is sent.
 
-ghost use Rattle.std.specs.Prelude.{◌≡◌, ◌≤◌, ◌∷◌, [], length};
+ghost use Rattle.std.specs.Prelude.{◌≡◌, ◌≤◌, ◌∷◌, [], false, length};
+ghost use Rattle.fp_service.specs.Components.{OneRequestsReport, requests_report};
 
 use crate::Component;
 use std::marker::Model;
 
-/// The components of a message that is sent, at most two. It has a fixed size. Contracts see it as their list.
+/// The components of a message that is sent, at most two, the second of which isn't an Invoke of
+/// RequestReportBCSMEvent. It has a fixed size. Contracts see it as their list.
 #[derive(Debug, Drop)]
 pub struct Components {
     places: Places,
@@ -22,11 +24,13 @@ enum Places {
 impl Model for Components {
     ghost use Rattle.std.specs.Prelude.{List};
     ghost use Rattle.fp_service.specs.declared.component.Component.{Component};
-    ghost use Rattle.fp_service.specs.Components.{components_in};
+    ghost use Rattle.fp_service.specs.Components.{OneRequestsReport, components_in};
 
     ghost Value = { List Component };
 
     ghost view = { λ components. components_in components.places };
+
+    ghost invariant = { λ components. OneRequestsReport (components_in components.places) };
 }
 
 impl Components {
@@ -51,8 +55,9 @@ impl Components {
         }
     }
 
-    /// Two components.
+    /// Two components. The second one isn't an Invoke of RequestReportBCSMEvent.
     pub fn two(first: Component, second: Component) -> Components
+        requires { requests_report second ≡ false }
         ensures { result ≡ first ∷ second ∷ [] }
     {
         Components {
@@ -64,6 +69,7 @@ impl Components {
     pub fn as_slice(&self) -> &[Component]
         ensures value { result.now ≡ self.now }
         ensures most { length self.now ≤ Self.MOST }
+        ensures report { OneRequestsReport self.now }
     {
         match &self.places {
             Places::None => &[],

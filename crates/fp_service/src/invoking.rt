@@ -1,7 +1,8 @@
 //! Continue messages that invoke operations.
 
-ghost use Rattle.std.specs.Prelude.{◌≡◌, ◌<◌, ◌↔◌, ◌∷◌, [], IfOk, IsOk, OnOk, length};
+ghost use Rattle.std.specs.Prelude.{◌≡◌, ◌<◌, ◌↔◌, ◌∷◌, [], false, IfOk, IsOk, OnOk, length};
 ghost use Rattle.fp_service.specs.Answer.{instruct, invoke, with_invocation};
+ghost use Rattle.fp_service.specs.Components.{is_request_report};
 
 use crate::{Component, Components, Core, Instruction, Request};
 use fp_digits::Moment;
@@ -39,7 +40,8 @@ impl Core {
         self.continue_with(Components::one(invoke))
     }
 
-    /// A Continue message that invokes two operations; a user Abort if they don't both find a place.
+    /// A Continue message that invokes two operations; a user Abort if they don't both find a place. The second one
+    /// isn't RequestReportBCSMEvent.
     #[tactic(auto, unfolding(crate::specs::Answer::instruct))]
     pub(crate) fn instruct_both(
         &mut self,
@@ -47,6 +49,7 @@ impl Core {
         first: Instruction,
         second: Instruction,
     ) -> Option<Request>
+        requires { is_request_report second ≡ false }
         ensures { (self.new, result) ≡ instruct self.old moment (first ∷ second ∷ []) }
     {
         let mut invocations = self.invocations;

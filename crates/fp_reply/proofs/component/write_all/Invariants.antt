@@ -9,5 +9,5 @@ use Rattle.fp_reply.proofs.component.write_all.Given as goal
 abbrev pub invariant-components : goal.invariant-components
 invariant-components l = record {
   exact : l.out ≡ canon_of_all (component_trees (map component_value (drop l.index l.components))) ++ l.initial.out;
-  sound : AreComponents (map component_value (drop l.index l.components));
+  sound : AreComponents (drop l.index l.components);
 }

@@ -9,5 +9,5 @@ pub returns-clause-spelled : goal.returns-clause-spelled
 returns-clause-spelled c =
     let law = c.written_messages_are_elements.ensures in
     let peer = octets_of c.args.peer.now in
-    sent_spelled law.tags law.room law.lengths (reply c.args.request.now c.args.local peer) c.in_ok-write_message.ensures.message
+    sent_spelled law.tags (reply c.args.request.now c.args.local peer) c.in_ok-write_message.ensures.message
     (reply_in_range c.args.request.now c.args.local peer)

@@ -1,6 +1,5 @@
 -- An End around its portions.
-use Rattle.std.proofs.Common.{◌≤◌, length, map, arith}
-use Rattle.std.proofs.lemmas.List.{length-map}
+use Rattle.std.proofs.Common.{map}
 use Rattle.std.proofs.lemmas.Result.{on_ok_weaker}
 use Rattle.fp_reply.specs.Reply.{acceptance_portion, component_value}
 use Rattle.fp_reply.proofs.Sending.{all_read_back, end_sent}
@@ -9,10 +8,8 @@ use Rattle.fp_reply.proofs.message.write_ending.Goals as goal
 pub returns-clause-message : goal.returns-clause-message
 returns-clause-message c =
     let dialogue = acceptance_portion c.args.acceptance in
-    let cs = map component_value c.args.components.now in
+    let cs = c.args.components.now in
     let portions = c.in_ok-write_portions.ensures in
-    let count = length-map c.args.components.now component_value in
-    let two : length cs ≤ 2 = omega (arith, count, portions.most) in
     on_ok_weaker c.write_end_message.result
-    (λ is. end_sent _ dialogue cs portions.dialogue portions.components two (is dialogue cs portions.dialogue.writable (all_read_back cs portions.components)))
+    (λ is. end_sent _ dialogue cs portions.dialogue portions.components portions.size (is dialogue (map component_value cs) portions.dialogue.writable (all_read_back cs portions.components)))
     c.write_end_message.ensures.found
