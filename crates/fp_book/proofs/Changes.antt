@@ -1,5 +1,5 @@
 -- One dialogue of a link changes, comes or goes: what its book keeps then.
-use Rattle.fp_book.proofs.Names.{AreBorn, Bool, Closed, IsOwn, IsSame, List, None, Option, Outbox, Row, Shelf, Some, Sound, Totals, [], accepted_by, add-zero, and_right, ap, arith, cases_Bool, cond, cond_both, count_by, eqb, eqb-true, false, frames_for, frames_held, frames_of, gone_with, has_turn_out, identifier, is_admitted, is_free, is_held, is_ready, is_some, keep, kept_of, le_refl, length, length-append, ltb-false, nat_lt, nat_tests, not, of_row, one_if, or_parts, places_held, ready_count, refl, sent_by, sent_of, served_by, subst, sum_of, sym, take, true, turns_of, unsent_for, unsent_frames, waits, with_row, ℕ, ⊎_elim, ◌++◌, ◌+◌, ◌<◌, ◌^◌, ◌||◌, ◌∙◌, ◌∷◌, ◌≡◌, ◌≤◌}
+use Rattle.fp_book.proofs.Names.{AreBorn, Bool, Closed, IsOwn, IsSame, List, None, Option, Outbox, Row, Shelf, Some, Sound, Totals, [], accepted_by, add-zero, all_entries, and_right, ap, arith, base, base_of, cases_Bool, cond, cond_both, count_by, eqb, eqb-true, false, frames_for, frames_held, frames_of, gone_with, has_turn_out, identifier, is_admitted, is_free, is_held, is_ready, is_some, keep, kept_of, le_refl, length, length-append, link_with_tag, ltb-false, most_aborts_waiting, most_dialogues, most_places, nat_lt, nat_tests, not, of_row, one_if, or_parts, places_held, ready_count, refl, sent_by, sent_of, served_by, subst, sum_of, sym, take, true, turns_of, unsent_for, unsent_frames, waits, with_row, ℕ, ⊎_elim, ◌++◌, ◌+◌, ◌<◌, ◌^◌, ◌||◌, ◌∙◌, ◌∷◌, ◌≡◌, ◌≤◌, ◌*◌}
 use Rattle.std.specs.FinMap as map
 use Rattle.fp_book.proofs.Serials.{SerialsChange}
 use Rattle.fp_book.proofs.Sums.{OneChanges, Rows, amount, kept, left_of, len-sum}
@@ -33,8 +33,8 @@ pub record OutboxChanges (s : Shelf) (outbox : Outbox) (local : ℕ) (before : O
   pub own_frames : sent_of after ++ unsent_for local outbox ≡ kept_of after
   pub other_frames : (d : ℕ) → eqb d local ≡ false → unsent_for d outbox ≡ unsent_for d s.outbox
   pub others_born : (d birth : ℕ) → eqb d local ≡ false → AreBorn d birth (unsent_frames s.outbox) → AreBorn d birth (unsent_frames outbox)
-  pub places : frames_held outbox + turns_of after + places_held s ≤ frames_held s.outbox + amount turns_of before + 8192
-  pub aborts : length outbox.aborts ≤ 64
+  pub places : frames_held outbox + turns_of after + places_held s ≤ frames_held s.outbox + amount turns_of before + most_places
+  pub aborts : length outbox.aborts ≤ most_aborts_waiting
   pub quiet : s.is_down ≡ true → (outbox.aborts ≡ []) × (outbox.frames ≡ [])
 
 -- what is counted, if one dialogue changes
@@ -48,12 +48,12 @@ pub record CountsChange (old new : Shelf) (before : Option Row) (after : Row) : 
 
 -- the link is the same; a Begin may have been accepted
 pub record LinkStays (old new : Shelf) : Type 0 where
-  pub link : new.link ≡ old.link
+  pub link : link_with_tag new.link new.tag ≡ link_with_tag old.link old.tag
   pub births : old.births ≤ new.births
   pub few_births : new.births ≤ new.entries
   pub down : new.is_down ≡ old.is_down
 
-pub link_stays : (old new : Shelf) → Sound old → new.link ≡ old.link → new.births ≡ old.births → old.entries ≤ new.entries → new.is_down ≡ old.is_down → LinkStays old new
+pub link_stays : (old new : Shelf) → Sound old → link_with_tag new.link new.tag ≡ link_with_tag old.link old.tag → new.births ≡ old.births → old.entries ≤ new.entries → new.is_down ≡ old.is_down → LinkStays old new
 link_stays old new s link births entries down = record {
   link = link;
   births = omega (arith, births);
@@ -75,8 +75,8 @@ pub record Change (old new : Shelf) (local : ℕ) (before : Option Row) (after :
   pub serials : SerialsChange old new.free local before (left_of after)
   -- no other dialogue has its birth
   pub apart : (q : ℕ) (held : Row) → eqb q local ≡ false → map.get old.rows q ≡ Some held → after.birth ≡ held.birth → local ≡ q
-  pub entries : new.entries + sum_of admitted old.rows + admitted after ≤ 2 ^ 63 + 8192 + amount admitted before
-  pub room : map.len old.rows < 4096 + amount one before
+  pub entries : new.entries + sum_of admitted old.rows + admitted after ≤ all_entries + 2 * most_dialogues + amount admitted before
+  pub room : map.len old.rows < most_dialogues + amount one before
   pub own : is_held after ≡ true → IsOwn new local after
   pub queue : QueueChanges old.ready new.ready local (amount ready before) (ready after)
   pub outbox : OutboxChanges old new.outbox local before after
@@ -179,7 +179,7 @@ gone_by gone row few false = record {
 }
 
 -- what of a dialogue stays if it changes
-pub own_after : (old new : Shelf) (d : ℕ) (before after : Row) → IsOwn old d before → IsSame before after → new.link ≡ old.link → (is_held after ≡ true → new.free ≡ old.free) → old.births ≤ new.births
+pub own_after : (old new : Shelf) (d : ℕ) (before after : Row) → IsOwn old d before → IsSame before after → base new ≡ base old → (is_held after ≡ true → new.free ≡ old.free) → old.births ≤ new.births
     → AreBorn d before.birth (unsent_frames new.outbox) → (is_some after.ended ≡ true → frames_for d new.outbox.frames ≡ []) → (new.is_down ≡ true → after.ended ≡ Some Closed) → is_held after ≡ true → IsOwn new d after
 own_after old new d before after own same link free births born dropped closed held = record {
   local_is = same.local ∙ own.local_is;
@@ -192,7 +192,7 @@ own_after old new d before after own same link free births born dropped closed h
 }
 
 -- what holds of a dialogue still holds of it
-pub stays_own : (old new : Shelf) (d : ℕ) (row : Row) → new.link ≡ old.link → ((serial : ℕ) → d ≡ identifier old.link serial → is_free serial old.free ≡ false → is_free serial new.free ≡ false)
+pub stays_own : (old new : Shelf) (d : ℕ) (row : Row) → base new ≡ base old → ((serial : ℕ) → d ≡ identifier (base old) serial → is_free serial old.free ≡ false → is_free serial new.free ≡ false)
     → old.births ≤ new.births → new.is_down ≡ old.is_down → (AreBorn d row.birth (unsent_frames old.outbox) → AreBorn d row.birth (unsent_frames new.outbox))
     → (frames_for d old.outbox.frames ≡ [] → frames_for d new.outbox.frames ≡ []) → IsOwn old d row → IsOwn new d row
 stays_own old new d row link given births down born dropped own = record {
@@ -234,7 +234,8 @@ Sound-change old new local before after s g =
     let rows : OneChanges old.rows new.rows local before (left_of after) = subst (λ r. OneChanges old.rows r local before (left_of after)) (sym g.rows) (kept old.rows local before after g.was) in
     let gone : GoneWith old.gone new.gone after (left_of after) = subst (λ t. GoneWith old.gone t after (left_of after)) (sym g.gone) (gone_by old.gone after g.counts.few_sent (is_held after)) in
     record {
-      links = omega (arith, g.link.link, s.links);
+      links = let same : new.link ≡ old.link = ap (λ (p : ℕ × ℕ). p.0) g.link.link in omega (arith, same, s.links);
+      tags = let same : new.tag ≡ old.tag = ap (λ (p : ℕ × ℕ). p.1) g.link.link in omega (arith, same, s.tags);
       serials = g.serials.serials;
       serial_count = λ up. omega (arith, g.serials.count, s.serial_count (sym g.link.down ∙ up), rows.sums one, len-sum new.rows, len-sum old.rows);
       births = g.link.few_births;
@@ -247,7 +248,7 @@ Sound-change old new local before after s g =
           by_local d local (λ d. map.get new.rows d ≡ Some row → IsOwn new d row)
           (λ e. own_left new local after row g.own (sym rows.there ∙ e))
           (λ ne e.
-          stays_own old new d row g.link.link (λ serial. g.serials.others d serial ne) g.link.births g.link.down (g.outbox.others_born d row.birth ne) (g.outbox.other_dropped d ne)
+          stays_own old new d row (ap (λ (p : ℕ × ℕ). base_of p.0 p.1) g.link.link) (λ serial. g.serials.others d serial ne) g.link.births g.link.down (g.outbox.others_born d row.birth ne) (g.outbox.other_dropped d ne)
           (s.own d row (sym (rows.others d ne) ∙ e)));
       held = omega (arith, rows.sums one, one_left after, g.room, len-sum new.rows, len-sum old.rows);
       frames = λ d.

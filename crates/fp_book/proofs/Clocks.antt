@@ -1,5 +1,5 @@
 -- To give dialogues a Clock keeps what a book keeps.
-use Rattle.fp_book.proofs.Names.{All, AllByRecursion, AllPairs, Bool, Clock, ClocksAt, ComesFirst, Due, Ending, Entry, Extends, IsDue, List, LoggedStep, None, Option, Row, Shelf, Some, Sound, Ticks, Totals, [], add-zero, and_from, and_parts, ap, append-nil, append_assoc, arith, cond, deadline_of, due_at, entry_at, eq-eqb, eqb, eqb-true, false, false_from_ne_true, false≢true, get, has_clock, has_turn_out, idle_among, insert, is_admitted, is_among, is_closed, is_due, is_full, is_idle, is_over, is_ready, is_some, joins, leb-false, len, length, length-append, logged, lt-ltb, more_accepted, nat_eq, nat_lt, next_due, not, not-true, one_if, recursion_from_All, refl, slice_index_or, subst, suc, sum_of, sym, true, waits, ℕ, ⊎_elim, ⊤, ◌&&◌, ◌++◌, ◌+◌, ◌<◌, ◌^◌, ◌||◌, ◌∙◌, ◌∷◌, ◌≡◌, ◌≤◌}
+use Rattle.fp_book.proofs.Names.{All, AllByRecursion, AllPairs, Bool, Clock, ClocksAt, ComesFirst, Due, Ending, Entry, Extends, IsDue, List, LoggedStep, None, Option, Row, Shelf, Some, Sound, Ticks, Totals, [], add-zero, and_from, and_parts, ap, append-nil, append_assoc, arith, cond, deadline_of, due_at, entry_at, eq-eqb, eqb, eqb-true, false, false_from_ne_true, false≢true, get, has_clock, has_turn_out, idle_among, insert, is_admitted, is_among, is_closed, is_due, is_full, is_idle, is_over, is_ready, is_some, joins, leb-false, len, length, length-append, logged, lt-ltb, more_accepted, nat_eq, nat_lt, next_due, not, not-true, one_if, recursion_from_All, refl, slice_index_or, subst, suc, sum_of, sym, true, waits, ℕ, ⊎_elim, ⊤, ◌&&◌, ◌++◌, ◌+◌, ◌<◌, ◌^◌, ◌||◌, ◌∙◌, ◌∷◌, ◌≡◌, ◌≤◌, most_dialogues, most_places, all_entries, ◌*◌}
 use Rattle.fp_book.proofs.LowerLaws.{LowerLaws}
 use Rattle.fp_book.proofs.Changes.{admitted, one, one_most}
 use Rattle.fp_book.proofs.Extends.{Sound-extended, few_admitted, joined}
@@ -130,7 +130,7 @@ clocks_others s then rows moment d due after there left same none q false is g =
     subst (λ o. ClocksAt (is_among q due) moment o (get rows q)) (sym (same q (eqb_swap d.1 q is))) g
 
 Sound-ticked : LowerLaws → (due : List Due) (s : Shelf) (rows : Rows) (moment : ℕ) (log : List LoggedStep) → Sound s → Apart due → AllByRecursion (CanClock s) due
-    → ((q : ℕ) → ClocksAt (is_among q due) moment (get s.rows q) (get rows q)) → s.entries + length due + sum_of admitted s.rows ≤ 2 ^ 63 + 8192 → Sound (ticked s rows due log)
+    → ((q : ℕ) → ClocksAt (is_among q due) moment (get s.rows q) (get rows q)) → s.entries + length due + sum_of admitted s.rows ≤ all_entries + 2 * most_dialogues → Sound (ticked s rows due log)
 Sound-ticked law [] s rows moment log k two can clocks limit =
     let path : shelf_of s s.entries s.rows s.ready s.totals log ≡ ticked s rows [] log =
     same_shelf s s.entries (s.entries + 0) s.rows rows s.ready (s.ready ++ []) s.totals s.totals log (sym (add-zero s.entries)) (sym (same_rows rows s.rows clocks)) (sym (append-nil s.ready)) refl in
@@ -175,17 +175,17 @@ pub few_pass : (test : Row → Bool) (rows : Rows) → sum_of (λ row. cond {A =
 few_pass test rows = omega (arith, len-sum rows, sum-le (λ row. cond {A = ℕ} (test row) 1 0) one rows (λ row. one_most (test row)))
 
 -- as long as a dialogue is due, fewer than 2^63 entries were accepted
-limit_by : (s : Shelf) (moment : ℕ) (due : List Due) → Sound s → All (IsDue s moment) due → length due ≤ 4096 → s.entries + length due + sum_of admitted s.rows ≤ 2 ^ 63 + 8192
+limit_by : (s : Shelf) (moment : ℕ) (due : List Due) → Sound s → All (IsDue s moment) due → length due ≤ most_dialogues → s.entries + length due + sum_of admitted s.rows ≤ all_entries + 2 * most_dialogues
 limit_by s moment [] k are few = omega (arith, k.entries)
 limit_by s moment (d ∷ due) k are few =
     let first : IsDue s moment d = are 0 d (omega arith) in
     let up : (not (is_full s) ≡ true) × (is_due first.row moment ≡ true) = and_parts (not (is_full s)) (is_due first.row moment) first.now in
-    let room : s.entries < 2 ^ 63 = leb-false (2 ^ 63) s.entries (not-true (is_full s) up.0) in
+    let room : s.entries < all_entries = leb-false all_entries s.entries (not-true (is_full s) up.0) in
     omega (arith, few, few_admitted s, k.held)
 
 pub Sound-ticks : LowerLaws → (old new : Shelf) (moment added wanting : ℕ) → Sound old → Ticks old moment added wanting new → Sound new
 Sound-ticks law old new moment added wanting s g =
-    let few : length g.due ≤ 4096 = omega (arith, g.added_is, g.wanting_is, few_pass (due_at old moment) old.rows, s.held) in
+    let few : length g.due ≤ most_dialogues = omega (arith, g.added_is, g.wanting_is, few_pass (due_at old moment) old.rows, s.held) in
     let log = cond (nat_eq (added + wanting) 0) old.log (logged old.log (line.Tick moment added wanting)) in
     let sound = Sound-ticked law g.due old new.rows moment log s (apart old moment g.due g.in_order g.are_due) (can_all old moment g.due g.are_due) g.rows (limit_by old moment g.due s g.are_due few) in
     let path : ticked old new.rows g.due log ≡ shelf_of old (old.entries + added) new.rows (old.ready ++ idle_among old.rows g.due) old.totals log =

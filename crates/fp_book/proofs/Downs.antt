@@ -126,6 +126,7 @@ Sound-down law out old step new s still g =
     let sound : Sound then =
     record {
       links = s.links;
+      tags = s.tags;
       serials = s.serials;
       serial_count = λ up. absurd (false≢true (sym up));
       births = s.births;

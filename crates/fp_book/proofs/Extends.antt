@@ -1,6 +1,6 @@
 -- Messages that dialogues accept, that open one or end one, and dialogues that are closed: all that keeps what a book
 -- keeps.
-use Rattle.fp_book.proofs.Names.{AreBorn, AreSerials, Bool, ByPeer, Closed, ClosesDialogue, Content, Ending, Ends, EndsDialogue, Entry, Extends, ExtendsDialogue, FramesStay, IsSame, List, LoggedStep, None, OpensDialogue, Option, Posted, Prepared, Request, Row, Shelf, Some, Sound, Tid, [], and_left, and_right, ap, append-nil, append_assoc, arith, being_sent, component_count, cond, ended_by, entries_in, eqb, false, false≢true, frame_of, frame_out, frames_for, frames_of, has_turn_out, identifier, is_admitted, is_closed, is_frame_of, is_held, is_over, is_ready, is_some, joins, kept_of, le_refl, length, length-append, length-map, length-take-le, logged, more_accepted, nat_lt, not, octets_of, one_if, option_map_or, or_cases, or_left, or_right, posted_line, ready_stays, refl, requests_of, sending, sent_of, subst, sum_of, sym, take, take-append-le, take_all, true, turns_of, unsent_for, unsent_frames, waits, with_dialogue, with_row, without, without_frames_of, zero-add, ℕ, ⊎_elim, ◌&&◌, ◌++◌, ◌+◌, ◌<◌, ◌^◌, ◌||◌, ◌∙◌, ◌∷◌, ◌≡◌, ◌≤◌, ◌⊎◌}
+use Rattle.fp_book.proofs.Names.{AreBorn, AreSerials, Bool, ByPeer, Closed, ClosesDialogue, Content, Ending, Ends, EndsDialogue, Entry, Extends, ExtendsDialogue, FramesStay, IsSame, List, LoggedStep, None, OpensDialogue, Option, Posted, Prepared, Request, Row, Shelf, Some, Sound, Tid, [], all_entries, and_left, and_right, ap, append-nil, append_assoc, arith, base, being_sent, component_count, cond, ended_by, entries_in, eqb, false, false≢true, frame_of, frame_out, frames_for, frames_of, has_turn_out, identifier, is_admitted, is_closed, is_frame_of, is_held, is_over, is_ready, is_some, joins, kept_of, le_refl, length, length-append, length-map, length-take-le, logged, more_accepted, most_dialogues, most_elements, most_places, nat_lt, not, octets_of, one_if, option_map_or, or_cases, or_left, or_right, posted_line, ready_stays, refl, requests_of, sending, sent_of, subst, sum_of, sym, take, take-append-le, take_all, true, turns_of, unsent_for, unsent_frames, waits, with_dialogue, with_row, without, without_frames_of, zero-add, ℕ, ⊎_elim, ◌&&◌, ◌++◌, ◌+◌, ◌<◌, ◌^◌, ◌||◌, ◌∙◌, ◌∷◌, ◌≡◌, ◌≤◌, ◌⊎◌, ◌*◌}
 use Rattle.fp_book.proofs.LowerLaws.{LowerLaws}
 use Rattle.std.specs.FinMap as map
 use Rattle.fp_book.proofs.Born.{born_append, born_back, born_fewer, born_front, born_none, none_unsent}
@@ -45,7 +45,7 @@ few_admitted s = omega (arith, len-sum s.rows, sum-le admitted one s.rows (λ ro
 
 -- one that is there has accepted entries
 pub Sound-extended : LowerLaws → (old : Shelf) (local : ℕ) (before after : Row) (more : List Entry) (joins_it : Bool) (log : List LoggedStep) → Sound old → map.get old.rows local ≡ Some before
-    → Extends before more after → one_if (is_ready before) + one_if joins_it ≡ one_if (is_ready after) → old.entries + length more + sum_of admitted old.rows ≤ 2 ^ 63 + 8192
+    → Extends before more after → one_if (is_ready before) + one_if joins_it ≡ one_if (is_ready after) → old.entries + length more + sum_of admitted old.rows ≤ all_entries + 2 * most_dialogues
     → Sound (record old {
       entries = old.entries + length more;
       rows = map.insert old.rows local after;
@@ -60,17 +60,17 @@ Sound-extended law old l before after more joins_it log s was extends join limit
     (Sound-stays law old l before after more (old.entries + length more) (old.totals.accepted + component_count more) queue log s was extends.same extends.accepted extends.stay extends.ended
     (queue_joins old.ready l joins_it (ready before) (ready after) (ready_at old l (Some before) s was) join) (omega (arith, s.places, extends.out)) refl refl limit)
 
-pub Sound-extends : LowerLaws → (old new : Shelf) (local : ℕ) (came : Prepared) (answer : Posted) → Sound old → ExtendsDialogue old local came answer new → old.entries < 2 ^ 63
-    → length (entries_in came) ≤ 17 → Sound new
+pub Sound-extends : LowerLaws → (old new : Shelf) (local : ℕ) (came : Prepared) (answer : Posted) → Sound old → ExtendsDialogue old local came answer new → old.entries < all_entries
+    → length (entries_in came) ≤ most_elements + 1 → Sound new
 Sound-extends law old new local came answer s g room few =
     subst Sound (sym g.new_is)
     (Sound-extended law old local g.before g.after (entries_in came) (not (is_ready g.before) && is_ready g.after) (logged old.log (posted_line came answer)) s g.was g.extends
     (joined (is_ready g.before) (is_ready g.after) g.extends.ready_stays) (omega (arith, room, few, few_admitted old, s.held)))
 
-pub Sound-opens : LowerLaws → (old new : Shelf) (peer : Tid) (came : Prepared) (answer : Posted) → Sound old → OpensDialogue old peer came answer new → old.is_down ≡ false → old.entries < 2 ^ 63
-    → length (entries_in came) ≤ 17 → 0 < length (entries_in came) → map.len old.rows < 4096 → Sound new
+pub Sound-opens : LowerLaws → (old new : Shelf) (peer : Tid) (came : Prepared) (answer : Posted) → Sound old → OpensDialogue old peer came answer new → old.is_down ≡ false → old.entries < all_entries
+    → length (entries_in came) ≤ most_elements + 1 → 0 < length (entries_in came) → map.len old.rows < most_dialogues → Sound new
 Sound-opens law old new peer came answer s g up room few some places =
-    let l = identifier old.link g.serial in
+    let l = identifier (base old) g.serial in
     let more = entries_in came in
     let after = g.after in
     let was : map.get old.rows l ≡ None = is_fresh old g.serial g.rest s g.first in
@@ -196,7 +196,7 @@ same_both a b c f g = record { local = g.local ∙ f.local; peer = g.peer ∙ f.
 Sound-ended : LowerLaws → (ending : Ending) (old : Shelf) (local : ℕ) (before middle after : Row) (more : List Entry) (entries accepted : ℕ) (queue : List ℕ) (log : List LoggedStep) → Sound old
     → map.get old.rows local ≡ Some before → IsSame before middle → middle.accepted ≡ before.accepted ++ more → FramesStay before middle → middle.out ≡ before.out
     → Ends ending (is_frame_of local old.outbox.out) middle after → (old.is_down ≡ true → after.ended ≡ Some Closed) → QueueChanges old.ready queue local (ready before) (ready after)
-    → entries ≡ old.entries + length more → accepted ≡ old.totals.accepted + component_count more → entries + sum_of admitted old.rows ≤ 2 ^ 63 + 8192 + admitted before
+    → entries ≡ old.entries + length more → accepted ≡ old.totals.accepted + component_count more → entries + sum_of admitted old.rows ≤ all_entries + 2 * most_dialogues + admitted before
     → Sound (record (with_dialogue old local after) {
       entries = entries;
       ready = queue;
@@ -248,14 +248,14 @@ Sound-ended law ending old l before middle after more entries accepted queue log
     })
 
 pub Sound-ends : LowerLaws → (old new : Shelf) (local : ℕ) (came : Prepared) (answer : Posted) → Sound old → EndsDialogue old local came answer new → option_map_or is_admitted (map.get old.rows local) false ≡ true
-    → ((old.entries < 2 ^ 63) × (length (entries_in came) ≤ 17)) ⊎ (length (entries_in came) ≤ 1) → Sound new
+    → ((old.entries < all_entries) × (length (entries_in came) ≤ most_elements + 1)) ⊎ (length (entries_in came) ≤ 1) → Sound new
 Sound-ends law old new local came answer s g takes_more limit =
     let more = entries_in came in
     let join : ready g.before + one_if (not (is_ready g.before) && is_ready g.after) ≡ ready g.after =
     joined (is_ready g.before) (is_ready g.after) (λ e. served_on (is_frame_of local old.outbox.out) g.extended g.after g.ends ∙ g.extends.ready_stays e) in
     let was_admitted : admitted g.before ≡ 1 = ap one_if (sym (ap (λ o. option_map_or is_admitted o false) g.was) ∙ takes_more) in
-    let room : old.entries + length more + sum_of admitted old.rows ≤ 2 ^ 63 + 8192 + admitted g.before =
-    ⊎_elim (λ h. let room : old.entries < 2 ^ 63 = h.0 in let few : length more ≤ 17 = h.1 in omega (arith, few_admitted old, s.held)) (λ h. omega (arith, h, s.entries, was_admitted)) limit in
+    let room : old.entries + length more + sum_of admitted old.rows ≤ all_entries + 2 * most_dialogues + admitted g.before =
+    ⊎_elim (λ h. let room : old.entries < all_entries = h.0 in let few : length more ≤ most_elements + 1 = h.1 in omega (arith, few_admitted old, s.held)) (λ h. omega (arith, h, s.entries, was_admitted)) limit in
     subst Sound (sym g.new_is)
     (Sound-ended law ByPeer old local g.before g.extended g.after more (old.entries + length more) (old.totals.accepted + component_count more) (old.ready ++ joins local (not (is_ready g.before) && is_ready g.after))
     (logged old.log (posted_line came answer)) s g.was g.extends.same g.extends.accepted g.extends.stay g.extends.out g.ends

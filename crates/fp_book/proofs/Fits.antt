@@ -1,32 +1,32 @@
 -- What the verdict on a message has made sure of.
-use Rattle.fp_book.proofs.Names.{Abort, Arrival, Begin, Bool, Continue, Discard, End, Extend, Fault, Ids, Incoming, Kind, Lost, Message, None, Open, Option, Prepared, Refuse, Refused, Rule, Shelf, Some, Tid, Unidirectional, Verdict, ap, arith, arrival_of, cond, cond_both, entries_in, eqb-false, facts_with, false, first_that_fits, inl, inr, is_admitted, is_full, lacks_room, leb-false, leb-true, length, ltb-false, named, nat_eq, nat_le, nat_lt, not, not-true, number_of, octets_of, option_and_then, option_map_or, or_parts, place_count, refl, rules_up, subst, too_many, true, verdict, verdict_by, ℕ, ⊤, ◌+◌, ◌<◌, ◌^◌, ◌||◌, ◌∙◌, ◌≡◌, ◌≢◌, ◌≤◌, ◌⊎◌}
+use Rattle.fp_book.proofs.Names.{Abort, Arrival, Begin, Bool, Continue, Discard, End, Extend, Fault, Ids, Incoming, Kind, Lost, Message, None, Open, Option, Prepared, Refuse, Refused, Rule, Shelf, Some, Tid, Unidirectional, Verdict, ap, arith, arrival_of, cond, cond_both, entries_in, eqb-false, facts_with, false, first_that_fits, inl, inr, is_admitted, is_full, lacks_room, leb-false, leb-true, length, ltb-false, named, nat_eq, nat_le, nat_lt, not, not-true, number_of, octets_of, option_and_then, option_map_or, or_parts, place_count, refl, rules_up, subst, too_many, true, verdict, verdict_by, ℕ, ⊤, ◌+◌, ◌<◌, ◌^◌, ◌||◌, ◌∙◌, ◌≡◌, ◌≢◌, ◌≤◌, ◌⊎◌, most_dialogues, all_entries, most_unserved, most_elements}
 use Rattle.std.specs.FinMap as map
 use Rattle.fp_book.proofs.Tells.{names_by}
 use Rattle.fp_q773.specs.declared.provider_abort.AbortCause.TheVariants as cause
 
 -- there is room for the entries
 pub record CanGrow (s : Shelf) (came : Prepared) : Type 0 where
-  pub few : length (entries_in came) ≤ 17
-  pub room : s.entries < 2 ^ 63
+  pub few : length (entries_in came) ≤ most_elements + 1
+  pub room : s.entries < all_entries
 
 -- the dialogue takes messages, and there is room for the entries
 pub record CanAccept (s : Shelf) (local : ℕ) (came : Prepared) : Type 0 where
   pub admitted : option_map_or is_admitted (map.get s.rows local) false ≡ true
-  pub few : length (entries_in came) ≤ 17
-  pub room : s.entries < 2 ^ 63
+  pub few : length (entries_in came) ≤ most_elements + 1
+  pub room : s.entries < all_entries
 
 -- there is room for one more dialogue
 pub record CanOpen (s : Shelf) (came : Prepared) : Type 0 where
   pub up : s.is_down ≡ false
   pub grow : CanGrow s came
-  pub rows : map.len s.rows < 4096
+  pub rows : map.len s.rows < most_dialogues
   pub some : 0 < length (entries_in came)
 
 -- the dialogue takes messages, and its peer ends it
 pub record CanEnd (s : Shelf) (local : ℕ) (came : Prepared) : Type 0 where
   pub admitted : option_map_or is_admitted (map.get s.rows local) false ≡ true
-  pub few : length (entries_in came) ≤ 17
-  pub limit : ((s.entries < 2 ^ 63) × (length (entries_in came) ≤ 17)) ⊎ (length (entries_in came) ≤ 1)
+  pub few : length (entries_in came) ≤ most_elements + 1
+  pub limit : ((s.entries < all_entries) × (length (entries_in came) ≤ most_elements + 1)) ⊎ (length (entries_in came) ≤ 1)
 
 -- a dialogue that is named takes messages
 abbrev pub IsKnown : Shelf → Option ℕ → Type 0
@@ -49,7 +49,7 @@ Allowed s came (Extend local true) = CanEnd s local came
 abbrev AllowedRule : Shelf → Prepared → Rule → Type 0
 AllowedRule s came Rule.Open = CanOpen s came
 AllowedRule s came (Rule.Extend false) = CanGrow s came
-AllowedRule s came (Rule.Extend true) = (length (entries_in came) ≤ 17) × (((s.entries < 2 ^ 63) × (length (entries_in came) ≤ 17)) ⊎ (length (entries_in came) ≤ 1))
+AllowedRule s came (Rule.Extend true) = (length (entries_in came) ≤ most_elements + 1) × (((s.entries < all_entries) × (length (entries_in came) ≤ most_elements + 1)) ⊎ (length (entries_in came) ≤ 1))
 AllowedRule s came rule = ⊤
 
 lost_fits : (s : Shelf) (o : Option ℕ) (arrival : Arrival) (kind : Kind) → AllowedRule s (Lost arrival) (first_that_fits (rules_up (facts_with s o) (Lost arrival) kind))
@@ -65,31 +65,31 @@ refused_fits s o arrival fault kind = tt
 -- a message for which room doesn't lack
 can_grow : (s : Shelf) (o : Option ℕ) (arrival : Arrival) (incoming : Incoming) → lacks_room (facts_with s o) (Message arrival incoming) ≡ false → CanGrow s (Message arrival incoming)
 can_grow s o arrival incoming e =
-    let places = nat_lt 64 ((facts_with s o).unserved + place_count incoming.entries) in
+    let places = nat_lt most_unserved ((facts_with s o).unserved + place_count incoming.entries) in
     let a : (too_many incoming ≡ false) × ((places || is_full s) ≡ false) = or_parts (too_many incoming) (places || is_full s) e in
     let b : (places ≡ false) × (is_full s ≡ false) = or_parts places (is_full s) a.1 in
-    let long : nat_lt 17 (length incoming.entries) ≡ false = (or_parts (nat_lt 16 incoming.elements) (nat_lt 17 (length incoming.entries)) a.0).1 in
-    record { few = ltb-false 17 (length incoming.entries) long; room = leb-false (2 ^ 63) s.entries b.1 }
+    let long : nat_lt (most_elements + 1) (length incoming.entries) ≡ false = (or_parts (nat_lt most_elements incoming.elements) (nat_lt (most_elements + 1) (length incoming.entries)) a.0).1 in
+    record { few = ltb-false (most_elements + 1) (length incoming.entries) long; room = leb-false all_entries s.entries b.1 }
 
 begin_fits : (s : Shelf) (o : Option ℕ) (arrival : Arrival) (incoming : Incoming) → s.is_down ≡ false → AllowedRule s (Message arrival incoming) (first_that_fits (rules_up (facts_with s o) (Message arrival incoming) Begin))
 begin_fits s o arrival incoming up =
     let came : Prepared = Message arrival incoming in
     let lacks = lacks_room (facts_with s o) came in
-    let held = nat_le 4096 (map.len s.rows) in
+    let held = nat_le most_dialogues (map.len s.rows) in
     let away : Rule = Rule.Refuse (Some cause.ResourceLimitation) in
     let some = not (nat_eq (length incoming.entries) 0) in
     cond_both (lacks || held) away (cond some Rule.Open Rule.Discard) (AllowedRule s came) (λ _. tt) (λ e.
     cond_both some Rule.Open Rule.Discard (AllowedRule s came) (λ any.
     let a : (lacks ≡ false) × (held ≡ false) = or_parts lacks held e in
-    record { up = up; grow = can_grow s o arrival incoming a.0; rows = leb-false 4096 (map.len s.rows) a.1; some = let other : length incoming.entries ≢ 0 = eqb-false (length incoming.entries) 0 (not-true (nat_eq (length incoming.entries) 0) any) in omega (arith, other) })
+    record { up = up; grow = can_grow s o arrival incoming a.0; rows = leb-false most_dialogues (map.len s.rows) a.1; some = let other : length incoming.entries ≢ 0 = eqb-false (length incoming.entries) 0 (not-true (nat_eq (length incoming.entries) 0) any) in omega (arith, other) })
     (λ _. tt))
 
 -- a Continue or an End that names a dialogue
 more_fits : (s : Shelf) (o : Option ℕ) (arrival : Arrival) (incoming : Incoming) (taken : Rule) → (CanGrow s (Message arrival incoming) → AllowedRule s (Message arrival incoming) taken)
-    → AllowedRule s (Message arrival incoming) (cond (lacks_room (facts_with s o) (Message arrival incoming) || false) (Rule.Refuse (Some cause.ResourceLimitation)) taken)
+    → AllowedRule s (Message arrival incoming) (cond (lacks_room (facts_with s o) (Message arrival incoming)) (Rule.Refuse (Some cause.ResourceLimitation)) taken)
 more_fits s o arrival incoming taken fits =
     let lacks = lacks_room (facts_with s o) (Message arrival incoming) in
-    cond_both (lacks || false) (Rule.Refuse (Some cause.ResourceLimitation)) taken (AllowedRule s (Message arrival incoming)) (λ _. tt) (λ e. fits (can_grow s o arrival incoming (or_parts lacks false e).0))
+    cond_both lacks (Rule.Refuse (Some cause.ResourceLimitation)) taken (AllowedRule s (Message arrival incoming)) (λ _. tt) (λ room. fits (can_grow s o arrival incoming room))
 
 message_fits : (s : Shelf) (o : Option ℕ) (arrival : Arrival) (incoming : Incoming) (kind : Kind) → s.is_down ≡ false
     → AllowedRule s (Message arrival incoming) (first_that_fits (rules_up (facts_with s o) (Message arrival incoming) kind))
@@ -130,11 +130,11 @@ verdict_allowed s came =
     cond_both s.is_down Rule.Discard others (λ rule. Allowed s came (verdict_by rule o ids.orig)) (λ _. tt) (λ up. fits_by s came others o ids.orig up (named_known s ids) (up_fits s o came ids.kind up))
 
 -- so a dialogue that accepts a message takes it, and it has few entries
-extend_by : (s : Shelf) (came : Prepared) (local : ℕ) (ends : Bool) → Allowed s came (Extend local ends) → (option_map_or is_admitted (map.get s.rows local) false ≡ true) × (length (entries_in came) ≤ 17)
+extend_by : (s : Shelf) (came : Prepared) (local : ℕ) (ends : Bool) → Allowed s came (Extend local ends) → (option_map_or is_admitted (map.get s.rows local) false ≡ true) × (length (entries_in came) ≤ most_elements + 1)
 extend_by s came local false can = (can.admitted, can.few)
 extend_by s came local true can = (can.admitted, can.few)
 
-pub can_extend : (t s : Shelf) (came : Prepared) (local : ℕ) (ends : Bool) → t ≡ s → verdict s came ≡ Extend local ends → (option_map_or is_admitted (map.get t.rows local) false ≡ true) × (length (entries_in came) ≤ 17)
+pub can_extend : (t s : Shelf) (came : Prepared) (local : ℕ) (ends : Bool) → t ≡ s → verdict s came ≡ Extend local ends → (option_map_or is_admitted (map.get t.rows local) false ≡ true) × (length (entries_in came) ≤ most_elements + 1)
 can_extend t s came local ends same is = extend_by t came local ends (subst (Allowed t came) (ap (λ s. verdict s came) same ∙ is) (verdict_allowed t came))
 
 pub can_open : (t s : Shelf) (came : Prepared) (peer : Tid) → t ≡ s → verdict s came ≡ Open peer → CanOpen t came

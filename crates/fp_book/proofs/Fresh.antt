@@ -1,5 +1,5 @@
 -- A book on which nothing came yet keeps what a book keeps.
-use Rattle.fp_book.proofs.Names.{AllAreSerials, IsKept, None, Option, Row, Some, Sound, [], accepted_by, all_serials, ap, arith, deadline_at, empty_shelf, false, kept_of, length, nat_cmp, no_totals, nothing, of_row, ready_count, refl, sent_by, sent_of, served_by, subst, sum_of, sym, turns_of, ℕ, ◌++◌, ◌<◌, ◌∙◌, ◌≡◌}
+use Rattle.fp_book.proofs.Names.{AllAreSerials, IsKept, None, Option, Row, Some, Sound, [], accepted_by, all_entries, all_serials, ap, arith, deadline_at, empty_shelf, false, kept_of, last_tag, length, nat_cmp, no_totals, nothing, of_row, ready_count, refl, sent_by, sent_of, served_by, subst, sum_of, sym, turns_of, ℕ, ◌++◌, ◌<◌, ◌∙◌, ◌≡◌, ◌≤◌}
 use Rattle.std.specs.FinMap as map
 use Rattle.fp_book.proofs.Changes.{admitted, ready}
 use Rattle.fp_book.proofs.Kept.{leaves}
@@ -15,9 +15,10 @@ sum-empty f = sum-none f map.empty no_row
 no_own : (o : Option Row) (row : Row) → o ≡ None → o ≡ Some row → ⊥
 no_own o row none some = let clash : None ≡ Some row = sym none ∙ some in cc
 
-pub Sound-empty : AllAreSerials → (link : ℕ) → link < 8 → Sound (empty_shelf link)
-Sound-empty law link lt = record {
+pub Sound-empty : AllAreSerials → (link tag : ℕ) → link < 8 → tag ≤ last_tag → Sound (empty_shelf link tag)
+Sound-empty law link tag lt most = record {
   links = lt;
+  tags = most;
   serials = law.0;
   serial_count = λ _. omega (arith, law.1, map.len-empty nat_cmp Row);
   births = omega arith;
@@ -40,9 +41,10 @@ Sound-empty law link lt = record {
 }
 
 -- a book whose parts are empty is such a one
-pub kept-empty : AllAreSerials → (link : ℕ) → link < 8 → IsKept (record {
+pub kept-empty : AllAreSerials → (link tag : ℕ) → link < 8 → tag ≤ last_tag → IsKept (record {
   link = link;
-  ids = record { link = link; queue = all_serials };
+  tag = tag;
+  ids = record { link = link; tag = tag; queue = all_serials };
   births = 0;
   entries = 0;
   rows = map.empty;
@@ -54,6 +56,6 @@ pub kept-empty : AllAreSerials → (link : ℕ) → link < 8 → IsKept (record 
   log = [];
   is_down = false;
 })
-kept-empty law link lt =
-    (leaves _ no_totals (λ s. s ≡ empty_shelf link) (λ s e. subst Sound (sym e) (Sound-empty law link lt)) refl refl (sym (sum-empty turns_of))
+kept-empty law link tag lt most =
+    (leaves _ no_totals (λ s. s ≡ empty_shelf link tag) (λ s e. subst Sound (sym e) (Sound-empty law link tag lt most)) refl refl (sym (sum-empty turns_of))
     (λ local. map.get-empty nat_cmp local ∙ sym (ap deadline_at (no_row local)))).kept

@@ -1,5 +1,5 @@
 -- What a message does: a new dialogue, one that accepts it, or one that is closed for it, and the answer.
-use Rattle.fp_book.proofs.Names.{AbortCause, Accepted, Accepts, AnsweredBy, Answers, AreTimed, Bool, Closed, ClosesOne, EndsAt, Entry, Extend, Extends, ExtendsAt, Follows, Grows, Inside, IsKept, Left, List, LocalIds, LoggedStep, None, Opens, OpensAt, Option, Outbox, Posted, PostingKeepsSound, Prepared, Refuse, Refuses, Row, Shelf, Some, Tid, Totals, abort_for, and_parts, ap, arith, arrival_of, cond, entries_in, false, gone_with, inl, is_admitted, is_frame_of, is_held, is_over, is_ready, is_some, joins, left_as, length, logged, more_accepted, not, not-true, option_map_or, or_left, posted_line, refl, shelf_of, subst, sum_of, sym, takes_more, true, turns_of, verdict, with_deadline, with_dialogue, with_returned, without, without_frames_of, ℕ, ◌&&◌, ◌++◌, ◌+◌, ◌∙◌, ◌≡◌}
+use Rattle.fp_book.proofs.Names.{AbortCause, Accepted, Accepts, AnsweredBy, Answers, AreTimed, Bool, Closed, ClosesOne, EndsAt, Entry, Extend, Extends, ExtendsAt, Follows, Grows, Inside, IsKept, Left, List, LocalIds, LoggedStep, None, Opens, OpensAt, Option, Outbox, Posted, PostingKeepsSound, Prepared, Refuse, Refuses, Row, Shelf, Some, Tid, Totals, abort_for, and_parts, ap, arith, arrival_of, cond, entries_in, false, gone_with, inl, is_admitted, is_frame_of, is_held, is_over, is_ready, is_some, joins, left_as, length, link_with_tag, logged, more_accepted, not, not-true, option_map_or, or_left, posted_line, refl, shelf_of, subst, sum_of, sym, takes_more, true, turns_of, verdict, with_deadline, with_dialogue, with_returned, without, without_frames_of, ℕ, ◌&&◌, ◌++◌, ◌+◌, ◌∙◌, ◌≡◌}
 use Rattle.std.specs.FinMap as map
 use Rattle.fp_book.proofs.Serials.{freed, linked}
 use Rattle.fp_book.proofs.Sums.{Rows}
@@ -95,7 +95,7 @@ pub record ClosedAs (b m : Inside) (closes : Option ℕ) : Type 0 where
   pub gone : Totals
   pub closing : ClosesOne (shelf_of b) closes (seen_with m gone)
   pub aborts : m.outbox.aborts ≡ b.outbox.aborts
-  pub links : m.ids.link ≡ m.link
+  pub links : link_with_tag m.ids.link m.ids.tag ≡ link_with_tag m.link m.tag
   pub turns : m.turns ≡ sum_of turns_of m.rows
   pub timed : AreTimed m.deadlines m.rows
 

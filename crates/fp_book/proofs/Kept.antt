@@ -1,5 +1,5 @@
 -- What a book keeps if one of its dialogues changes, and what a call may rely on.
-use Rattle.fp_book.proofs.Names.{AreTimed, Changes, HasRoom, Inside, IsKept, List, LoggedStep, None, Option, Outbox, Row, Shelf, Some, Sound, Totals, accepted_by, ap, arith, cond, deadline_at, deadline_of, eq-eqb, eqb, false, gone_of, has_clock, inl, inr, is_admitted, is_ready, is_some, length, nat_cmp, next_due, not, one_if, refl, sent_by, served_by, shelf_of, subst, sum_of, sym, turns_of, with_deadline, ℕ, ◌&&◌, ◌+◌, ◌-◌, ◌<◌, ◌^◌, ◌∙◌, ◌≡◌, ◌≤◌}
+use Rattle.fp_book.proofs.Names.{AreTimed, Changes, HasRoom, Inside, IsKept, List, LoggedStep, None, Option, Outbox, Row, Shelf, Some, Sound, Totals, accepted_by, all_entries, ap, arith, cond, deadline_at, deadline_of, eq-eqb, eqb, false, gone_of, has_clock, inl, inr, is_admitted, is_ready, is_some, length, link_with_tag, most_dialogues, most_places, nat_cmp, next_due, not, one_if, refl, sent_by, served_by, shelf_of, subst, sum_of, sym, turns_of, with_deadline, ℕ, ◌&&◌, ◌+◌, ◌-◌, ◌<◌, ◌^◌, ◌∙◌, ◌≡◌, ◌≤◌, ◌*◌}
 use Rattle.std.specs.FinMap as map
 use Rattle.fp_book.proofs.Changes.{by_held, by_local, not_held, one_if_most, ready, turns_left}
 use Rattle.fp_book.proofs.Sums.{OneChanges, Rows, amount, get-inserted, get-removed, inserted, kept, left_of, len-sum, removed, sum-le, sum-zero, sums-le, zero_of}
@@ -22,7 +22,7 @@ pub record Leaves (b : Inside) (Is : Shelf → Type 0) : Type 0 where
   pub is : Is (shelf_of b)
 
 -- so it is, if this holds of what is seen of its parts, and what it holds of is sound
-pub leaves : (b : Inside) (gone : Totals) (Is : Shelf → Type 0) → ((s : Shelf) → Is s → Sound s) → Is (seen_with b gone) → b.ids.link ≡ b.link → b.turns ≡ sum_of turns_of b.rows → AreTimed b.deadlines b.rows
+pub leaves : (b : Inside) (gone : Totals) (Is : Shelf → Type 0) → ((s : Shelf) → Is s → Sound s) → Is (seen_with b gone) → link_with_tag b.ids.link b.ids.tag ≡ link_with_tag b.link b.tag → b.turns ≡ sum_of turns_of b.rows → AreTimed b.deadlines b.rows
     → Leaves b Is
 leaves b gone Is law is links turns timed =
     let sound : Sound (seen_with b gone) = law (seen_with b gone) is in
@@ -105,7 +105,7 @@ few_deadlines m rows none =
     omega (arith, sums-le zero_of (λ _. 1) (λ _. 1) zero_of rows m none (λ q row is. one_at_most (map.get m q)), len-sum m, len-sum rows, sum-zero m, sum-zero rows)
 
 -- so a new dialogue has room for one
-pub room_for_new : (m : Deadlines) (rows : Rows) (local : ℕ) → AreTimed m rows → map.len rows < 4096 → HasRoom m local
+pub room_for_new : (m : Deadlines) (rows : Rows) (local : ℕ) → AreTimed m rows → map.len rows < most_dialogues → HasRoom m local
 room_for_new m rows local timed few = inr (omega (arith, few_deadlines m rows (none_timed m rows timed)))
 
 -- and so has one that is there
@@ -115,14 +115,14 @@ none_without m rows local timed none q gone =
     (λ _. none)
     (λ ne e. none_timed m rows timed q (sym ((removed rows local (map.get rows local) refl).others q ne) ∙ e)) gone
 
-room_by : (m : Deadlines) (rows : Rows) (local : ℕ) (row : Row) → AreTimed m rows → map.get rows local ≡ Some row → map.len rows ≤ 4096 → (o : Option ℕ) → map.get m local ≡ o → HasRoom m local
+room_by : (m : Deadlines) (rows : Rows) (local : ℕ) (row : Row) → AreTimed m rows → map.get rows local ≡ Some row → map.len rows ≤ most_dialogues → (o : Option ℕ) → map.get m local ≡ o → HasRoom m local
 room_by m rows local row timed was few (Some deadline) is = inl (ap is_some is)
 room_by m rows local row timed was few None is =
     let fewer : map.len m ≤ map.len (map.remove rows local) = few_deadlines m (map.remove rows local) (none_without m rows local timed is) in
     let sums : sum_of (λ _. 1) (map.remove rows local) + 0 + 1 ≡ sum_of (λ _. 1) rows + 0 = omega (arith, (removed rows local (Some row) was).sums (λ _. 1)) in
     inr (omega (arith, fewer, sums, len-sum rows, len-sum (map.remove rows local)))
 
-pub room_for : (m : Deadlines) (rows : Rows) (local : ℕ) (row : Row) → AreTimed m rows → map.get rows local ≡ Some row → map.len rows ≤ 4096 → HasRoom m local
+pub room_for : (m : Deadlines) (rows : Rows) (local : ℕ) (row : Row) → AreTimed m rows → map.get rows local ≡ Some row → map.len rows ≤ most_dialogues → HasRoom m local
 room_for m rows local row timed was few = room_by m rows local row timed was few (map.get m local) refl
 
 -- what one dialogue adds is within the sum
@@ -138,26 +138,26 @@ sum_less f g rows local row le was less =
     omega (arith, a, b, c, less)
 
 -- a dialogue that isn't ready may join those that are
-pub place_of_idle : (rows : Rows) (queue : List ℕ) (local : ℕ) (row : Row) → length queue ≡ sum_of ready rows → map.len rows ≤ 4096 → map.get rows local ≡ Some row → is_ready row ≡ false → length queue < 4096
+pub place_of_idle : (rows : Rows) (queue : List ℕ) (local : ℕ) (row : Row) → length queue ≡ sum_of ready rows → map.len rows ≤ most_dialogues → map.get rows local ≡ Some row → is_ready row ≡ false → length queue < most_dialogues
 place_of_idle rows queue local row all held was idle =
     let less : sum_of ready rows < sum_of (λ _. 1) rows = sum_less ready (λ _. 1) rows local row (λ r. one_if_most (is_ready r)) was (omega (arith, ap one_if idle)) in
     omega (arith, less, all, held, len-sum rows)
 
-pub place_to_join : (s : Shelf) (local : ℕ) (row : Row) → Sound s → map.get s.rows local ≡ Some row → is_ready row ≡ false → length s.ready < 4096
+pub place_to_join : (s : Shelf) (local : ℕ) (row : Row) → Sound s → map.get s.rows local ≡ Some row → is_ready row ≡ false → length s.ready < most_dialogues
 place_to_join s local row k was idle = place_of_idle s.rows s.ready local row k.ready_length k.held was idle
 
 -- so may a new one
-pub place_for_new : (s : Shelf) → Sound s → map.len s.rows < 4096 → length s.ready < 4096
+pub place_for_new : (s : Shelf) → Sound s → map.len s.rows < most_dialogues → length s.ready < most_dialogues
 place_for_new s k few = omega (arith, k.ready_length, sum-le ready (λ _. 1) s.rows (λ r. one_if_most (is_ready r)), len-sum s.rows, few)
 
 -- the entries that are out hold a place each for its frame
-pub place_to_queue : (s : Shelf) (local : ℕ) (row : Row) (count : ℕ) → Sound s → map.get s.rows local ≡ Some row → count ≤ row.out → length s.outbox.frames + count ≤ 8192
+pub place_to_queue : (s : Shelf) (local : ℕ) (row : Row) (count : ℕ) → Sound s → map.get s.rows local ≡ Some row → count ≤ row.out → length s.outbox.frames + count ≤ most_places
 place_to_queue s local row count k was few =
     let here : turns_of row ≤ sum_of turns_of s.rows = amount_within turns_of s.rows local row was in
     omega (arith, here, few, k.places)
 
 -- no more entries are out than there are places
-pub out_few : (s : Shelf) (local : ℕ) (row : Row) → Sound s → map.get s.rows local ≡ Some row → row.out ≤ 8192
+pub out_few : (s : Shelf) (local : ℕ) (row : Row) → Sound s → map.get s.rows local ≡ Some row → row.out ≤ most_places
 out_few s local row k was =
     let here : turns_of row ≤ sum_of turns_of s.rows = amount_within turns_of s.rows local row was in
     omega (arith, here, k.places)
@@ -166,5 +166,5 @@ out_few s local row k was =
 pub few_served : (s : Shelf) → Sound s → s.totals.served ≤ s.entries
 few_served s k = omega (arith, k.served, k.all_entries, sum-le served_by (λ (row : Row). length row.accepted) s.rows (λ row. row.served_within))
 
-pub few_entries : (s : Shelf) → Sound s → s.entries ≤ 2 ^ 63 + 8192
+pub few_entries : (s : Shelf) → Sound s → s.entries ≤ all_entries + 2 * most_dialogues
 few_entries s k = omega (arith, k.entries)

@@ -1,5 +1,5 @@
 -- The names that the proofs of this crate use: of std, of the layers below and of `specs/`.
-pub use Rattle.std.proofs.Common.{All, AllPairs, Bool, Equal, Greater, IsSome, Less, List, None, Option, Ordering, Some, T, [], add-zero, ap, append-nil, append_assoc, arith, cond, count_by, drop, eqb, false, filter, get_or, if◌then◌else◌, inl, inr, is_eq, is_lt, is_none, is_some, le_refl, length, length-append, length-take-le, map, min, nat_eq, nat_le, nat_lt, not, option_map, option_to_list, refl, rules, slice_get, slice_index_or, subst, suc, sum_by, sym, take, take_all, true, unwrap_or, vec_capacity, vec_len, zero, zero-add, ℕ, ⊎_elim, ◌&&◌, ◌++◌, ◌+◌, ◌-◌, ◌<◌, ◌^◌, ◌||◌, ◌∙◌, ◌∷◌, ◌≡◌, ◌≢◌, ◌≤◌, ◌⊎◌}
+pub use Rattle.std.proofs.Common.{All, AllPairs, Bool, Equal, Greater, IsSome, Less, List, None, Option, Ordering, Some, T, [], add-zero, ap, append-nil, append_assoc, arith, cond, count_by, drop, eqb, false, filter, get_or, if◌then◌else◌, inl, inr, is_eq, is_lt, is_none, is_some, le_refl, length, length-append, length-take-le, map, min, nat_eq, nat_le, nat_lt, not, option_map, option_to_list, refl, rules, slice_get, slice_index_or, subst, suc, sum_by, sym, take, take_all, true, unwrap_or, vec_capacity, vec_len, zero, zero-add, ℕ, ⊎_elim, ◌&&◌, ◌++◌, ◌+◌, ◌-◌, ◌<◌, ◌^◌, ◌||◌, ◌∙◌, ◌∷◌, ◌≡◌, ◌≢◌, ◌≤◌, ◌⊎◌, ◌*◌}
 pub use Rattle.std.proofs.Math.Bool.{not-not, or-false, or-true, or_comm}
 pub use Rattle.std.proofs.lemmas.Bool.{and_from, and_left, and_parts, and_right, both_ways, cases_Bool, cond_both, eq-eqb, eqb-false, eqb-true, false_from_ne_true, false≢true, le-leb, leb-false, leb-true, lt-ltb, ltb-false, ltb-true, not-true, or_cases, or_left, or_parts, or_right}
 pub use Rattle.std.proofs.lemmas.Bool.Decides.{nat_tests}
@@ -58,25 +58,26 @@ pub use Rattle.fp_row.specs.Turn.{most_entries}
 pub use Rattle.fp_service.specs.Dialogue.{is_over, next_due}
 pub use Rattle.fp_service.specs.Laws.{AsksOnceAtMost}
 pub use Rattle.fp_service.specs.declared.request.Request.{Request}
-pub use Rattle.fp_tids.specs.Identifiers.{AreSerials, IsGiven, LocalIds, all_serials, first_of, identifier, is_free, serial_of, with_returned}
+pub use Rattle.fp_tids.specs.Identifiers.{AreSerials, IsGiven, LocalIds, all_serials, base_of, first_of, identifier, is_free, last_serial, last_tag, serial_of, with_returned}
 pub use Rattle.fp_tids.specs.Laws.{AllAreSerials, GivingLeavesSerials, ReturningKeepsSerials, SerialsAreShown, SerialsComeBackLast}
 pub use Rattle.fp_timers.specs.Deadlines.{ComesAfter, HasRoom, IsEarliestDue, IsEarliestDueAfter}
 pub use Rattle.fp_timers.specs.declared.timers.Timer.{Timer}
 pub use Rattle.fp_book.specs.Calls.{Answers, ClocksAt, ClosesDialogue, ClosesOne, ComesFirst, Discards, Due, EndsDialogue, ExtendsDialogue, Follows, GivesDone, GoesDown, Hands, IsDue, OpensDialogue, PicksParcel, Posts, PutsTurnBack, Queues, Refuses, Sends, SendsAbort, SendsFrame, Takes, TakesTurn, Ticks, Unsends, abort_for, are_some, asks_for_memory, closed_answer, due_at, entries_in, is_idle, joins, more_accepted, one_sent, more_served, posted_line, posted_totals, waiting_in, without}
-pub use Rattle.fp_book.specs.Clocking.{AreAgreed, Clocking, ClocksNext, Deadlines, IsDueIn, Stays, due_now, idle_among, is_among}
-pub use Rattle.fp_book.specs.Dialogues.{AnsweredBy, Changes, EndsAt, ExtendsAt, GivesAt, Grows, HandsOutAt, OpensAt, PutsBackAt, SendsAt, Drops, drops_frames, is_due_at, is_unsent, left_as, request_count, takes_more, with_deadline}
+pub use Rattle.fp_book.specs.proof_only.Clocking.{AreAgreed, Clocking, ClocksNext, Deadlines, IsDueIn, Stays, due_now, idle_among, is_among}
+pub use Rattle.fp_book.specs.proof_only.Dialogues.{AnsweredBy, Changes, EndsAt, ExtendsAt, GivesAt, Grows, HandsOutAt, OpensAt, PutsBackAt, SendsAt, Drops, drops_frames, is_due_at, is_unsent, left_as, request_count, takes_more, with_deadline}
 pub use Rattle.fp_book.specs.Holding.{IsQuiet, busy_count, is_busy}
 pub use Rattle.fp_book.specs.Laws.{DialoguesAreKeptInOrder, PostingKeepsSound, SerialsOfDialoguesComeBackLate, accounted, frames_under, is_told, told, turn_entries}
+pub use Rattle.fp_book.specs.Limits.{all_entries, most_aborts_waiting, most_dialogues, most_elements, most_lines, most_places, most_unserved}
 pub use Rattle.fp_book.specs.Log.{Drains, gap_at_end, logged, lose_behind, lost_in, one_more}
 pub use Rattle.fp_book.specs.Outbox.{IsNext, Outbox, Picks, frames_held, is_of_other, nothing, places_out, being_sent, unsent_frames, waiting_frames, with_nothing_out, without_frames_of, without_waiting}
-pub use Rattle.fp_book.specs.Parcel.{birth_of, dialogue_of}
+pub use Rattle.fp_book.specs.Parcel.{birth_of, dialogue_of, is_frame_of}
 pub use Rattle.fp_book.specs.ReadyQueue.{IsEmptyIfNone, is_other}
 pub use Rattle.fp_book.specs.Receipt.{IsReceipt, accepted_components, treated_as}
 pub use Rattle.fp_book.specs.Rules.{ReadMessagesHaveFewEntries, admitted, facts_of, facts_with, first_that_fits, is_full, lacks_room, named, number_of, rule, rules_up, too_many, verdict, verdict_by}
-pub use Rattle.fp_book.specs.Sending.{dialogue_out, is_frame_of}
-pub use Rattle.fp_book.specs.Shelf.{AreBorn, IsOwn, Shelf, Sound, empty_shelf, frame_out, frames_for, free_with, gone_with, keep, no_totals, of_row, one_if, places_held, ready_count, turns_of, unsent_for, with_dialogue}
+pub use Rattle.fp_book.specs.proof_only.Sending.{dialogue_out}
+pub use Rattle.fp_book.specs.Shelf.{AreBorn, IsOwn, Shelf, Sound, base, empty_shelf, frame_out, frames_for, free_with, gone_with, keep, no_totals, of_row, one_if, places_held, ready_count, turns_of, unsent_for, with_dialogue}
 pub use Rattle.fp_book.specs.Totals.{accepted_by, sent_by, served_by, sum_of, with_row}
-pub use Rattle.fp_book.specs.Views.{AreTimed, IsKept, deadline_at, gone_of, shelf_of}
+pub use Rattle.fp_book.specs.proof_only.Views.{AreTimed, IsKept, deadline_at, gone_of, link_with_tag, shelf_of}
 pub use Rattle.fp_book.specs.declared.answers.Given.{Given}
 pub use Rattle.fp_book.specs.declared.answers.Posted.{Posted}
 pub use Rattle.fp_book.specs.declared.answers.Posted.TheVariants.{Accepted, Opened}

@@ -1,5 +1,5 @@
 -- A message that is posted keeps what a book keeps, whatever is done with it.
-use Rattle.fp_book.proofs.Names.{AbortCause, Answers, Bool, ClosesOne, Discard, Discards, Extend, Follows, List, LoggedStep, None, Open, Option, Outbox, Posted, Posts, Prepared, Queues, Refuse, Refuses, Shelf, Some, Sound, Tid, Verdict, [], abort_for, ap, arith, arrival_of, cond, false, false≢true, frames_held, le_refl, length, length-append, logged, ltb-true, nat_lt, posted_line, refl, subst, sym, true, verdict, ℕ, ⊎_elim, ◌++◌, ◌<◌, ◌∙◌, ◌∷◌, ◌≡◌}
+use Rattle.fp_book.proofs.Names.{AbortCause, Answers, Bool, ClosesOne, Discard, Discards, Extend, Follows, List, LoggedStep, None, Open, Option, Outbox, Posted, Posts, Prepared, Queues, Refuse, Refuses, Shelf, Some, Sound, Tid, Verdict, [], abort_for, ap, arith, arrival_of, cond, false, false≢true, frames_held, le_refl, length, length-append, logged, ltb-true, nat_lt, posted_line, refl, subst, sym, true, verdict, ℕ, ⊎_elim, ◌++◌, ◌<◌, ◌∙◌, ◌∷◌, ◌≡◌, most_aborts_waiting}
 use Rattle.fp_book.proofs.LowerLaws.{LowerLaws}
 use Rattle.fp_book.proofs.Extends.{Sound-closes, Sound-ends, Sound-extends, Sound-opens}
 use Rattle.fp_book.proofs.Fits.{Allowed, verdict_allowed}
@@ -19,16 +19,16 @@ closing law old closed None s e = (subst Sound (sym e) s, ap (λ (t : Shelf). t.
 closing law old closed (Some local) s g = (Sound-closes law old closed local s g, ap (λ (t : Shelf). t.outbox.aborts) g.new_is, ap (λ (t : Shelf). t.is_down) g.new_is)
 
 -- an Abort is sent only while there is a place for it
-room_by : (waiting : ℕ) (b : Bool) (o : Option (Tid × AbortCause)) (p : Tid × AbortCause) → nat_lt waiting 64 ≡ b → cond b o None ≡ Some p → waiting < 64
-room_by waiting true o p less e = ltb-true waiting 64 less
+room_by : (waiting : ℕ) (b : Bool) (o : Option (Tid × AbortCause)) (p : Tid × AbortCause) → nat_lt waiting most_aborts_waiting ≡ b → cond b o None ≡ Some p → waiting < most_aborts_waiting
+room_by waiting true o p less e = ltb-true waiting most_aborts_waiting less
 room_by waiting false o p less e = absurd (cc)
 
-room_for : (waiting : ℕ) (cause : Option AbortCause) (peer : Option Tid) (p : Tid × AbortCause) → abort_for waiting cause peer ≡ Some p → waiting < 64
+room_for : (waiting : ℕ) (cause : Option AbortCause) (peer : Option Tid) (p : Tid × AbortCause) → abort_for waiting cause peer ≡ Some p → waiting < most_aborts_waiting
 room_for waiting None peer p e = absurd (cc)
 room_for waiting (Some cause) None p e = absurd (cc)
-room_for waiting (Some cause) (Some peer) p e = room_by waiting (nat_lt waiting 64) (Some (peer, cause)) p refl e
+room_for waiting (Some cause) (Some peer) p e = room_by waiting (nat_lt waiting most_aborts_waiting) (Some (peer, cause)) p refl e
 
-Sound-queues : (old new : Shelf) (peer : Tid) (cause : AbortCause) → Sound old → old.is_down ≡ false → length old.outbox.aborts < 64 → Queues old peer cause new → Sound new
+Sound-queues : (old new : Shelf) (peer : Tid) (cause : AbortCause) → Sound old → old.is_down ≡ false → length old.outbox.aborts < most_aborts_waiting → Queues old peer cause new → Sound new
 Sound-queues old new peer cause s up room g =
     let outbox : Outbox = record old.outbox { aborts = old.outbox.aborts ++ g.frame ∷ [] } in
     let alike : WaitsAlike old outbox =
@@ -44,7 +44,7 @@ Sound-queues old new peer cause s up room g =
     subst Sound (sym g.new_is) (Sound-outbox old outbox old.log s alike)
 
 Sound-answers : (old new : Shelf) (closes : Option ℕ) (abort : Option (Tid × AbortCause)) (answer : Posted) → Sound old → old.is_down ≡ false
-    → ((p : Tid × AbortCause) → abort ≡ Some p → length old.outbox.aborts < 64) → Answers old closes abort answer new → Sound new
+    → ((p : Tid × AbortCause) → abort ≡ Some p → length old.outbox.aborts < most_aborts_waiting) → Answers old closes abort answer new → Sound new
 Sound-answers old new closes None answer s up room g = subst Sound (sym g.1) s
 Sound-answers old new closes (Some (peer, cause)) answer s up room g = Sound-queues old new peer cause s up (room (peer, cause) refl) g.1
 
@@ -55,7 +55,7 @@ Sound-refuses law old new cause closes came answer s up g =
     let abort = abort_for (length old.outbox.aborts) cause (arrival_of came).ids.orig in
     let answered : Sound g.answered =
     Sound-answers g.closed g.answered closes abort answer closed.0 (closed.2 ∙ up)
-    (λ p e. let few : length old.outbox.aborts < 64 = room_for (length old.outbox.aborts) cause (arrival_of came).ids.orig p e in omega (arith, ap length closed.1))
+    (λ p e. let few : length old.outbox.aborts < most_aborts_waiting = room_for (length old.outbox.aborts) cause (arrival_of came).ids.orig p e in omega (arith, ap length closed.1))
     g.answering
     in
     subst Sound (sym g.new_is) (Sound-logs g.answered (logged g.answered.log (posted_line came answer)) answered)

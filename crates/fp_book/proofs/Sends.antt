@@ -1,5 +1,5 @@
 -- To hand out what is sent next, and to take it back, keeps what a book keeps.
-use Rattle.fp_book.proofs.Names.{AbortFrame, AreBorn, Content, IsNext, List, LoggedStep, None, Outbox, PicksParcel, Sends, SendsAbort, SendsFrame, Shelf, Some, Sound, Waiting, [], ap, append-nil, append_assoc, arith, being_sent, birth_of, frame_out, frames_for, frames_held, is_some, kept_of, le_refl, length, logged, of_row, one_if, one_sent, places_out, refl, sent_of, subst, sym, true, unsent_for, unsent_frames, with_dialogue, with_nothing_out, ℕ, ◌++◌, ◌∙◌, ◌∷◌, ◌≡◌, ◌≤◌}
+use Rattle.fp_book.proofs.Names.{AbortFrame, AreBorn, Content, IsNext, List, LoggedStep, None, Outbox, PicksParcel, Sends, SendsAbort, SendsFrame, Shelf, Some, Sound, Waiting, [], ap, append-nil, append_assoc, arith, being_sent, birth_of, frame_out, frames_for, frames_held, is_some, kept_of, le_refl, length, logged, of_row, one_if, one_sent, places_out, refl, sent_of, subst, sym, true, unsent_for, unsent_frames, with_dialogue, with_nothing_out, ℕ, ◌++◌, ◌∙◌, ◌∷◌, ◌≡◌, ◌≤◌, all_entries, most_aborts_waiting}
 use Rattle.fp_book.proofs.LowerLaws.{LowerLaws}
 use Rattle.std.specs.FinMap as map
 use Rattle.fp_book.proofs.Born.{born_back}
@@ -17,7 +17,7 @@ pub record WaitsAlike (s : Shelf) (outbox : Outbox) : Type 0 where
   pub unsent : (d : ℕ) → unsent_for d outbox ≡ unsent_for d s.outbox
   pub all_unsent : unsent_frames outbox ≡ unsent_frames s.outbox
   pub places : frames_held outbox ≤ frames_held s.outbox
-  pub aborts : length outbox.aborts ≤ 64
+  pub aborts : length outbox.aborts ≤ most_aborts_waiting
   pub quiet : s.is_down ≡ true → (outbox.aborts ≡ []) × (outbox.frames ≡ [])
 
 -- no dialogue changes
@@ -26,6 +26,7 @@ Sound-outbox s outbox log k g =
     let then : Shelf = record s { outbox = outbox; log = log } in
     record {
       links = k.links;
+      tags = k.tags;
       serials = k.serials;
       serial_count = k.serial_count;
       births = k.births;

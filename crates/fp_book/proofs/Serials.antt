@@ -1,5 +1,5 @@
 -- The serials of a link: which may be given if one dialogue changes, comes or goes.
-use Rattle.fp_book.proofs.Names.{AreSerials, Bool, Inside, IsGiven, IsKept, List, LocalIds, None, Option, Row, Shelf, Some, Sound, [], ap, arith, cond, eq-eqb, eqb, eqb-true, false, false_from_ne_true, false≢true, free_with, identifier, is_free, is_held, length, length-append, list_any-append, or_left, or_parts, refl, serial_of, subst, sym, true, with_returned, ℕ, ◌++◌, ◌+◌, ◌||◌, ◌∙◌, ◌∷◌, ◌≡◌, ◌≤◌, SerialsAreShown, SerialsComeBackLast, SerialsOfDialoguesComeBackLate, drop, first_of, take}
+use Rattle.fp_book.proofs.Names.{AreSerials, Bool, Inside, IsGiven, IsKept, List, LocalIds, None, Option, Row, SerialsAreShown, SerialsComeBackLast, SerialsOfDialoguesComeBackLate, Shelf, Some, Sound, [], ap, arith, base, base_of, cond, drop, eq-eqb, eqb, eqb-true, false, false_from_ne_true, false≢true, first_of, free_with, identifier, is_free, is_held, last_serial, length, length-append, link_with_tag, list_any-append, most_dialogues, or_left, or_parts, refl, serial_of, subst, sym, take, true, with_returned, ℕ, ◌++◌, ◌+◌, ◌-◌, ◌||◌, ◌∙◌, ◌∷◌, ◌≡◌, ◌≤◌}
 use Rattle.std.specs.FinMap as map
 use Rattle.fp_book.proofs.LowerLaws.{LowerLaws}
 use Rattle.fp_book.proofs.Sums.{amount, left_of}
@@ -8,15 +8,15 @@ use Rattle.fp_book.proofs.Sums.{amount, left_of}
 pub record SerialsChange (s : Shelf) (free : List ℕ) (local : ℕ) (before left : Option Row) : Type 0 where
   pub serials : AreSerials free
   -- the serial of another dialogue isn't free
-  pub others : (d serial : ℕ) → eqb d local ≡ false → d ≡ identifier s.link serial → is_free serial s.free ≡ false → is_free serial free ≡ false
+  pub others : (d serial : ℕ) → eqb d local ≡ false → d ≡ identifier (base s) serial → is_free serial s.free ≡ false → is_free serial free ≡ false
   pub count : length free + amount (λ (row : Row). 1) left ≡ length s.free + amount (λ (row : Row). 1) before
 
 -- an identifier shows the serial of its dialogue
 pub own_serial : SerialsAreShown → (s : Shelf) (local : ℕ) (row : Row) → (k : Sound s) → (was : map.get s.rows local ≡ Some row) → serial_of local ≡ (k.own local row was).serial.0
 own_serial shown s local row k was =
     let own = (k.own local row was).serial in
-    let most : own.0 ≤ 131072 = own.2 in
-    ap serial_of own.3 ∙ shown s.link own.0 (omega (arith, most))
+    let most : own.0 ≤ last_serial = own.2 in
+    ap serial_of own.3 ∙ shown s.link s.tag own.0 own.1 most
 
 -- serials of two identifiers of a link are two
 two_serials : (link d local serial own : ℕ) → eqb d local ≡ false → d ≡ identifier link serial → local ≡ identifier link own → eqb serial own ≡ false
@@ -37,7 +37,7 @@ ended_by law s free local before after false k was is =
       serials = subst AreSerials (sym back) (law.ends own.0 s.free own.1 own.2 own.4 k.serials);
       others = λ d serial ne names absent.
           ap (is_free serial) back ∙ list_any-append (eqb serial) s.free (own.0 ∷ []) ∙ ap (λ b. b || (eqb serial own.0 || false)) absent
-          ∙ ap (λ b. b || false) (two_serials s.link d local serial own.0 ne names own.3);
+          ∙ ap (λ b. b || false) (two_serials (base s) d local serial own.0 ne names own.3);
       count = omega (arith, ap length back, length-append s.free (own.0 ∷ []));
     }
 
@@ -49,13 +49,13 @@ serials_end law s local before after k was = ended_by law s (free_with s.free lo
 pub held_free : (free : List ℕ) (local : ℕ) (after : Row) → is_held after ≡ true → free_with free local after ≡ free
 held_free free local after held = ap (λ b. cond b free (free ++ serial_of local ∷ [])) held
 
--- it comes back after all others: 126,976 at least, while at most 4,096 dialogues are held
+-- it comes back after all others: all serials but those of the dialogues that are held
 pub comes_back_late : SerialsAreShown → SerialsComeBackLast → SerialsOfDialoguesComeBackLate
 comes_back_late shown last s local row more k up was =
     let own = (k.own local row was).serial in
-    let count : length s.free + map.len s.rows ≡ 131072 = k.serial_count up in
-    let few : 126976 ≤ length s.free = omega (arith, count, k.held) in
-    subst (λ n. is_free n (take 126976 (s.free ++ n ∷ more)) ≡ false) (sym (own_serial shown s local row k was)) (last s.free more own.0 126976 own.4 few)
+    let count : length s.free + map.len s.rows ≡ last_serial = k.serial_count up in
+    let few : (last_serial - most_dialogues) ≤ length s.free = omega (arith, count, k.held) in
+    subst (λ n. is_free n (take (last_serial - most_dialogues) (s.free ++ n ∷ more)) ≡ false) (sym (own_serial shown s local row k was)) (last s.free more own.0 (last_serial - most_dialogues) own.4 few)
 
 -- what was given is the identifier of the front serial, and the others are left
 pub given_first : (link : ℕ) (queue rest : List ℕ) (local : ℕ) → Some local ≡ first_of link queue → rest ≡ drop 1 queue
@@ -74,16 +74,16 @@ serial_given law s serial rest local after k first held =
     }
 
 -- so it is no dialogue's yet
-fresh_by : (s : Shelf) (serial : ℕ) (rest : List ℕ) (o : Option Row) → Sound s → s.free ≡ serial ∷ rest → map.get s.rows (identifier s.link serial) ≡ o → o ≡ None
+fresh_by : (s : Shelf) (serial : ℕ) (rest : List ℕ) (o : Option Row) → Sound s → s.free ≡ serial ∷ rest → map.get s.rows (identifier (base s) serial) ≡ o → o ≡ None
 fresh_by s serial rest None k first e = refl
 fresh_by s serial rest (Some row) k first e =
-    let own = (k.own (identifier s.link serial) row e).serial in
-    let names : identifier s.link serial ≡ identifier s.link own.0 = own.3 in
+    let own = (k.own (identifier (base s) serial) row e).serial in
+    let names : identifier (base s) serial ≡ identifier (base s) own.0 = own.3 in
     let same : own.0 ≡ serial = omega (arith, names) in
     absurd (false≢true (sym own.4 ∙ ap (is_free own.0) first ∙ or_left (eqb own.0 serial) (is_free own.0 rest) (eq-eqb own.0 serial same)))
 
-pub is_fresh : (s : Shelf) (serial : ℕ) (rest : List ℕ) → Sound s → s.free ≡ serial ∷ rest → map.get s.rows (identifier s.link serial) ≡ None
-is_fresh s serial rest k first = fresh_by s serial rest (map.get s.rows (identifier s.link serial)) k first refl
+pub is_fresh : (s : Shelf) (serial : ℕ) (rest : List ℕ) → Sound s → s.free ≡ serial ∷ rest → map.get s.rows (identifier (base s) serial) ≡ None
+is_fresh s serial rest k first = fresh_by s serial rest (map.get s.rows (identifier (base s) serial)) k first refl
 
 -- the parts of a book
 
@@ -91,13 +91,17 @@ is_fresh s serial rest k first = fresh_by s serial rest (map.get s.rows (identif
 pub given_of : (b : Inside) (local : ℕ) (row : Row) → IsKept b → map.get b.rows local ≡ Some row → IsGiven b.ids local
 given_of b local row k was =
     let own = (k.sound.own local row was).serial in
-    (own.0, own.1, own.2, own.3 ∙ ap (λ l. identifier l own.0) (sym k.links), own.4)
+    (own.0, own.1, own.2, own.3 ∙ ap (λ (p : ℕ × ℕ). identifier (base_of p.0 p.1) own.0) (sym k.links), own.4)
 
 freed_by : (ids : LocalIds) (local : ℕ) (held : Bool) → (cond held ids (with_returned ids local)).queue ≡ cond held ids.queue (ids.queue ++ serial_of local ∷ [])
 freed_by ids local true = refl
 freed_by ids local false = refl
 
-linked_by : (ids : LocalIds) (local : ℕ) (held : Bool) → (cond held ids (with_returned ids local)).link ≡ ids.link
+-- the link and the tag of identifiers
+abbrev pub of_ids : LocalIds → ℕ × ℕ
+of_ids ids = link_with_tag ids.link ids.tag
+
+linked_by : (ids : LocalIds) (local : ℕ) (held : Bool) → of_ids (cond held ids (with_returned ids local)) ≡ of_ids ids
 linked_by ids local true = refl
 linked_by ids local false = refl
 
@@ -106,5 +110,5 @@ pub freed : (ids then : LocalIds) (local : ℕ) (held : Bool) (after : Row) → 
 freed ids then local held after is same =
     ap (λ (i : LocalIds). i.queue) is ∙ freed_by ids local held ∙ ap (λ b. cond b ids.queue (ids.queue ++ serial_of local ∷ [])) same
 
-pub linked : (ids then : LocalIds) (local : ℕ) (held : Bool) → then ≡ cond held ids (with_returned ids local) → then.link ≡ ids.link
-linked ids then local held is = ap (λ (i : LocalIds). i.link) is ∙ linked_by ids local held
+pub linked : (ids then : LocalIds) (local : ℕ) (held : Bool) → then ≡ cond held ids (with_returned ids local) → of_ids then ≡ of_ids ids
+linked ids then local held is = ap of_ids is ∙ linked_by ids local held

@@ -1,5 +1,5 @@
 -- What the verdict on a message says of it.
-use Rattle.fp_book.proofs.Names.{Abort, AbortCause, Answers, Arrival, Begin, Bool, ClosesOne, Continue, Discard, End, Extend, Facts, Fault, Follows, Ids, Incoming, Kind, Lost, Message, None, Open, Option, Posted, Prepared, Refuse, Refused, Rule, Shelf, Some, Tid, Unidirectional, Verdict, abort_for, admitted, ap, arrival_of, cond, cond_both, facts_of, false, first_that_fits, inl, inr, is_admitted, lacks_room, length, logged, named, nat_eq, nat_le, not, option_and_then, option_map_or, posted_line, refl, rule, rules_up, subst, true, verdict, verdict_by, ℕ, ⊤, ◌||◌, ◌∙◌, ◌≡◌, ◌⊎◌}
+use Rattle.fp_book.proofs.Names.{Abort, AbortCause, Answers, Arrival, Begin, Bool, ClosesOne, Continue, Discard, End, Extend, Facts, Fault, Follows, Ids, Incoming, Kind, Lost, Message, None, Open, Option, Posted, Prepared, Refuse, Refused, Rule, Shelf, Some, Tid, Unidirectional, Verdict, abort_for, admitted, ap, arrival_of, cond, cond_both, facts_of, false, first_that_fits, inl, inr, is_admitted, lacks_room, length, logged, named, nat_eq, nat_le, not, option_and_then, option_map_or, posted_line, refl, rule, rules_up, subst, true, verdict, verdict_by, ℕ, ⊤, ◌||◌, ◌∙◌, ◌≡◌, ◌⊎◌, most_dialogues}
 use Rattle.std.specs.FinMap as map
 use Rattle.fp_q773.specs.declared.provider_abort.AbortCause.TheVariants as cause
 
@@ -23,14 +23,14 @@ refused_of_kind f arrival fault kind = tt
 
 -- a Continue or an End that isn't refused extends its dialogue
 taken_of_kind : (f : Facts) (came : Prepared) (kind : Kind) (unnamed taken : Rule) → OfKind kind unnamed → OfKind kind taken
-    → OfKind kind (cond (not f.names_one) unnamed (cond (lacks_room f came || false) (Rule.Refuse (Some cause.ResourceLimitation)) taken))
+    → OfKind kind (cond (not f.names_one) unnamed (cond (lacks_room f came) (Rule.Refuse (Some cause.ResourceLimitation)) taken))
 taken_of_kind f came kind unnamed taken u t =
-    let more = cond (lacks_room f came || false) (Rule.Refuse (Some cause.ResourceLimitation)) taken in
-    cond_both (not f.names_one) unnamed more (OfKind kind) (λ _. u) (λ _. cond_both (lacks_room f came || false) (Rule.Refuse (Some cause.ResourceLimitation)) taken (OfKind kind) (λ _. tt) (λ _. t))
+    let more = cond (lacks_room f came) (Rule.Refuse (Some cause.ResourceLimitation)) taken in
+    cond_both (not f.names_one) unnamed more (OfKind kind) (λ _. u) (λ _. cond_both (lacks_room f came) (Rule.Refuse (Some cause.ResourceLimitation)) taken (OfKind kind) (λ _. tt) (λ _. t))
 
 message_of_kind : (f : Facts) (arrival : Arrival) (incoming : Incoming) (kind : Kind) → OfKind kind (first_that_fits (rules_up f (Message arrival incoming) kind))
 message_of_kind f arrival incoming Begin =
-    let lacks = lacks_room f (Message arrival incoming) || nat_le 4096 f.held in
+    let lacks = lacks_room f (Message arrival incoming) || nat_le most_dialogues f.held in
     let opens = cond (not (nat_eq (length incoming.entries) 0)) Rule.Open Rule.Discard in
     cond_both lacks (Rule.Refuse (Some cause.ResourceLimitation)) opens (OfKind Begin) (λ _. tt) (λ _. cond_both (not (nat_eq (length incoming.entries) 0)) Rule.Open Rule.Discard (OfKind Begin) (λ _. tt) (λ _. tt))
 message_of_kind f arrival incoming Continue = taken_of_kind f (Message arrival incoming) Continue (Rule.Refuse (Some cause.UnrecognizedTransactionIdentifier)) (Rule.Extend false) tt refl

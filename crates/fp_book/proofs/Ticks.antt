@@ -1,5 +1,5 @@
 -- One dialogue that is due is given a Clock, and so each; what a book is then.
-use Rattle.fp_book.proofs.Names.{All, All-nil, All-push, AreAgreed, AreTimed, Bool, Clocking, ClocksAt, ClocksNext, ComesAfter, ComesFirst, Deadlines, Due, Entry, Extends, IsDue, IsDueIn, IsEarliestDue, IsEarliestDueAfter, List, LoggedStep, None, Option, Row, Shelf, Some, Stays, Ticks, Timer, [], add-zero, all_pairs_push, ap, append-nil, append_assoc, arith, cond, count_by, deadline_at, deadline_of, drop, drop-append-le, due_at, due_now, eq-eqb, eqb, eqb-false, false, false_from_ne_true, false≢true, filter, filter-append, has_clock, idle_among, inl, inr, is_admitted, is_among, is_clock, is_due, is_full, is_idle, is_ready, is_some, joins, le-leb, length, length-append, list_any-append, logged, lt-ltb, map, map-append, nat_cmp, nat_cmp_total, nat_eq, nat_le, nat_tests, next_due, not, one_if, option_map_or, or-false, or-true, refl, slice_index_or, subst, suc, sum_by-append, sum_of, sym, true, turns_of, unserved, zero, ℕ, ⊎_elim, ◌&&◌, ◌++◌, ◌+◌, ◌-◌, ◌<◌, ◌||◌, ◌∙◌, ◌∷◌, ◌≡◌, ◌≤◌, ◌⊎◌}
+use Rattle.fp_book.proofs.Names.{All, All-nil, All-push, AreAgreed, AreTimed, Bool, Clocking, ClocksAt, ClocksNext, ComesAfter, ComesFirst, Deadlines, Due, Entry, Extends, IsDue, IsDueIn, IsEarliestDue, IsEarliestDueAfter, List, LoggedStep, None, Option, Row, Shelf, Some, Stays, Ticks, Timer, [], add-zero, all_pairs_push, ap, append-nil, append_assoc, arith, cond, count_by, deadline_at, deadline_of, drop, drop-append-le, due_at, due_now, eq-eqb, eqb, eqb-false, false, false_from_ne_true, false≢true, filter, filter-append, has_clock, idle_among, inl, inr, is_admitted, is_among, is_clock, is_due, is_full, is_idle, is_ready, is_some, joins, le-leb, length, length-append, list_any-append, logged, lt-ltb, map, map-append, nat_cmp, nat_cmp_total, nat_eq, nat_le, nat_tests, next_due, not, one_if, option_map_or, or-false, or-true, refl, slice_index_or, subst, suc, sum_by-append, sum_of, sym, true, turns_of, unserved, zero, ℕ, ⊎_elim, ◌&&◌, ◌++◌, ◌+◌, ◌-◌, ◌<◌, ◌||◌, ◌∙◌, ◌∷◌, ◌≡◌, ◌≤◌, ◌⊎◌, most_dialogues}
 use Rattle.std.specs.FinMap as map
 use Rattle.fp_book.proofs.Changes.{by_local, ready}
 use Rattle.fp_book.proofs.Sums.{Rows, len-sum, sum-zero, sums-le, zero_of, OneChanges, inserted}
@@ -55,11 +55,11 @@ refused last timer moment old was rows deadlines queue added rows_then deadlines
 })
 
 -- no more are due than there are
-pub due_most : (moment : ℕ) (rows : Rows) → map.len rows ≤ 4096 → sum_of (due_now moment) rows ≤ 4096
+pub due_most : (moment : ℕ) (rows : Rows) → map.len rows ≤ most_dialogues → sum_of (due_now moment) rows ≤ most_dialogues
 due_most moment rows held = omega (arith, held, few_pass (λ row. is_due row moment) rows)
 
 -- so no more are given a Clock
-pub few_added : (moment : ℕ) (old : Rows) (was : List ℕ) (rows : Rows) (deadlines : Deadlines) (queue : List ℕ) (added : ℕ) → map.len old ≤ 4096 → Clocking moment old was rows deadlines queue added → added ≤ 4096
+pub few_added : (moment : ℕ) (old : Rows) (was : List ℕ) (rows : Rows) (deadlines : Deadlines) (queue : List ℕ) (added : ℕ) → map.len old ≤ most_dialogues → Clocking moment old was rows deadlines queue added → added ≤ most_dialogues
 few_added moment old was rows deadlines queue added held k = omega (arith, k.left, due_most moment old held)
 
 -- if one has a deadline there is one

@@ -1,5 +1,5 @@
 -- To hand out a turn, and to take it back, keeps what a book keeps.
-use Rattle.fp_book.proofs.Names.{AreBorn, AsksOnceAtMost, Bool, Changes, Closed, Done, Ending, Entry, FramesStay, Given, GivesDone, HandsOut, HandsOutAt, Inside, IsEmptyIfNone, IsKept, IsSame, IsServed, List, LoggedStep, Memory, NoRoom, None, Nothing, Option, PutsTurnBack, Requested, Row, Shelf, Some, Sound, Taken, Takes, TakesTurn, Turn, [], accepted_by, and_left, and_parts, ap, append-nil, append_assoc, arith, being_sent, component_count, cond, count_by-le-length, eqb, false, false≢true, frame_out, frames_for, frames_in, has_turn_out, is_admitted, is_from_component, is_held, is_over, is_ready, is_some, joins, kept_of, le_refl, length, length-append, length-take-le, logged, min, more_served, most_entries, nat_lt, nat_tests, not, not-true, of_row, one_if, option_to_list, or_left, or_right, places_held, ready_count, refl, request_count, requested_of, sent_of, serial_of, slice_get, start_of, subst, sum_by-append, sum_of, sym, take, true, turn_out, turns_of, unsent_for, unsent_frames, waiting_in, waiting_of, waits, with_dialogue, with_row, ℕ, ◌&&◌, ◌++◌, ◌+◌, ◌-◌, ◌<◌, ◌^◌, ◌∙◌, ◌∷◌, ◌≡◌, ◌≤◌}
+use Rattle.fp_book.proofs.Names.{AreBorn, AsksOnceAtMost, Bool, Changes, Closed, Done, Ending, Entry, FramesStay, Given, GivesDone, HandsOut, HandsOutAt, Inside, IsEmptyIfNone, IsKept, IsSame, IsServed, List, LoggedStep, Memory, NoRoom, None, Nothing, Option, PutsTurnBack, Requested, Row, Shelf, Some, Sound, Taken, Takes, TakesTurn, Turn, [], accepted_by, and_left, and_parts, ap, append-nil, append_assoc, arith, being_sent, component_count, cond, count_by-le-length, eqb, false, false≢true, frame_out, frames_for, frames_in, has_turn_out, is_admitted, is_from_component, is_held, is_over, is_ready, is_some, joins, kept_of, le_refl, length, length-append, length-take-le, logged, min, more_served, most_entries, nat_lt, nat_tests, not, not-true, of_row, one_if, option_to_list, or_left, or_right, places_held, ready_count, refl, request_count, requested_of, sent_of, serial_of, slice_get, start_of, subst, sum_by-append, sum_of, sym, take, true, turn_out, turns_of, unsent_for, unsent_frames, waiting_in, waiting_of, waits, with_dialogue, with_row, ℕ, ◌&&◌, ◌++◌, ◌+◌, ◌-◌, ◌<◌, ◌^◌, ◌∙◌, ◌∷◌, ◌≡◌, ◌≤◌, most_places, all_entries}
 use Rattle.fp_book.proofs.LowerLaws.{LowerLaws}
 use Rattle.std.specs.FinMap as map
 use Rattle.fp_book.proofs.Changes.{CountsChange, OutboxChanges, QueueChanges, Sound-change, admitted, count, count_is, link_stays, one_most, own_after, ready, still_apart}
@@ -78,7 +78,7 @@ counts_of law old new before after more s is entries accepted served sent = reco
 
 -- what is to be sent stays
 pub outbox_stays : (s : Shelf) (local : ℕ) (before : Option Row) (after : Row) → Sound s → map.get s.rows local ≡ before → sent_of after ≡ of_row sent_of before → kept_of after ≡ of_row kept_of before
-    → places_held s + turns_of after ≤ amount turns_of before + 8192 → OutboxChanges s s.outbox local before after
+    → places_held s + turns_of after ≤ amount turns_of before + most_places → OutboxChanges s s.outbox local before after
 outbox_stays s local before after k was sent kept places = record {
   other_dropped = λ d ne e. e;
   own_frames = ap (λ r. r ++ unsent_for local s.outbox) sent ∙ frames_at s local before k was ∙ sym kept;
@@ -92,7 +92,7 @@ outbox_stays s local before after k was sent kept places = record {
 -- a dialogue accepts entries, or none, and its turn goes out, or comes back: all that was served and requested stays
 pub Sound-stays : LowerLaws → (old : Shelf) (local : ℕ) (before after : Row) (more : List Entry) (entries accepted : ℕ) (queue : List ℕ) (log : List LoggedStep) → Sound old → map.get old.rows local ≡ Some before
     → IsSame before after → after.accepted ≡ before.accepted ++ more → FramesStay before after → after.ended ≡ before.ended → QueueChanges old.ready queue local (ready before) (ready after)
-    → places_held old + turns_of after ≤ turns_of before + 8192 → entries ≡ old.entries + length more → accepted ≡ old.totals.accepted + component_count more → entries + sum_of admitted old.rows ≤ 2 ^ 63 + 8192
+    → places_held old + turns_of after ≤ turns_of before + most_places → entries ≡ old.entries + length more → accepted ≡ old.totals.accepted + component_count more → entries + sum_of admitted old.rows ≤ all_entries + most_places
     → Sound (record (with_dialogue old local after) { entries = entries; ready = queue; totals = record old.totals { accepted = accepted }; log = log })
 Sound-stays law old l before after more entries accepted queue log s was same is stay ended queued places entries_are accepted_is limit =
     let own = s.own l before was in
@@ -127,10 +127,10 @@ pub Sound-takes : LowerLaws → (old new : Shelf) (turn : Turn) → Sound old �
 Sound-takes law old new turn s g =
     let l = turn.local in
     let log = logged old.log (line.Take g.before.birth turn.position (length turn.entries)) in
-    subst Sound (ap (λ (t : Shelf). record t { ready = g.rest; log = log }) (held_dialogue old l g.after (held_out g.after (taken_out (8192 - places_held old) g.before turn g.after g.takes))) ∙ sym g.new_is)
+    subst Sound (ap (λ (t : Shelf). record t { ready = g.rest; log = log }) (held_dialogue old l g.after (held_out g.after (taken_out (most_places - places_held old) g.before turn g.after g.takes))) ∙ sym g.new_is)
     (Sound-stays law old l g.before g.after [] old.entries old.totals.accepted g.rest log s g.was g.takes.same (g.takes.accepted ∙ sym (append-nil g.before.accepted)) g.takes.stay g.takes.ended
-    (queue_next old.ready g.rest l (ready g.before) (ready g.after) g.first (ready_at old l (Some g.before) s g.was) (ap one_if g.takes.was_ready) (ap one_if (not_ready_out g.after (taken_out (8192 - places_held old) g.before turn g.after g.takes))))
-    (omega (arith, g.room, g.takes.out, g.takes.count, min_most most_entries (length (waiting_of g.before)) (8192 - places_held old))) (omega arith) (omega arith) s.entries)
+    (queue_next old.ready g.rest l (ready g.before) (ready g.after) g.first (ready_at old l (Some g.before) s g.was) (ap one_if g.takes.was_ready) (ap one_if (not_ready_out g.after (taken_out (most_places - places_held old) g.before turn g.after g.takes))))
+    (omega (arith, g.room, g.takes.out, g.takes.count, min_most most_entries (length (waiting_of g.before)) (most_places - places_held old))) (omega arith) (omega arith) s.entries)
 
 -- a turn is handed out, or none
 pub Sound-takes_one : LowerLaws → (old new : Shelf) (taken : Taken) → Sound old → Takes old taken new → Sound new

@@ -2,6 +2,7 @@
 use Rattle.std.specs.Prelude.{◌≡◌, ◌≢◌, ◌<◌, ◌≤◌, ◌+◌, ◌-◌, ◌==◌, ◌&&◌, ℕ, Bool, true, false, not, List, [], ◌∷◌, ◌++◌, Option, Some, None, IsSome, length, filter, map, nat_lt, nat_eq, ◌⊎◌, if◌then◌else◌, All, AllPairs, ⊤}
 use Rattle.std.specs.List.{list_any}
 use Rattle.std.specs.FinMap.{get, insert}
+use Rattle.fp_book.specs.Limits.{most_aborts_waiting, most_places}
 use Rattle.fp_book.specs.declared.answers.Given.{Given}
 use Rattle.fp_book.specs.declared.answers.Given.TheVariants.{Silent, Queued, Dropped}
 use Rattle.fp_book.specs.declared.answers.Posted.{Posted}
@@ -24,9 +25,8 @@ pub use Rattle.fp_book.specs.Rules.{entries_in}
 use Rattle.fp_book.specs.Rules.{is_full, verdict}
 use Rattle.fp_book.specs.Log.{Drains, logged}
 use Rattle.fp_book.specs.Outbox.{Outbox, IsNext, nothing, waiting_frames, with_nothing_out, without_frames_of}
-use Rattle.fp_book.specs.Parcel.{birth_of}
-use Rattle.fp_book.specs.Shelf.{Shelf, places_held, with_dialogue}
-use Rattle.fp_book.specs.Sending.{is_frame_of}
+use Rattle.fp_book.specs.Parcel.{birth_of, is_frame_of}
+use Rattle.fp_book.specs.Shelf.{Shelf, base, places_held, with_dialogue}
 use Rattle.fp_book.specs.Totals.{accepted_by, sent_by, served_by, sum_of}
 use Rattle.fp_entry.specs.declared.entry.Entry.{Entry}
 use Rattle.fp_entry.specs.declared.prepared.Prepared.{Prepared}
@@ -83,9 +83,9 @@ pub record TakesTurn (old : Shelf) (turn : Turn) (new : Shelf) : Type 0 where
   pub after : Row
   pub rest : List ℕ
   pub was : get old.rows turn.local ≡ Some before
-  pub takes : HandsOut (8192 - places_held old) before turn after
+  pub takes : HandsOut (most_places - places_held old) before turn after
   pub first : old.ready ≡ turn.local ∷ rest
-  pub room : places_held old < 8192
+  pub room : places_held old < most_places
   pub new_is : new ≡ record old {
     rows = insert old.rows turn.local after;
     ready = rest;
@@ -95,8 +95,8 @@ pub record TakesTurn (old : Shelf) (turn : Turn) (new : Shelf) : Type 0 where
 abbrev pub Takes : Shelf → Taken → Shelf → Type 0
 Takes old (ATurn turn) new = TakesTurn old turn new
 Takes old Nothing new = (old.ready ≡ []) × (new ≡ old)
-Takes old NoRoom new = (old.ready ≢ []) × (8192 ≤ places_held old) × (new ≡ old)
-Takes old Memory new = (old.ready ≢ []) × (places_held old < 8192) × (new ≡ old)
+Takes old NoRoom new = (old.ready ≢ []) × (most_places ≤ places_held old) × (new ≡ old)
+Takes old Memory new = (old.ready ≢ []) × (places_held old < most_places) × (new ≡ old)
 
 -- where nothing is handed out no dialogue is ready
 abbrev pub NoneReady : Taken → Shelf → Type 0
@@ -278,16 +278,16 @@ pub record OpensDialogue (old : Shelf) (peer : Tid) (came : Prepared) (answer : 
   pub after : Row
   -- the next serial is given
   pub first : old.free ≡ serial ∷ rest
-  pub opens : Opens (identifier old.link serial) peer (old.births + 1)
+  pub opens : Opens (identifier (base old) serial) peer (old.births + 1)
       (arrival_of came).moment opened
   pub extends : Extends opened (entries_in came) after
-  pub answer_is : answer ≡ Opened (identifier old.link serial)
+  pub answer_is : answer ≡ Opened (identifier (base old) serial)
   pub new_is : new ≡ record old {
     free = rest;
     births = old.births + 1;
     entries = old.entries + length (entries_in came);
-    rows = insert old.rows (identifier old.link serial) after;
-    ready = old.ready ++ joins (identifier old.link serial) (is_ready after);
+    rows = insert old.rows (identifier (base old) serial) after;
+    ready = old.ready ++ joins (identifier (base old) serial) (is_ready after);
     totals = more_accepted old.totals (entries_in came);
     log = logged old.log (posted_line came answer);
   }
@@ -341,12 +341,11 @@ abbrev pub closed_answer : Option ℕ → Posted
 closed_answer None = Discarded
 closed_answer (Some local) = Ended
 
--- the Abort of the provider that is sent: a cause is named, the message has its sender's identifier, and fewer than 64
--- wait already
+-- the Abort of the provider that is sent: a cause is named, the message has its sender's identifier, and fewer wait
+-- already than may
 abbrev pub abort_for : ℕ → Option AbortCause → Option Tid → Option (Tid × AbortCause)
-abort_for waiting None peer = None
-abort_for waiting (Some cause) None = None
-abort_for waiting (Some cause) (Some peer) = if nat_lt waiting 64 then Some (peer, cause) else None
+abort_for waiting (Some cause) (Some peer) = if nat_lt waiting most_aborts_waiting then Some (peer, cause) else None
+abort_for waiting _ _ = None
 
 -- an Abort of the provider waits after the others
 pub record Queues (old : Shelf) (peer : Tid) (cause : AbortCause) (new : Shelf) : Type 0 where
@@ -383,9 +382,7 @@ Follows (Extend local true) old came answer new = EndsDialogue old local came an
 abbrev pub posted_totals : Totals → Prepared → Posted → Totals
 posted_totals totals came (Opened local) = more_accepted totals (entries_in came)
 posted_totals totals came (Accepted count) = more_accepted totals (entries_in came)
-posted_totals totals came (Aborted cause) = totals
-posted_totals totals came Ended = totals
-posted_totals totals came Discarded = totals
+posted_totals totals came _ = totals
 
 abbrev pub are_some : List Entry → Bool
 are_some [] = false
@@ -393,10 +390,9 @@ are_some (entry ∷ entries) = true
 
 -- whether memory is asked for it: for a new dialogue, and for entries, if there are any
 abbrev pub asks_for_memory : Verdict → Prepared → Bool
-asks_for_memory Discard came = false
-asks_for_memory (Refuse cause closes) came = false
 asks_for_memory (Open peer) came = true
 asks_for_memory (Extend local ends) came = are_some (entries_in came)
+asks_for_memory _ came = false
 
 -- The first matching rule applies; or, if a message would be accepted, an allocation failed, and the message is treated
 -- as one that was lost.

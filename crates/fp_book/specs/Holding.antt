@@ -2,15 +2,17 @@
 -- goes away as turns are served and frames are sent. And when a link is quiet: nothing is left to be served or sent.
 use Rattle.std.specs.Prelude.{◌≡◌, ℕ, ◌&&◌, ◌||◌, not, Bool, true, false, Some, is_some, length, nat_le, nat_lt}
 use Rattle.std.specs.FinMap.{get}
+use Rattle.fp_book.specs.Limits.{many_places, most_aborts_waiting}
 use Rattle.fp_book.specs.declared.verdict.Verdict.{Verdict}
 use Rattle.fp_book.specs.declared.verdict.Verdict.TheVariants.{Extend, Open, Refuse}
-use Rattle.fp_book.specs.Rules.{is_begin, is_full, too_many, verdict}
+use Rattle.fp_book.specs.Rules.{is, is_full, too_many, verdict}
 use Rattle.fp_book.specs.Outbox.{nothing}
 use Rattle.fp_book.specs.Shelf.{Shelf, one_if, places_held, turns_of}
 use Rattle.fp_book.specs.Totals.{sum_of}
 use Rattle.fp_entry.specs.declared.prepared.Prepared.{Prepared}
 use Rattle.fp_entry.specs.declared.prepared.Prepared.TheVariants.{Message}
 use Rattle.fp_entry.specs.Prepared.{arrival_of}
+use Rattle.fp_q773.specs.declared.kind.Kind.TheVariants.{Begin}
 use Rattle.fp_q773.specs.declared.provider_abort.AbortCause.TheVariants as cause
 use Rattle.fp_row.specs.declared.row.Row.{Row}
 use Rattle.fp_row.specs.Row.{waits}
@@ -43,26 +45,25 @@ is_over_a_limit verdict = false
 abbrev pub is_owed_an_abort : Shelf → Prepared → Bool
 is_owed_an_abort s came = names_a_cause (verdict s came) && is_some (arrival_of came).ids.orig
 
--- all it lacks is room: it is a readable message of at most 16 elements and 17 entries, on a link that hasn't accepted
--- 2^63 entries
+-- all it lacks is room: it is a readable message without too many elements, on a link that hasn't accepted all entries
 abbrev pub lacks_only_room : Shelf → Prepared → Bool
 lacks_only_room s (Message arrival incoming) = not (too_many incoming) && not (is_full s)
 lacks_only_room s came = false
 
--- there will be room for it: among the 64 entries of its dialogue once some of these are served; among the 4,096
--- dialogues if one of them is busy, since it may go then
+-- there will be room for it: among the entries of its dialogue once some of these are served; among the dialogues if
+-- one of them is busy, since it may go then
 abbrev pub gets_room : Shelf → Prepared → Bool
-gets_room s came = not (is_begin (arrival_of came).ids.kind) || nat_lt 0 (busy_count s)
+gets_room s came = not (is Begin (arrival_of came).ids.kind) || nat_lt 0 (busy_count s)
 
 -- the message is held back. (Not if memory runs out at its post: it is posted, and its Abort may find no place.)
 abbrev pub holds_back : Shelf → Prepared → Bool
 holds_back s came =
     -- the link is up, and
     not s.is_down
-    -- it would be taken, but the places for frames are nearly taken, 7,168 of 8,192;
-    && ((nat_le 7168 (places_held s) && is_taken (verdict s came))
-    -- or an Abort is to answer it, and 64 wait;
-    || ((is_owed_an_abort s came && nat_le 64 (length s.outbox.aborts))
+    -- it would be taken, but most places for frames are held;
+    && ((nat_le many_places (places_held s) && is_taken (verdict s came))
+    -- or an Abort is to answer it, and as many wait as may;
+    || ((is_owed_an_abort s came && nat_le most_aborts_waiting (length s.outbox.aborts))
     -- or it is refused for a limit, but all it lacks is room, and there will be some
     || (is_over_a_limit (verdict s came) && (lacks_only_room s came && gets_room s came))))
 

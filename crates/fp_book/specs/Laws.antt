@@ -1,7 +1,8 @@
 -- What holds of all logs, what the calls of a book keep, and what that says of each dialogue.
-use Rattle.std.specs.Prelude.{◌≡◌, ℕ, ◌+◌, ◌<◌, List, [], ◌∷◌, ◌++◌, length, filter, nat_lt, take, Bool, true, false, not, is_some, IsSome, unwrap_or, Option, None, Some, if◌then◌else◌}
+use Rattle.std.specs.Prelude.{◌≡◌, ℕ, ◌+◌, ◌-◌, ◌<◌, List, [], ◌∷◌, ◌++◌, length, filter, nat_lt, take, Bool, true, false, not, is_some, IsSome, unwrap_or, Option, None, Some, if◌then◌else◌}
 use Rattle.std.specs.FinMap.{get}
 use mathlib.Core.List.{IsPrefix}
+use Rattle.fp_book.specs.Limits.{most_dialogues, most_lines}
 use Rattle.fp_book.specs.declared.line.LoggedStep.{LoggedStep}
 use Rattle.fp_book.specs.Log.{logged, lost_in}
 use Rattle.fp_book.specs.declared.answers.Given.{Given}
@@ -22,7 +23,7 @@ pub use Rattle.fp_row.specs.Turn.{frames_under}
 use Rattle.fp_row.specs.Row.{is_closed, sent_of, served_of, start_of, turn_out, waiting_of, has_turn_out}
 use Rattle.fp_service.specs.Dialogue.{is_over}
 use Rattle.fp_service.specs.Fold.{core_after, cut, requests}
-use Rattle.fp_tids.specs.Identifiers.{is_free, serial_of}
+use Rattle.fp_tids.specs.Identifiers.{is_free, last_serial, serial_of}
 
 -- how many steps a log accounts for: each that it has, and as many as its gaps count
 abbrev pub accounted : List LoggedStep → ℕ
@@ -42,10 +43,10 @@ abbrev pub EachStepIsAccountedFor : Type 0
 EachStepIsAccountedFor =
     (list : List LoggedStep) (step : LoggedStep) → lost_in step ≡ None → accounted list < 18446744073709551615 → accounted (logged list step) ≡ accounted list + 1
 
--- the steps that a log has stay, in their order; a step comes after them while fewer than 8,191 lines wait
+-- the steps that a log has stay, in their order; a step comes after them while a place is left before the last one
 abbrev pub ToldStepsStay : Type 0
 ToldStepsStay =
-    (list : List LoggedStep) (step : LoggedStep) → lost_in step ≡ None → told (logged list step) ≡ told list ++ (if nat_lt (length list) 8191 then step ∷ [] else [])
+    (list : List LoggedStep) (step : LoggedStep) → lost_in step ≡ None → told (logged list step) ≡ told list ++ (if nat_lt (length list) (most_lines - 1) then step ∷ [] else [])
 
 -- to hand out a turn keeps what the type of a book keeps
 abbrev pub TakingKeepsSound : Type 0
@@ -122,10 +123,10 @@ BirthsAreDistinct =
     → get s.rows local ≡ Some row → get s.rows other ≡ Some held
     → row.birth ≡ held.birth → local ≡ other
 
--- while the link is up the serial of a dialogue that is held isn't among the 126,976 that are given next once it comes
--- back, whatever comes back after it
+-- while the link is up the serial of a dialogue that is held isn't among those that are given next once it comes back,
+-- whatever comes back after it: as many as all serials but one for each dialogue that may be held, 126,976
 abbrev pub SerialsOfDialoguesComeBackLate : Type 0
 SerialsOfDialoguesComeBackLate =
     (s : Shelf) (local : ℕ) (row : Row) (more : List ℕ)
     → Sound s → s.is_down ≡ false → get s.rows local ≡ Some row
-    → is_free (serial_of local) (take 126976 (s.free ++ serial_of local ∷ more)) ≡ false
+    → is_free (serial_of local) (take (last_serial - most_dialogues) (s.free ++ serial_of local ∷ more)) ≡ false

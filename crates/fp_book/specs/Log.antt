@@ -2,6 +2,7 @@
 use Rattle.std.specs.Prelude.{◌≡◌, ℕ, ◌+◌, ◌-◌, ◌≤◌, List, [], ◌∷◌, ◌++◌, length, take, drop, map, min, nat_lt, Option, Some, None, IsSome, if◌then◌else◌}
 use Rattle.std.specs.List.{slice_get}
 use Rattle.std.specs.Option.{option_and_then}
+use Rattle.fp_book.specs.Limits.{most_lines}
 use Rattle.fp_book.specs.declared.line.Line.{Line}
 use Rattle.fp_book.specs.declared.line.Line.TheVariants.{Step}
 use Rattle.fp_book.specs.declared.line.LoggedStep.{LoggedStep}
@@ -9,17 +10,8 @@ use Rattle.fp_book.specs.declared.line.LoggedStep.TheVariants as steps
 
 -- how many steps a gap counts; no other step counts any
 abbrev pub lost_in : LoggedStep → Option ℕ
-lost_in (steps.Post table moment message answer) = None
-lost_in (steps.Lost moment message answer) = None
-lost_in (steps.Tick moment added wanting) = None
-lost_in (steps.Take birth position count) = None
-lost_in (steps.Give birth position served given) = None
-lost_in (steps.PutBack birth position) = None
-lost_in (steps.Pick birth) = None
-lost_in (steps.Sent birth) = None
-lost_in (steps.Unsent birth) = None
-lost_in steps.Down = None
 lost_in (steps.Gap lost) = Some lost
+lost_in _ = None
 
 -- how many steps the last line counts, if it is a gap
 abbrev pub gap_at_end : List LoggedStep → Option ℕ
@@ -39,15 +31,15 @@ lose_behind list (Some lost) = take (length list - 1) list ++ steps.Gap (one_mor
 abbrev pub lose : List LoggedStep → List LoggedStep
 lose list = lose_behind list (gap_at_end list)
 
--- a step comes after the others while there are fewer than 8,191; from then on it is lost
+-- a step comes after the others while a place is left before the last one; from then on it is lost
 abbrev pub logged : List LoggedStep → LoggedStep → List LoggedStep
-logged list step = if nat_lt (length list) 8191 then list ++ step ∷ [] else lose list
+logged list step = if nat_lt (length list) (most_lines - 1) then list ++ step ∷ [] else lose list
 
--- what each log keeps: at most 8,192 steps, in the last place a gap, and memory for as many
+-- what each log keeps: at most `most_lines` steps, in the last place a gap, and memory for as many
 pub record IsKept (list : List LoggedStep) (capacity : ℕ) : Type 0 where
-  pub most : length list ≤ 8192
-  pub gap_in_last_place : length list ≡ 8192 → IsSome (gap_at_end list)
-  pub room : 8192 ≤ capacity
+  pub most : length list ≤ most_lines
+  pub gap_in_last_place : length list ≡ most_lines → IsSome (gap_at_end list)
+  pub room : most_lines ≤ capacity
 
 -- the oldest steps, as many as `lines` has room for, come after `lines` as lines of this link, and the others stay
 pub record Drains (link : ℕ) (old : List LoggedStep) (lines : List Line) (room : ℕ) (new : List LoggedStep) (more : List Line) : Type 0 where

@@ -1,5 +1,6 @@
 -- What waits to be sent on a link, and what is being sent.
 use Rattle.std.specs.Prelude.{◌≡◌, ℕ, ◌+◌, ◌≤◌, List, [], ◌∷◌, ◌++◌, length, filter, map, nat_lt, Bool, if◌then◌else◌, Option, Some, None, IsSome}
+use Rattle.fp_book.specs.Limits.{most_aborts_waiting, most_places}
 use Rattle.fp_reply.specs.ProviderAbort.{AbortFrame}
 use Rattle.fp_book.specs.declared.parcel.Content.{Content}
 use Rattle.fp_book.specs.declared.parcel.Content.TheVariants as contents
@@ -21,12 +22,12 @@ pub record Outbox : Type 0 where
 abbrev pub nothing : Outbox
 nothing = record { aborts = []; frames = []; out = None }
 
--- what each outbox keeps: at most 64 Aborts and 8,192 frames, and memory for as many
+-- what each outbox keeps: at most `most_aborts_waiting` Aborts and `most_places` frames, and memory for as many
 pub record IsKept (aborts : List AbortFrame) (abort_room : ℕ) (frames : List Waiting) (frame_room : ℕ) : Type 0 where
-  pub most_aborts : length aborts ≤ 64
-  pub most_frames : length frames ≤ 8192
-  pub abort_places : 64 ≤ abort_room
-  pub frame_places : 8192 ≤ frame_room
+  pub most_aborts : length aborts ≤ most_aborts_waiting
+  pub most_frames : length frames ≤ most_places
+  pub abort_places : most_aborts_waiting ≤ abort_room
+  pub frame_places : most_places ≤ frame_room
 
 -- the places that what is being sent holds: one for a frame of a dialogue
 abbrev pub places_out : Option Content → ℕ
@@ -42,9 +43,9 @@ frames_held outbox = length outbox.frames + places_out outbox.out
 abbrev pub with_abort : Outbox → AbortFrame → Outbox
 with_abort outbox frame = record { aborts = outbox.aborts ++ frame ∷ []; frames = outbox.frames; out = outbox.out }
 
--- so it does while fewer than 64 wait; else nothing changes
+-- so it does while fewer wait than may; else nothing changes
 abbrev pub abort_added : Outbox → AbortFrame → Outbox
-abort_added outbox frame = if nat_lt (length outbox.aborts) 64 then with_abort outbox frame else outbox
+abort_added outbox frame = if nat_lt (length outbox.aborts) most_aborts_waiting then with_abort outbox frame else outbox
 
 -- frames of a dialogue, as they wait
 abbrev pub waiting_frames : ℕ → ℕ → List (List ℕ) → List Waiting

@@ -1,5 +1,5 @@
 -- What is sent on a link.
-use Rattle.std.specs.Prelude.{ℕ, List, Option, Some, None}
+use Rattle.std.specs.Prelude.{ℕ, ◌==◌, Bool, false, List, Option, Some, None}
 use Rattle.fp_reply.specs.ProviderAbort.{frame_octets}
 use Rattle.fp_book.specs.declared.parcel.Content.{Content}
 use Rattle.fp_book.specs.declared.parcel.Content.TheVariants as contents
@@ -19,6 +19,12 @@ local_of (contents.Frame waiting) = waiting.local
 abbrev pub birth_of : Content → ℕ
 birth_of (contents.Abort frame) = 0
 birth_of (contents.Frame waiting) = waiting.birth
+
+-- a frame of this dialogue is being sent
+abbrev pub is_frame_of : ℕ → Option Content → Bool
+is_frame_of local None = false
+is_frame_of local (Some (contents.Abort frame)) = false
+is_frame_of local (Some (contents.Frame waiting)) = waiting.local == local
 
 -- its octets, the head of the frame included
 abbrev pub octets_of : Content → List ℕ

@@ -14,9 +14,7 @@ use Rattle.fp_entry.specs.Prepared.{arrival_of, components_of}
 abbrev pub accepted_components : Posted → Prepared → ℕ
 accepted_components (Opened local) came = components_of came
 accepted_components (Accepted count) came = components_of came
-accepted_components (Aborted cause) came = 0
-accepted_components Ended came = 0
-accepted_components Discarded came = 0
+accepted_components _ came = 0
 
 -- a message as it is treated: as it came, or as one that was lost
 abbrev pub treated_as : Bool → Prepared → Prepared

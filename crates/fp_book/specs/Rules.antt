@@ -9,7 +9,7 @@ use Rattle.fp_book.specs.declared.rules.Rule.{Rule}
 use Rattle.fp_book.specs.declared.rules.Rule.TheVariants.{Discard, Refuse, Open, Extend}
 use Rattle.fp_book.specs.declared.verdict.Verdict.{Verdict}
 use Rattle.fp_book.specs.declared.verdict.Verdict.TheVariants as verdicts
-use Rattle.fp_book.specs.Limits.{all_entries, most_dialogues, most_elements, most_entries}
+use Rattle.fp_book.specs.Limits.{all_entries, most_dialogues, most_elements, most_unserved}
 use Rattle.fp_book.specs.Shelf.{Shelf}
 use Rattle.fp_entry.specs.declared.arrival.Arrival.{Arrival}
 use Rattle.fp_entry.specs.declared.entry.Entry.{Entry}
@@ -21,7 +21,7 @@ use Rattle.fp_entry.specs.Prepared.{IsPrepared, arrival_of}
 use Rattle.fp_q773.specs.declared.ids.Ids.{Ids}
 use Rattle.fp_q773.specs.declared.kind.Kind.{Kind}
 use Rattle.fp_q773.specs.declared.kind.Kind.TheVariants.{Unidirectional, Begin, End, Continue, Abort, Unknown}
-use Rattle.fp_q773.specs.declared.provider_abort.AbortCause.TheVariants as cause
+use Rattle.fp_q773.specs.declared.provider_abort.AbortCause.TheVariants.{BadlyFormattedTransactionPortion, ResourceLimitation, UnrecognizedMessageType, UnrecognizedTransactionIdentifier}
 use Rattle.fp_q773.specs.Tid.{Tid, octets_of}
 use Rattle.fp_records.specs.Table.{Contents}
 use Rattle.fp_row.specs.declared.row.Row.{Row}
@@ -32,16 +32,11 @@ use Rattle.fp_row.specs.Row.{is_admitted, places_taken}
 -- the entries of a message
 abbrev pub entries_in : Prepared → List Entry
 entries_in (Message arrival incoming) = incoming.entries
-entries_in (Refused arrival fault) = []
-entries_in (Lost arrival) = []
+entries_in came = []
 
--- more than 16 elements in the component portion, or more entries than 16 elements bring
+-- more elements in the component portion than are taken, or more entries than these bring
 abbrev pub too_many : Incoming → Bool
 too_many incoming = nat_lt most_elements incoming.elements || nat_lt (most_elements + 1) (length incoming.entries)
-
-abbrev pub has_too_many : Prepared → Bool
-has_too_many (Message arrival incoming) = too_many incoming
-has_too_many came = false
 
 -- memory ran out as it was read
 abbrev pub is_lost : Prepared → Bool
@@ -53,86 +48,64 @@ abbrev pub is_refused : Prepared → Bool
 is_refused (Refused arrival fault) = true
 is_refused came = false
 
-abbrev pub is_unidirectional : Kind → Bool
-is_unidirectional Unidirectional = true
-is_unidirectional kind = false
+-- the message is of this kind
+abbrev pub is : Kind → Kind → Bool
+is Unidirectional Unidirectional = true
+is Begin Begin = true
+is Continue Continue = true
+is End End = true
+is Abort Abort = true
+is Unknown Unknown = true
+is _ _ = false
 
-abbrev pub is_begin : Kind → Bool
-is_begin Begin = true
-is_begin kind = false
-
-abbrev pub is_continue : Kind → Bool
-is_continue Continue = true
-is_continue kind = false
-
-abbrev pub is_end : Kind → Bool
-is_end End = true
-is_end kind = false
-
-abbrev pub is_abort : Kind → Bool
-is_abort Abort = true
-is_abort kind = false
-
-abbrev pub is_unknown : Kind → Bool
-is_unknown Unknown = true
-is_unknown kind = false
-
--- more than 16 elements in the component portion; or with which more than 64 entries of the dialogue would be accepted
--- and not yet served, the peer's end, its abort and the clock not counted; or on a link that has accepted 2^63 entries
+-- too many elements or entries; or with which more entries of the dialogue than may be would be accepted and not yet
+-- served, the peer's end, its abort and the clock not counted; or on a link that has accepted all entries
 abbrev pub lacks_room : Facts → Prepared → Bool
-lacks_room facts came =
-    has_too_many came
-    || (nat_lt most_entries (facts.unserved + place_count (entries_in came)) || nat_le all_entries facts.entries)
+lacks_room facts (Message arrival incoming) =
+    too_many incoming
+    || (nat_lt most_unserved (facts.unserved + place_count incoming.entries) || nat_le all_entries facts.entries)
+lacks_room facts came = false
 
 -- The rules for a message of a kind, on a link that is up: 2 to 7. Each is a test, and what is done if it is met. A
--- refusal names the cause of an Abort of the provider, or none, and closes the dialogue that the message names, if there
--- is one.
+-- refusal names the cause of an Abort of the provider, or none, and closes the dialogue that the message names, if
+-- there is one.
 abbrev pub rules_up : Facts → Prepared → Kind → List (Bool × Rule)
 rules_up facts came kind =
     -- 2. A Unidirectional: nothing.
-    (is_unidirectional kind, Discard)
-    -- 3. Memory ran out as it was read. A Begin: cause 4.
-    ∷ (is_lost came && is_begin kind, Refuse (Some cause.ResourceLimitation))
-    -- A Continue that names no dialogue: cause 1; another one: cause 4.
-    ∷ (is_lost came && (is_continue kind && not facts.names_one), Refuse (Some cause.UnrecognizedTransactionIdentifier))
-    ∷ (is_lost came && is_continue kind, Refuse (Some cause.ResourceLimitation))
+    (is Unidirectional kind, Discard)
+    -- 3. Memory ran out as it was read. A Continue that names no dialogue: cause 1; another one, or a Begin: cause 4.
+    ∷ (is_lost came && (is Continue kind && not facts.names_one), Refuse (Some UnrecognizedTransactionIdentifier))
+    ∷ (is_lost came && (is Begin kind || is Continue kind), Refuse (Some ResourceLimitation))
     -- An End or an Abort: no cause.
-    ∷ (is_lost came && (is_end kind || is_abort kind), Refuse None)
+    ∷ (is_lost came && (is End kind || is Abort kind), Refuse None)
     -- An unknown tag: as in rule 4.
     -- 4. The octets are no message that is taken: cause 0 for an unknown tag, else cause 2.
-    ∷ ((is_lost came || is_refused came) && is_unknown kind, Refuse (Some cause.UnrecognizedMessageType))
-    ∷ (is_refused came, Refuse (Some cause.BadlyFormattedTransactionPortion))
+    ∷ ((is_lost came || is_refused came) && is Unknown kind, Refuse (Some UnrecognizedMessageType))
+    ∷ (is_refused came, Refuse (Some BadlyFormattedTransactionPortion))
     -- 5. A Continue, an End or an Abort that names no dialogue: cause 1 for a Continue, nothing for the others.
-    ∷ (is_continue kind && not facts.names_one, Refuse (Some cause.UnrecognizedTransactionIdentifier))
-    ∷ ((is_end kind || is_abort kind) && not facts.names_one, Discard)
-    -- 6. A Begin, a Continue or an End for which room lacks, or a Begin while 4,096 dialogues are held: cause 4.
-    ∷ (
-      (is_begin kind || (is_continue kind || is_end kind))
-          && (lacks_room facts came || (is_begin kind && nat_le most_dialogues facts.held)),
-      Refuse (Some cause.ResourceLimitation),
-    )
+    ∷ (is Continue kind && not facts.names_one, Refuse (Some UnrecognizedTransactionIdentifier))
+    ∷ ((is End kind || is Abort kind) && not facts.names_one, Discard)
+    -- 6. A Begin, a Continue or an End for which room lacks, or a Begin while as many dialogues are held as may be:
+    -- cause 4.
+    ∷ (is Begin kind && (lacks_room facts came || nat_le most_dialogues facts.held), Refuse (Some ResourceLimitation))
+    ∷ ((is Continue kind || is End kind) && lacks_room facts came, Refuse (Some ResourceLimitation))
     -- 7. Else it is taken: a Begin opens a dialogue, a Continue goes on with the one that it names, and an End or an
     -- Abort ends that. (Each Begin that was read brings an entry, and each Abort one alone.)
-    ∷ (is_begin kind && not (nat_eq (length (entries_in came)) 0), Open)
-    ∷ (is_continue kind, Extend false)
-    ∷ (is_end kind || (is_abort kind && nat_le (length (entries_in came)) 1), Extend true)
+    ∷ (is Begin kind && not (nat_eq (length (entries_in came)) 0), Open)
+    ∷ (is Continue kind, Extend false)
+    ∷ (is End kind || (is Abort kind && nat_le (length (entries_in came)) 1), Extend true)
     ∷ []
-
--- all rules
-abbrev pub rules : Facts → Prepared → List (Bool × Rule)
-rules facts came =
-    -- 1. The link is down: nothing.
-    (facts.is_down, Discard)
-    ∷ rules_up facts came (arrival_of came).ids.kind
 
 -- what the first that fits says; where none fits, nothing is done. One fits each message that was read.
 abbrev pub first_that_fits : List (Bool × Rule) → Rule
 first_that_fits [] = Discard
 first_that_fits (rule ∷ others) = if rule.0 then rule.1 else first_that_fits others
 
--- what is done with a message
+-- what is done with a message: by the rules, of which this is the first
 abbrev pub rule : Facts → Prepared → Rule
-rule facts came = first_that_fits (rules facts came)
+rule facts came =
+    -- 1. The link is down: nothing.
+    first_that_fits ((facts.is_down, Discard) ∷ rules_up facts came (arrival_of came).ids.kind)
 
 -- A BOOK'S FACTS
 

@@ -1,8 +1,9 @@
 -- A book: the dialogues of a link, the order in which they are served, what waits to be sent, and the log.
-use Rattle.std.specs.Prelude.{◌≡◌, ◌<◌, ◌≤◌, ◌+◌, ◌^◌, ◌==◌, ℕ, Bool, true, false, List, [], ◌∷◌, ◌++◌, Option, Some, None, length, count_by, is_some, if◌then◌else◌}
+use Rattle.std.specs.Prelude.{◌≡◌, ◌<◌, ◌≤◌, ◌+◌, ◌^◌, ◌==◌, ℕ, Bool, true, false, List, [], ◌∷◌, ◌++◌, Option, Some, None, length, count_by, is_some, if◌then◌else◌, ◌*◌}
 use Rattle.std.specs.List.{AllByRecursion, flat_map}
 use Rattle.std.specs.Ordering.{nat_cmp}
 use Rattle.std.specs.FinMap.{FinMap, empty, get, insert, remove, len}
+use Rattle.fp_book.specs.Limits.{all_entries, most_aborts_waiting, most_dialogues, most_places}
 use Rattle.fp_book.specs.declared.line.LoggedStep.{LoggedStep}
 use Rattle.fp_book.specs.declared.parcel.Content.{Content}
 use Rattle.fp_book.specs.declared.parcel.Content.TheVariants as content
@@ -13,12 +14,13 @@ use Rattle.fp_book.specs.Totals.{accepted_by, sent_by, served_by, sum_of, with_r
 use Rattle.fp_row.specs.declared.ending.Ending.TheVariants.{Closed}
 use Rattle.fp_row.specs.declared.row.Row.{Row}
 use Rattle.fp_row.specs.Row.{is_admitted, is_held, is_ready, kept_of, sent_of}
-use Rattle.fp_tids.specs.Identifiers.{AreSerials, all_serials, identifier, is_free, last_serial, serial_of}
+use Rattle.fp_tids.specs.Identifiers.{AreSerials, all_serials, base_of, identifier, is_free, last_serial, last_tag, serial_of}
 
 -- what contracts see of a book
 pub record Shelf : Type 0 where
-  -- the link, 0 to 7
+  -- the link, 0 to 7, and the tag of its run, 0 to 4,094
   pub link : ℕ
+  pub tag : ℕ
   -- the serials that may be given to dialogues, the next one first
   pub free : List ℕ
   -- how many Begins were accepted
@@ -45,9 +47,10 @@ abbrev pub no_totals : Totals
 no_totals = record { accepted = 0; served = 0; sent = 0 }
 
 -- a link that is up, on which nothing came yet
-abbrev pub empty_shelf : ℕ → Shelf
-empty_shelf link = record {
+abbrev pub empty_shelf : ℕ → ℕ → Shelf
+empty_shelf link tag = record {
   link = link;
+  tag = tag;
   free = all_serials;
   births = 0;
   entries = 0;
@@ -59,6 +62,10 @@ empty_shelf link = record {
   log = [];
   is_down = false;
 }
+
+-- what the serials of the link are added to
+abbrev pub base : Shelf → ℕ
+base s = base_of s.link s.tag
 
 -- the frames of one dialogue among those that wait
 abbrev pub frames_for : ℕ → List Waiting → List (List ℕ)
@@ -127,9 +134,9 @@ pub record IsOwn (s : Shelf) (local : ℕ) (row : Row) : Type 0 where
   pub local_is : row.local ≡ local
   pub is_left : is_held row ≡ true
   pub born : (0 < row.birth) × (row.birth ≤ s.births)
-  -- its identifier is one of the link, and its serial isn't free
+  -- its identifier is one of the link and the tag, and its serial isn't free
   pub serial : (serial : ℕ) × (0 < serial) × (serial ≤ last_serial)
-      × (local ≡ identifier s.link serial) × (is_free serial s.free ≡ false)
+      × (local ≡ identifier (base s) serial) × (is_free serial s.free ≡ false)
   -- each frame of it that waits or is being sent has its birth
   pub frames_born : AreBorn local row.birth (unsent_frames s.outbox)
   -- of a dialogue that was ended from outside no frame waits
@@ -140,6 +147,7 @@ pub record IsOwn (s : Shelf) (local : ℕ) (row : Row) : Type 0 where
 -- what the type of a book keeps
 pub record Sound (s : Shelf) : Type 0 where
   pub links : s.link < 8
+  pub tags : s.tag ≤ last_tag
   -- no serial is free twice, and while the link is up each is free or a dialogue's that is held
   pub serials : AreSerials s.free
   pub serial_count : s.is_down ≡ false → length s.free + len s.rows ≡ last_serial
@@ -149,17 +157,17 @@ pub record Sound (s : Shelf) : Type 0 where
       → get s.rows local ≡ Some row → get s.rows other ≡ Some held
       → row.birth ≡ held.birth → local ≡ other
   -- an Abort of the peer is taken however many entries there were, and ends its dialogue
-  pub entries : s.entries + sum_of (λ row. one_if (is_admitted row)) s.rows ≤ 2 ^ 63 + 8192
+  pub entries : s.entries + sum_of (λ row. one_if (is_admitted row)) s.rows ≤ all_entries + 2 * most_dialogues
   pub own : (local : ℕ) (row : Row) → get s.rows local ≡ Some row → IsOwn s local row
-  pub held : len s.rows ≤ 4096
+  pub held : len s.rows ≤ most_dialogues
   -- of each dialogue: what was sent, and then what is to be sent, is what is kept of the frames that its entries
   -- request
   pub frames : (local : ℕ) → of_row sent_of (get s.rows local) ++ unsent_for local s.outbox ≡ of_row kept_of (get s.rows local)
   -- each dialogue that is ready is once in the queue, and no other
   pub ready : (local : ℕ) → count_by (λ other. other == local) s.ready ≡ ready_count (get s.rows local)
   pub ready_length : length s.ready ≡ sum_of (λ row. one_if (is_ready row)) s.rows
-  pub places : places_held s ≤ 8192
-  pub aborts : length s.outbox.aborts ≤ 64
+  pub places : places_held s ≤ most_places
+  pub aborts : length s.outbox.aborts ≤ most_aborts_waiting
   -- where the link is down nothing waits
   pub quiet : s.is_down ≡ true → (s.outbox.aborts ≡ []) × (s.outbox.frames ≡ [])
   -- each total is the sum over the dialogues that are held, and what was counted of those that aren't

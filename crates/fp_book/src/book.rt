@@ -21,6 +21,8 @@ use std::marker::Model;
 pub struct Book {
     // The link, 0 to 7.
     pub(crate) link: u8,
+    // The tag of its run, 0 to 4,094.
+    pub(crate) tag: u16,
     pub(crate) ids: LocalIds,
     // How many Begins were accepted.
     pub(crate) births: u64,
@@ -50,7 +52,7 @@ impl Model for Book {
 
     ghost coded = { Prim.hlevel (codes, map.code {R = nat_cmp} coded_ℕ row_type.the_row.coded) };
 
-    ghost use Rattle.fp_book.specs.Views.{IsKept, shelf_of};
+    ghost use Rattle.fp_book.specs.proof_only.Views.{IsKept, shelf_of};
 
     ghost view = { λ book. shelf_of book };
 
@@ -58,8 +60,8 @@ impl Model for Book {
 }
 
 impl Book {
-    /// How many dialogues may be held.
-    pub const MOST_DIALOGUES: usize = 4096;
+    /// How many dialogues may be held: each may have a deadline.
+    pub const MOST_DIALOGUES: usize = Deadlines::MOST;
 
     /// How many entries of a dialogue may wait to be served or be out, those of the clock and the peer's end and abort
     /// not counted.
@@ -72,17 +74,29 @@ impl Book {
     /// and no dialogue is given a Clock. An Abort of the peer is accepted all the same.
     pub const ALL_ENTRIES: u64 = 1 << 63;
 
-    /// The book of a link, 0 to 7, which is up. It holds no dialogue, and has memory for everything except the
-    /// dialogues; the queue of serials is reserved too.
+    /// The book of a link, 0 to 7, which is up, in a run without a tag: its tag is 0. It holds no dialogue, and has
+    /// memory for everything except the dialogues; the queue of serials is reserved too.
     pub fn new(alloc: Global, link: u8) -> Result<Book, AllocError>
         requires { link < LocalIds.LINKS }
-        ensures value { IfOk result (λ book. book ≡ empty_shelf link) }
+        ensures value { IfOk result (λ book. book ≡ empty_shelf link 0) }
+        ensures sound { IfOk result (λ book. Sound book) }
+    {
+        Self::with_tag(alloc, link, 0)
+    }
+
+    /// The book of a link, 0 to 7, in a run with this tag, 0 to 4,094: as that of [`Book::new`], but for the
+    /// identifiers of its dialogues.
+    pub fn with_tag(alloc: Global, link: u8, tag: u16) -> Result<Book, AllocError>
+        requires links { link < LocalIds.LINKS }
+        requires tags { tag ≤ LocalIds.LAST_TAG }
+        ensures value { IfOk result (λ book. book ≡ empty_shelf link tag) }
         ensures sound { IfOk result (λ book. Sound book) }
     {
         serials_are_distinct();
         Ok(Book {
             link,
-            ids: LocalIds::new(alloc, link)?,
+            tag,
+            ids: LocalIds::with_tag(alloc, link, tag)?,
             births: 0,
             entries: 0,
             rows: Rows::new(alloc),

@@ -3,7 +3,7 @@
 ghost use Rattle.std.specs.Prelude.{◌≡◌, ◌≢◌, ◌<◌, [], ◌↔◌, not, true, Some, IfErr, IfOk, IsOk, IsTrue, OnErr, ◌&&◌, if◌then◌else◌};
 ghost use Rattle.std.specs.FinMap.{contains_key, get, remove};
 ghost use Rattle.fp_book.specs.Calls.{turn_of};
-ghost use Rattle.fp_book.specs.Dialogues.{ClockedAt, EndsAt, ExtendsAt, GivesAt, HandsOutAt, OpensAt, PutsBackAt, SendsAt, Drops, drops_frames, is_due_at, is_unsent, left_as, takes_more};
+ghost use Rattle.fp_book.specs.proof_only.Dialogues.{ClockedAt, EndsAt, ExtendsAt, GivesAt, HandsOutAt, OpensAt, PutsBackAt, SendsAt, Drops, drops_frames, is_due_at, is_unsent, left_as, takes_more};
 ghost use Rattle.fp_row.specs.declared.row.Row.{Row};
 ghost use Rattle.fp_row.specs.Row.{is_ready};
 ghost use Rattle.fp_book.specs.Shelf.{ready_count};

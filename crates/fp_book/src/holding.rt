@@ -9,14 +9,14 @@ ghost use Rattle.fp_book.specs.Shelf.{Sound};
 
 use crate::rules::too_many;
 use crate::verdict::Verdict;
-use crate::{Book, Receipt, messages_keep_a_book_sound};
+use crate::{Book, Outbox, Receipt, messages_keep_a_book_sound};
 use fp_entry::Prepared;
 use fp_q773::Kind;
 use std::alloc::Global;
 
 impl Book {
     /// From how many places for frames that are held no message is taken: seven eighths of them.
-    pub const MANY_PLACES: usize = 7168;
+    pub const MANY_PLACES: usize = Outbox::MOST_FRAMES / 8 * 7;
 
     /// Whether a dialogue is busy: a turn of it is out, an entry of it waits, or a frame of it is to be sent.
     fn has_busy(&self) -> bool
@@ -77,7 +77,7 @@ impl Book {
     /// cause that goes away as turns are served and frames are sent. On a link that is up, a message is held back
     ///
     /// * if it would be taken while [`Book::MANY_PLACES`] for frames are held;
-    /// * if an Abort of the provider is to answer it, and [`Outbox::MOST_ABORTS`](crate::Outbox::MOST_ABORTS) wait;
+    /// * if an Abort of the provider is to answer it, and [`Outbox::MOST_ABORTS`] wait;
     /// * if it is a readable Continue or End with which more than [`Book::MOST_ENTRIES`] of its dialogue would wait;
     /// * if it is a readable Begin while [`Book::MOST_DIALOGUES`] are held, one of which is busy.
     ///

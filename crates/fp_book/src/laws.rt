@@ -82,8 +82,9 @@ pub fn births_are_distinct()
     ensures { BirthsAreDistinct }
 {}
 
-/// While the link is up, the serial of a dialogue that is held is given again only after 126,976 others at least, once
-/// the dialogue goes: at most 4,096 dialogues are held, and all other serials are before it.
+/// While the link is up, the serial of a dialogue that is held is given again, once the dialogue goes, only after many
+/// others: all serials, [`LocalIds::SERIALS`](fp_tids::LocalIds::SERIALS), but as many as there may be dialogues,
+/// [`Book::MOST_DIALOGUES`](crate::Book::MOST_DIALOGUES).
 pub fn serials_of_dialogues_come_back_late()
     ensures { SerialsOfDialoguesComeBackLate }
 {

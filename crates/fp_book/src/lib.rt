@@ -29,8 +29,8 @@
 //! it is refused, or its link goes down; it is *closed* by the last two of these. It is *ready* when an entry of it
 //! waits and no turn of it is out, and *held* as long as it is admitted, an entry or a frame of it waits, or a turn or
 //! a parcel of it is out. What is no longer held is forgotten, but for what was counted; its identifier may be given to
-//! another dialogue, after 126,976 others at least ([`serials_of_dialogues_come_back_late`]). So a dialogue is named by
-//! its *birth* in the log: its number among those that the link opened.
+//! another dialogue, after many others ([`serials_of_dialogues_come_back_late`]). So a dialogue is named by its *birth*
+//! in the log: its number among those that the link opened.
 //!
 //! A [`Turn`](fp_row::Turn) and a [`Parcel`] must be spent. What comes back is compared with what is out, and a
 //! stale or foreign one comes back and changes nothing. A dialogue whose turn or parcel was abandoned stays held.
@@ -57,9 +57,10 @@
 //! those gone. A message gets what the first rule of `specs/Rules.antt` that fits it says. That a stale or foreign turn
 //! or parcel comes back, and the right one never, is said by the clauses named `known`. Laws say what follows:
 //!
-//! * [`read_messages_have_few_entries`]: a message that was read brings an entry for each element at most, and one more.
+//! * [`read_messages_have_few_entries`]: a message that was read brings at most one entry more than it has elements.
 //! * [`births_are_distinct`]: no two dialogues that are held have the same birth.
-//! * [`serials_of_dialogues_come_back_late`]: the serial of a dialogue is given again after 126,976 others at least.
+//! * [`serials_of_dialogues_come_back_late`]: the serial of a dialogue is given again after at least 126,976 others,
+//!   all serials but [`Book::MOST_DIALOGUES`].
 //! * [`dialogues_are_kept_in_order`]: of each dialogue that is held the entries served, the one that is out and those
 //!   that wait are those accepted; and the frames sent, the one that is being sent and those that wait are those that
 //!   it requests on the entries served, each unsent one under its birth. Where it was closed, is over or was ended from

@@ -7,10 +7,12 @@ use fp_frames::Frame;
 /// A line of the log.
 #[derive(Debug, Drop)]
 pub enum Line {
-    /// The first one: how many links there are.
+    /// The first one: how many links there are, and the tag of the run.
     Head {
         /// The number of links, 1 to 8.
         links: u8,
+        /// The tag, 0 to 4,094; 0 for a run without one.
+        tag: u16,
     },
     /// A step of a link, or a gap.
     Step {

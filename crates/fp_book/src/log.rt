@@ -9,8 +9,8 @@ use std::alloc::{AllocError, Global};
 use std::collections::VecDeque;
 use std::marker::Model;
 
-/// The steps of a link that weren't drained yet, the oldest first, at most 8,192. In the last place is nothing but
-/// a gap, which counts the steps that found no place. Contracts see them as their list.
+/// The steps of a link that weren't drained yet, the oldest first, at most [`Log::MOST`]. In the last place is nothing
+/// but a gap, which counts the steps that found no place. Contracts see them as their list.
 #[derive(Debug, Drop)]
 pub struct Log {
     steps: VecDeque<LoggedStep>,

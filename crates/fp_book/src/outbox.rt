@@ -2,7 +2,8 @@
 
 ghost use Rattle.std.specs.Prelude.{◌≡◌, ◌+◌, ◌++◌, ◌<◌, ◌≤◌, ◌↔◌, Some, IfErr, IfOk, IsOk, IsTrue, length, nat_le, nat_lt};
 ghost use Rattle.std.specs.VecDeque.{deque_capacity};
-ghost use Rattle.fp_book.specs.Sending.{dialogue_out, is_frame_of};
+ghost use Rattle.fp_book.specs.Parcel.{is_frame_of};
+ghost use Rattle.fp_book.specs.proof_only.Sending.{dialogue_out};
 ghost use Rattle.fp_book.specs.Outbox.{Picks, TakesNext, abort_added, frames_held, nothing, waiting_frames, with_frames, with_nothing_out, without_frames_of, without_waiting};
 
 use crate::parcel::{Content, Waiting};
@@ -14,8 +15,9 @@ use std::alloc::{AllocError, Global};
 use std::collections::VecDeque;
 use std::marker::Model;
 
-/// What waits to be sent on a link, the oldest first: at most 64 Aborts of the provider, which go first, and 8,192
-/// frames of dialogues; and what is being sent. Contracts see the two lists, and what the parcel holds that is out.
+/// What waits to be sent on a link, the oldest first: at most [`Outbox::MOST_ABORTS`] Aborts of the provider, which go
+/// first, and [`Outbox::MOST_FRAMES`] frames of dialogues; and what is being sent. Contracts see the two lists, and
+/// what the parcel holds that is out.
 #[derive(Debug, Drop)]
 pub struct Outbox {
     aborts: VecDeque<AbortFrame>,

@@ -4,12 +4,12 @@ ghost use Rattle.std.specs.Prelude.{◌≡◌, false, length, IfSome, if◌then�
 ghost use Rattle.fp_book.specs.declared.verdict.Verdict.TheVariants as verdicts;
 ghost use Rattle.fp_entry.specs.declared.prepared.Prepared.TheVariants as prepared;
 ghost use Rattle.fp_book.specs.Calls.{without, abort_for, Discards, Follows, Posts, Refuses, posted_line, posted_totals};
-ghost use Rattle.fp_book.specs.Dialogues.{AnsweredBy};
+ghost use Rattle.fp_book.specs.proof_only.Dialogues.{AnsweredBy};
 ghost use Rattle.fp_book.specs.Rules.{facts_with, is_full, named, verdict};
 ghost use Rattle.fp_book.specs.Outbox.{without_frames_of};
 ghost use Rattle.fp_book.specs.Receipt.{IsReceipt};
 ghost use Rattle.fp_book.specs.Shelf.{Sound};
-ghost use Rattle.fp_book.specs.Named.{HasItsPlaces, local_in};
+ghost use Rattle.fp_book.specs.proof_only.Named.{HasItsPlaces, local_in};
 
 use crate::rules::Facts;
 use crate::serving::{end_serial_unless_held, join, set_deadline};
@@ -305,17 +305,17 @@ impl Book {
     /// 4. Octets that are no message that is taken: cause 0 for an unknown tag, else 2; the admitted dialogue is
     ///    closed.
     /// 5. A Continue, an End or an Abort that names no admitted dialogue: cause 1 for a Continue, else `Discarded`.
-    /// 6. A Begin, a Continue or an End with more than 16 elements in its component portion, for which no further
-    ///    dialogue may be held, with which more than 64 entries of the dialogue would wait, or after the last entry
-    ///    that the link takes: cause 4, and the dialogue is closed. If memory runs out as a message is accepted, it
-    ///    gets what rule 3 says.
+    /// 6. A Begin, a Continue or an End with more than [`Book::MOST_ELEMENTS`] elements in its component portion, for
+    ///    which no further dialogue may be held, with which more than [`Book::MOST_ENTRIES`] entries of the dialogue
+    ///    would wait, or after the last entry that the link takes: cause 4, and the dialogue is closed. If memory runs
+    ///    out as a message is accepted, it gets what rule 3 says.
     /// 7. Else `Opened` or `Accepted`.
     ///
     /// A Begin without entries that is over no limit of rule 6 is discarded. No message that was read is one.
     ///
-    /// If a cause is named, the sender gave its identifier, and fewer than 64 Aborts of the provider wait, one more
-    /// waits, and the answer is `Aborted`; else it is `Ended` if a dialogue was closed, and `Discarded` if none was.
-    /// (ITU-T Q.774, 3.3.4 and 3.3.5.)
+    /// If a cause is named, the sender gave its identifier, and fewer Aborts of the provider wait than may
+    /// ([`Outbox::MOST_ABORTS`](crate::Outbox::MOST_ABORTS)), one more waits, and the answer is `Aborted`; else it is
+    /// `Ended` if a dialogue was closed, and `Discarded` if none was. (ITU-T Q.774, 3.3.4 and 3.3.5.)
     pub fn post(&mut self, alloc: Global, came: Prepared) -> Posted
         ensures posts { Posts self.old came result self.new }
         ensures totals { self.new.totals ≡ posted_totals self.old.totals came result }

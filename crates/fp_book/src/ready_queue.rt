@@ -5,12 +5,13 @@ ghost use Rattle.std.specs.List.{slice_get};
 ghost use Rattle.std.specs.Option.{option_to_list};
 ghost use Rattle.fp_book.specs.ReadyQueue.{IsEmptyIfNone, is_other};
 
+use crate::Book;
 use std::alloc::{AllocError, Global};
 use std::collections::VecDeque;
 use std::marker::Model;
 
-/// The local transaction identifiers of dialogues in the order in which they are served, at most 4,096. Contracts see
-/// them as their list.
+/// The local transaction identifiers of dialogues in the order in which they are served, at most [`ReadyQueue::MOST`].
+/// Contracts see them as their list.
 #[derive(Debug, Drop)]
 pub struct ReadyQueue {
     locals: VecDeque<u32>,
@@ -19,17 +20,18 @@ pub struct ReadyQueue {
 impl Model for ReadyQueue {
     ghost use Rattle.std.specs.Prelude.{ℕ, ◌≤◌, List, length};
     ghost use Rattle.std.specs.VecDeque.{deque_capacity};
+    ghost use Rattle.fp_book.specs.Limits.{most_dialogues};
 
     ghost Value = { List ℕ };
 
     ghost view = { λ queue. queue.locals.items };
 
-    ghost invariant = { λ queue. (length queue.locals.items ≤ 4096) × (4096 ≤ deque_capacity queue.locals) };
+    ghost invariant = { λ queue. (length queue.locals.items ≤ most_dialogues) × (most_dialogues ≤ deque_capacity queue.locals) };
 }
 
 impl ReadyQueue {
     /// How many there may be.
-    pub const MOST: usize = 4096;
+    pub const MOST: usize = Book::MOST_DIALOGUES;
 
     /// None, with memory for as many as there may be.
     pub fn new(alloc: Global) -> Result<ReadyQueue, AllocError>

@@ -2,7 +2,8 @@
 
 ghost use Rattle.std.specs.Prelude.{◌≡◌, ◌↔◌, Some, None, IfOk, IsTrue, is_some};
 ghost use Rattle.fp_book.specs.declared.parcel.Content.TheVariants as contents;
-ghost use Rattle.fp_book.specs.Sending.{dialogue_out, is_frame, is_frame_of, is_frame_under};
+ghost use Rattle.fp_book.specs.Parcel.{is_frame_of};
+ghost use Rattle.fp_book.specs.proof_only.Sending.{dialogue_out, is_frame, is_frame_under};
 
 use crate::parcel::Content;
 use fp_reply::{AbortFrame, MOST_OCTETS};
@@ -30,14 +31,15 @@ enum Kind {
 impl Model for Sending {
     ghost use Rattle.std.specs.Prelude.{◌≤◌, Option, vec_capacity};
     ghost use Rattle.fp_book.specs.declared.parcel.Content.{Content};
+    ghost use Rattle.fp_reply.specs.declared.frame.TheConstants.{MOST_OCTETS};
 
     ghost Value = { Option Content };
 
-    ghost use Rattle.fp_book.specs.Sending.{content_of};
+    ghost use Rattle.fp_book.specs.proof_only.Sending.{content_of};
 
     ghost view = { λ sending. content_of sending.kind sending.octets.items };
 
-    ghost invariant = { λ sending. 335 ≤ vec_capacity sending.octets };
+    ghost invariant = { λ sending. MOST_OCTETS ≤ vec_capacity sending.octets };
 }
 
 impl Sending {

@@ -4,9 +4,9 @@ ghost use Rattle.std.specs.Prelude.{◌≡◌, ◌↔◌, ℕ, IfErr, IsOk, OnOk
 ghost use Rattle.std.specs.FinMap.{get};
 ghost use Rattle.fp_book.specs.declared.line.LoggedStep.TheVariants as line;
 ghost use Rattle.fp_book.specs.Calls.{GoesDown, Hands, IsOut, Sends, Unsends};
-ghost use Rattle.fp_book.specs.Sending.{is_frame_of};
+ghost use Rattle.fp_book.specs.Parcel.{is_frame_of};
 ghost use Rattle.fp_book.specs.Shelf.{Sound};
-ghost use Rattle.fp_book.specs.Views.{AreTimed};
+ghost use Rattle.fp_book.specs.proof_only.Views.{AreTimed};
 ghost use Rattle.fp_row.specs.Rows.{ClosesAt};
 
 use crate::serving::end_serial_unless_held;

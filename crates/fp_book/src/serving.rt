@@ -4,7 +4,7 @@ ghost use Rattle.std.specs.Prelude.{◌≡◌, ◌↔◌, ◌<◌, ◌≤◌, �
 ghost use Rattle.std.specs.FinMap.{get};
 ghost use Rattle.fp_timers.specs.Deadlines.{HasRoom};
 ghost use Rattle.fp_book.specs.Calls.{GivesDone, NoneReady, PutsTurnBack, Takes, given_of, joins, turn_of, waiting_in};
-ghost use Rattle.fp_book.specs.Dialogues.{request_count, with_deadline};
+ghost use Rattle.fp_book.specs.proof_only.Dialogues.{request_count, with_deadline};
 ghost use Rattle.fp_row.specs.Calls.{frames_in};
 ghost use Rattle.fp_book.specs.Shelf.{Sound};
 ghost use Rattle.fp_tids.specs.Identifiers.{IsGiven, with_returned};
@@ -68,9 +68,9 @@ fn queue(outbox: &mut Outbox, local: u32, birth: u64, requested: Requested) -> G
 
 impl Book {
     /// Hands out the turn of the dialogue that has been ready longest. `Nothing`: no dialogue is ready. `NoRoom`: all
-    /// 8,192 places for frames are held, by frames that wait, by the one that is being sent, and by entries that are
-    /// out. `Memory`: memory ran out for a copy of the entries and of the core. In these cases nothing changes. A turn
-    /// has as many entries as wait and find a free place each, at most [`Turn::MOST_ENTRIES`].
+    /// places for frames, [`Outbox::MOST_FRAMES`], are held, by frames that wait, by the one that is being sent, and by
+    /// entries that are out. `Memory`: memory ran out for a copy of the entries and of the core. In these cases nothing
+    /// changes. A turn has as many entries as wait and find a free place each, at most [`Turn::MOST_ENTRIES`].
     pub fn take(&mut self) -> Taken
         ensures takes { Takes self.old result self.new }
         ensures none { NoneReady result self.old }

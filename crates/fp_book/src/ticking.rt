@@ -4,11 +4,12 @@ ghost use Rattle.std.specs.Prelude.{◌≡◌, ◌≤◌, ◌+◌, nat_eq, if◌
 ghost use Rattle.std.specs.FinMap.{len};
 ghost use Rattle.fp_book.specs.declared.line.LoggedStep.TheVariants as line;
 ghost use Rattle.fp_book.specs.Calls.{Ticks};
-ghost use Rattle.fp_book.specs.Clocking.{AreAgreed, Clocking, ClocksIf, due_now};
+ghost use Rattle.fp_book.specs.proof_only.Clocking.{AreAgreed, Clocking, ClocksIf, due_now};
+ghost use Rattle.fp_book.specs.Limits.{most_dialogues};
 ghost use Rattle.fp_book.specs.Log.{logged};
 ghost use Rattle.fp_book.specs.Shelf.{Sound};
 ghost use Rattle.fp_book.specs.Totals.{sum_of};
-ghost use Rattle.fp_book.specs.Views.{AreTimed};
+ghost use Rattle.fp_book.specs.proof_only.Views.{AreTimed};
 
 use crate::serving::join;
 use crate::{Book, Log, LoggedStep, ReadyQueue, Ticked, clocks_keep_a_book_sound, dialogues};
@@ -88,7 +89,7 @@ fn clock_each(
 /// How many dialogues are due at a moment. If no deadline is due, none is, and the dialogues aren't gone through.
 fn due_count(rows: &Rows, deadlines: &Deadlines, moment: Moment) -> u32
     requires timed { AreTimed deadlines.now rows.now }
-    requires held { len rows.now ≤ 4096 }
+    requires held { len rows.now ≤ most_dialogues }
     ensures { result ≡ sum_of (due_now moment) rows.now }
 {
     match deadlines.due(moment) {

@@ -2,9 +2,13 @@
 -- most significant first, and then as many octets of message.
 use Rattle.std.specs.Prelude.{ℕ, ◌/◌, ◌%◌, ◌≤◌, List, [], ◌∷◌, ◌++◌, length}
 
+-- how many octets a message may have
+abbrev pub most_octets : ℕ
+most_octets = 4096
+
 -- how long a message may be
 abbrev pub IsMessageLength : ℕ → Type 0
-IsMessageLength length = (1 ≤ length) × (length ≤ 4096)
+IsMessageLength length = (1 ≤ length) × (length ≤ most_octets)
 
 -- the four digits of the length to the base 256
 abbrev pub head_of : ℕ → List ℕ

@@ -5,7 +5,7 @@ use Rattle.std.specs.Int.{w32, from_be_bytes}
 use Rattle.std.specs.List.{All, flat_map}
 use Rattle.fp_frames.specs.declared.fault.FrameFault.{FrameFault}
 use Rattle.fp_frames.specs.declared.fault.FrameFault.TheVariants.{BadFrameLength, Memory}
-use Rattle.fp_frames.specs.Frame.{IsMessageLength, framed}
+use Rattle.fp_frames.specs.Frame.{IsMessageLength, framed, most_octets}
 
 -- the length that the first four octets tell
 abbrev pub length_told : List ℕ → ℕ
@@ -13,7 +13,7 @@ length_told octets = from_be_bytes w32 (take 4 octets)
 
 -- a head stands first that is no frame's: the length that it tells is 0 or above 4,096
 abbrev pub IsBad : List ℕ → Type 0
-IsBad octets = (4 ≤ length octets) × ((length_told octets ≡ 0) ⊎ (4096 < length_told octets))
+IsBad octets = (4 ≤ length octets) × ((length_told octets ≡ 0) ⊎ (most_octets < length_told octets))
 
 -- no whole head stands here; or that of a frame, and not its whole message behind it
 abbrev pub IsIncomplete : List ℕ → Type 0

@@ -26,11 +26,15 @@ ReceiveEnds TurnLimit turns count left last rest = IsIncomplete rest × (last �
 -- whole frames may be left
 ReceiveEnds Memory turns count left last rest = (last ≡ []) × (count ≤ turns)
 
+-- how many octets one read of a link gives at most
+abbrev pub most_read : ℕ
+most_read = 65536
+
 -- Pieces were read, and perhaps the end of the input. The messages that were handed on are those of the frames at the
 -- front of what was read, in their order.
 pub record Receives (turns : ℕ) (had left : Option (List ℕ)) (before after old new : Option (List (List ℕ))) (ended : Ended) : Type 0 where
   pub pieces : List (List ℕ)
-  pub sizes : All (IsPiece 65536) pieces
+  pub sizes : All (IsPiece most_read) pieces
   pub last : List (List ℕ)
   pub read : Grows before after (pieces ++ last)
   pub consumed : Consumes had left (joined pieces)

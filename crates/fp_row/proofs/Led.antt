@@ -15,7 +15,7 @@ use Rattle.std.specs.Ordering.{nat_cmp}
 use Rattle.std.specs.Prelude.{nat_eq}
 use Rattle.slab.specs.Slab.{CalledAt, RetainsFrom, Slab, Updates, entries_from, get, values, with_value}
 use Rattle.slab.proofs.SlabLemmas.{Updates-with_value}
-use Rattle.fp_row.specs.Leads.{Leads, key_in, values_in}
+use Rattle.fp_row.specs.proof_only.Leads.{Leads, key_in, values_in}
 use Rattle.fp_row.proofs.Maps.{apart, get-map_of, inserted, removed, same}
 
 -- two entries that are one have one identifier

@@ -7,7 +7,7 @@ use Rattle.fp_q773.specs.Tid.{octets_of}
 use Rattle.fp_reply.specs.Reply.{frame_of}
 use Rattle.fp_row.specs.declared.serving.Steps.{Steps}
 use Rattle.fp_row.specs.declared.turn.Turn.{Turn}
-use Rattle.fp_row.specs.Serving.{AreAll, Goes, none_served, one_served}
+use Rattle.fp_row.specs.proof_only.Serving.{AreAll, Goes, none_served, one_served}
 use Rattle.fp_row.specs.Turn.{frames_under}
 use Rattle.fp_service.specs.declared.dialogue.Core.{Core}
 use Rattle.fp_service.specs.declared.request.Request.{Request}

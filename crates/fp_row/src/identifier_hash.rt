@@ -1,7 +1,7 @@
 //! The hash of a local identifier.
 
 ghost use Rattle.std.specs.Prelude.{◌≡◌};
-ghost use Rattle.fp_row.specs.IdentifierHash.{hash_of, written};
+ghost use Rattle.fp_row.specs.proof_only.IdentifierHash.{hash_of, written};
 
 use std::hash::Hasher;
 

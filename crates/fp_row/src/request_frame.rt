@@ -14,12 +14,13 @@ pub struct RequestFrame {
 
 impl Model for RequestFrame {
     ghost use Rattle.std.specs.Prelude.{ℕ, ◌≤◌, List, length};
+    ghost use Rattle.fp_reply.specs.declared.frame.TheConstants.{MOST_OCTETS};
 
     ghost Value = { List ℕ };
 
     ghost view = { λ frame. frame.octets.items };
 
-    ghost invariant = { λ frame. length frame.octets.items ≤ 335 };
+    ghost invariant = { λ frame. length frame.octets.items ≤ MOST_OCTETS };
 }
 
 impl RequestFrame {

@@ -8,7 +8,7 @@ ghost use Rattle.std.specs.FinMap as map;
 ghost use Rattle.fp_row.specs.contracts.rows.Rows.{the_row};
 ghost use Rattle.fp_row.specs.contracts.row.Row as row_type;
 ghost use Rattle.fp_row.specs.declared.row.Row.{Row};
-ghost use Rattle.fp_row.specs.Leads.{key_in};
+ghost use Rattle.fp_row.specs.proof_only.Leads.{key_in};
 ghost use Rattle.fp_row.specs.Rows.{Closes, ClosesAt, IsAfter, count_due, entry_count, is_above, is_sent};
 
 use crate::identifier_hash::IdentifierHasher;
@@ -41,7 +41,7 @@ impl Model for Rows {
     ghost use Rattle.std.specs.Coded.{coded_ℕ};
     ghost use Rattle.fp_row.specs.contracts.row.Row as row_type;
     ghost use Rattle.fp_row.specs.declared.row.Row.{Row};
-    ghost use Rattle.fp_row.specs.Leads.{Leads, key_in, values_in};
+    ghost use Rattle.fp_row.specs.proof_only.Leads.{Leads, key_in, values_in};
 
     ghost Value = { map.FinMap nat_cmp Row };
 

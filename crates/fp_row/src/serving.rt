@@ -2,7 +2,7 @@
 
 ghost use Rattle.std.specs.Prelude.{◌≡◌, ◌+◌, ◌<◌, ◌++◌, ◌^◌, IfOk, OnOk, OnErr, length, option_to_list};
 ghost use Rattle.fp_row.specs.Turn.{frames_under};
-ghost use Rattle.fp_row.specs.Serving.{AreAll, none_served, one_served};
+ghost use Rattle.fp_row.specs.proof_only.Serving.{AreAll, none_served, one_served};
 
 use crate::heap_core::HeapCore;
 use crate::{RequestFrame, RequestFrames, Turn};

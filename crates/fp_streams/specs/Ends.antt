@@ -3,7 +3,7 @@ use Rattle.std.specs.Prelude.{◌≡◌, ◌≢◌, ℕ, ◌<◌, ◌≤◌, ◌
 use Rattle.std.specs.List.{All}
 use Rattle.std.specs.Io.KnownBytes.{Consumes}
 use Rattle.fp_streams.specs.Grows.{Grows}
-use Rattle.fp_streams.specs.Reads.{IsEnd, IsPiece, joined}
+use Rattle.fp_streams.specs.Reads.{IsEnd, IsPiece, joined, most_read}
 
 -- what a fault says of them: one of them failed, or the limit on reads was reached, or neither is so; and whether the
 -- end of the input had been read
@@ -31,7 +31,7 @@ ReadsEnd cause reads count left last result =
 -- pieces were read, and perhaps the end of the input
 pub record Reads {F A : Type 0} (cause : F → Cause) (reads : ℕ) (had left : Option (List ℕ)) (before after : Option (List (List ℕ))) (result : Result A F) : Type 0 where
   pub pieces : List (List ℕ)
-  pub sizes : All (IsPiece 4096) pieces
+  pub sizes : All (IsPiece most_read) pieces
   pub last : List (List ℕ)
   pub read : Grows before after (pieces ++ last)
   pub consumed : Consumes had left (joined pieces)

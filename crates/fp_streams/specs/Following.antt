@@ -5,7 +5,7 @@ use Rattle.std.specs.Io.KnownBytes.{Consumes, IsAtEnd}
 use Rattle.fp_streams.specs.Ends.{Cause, ReadsEnd, before_end, limit_reached, maybe_at_end, reader_failed}
 use Rattle.fp_streams.specs.Grows.{Grows}
 use Rattle.fp_streams.specs.Line.{IsOneLine}
-use Rattle.fp_streams.specs.Reads.{IsPiece, joined}
+use Rattle.fp_streams.specs.Reads.{IsPiece, joined, most_read}
 use Rattle.fp_streams.specs.declared.fault.LinesFault.{LinesFault}
 use Rattle.fp_streams.specs.declared.fault.LinesFault.TheVariants.{Memory, ReadFault, Refused, TooLong, TurnLimit}
 
@@ -116,7 +116,7 @@ cause_of _ = before_end
 -- or those before the fault.
 pub record Follows {S F A : Type 0} (takes : S → Bool → List ℕ → S → Type 0) (refuses : S → Bool → List ℕ → F → S → Type 0) (most reads : ℕ) (had left : Option (List ℕ)) (before after : Option (List (List ℕ))) (old new : S) (result : Result A (LinesFault F)) : Type 0 where
   pub pieces : List (List ℕ)
-  pub sizes : All (IsPiece 4096) pieces
+  pub sizes : All (IsPiece most_read) pieces
   pub last : List (List ℕ)
   pub read : Grows before after (pieces ++ last)
   pub consumed : Consumes had left (joined pieces)

@@ -7,6 +7,10 @@ use Rattle.std.specs.Io.KnownBytes.{IsAtEnd}
 abbrev pub joined : List (List ℕ) → List ℕ
 joined pieces = flat_map (λ (piece : List ℕ). piece) pieces
 
+-- how many octets one read of lines gives at most
+abbrev pub most_read : ℕ
+most_read = 4096
+
 -- a read gave at least one octet, and at most this many
 abbrev pub IsPiece : ℕ → List ℕ → Type 0
 IsPiece most piece = (0 < length piece) × (length piece ≤ most)

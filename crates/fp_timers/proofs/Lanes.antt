@@ -1,5 +1,5 @@
 -- Lanes that are joined to one list, and a timer more or less in one of them.
-use Rattle.fp_timers.proofs.Names.{All, All-append, AreApart, AreFew, Bool, FinMap, IsAt, IsTimerAt, IsWith, List, None, Some, Timer, ap, append_assoc, arith, drop, drop-append-add, drop-append_seam, false, get, get_or-append-add, get_or-insert_at, get_or_default, insert, joined, len, length, length-append, length-insert, map_insert, map_remove, nat_cmp, refl, remove, set, set-get_or, set_split, subst, suc, sym, take, take-append_seam, timer_at, true, ℕ, ◌++◌, ◌+◌, ◌<◌, ◌∙◌, ◌∷◌, ◌≡◌, ◌≢◌, ◌≤◌}
+use Rattle.fp_timers.proofs.Names.{All, All-append, AreApart, AreFew, Bool, FinMap, IsAt, IsTimerAt, IsWith, List, None, Some, Timer, ap, append_assoc, arith, drop, drop-append-add, drop-append_seam, false, get, get_or-append-add, get_or-insert_at, get_or_default, insert, joined, len, length, length-append, length-insert, map_insert, map_remove, nat_cmp, refl, remove, set, set-get_or, set_split, subst, suc, sym, take, take-append_seam, timer_at, true, ℕ, ◌++◌, ◌+◌, ◌<◌, ◌∙◌, ◌∷◌, ◌≡◌, ◌≢◌, ◌≤◌, most_deadlines}
 use Rattle.fp_timers.proofs.Lookups.{found}
 use Rattle.fp_timers.proofs.Maps.{get-map_of, len-map_of, map_of, map_of-insert, map_of-remove, others}
 use Rattle.fp_timers.proofs.Order.{past_end, rises_insert, rises_remove}
@@ -115,8 +115,8 @@ module _ (t : Timer) (l l' : List Timer) (w : IsWith l t l') where
 
 module _ (t : Timer) (l : List Timer) (m : FinMap nat_cmp ℕ) (few : AreFew l) (is : map_of l ≡ m) where
   -- a timer is added
-  module _ (absent : get m t.local ≡ None) (room : len m < 4096) where
-    pub fewer : length l < 4096
+  module _ (absent : get m t.local ≡ None) (room : len m < most_deadlines) where
+    pub fewer : length l < most_deadlines
     fewer = omega (arith, sym (len-map_of l few.apart) ∙ ap len is, room)
 
     none : get (map_of l) t.local ≡ None
@@ -139,7 +139,7 @@ module _ (t : Timer) (l : List Timer) (m : FinMap nat_cmp ℕ) (few : AreFew l) 
     pub view_without : map_of l' ≡ map_remove m t.local
     view_without = map_without t l' l w few.apart ∙ ap (λ n. map_remove n t.local) is
 
-    pub room_without : len (map_of l') < 4096
+    pub room_without : len (map_of l') < most_deadlines
     room_without = omega (arith, len-map_of l' few_without.apart, length-with t l' l w, few.most)
 
   -- a timer that the map has is in the list

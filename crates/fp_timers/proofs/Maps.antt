@@ -1,5 +1,5 @@
 -- Timers, each of another identifier, as a finite map.
-use Rattle.fp_timers.proofs.Names.{AreApart, FinMap, HasRoom, IsAt, IsInOrder, List, None, Some, Timer, [], ap, arith, cases_lt, cond, contains_key, drop, entries, eq_by_cmp, eqb, false, find, from_entries, get, get-from_entries, get-insert, get-remove, get_or, get_or-remove_above, get_or-remove_below, get_or_default, inl, inr, insert, is_some, len, len-empty, len-insert, length, length-remove, map_insert, map_remove, nat_cmp, nat_cmp-IsAntisymmetric, nat_cmp_total, nat_tests, refl, remove, same_map, set, set-get_or, set_split, subst, suc, sym, take, take-append-drop, timer_at, ℕ, ◌++◌, ◌+◌, ◌<◌, ◌∙◌, ◌∷◌, ◌≡◌, ◌≢◌, ◌≤◌, ◌⊎◌}
+use Rattle.fp_timers.proofs.Names.{AreApart, FinMap, HasRoom, IsAt, IsInOrder, List, None, Some, Timer, [], ap, arith, cases_lt, cond, contains_key, drop, entries, eq_by_cmp, eqb, false, find, from_entries, get, get-from_entries, get-insert, get-remove, get_or, get_or-remove_above, get_or-remove_below, get_or_default, inl, inr, insert, is_some, len, len-empty, len-insert, length, length-remove, map_insert, map_remove, nat_cmp, nat_cmp-IsAntisymmetric, nat_cmp_total, nat_tests, refl, remove, same_map, set, set-get_or, set_split, subst, suc, sym, take, take-append-drop, timer_at, ℕ, ◌++◌, ◌+◌, ◌<◌, ◌∙◌, ◌∷◌, ◌≡◌, ◌≢◌, ◌≤◌, ◌⊎◌, most_deadlines}
 use Rattle.fp_timers.proofs.Lookups.{deadline_in, deadline_in_absent, deadline_in_between}
 use Rattle.fp_timers.proofs.Order.{past_end}
 
@@ -107,6 +107,6 @@ module _ (l : List Timer) (apart : AreApart l) (k : ℕ) where
         map_of_between (take at l) (drop at l) (record { local = k; deadline = v }) (subst (λ xs. get (map_of xs) k ≡ None) (sym all) absent) ∙ ap (λ xs. map_insert (map_of xs) k v) all
 
     -- the map has room for one more, so the list has
-    pub room : HasRoom (map_of l) k → length l < 4096
+    pub room : HasRoom (map_of l) k → length l < most_deadlines
     room (inl there) = absurd (let gone : contains_key (map_of l) k ≡ false = ap is_some absent in cc)
     room (inr fewer) = omega (arith, len-map_of l apart)

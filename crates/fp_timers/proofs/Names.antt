@@ -1,5 +1,6 @@
 -- The names that the proofs of this crate use: of std and of `specs/`.
 pub use Rattle.fp_timers.specs.Deadlines.{ComesAfter, HasRoom, IsEarliestDueAfter}
+pub use Rattle.fp_timers.specs.Limits.{most_deadlines}
 pub use Rattle.fp_timers.specs.Timers.{AreApart, AreFew, IsAt, IsEarliestAfter, IsGapFor, IsInOrder, IsInTimeOrder, IsPlaceAfter, IsPlaceFor, IsTimerAt, IsWith, comes_before, earlier, entries, is_after, joined, timer_at}
 pub use Rattle.fp_timers.specs.declared.timers.Timer.{Timer}
 pub use Rattle.std.proofs.Common.{Bool, Err, IfErr, IfOk, List, None, Ok, OnErr, OnOk, Option, Result, Some, [], ap, arith, cond, drop, eqb, false, get_or, inl, inr, is_some, length, nat_lt, not, refl, rules, set, subst, suc, sym, take, true, zero, ℕ, ◌&&◌, ◌++◌, ◌+◌, ◌-◌, ◌<◌, ◌==◌, ◌∙◌, ◌∷◌, ◌≡◌, ◌≢◌, ◌≤◌, ◌⊎◌}

@@ -2,11 +2,12 @@
 use Rattle.std.specs.Prelude.{◌≡◌, ℕ, ◌<◌, ◌≤◌, ◌⊎◌, Option, Some, None, IsTrue, ⊤}
 use Rattle.std.specs.Ordering.{nat_cmp}
 use Rattle.std.specs.FinMap.{FinMap, get, contains_key, len}
+use Rattle.fp_timers.specs.Limits.{most_deadlines}
 use Rattle.fp_timers.specs.declared.timers.Timer.{Timer}
 
--- the identifier has a deadline, or fewer than 4,096 identifiers have one
+-- the identifier has a deadline, or fewer than `most_deadlines` have one
 abbrev pub HasRoom : FinMap nat_cmp ℕ → ℕ → Type 0
-HasRoom deadlines local = IsTrue (contains_key deadlines local) ⊎ (len deadlines < 4096)
+HasRoom deadlines local = IsTrue (contains_key deadlines local) ⊎ (len deadlines < most_deadlines)
 
 -- a deadline, and the identifier of the dialogue that has it
 abbrev pub Due : Type 0

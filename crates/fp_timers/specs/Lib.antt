@@ -1,3 +1,4 @@
 pub mod Deadlines
 pub mod Laws
+pub mod Limits
 pub mod Timers

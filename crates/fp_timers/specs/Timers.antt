@@ -1,5 +1,6 @@
 -- Timers in the order of their local identifiers, or of their deadlines, and what a search finds among them.
 use Rattle.std.specs.Prelude.{◌≡◌, ◌≢◌, ℕ, ◌<◌, ◌≤◌, ◌==◌, nat_lt, Bool, false, true, ◌&&◌, ◌||◌, cond, List, ◌∷◌, ◌++◌, All, map, length, slice_index_or, Option, Some, None}
+use Rattle.fp_timers.specs.Limits.{most_deadlines}
 use Rattle.fp_timers.specs.declared.timers.Timer.{Timer}
 
 -- the identifiers, each with its deadline
@@ -26,25 +27,25 @@ IsInTimeOrder timers = (i j : ℕ) → i < j → j < length timers → comes_bef
 abbrev pub AreApart : List Timer → Type 0
 AreApart timers = (i j : ℕ) → i < j → j < length timers → (timer_at timers i).local ≢ (timer_at timers j).local
 
--- what a list by identifier keeps: its timers in order, at most 4,096, and memory for as many
+-- what a list by identifier keeps: its timers in order, at most `most_deadlines`, and memory for as many
 pub record IsKept (timers : List Timer) (capacity : ℕ) : Type 0 where
   pub in_order : IsInOrder timers
-  pub most : length timers ≤ 4096
-  pub room : 4096 ≤ capacity
+  pub most : length timers ≤ most_deadlines
+  pub room : most_deadlines ≤ capacity
 
--- what a lane keeps: its timers in the order of deadlines, and memory for 4,096
+-- what a lane keeps: its timers in the order of deadlines, and memory for `most_deadlines`
 pub record IsKeptInTime (timers : List Timer) (capacity : ℕ) : Type 0 where
   pub in_order : IsInTimeOrder timers
-  pub room : 4096 ≤ capacity
+  pub room : most_deadlines ≤ capacity
 
 -- the timers of four lanes
 abbrev pub joined : List Timer → List Timer → List Timer → List Timer → List Timer
 joined first second third fourth = first ++ (second ++ (third ++ fourth))
 
--- what all lanes together keep: each timer is of another identifier, and there are at most 4,096
+-- what all lanes together keep: each timer is of another identifier, and there are at most `most_deadlines`
 pub record AreFew (timers : List Timer) : Type 0 where
   pub apart : AreApart timers
-  pub most : length timers ≤ 4096
+  pub most : length timers ≤ most_deadlines
 
 -- these are the others and one timer more, at any place
 pub record IsWith (others : List Timer) (timer : Timer) (timers : List Timer) : Type 0 where

@@ -12,8 +12,8 @@ use fp_digits::Moment;
 use std::alloc::{AllocError, Global};
 use std::marker::Model;
 
-/// At most 4,096 timers in four lanes, each in the order of deadlines, and of identifiers if those are the same.
-/// Contracts see them as a finite map.
+/// At most [`Deadlines::MOST`] timers in four lanes, each in the order of deadlines, and of identifiers if those are
+/// the same. Contracts see them as a finite map.
 #[derive(Debug, Drop)]
 pub(crate) struct ByDeadline {
     // A deadline is a fixed time after a message, and there are few such times. Those of one kind come in order, so up

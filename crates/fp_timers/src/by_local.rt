@@ -11,7 +11,7 @@ use std::alloc::{AllocError, Global};
 use std::collections::VecDeque;
 use std::marker::Model;
 
-/// At most 4,096 timers in the order of their identifiers. Contracts see them as a finite map.
+/// At most [`Deadlines::MOST`] timers in the order of their identifiers. Contracts see them as a finite map.
 #[derive(Debug, Drop)]
 pub(crate) struct ByLocal {
     timers: VecDeque<Timer>,

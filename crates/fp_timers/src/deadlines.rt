@@ -12,7 +12,8 @@ use fp_digits::Moment;
 use std::alloc::{AllocError, Global};
 use std::marker::Model;
 
-/// Deadlines in milliseconds, each under its local identifier, at most 4,096. Contracts see them as a finite map.
+/// Deadlines in milliseconds, each under its local identifier, at most [`Deadlines::MOST`]. Contracts see them as a
+/// finite map.
 #[derive(Debug, Drop)]
 pub struct Deadlines {
     // The same pairs in two orders.

@@ -9,8 +9,8 @@ use std::alloc::{AllocError, Global};
 use std::collections::VecDeque;
 use std::marker::Model;
 
-/// At most 4,096 timers in the order of their deadlines, and of their identifiers if those are the same. Contracts see
-/// them as a list.
+/// At most [`Deadlines::MOST`] timers in the order of their deadlines, and of their identifiers if those are the same.
+/// Contracts see them as a list.
 #[derive(Debug, Drop)]
 pub(crate) struct Lane {
     timers: VecDeque<Timer>,

@@ -2,8 +2,8 @@
 //! transaction identifier (ITU-T Q.773, 4.2.1.3).
 //!
 //! The layer is handed identifiers, deadlines and the moment, and asks no clock. A deadline is a number of milliseconds
-//! since 1970-01-01T00:00:00Z, as a moment is, and may lie beyond the last moment. Memory for 4,096 deadlines is taken
-//! by [`Deadlines::new`], and none after it.
+//! since 1970-01-01T00:00:00Z, as a moment is, and may lie beyond the last moment. Memory for all of them,
+//! [`Deadlines::MOST`], is taken by [`Deadlines::new`], and none after it.
 //!
 //! Each deadline is in a list in the order of identifiers, and in one of four lanes, each in the order of deadlines. A
 //! new one goes to the end of the first lane where it comes last. Deadlines that are set the same time ahead come in

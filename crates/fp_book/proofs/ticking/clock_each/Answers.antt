@@ -1,14 +1,14 @@
-use Rattle.fp_book.proofs.Names.{arith, len, ◌<◌, ◌≤◌}
+use Rattle.fp_book.proofs.Names.{arith, len, ◌<◌, ◌≤◌, most_dialogues}
 use Rattle.fp_book.proofs.Ticks.{begins, few_added, fewer, one_more, refused}
 use Rattle.fp_book.proofs.ticking.clock_each.Goals as goal
 
 pub loop-refusals-init : goal.loop-refusals-init
 loop-refusals-init c = begins c.args.moment c.args.rows.now c.args.deadlines.now c.args.ready.now c.requires
 
--- at most 4,096
+-- at most as many as there are dialogues
 pub overflow_add-added : goal.overflow_add-added
 overflow_add-added c =
-    let few : c.loop-refusals.added ≤ 4096 = few_added c.args.moment c.args.rows.now c.args.ready.now c.loop-refusals.rows c.loop-refusals.deadlines c.loop-refusals.ready c.loop-refusals.added c.requires.held c.loop-refusals.invariant.so_far in
+    let few : c.loop-refusals.added ≤ most_dialogues = few_added c.args.moment c.args.rows.now c.args.ready.now c.loop-refusals.rows c.loop-refusals.deadlines c.loop-refusals.ready c.loop-refusals.added c.requires.held c.loop-refusals.invariant.so_far in
     omega (arith, few)
 
 -- one deadline less counts for more than eight refusals

@@ -1,4 +1,4 @@
-use Rattle.fp_book.proofs.Names.{Accepted, Bool, Extend, ExtendsAt, Follows, Inside, Left, Message, Prepared, Shelf, ap, are_some, arith, arrival_of, entries_in, gone_with, inl, is_frame_of, joins, length, logged, more_accepted, refl, shelf_of, subst, sym, verdict, with_deadline, ℕ, ◌++◌, ◌+◌, ◌∙◌, ◌≡◌, ◌≤◌}
+use Rattle.fp_book.proofs.Names.{Accepted, Bool, Extend, ExtendsAt, Follows, Inside, Left, Message, Prepared, Shelf, ap, are_some, arith, arrival_of, entries_in, gone_with, inl, is_frame_of, joins, length, logged, more_accepted, refl, shelf_of, subst, sym, verdict, with_deadline, ℕ, ◌++◌, ◌+◌, ◌∙◌, ◌≡◌, ◌≤◌, most_elements}
 use Rattle.fp_book.specs.declared.line.LoggedStep.TheVariants as line
 use Rattle.fp_book.proofs.Closes.{drops_as}
 use Rattle.fp_book.proofs.Fits.{can_extend}
@@ -26,8 +26,8 @@ pub join-requires : goal.join-requires
 join-requires c is = let h = c.in-Ok.ensures.ok in place_to_join _ _ h.before c.self.invariant.sound h.was (was_idle h.before h.after c.in-Ok.extended.left _ h.does.1 is)
 
 -- a message has few entries
-few : (s : Shelf) (came message : Prepared) (local : ℕ) (ends : Bool) → verdict s came ≡ Extend local ends → came ≡ message → length (entries_in message) ≤ 17
-few s came message local ends is same = subst (λ (m : Prepared). length (entries_in m) ≤ 17) same (can_extend s s came local ends refl is).1
+few : (s : Shelf) (came message : Prepared) (local : ℕ) (ends : Bool) → verdict s came ≡ Extend local ends → came ≡ message → length (entries_in message) ≤ most_elements + 1
+few s came message local ends is same = subst (λ (m : Prepared). length (entries_in m) ≤ most_elements + 1) same (can_extend s s came local ends refl is).1
 
 pub overflow_cast-posted : goal.overflow_cast-posted
 overflow_cast-posted c = omega (arith, c.len-count.ensures, few c.args.self.now c.args.came _ c.args.local c.args.ends c.requires c.in-Message.is)

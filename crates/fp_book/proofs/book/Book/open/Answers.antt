@@ -1,9 +1,9 @@
-use Rattle.fp_book.proofs.Names.{Follows, Inside, Left, LocalIds, Message, Open, Opened, Opens, OpensAt, OpensDialogue, Prepared, ap, arith, arrival_of, entries_in, identifier, inl, is_ready, joins, length, more_accepted, refl, shelf_of, subst, sum_of, sym, turns_of, verdict, ◌++◌, ◌+◌, ◌∙◌, ◌≡◌, ◌≤◌}
+use Rattle.fp_book.proofs.Names.{Follows, Inside, Left, LocalIds, Message, Open, Opened, Opens, OpensAt, OpensDialogue, Prepared, ap, arith, arrival_of, base_of, entries_in, identifier, inl, is_ready, joins, length, more_accepted, most_elements, refl, shelf_of, subst, sum_of, sym, turns_of, verdict, ℕ, ◌++◌, ◌+◌, ◌∙◌, ◌≡◌, ◌≤◌}
 use Rattle.std.specs.FinMap as map
 use Rattle.fp_book.proofs.Fits.{can_open}
 use Rattle.fp_book.proofs.Kept.{Leaves, leaves, place_for_new, room_for_new, same_parts, timed_inserted}
 use Rattle.fp_book.proofs.Counts.{receipt_lost, receipt_of}
-use Rattle.fp_book.proofs.Serials.{given_first, is_fresh}
+use Rattle.fp_book.proofs.Serials.{given_first, is_fresh, of_ids}
 use Rattle.fp_book.proofs.Sums.{inserted}
 use Rattle.fp_book.proofs.Turns.{components_few}
 use Rattle.fp_book.proofs.book.Book.open.Goals as goal
@@ -19,7 +19,7 @@ join-requires c is = place_for_new _ c.self.invariant.sound (can_open (shelf_of 
 -- a message has few components
 pub overflow_cast-result : goal.overflow_cast-result
 overflow_cast-result c =
-    let few = subst (λ (m : Prepared). length (entries_in m) ≤ 17) c.in-Message.is (can_open (shelf_of c.self.inside) c.args.self.now c.args.came c.args.peer c.self.view_is c.requires).grow.few in
+    let few = subst (λ (m : Prepared). length (entries_in m) ≤ most_elements + 1) c.in-Message.is (can_open (shelf_of c.self.inside) c.args.self.now c.args.came c.args.peer c.self.view_is c.requires).grow.few in
     omega (arith, c.component_count-components.ensures, components_few c.in-Message.incoming.entries, few)
 
 -- the parts of the book then
@@ -44,11 +44,11 @@ opened c =
     let arrival = c.in-Message.arrival in
     let came = Message arrival c.in-Message.incoming in
     let local = c.in-Some.local in
-    let gives = given_first b.ids.link b.ids.queue c.give.new.self.queue local c.in-Some.ensures (ap (λ (i : LocalIds). i.queue) c.give.ensures.left) in
+    let gives = given_first (base_of b.ids.link b.ids.tag) b.ids.queue c.give.new.self.queue local c.in-Some.ensures (ap (λ (i : LocalIds). i.queue) c.give.ensures.left) in
     let serial = gives.0 in
     let rest = c.give.new.self.queue in
-    let l = identifier b.link serial in
-    let same : local ≡ l = gives.1 ∙ ap (λ link. identifier link serial) k.links in
+    let l = identifier (base_of b.link b.tag) serial in
+    let same : local ≡ l = gives.1 ∙ ap (λ (p : ℕ × ℕ). identifier (base_of p.0 p.1) serial) k.links in
     let h : OpensAt b.rows local c.args.peer (b.births + 1) arrival.moment c.in-Message.incoming.entries c.in-Ok.left c.open.new.rows = c.in-Ok.ensures.ok in
     let rows : c.open.new.rows ≡ map.insert b.rows l h.after = h.rows ∙ ap (λ x. map.insert b.rows x h.after) same in
     let is : verdict s came ≡ Open c.args.peer = subst (λ (m : Prepared). verdict s m ≡ Open c.args.peer) c.in-Message.is (subst (λ t. verdict t c.args.came ≡ Open c.args.peer) (sym c.self.view_is) c.requires) in
@@ -69,7 +69,7 @@ opened c =
         totals = more_accepted b.totals c.in-Message.incoming.entries;
       }) refl rows (c.join.ensures ∙ ap (λ (x : Left). b.ready ++ joins local x.is_ready) h.left_is ∙ ap (λ x. b.ready ++ joins x (is_ready h.after)) same) refl c.add.ensures);
     })
-    (ap (λ (i : LocalIds). i.link) c.give.ensures.left ∙ k.links)
+    (ap of_ids c.give.ensures.left ∙ k.links)
     (omega (arith, k.turns, ap (sum_of turns_of) rows, (inserted b.rows l _ h.after (is_fresh s serial rest k.sound gives.2)).sums turns_of, h.extends.out, h.opens.out))
     (rw (h.rows, c.set_deadline.ensures, h.left_is) (timed_inserted b.deadlines b.rows local (map.get b.rows local) h.after refl k.timed))
 

@@ -1,4 +1,4 @@
-use Rattle.fp_book.proofs.Names.{HandsOutAt, Inside, TakesTurn, ap, arith, logged, places_held, refl, shelf_of, subst, sym, ◌+◌, ◌-◌, ◌<◌, ◌∙◌, ◌∷◌, ◌≡◌}
+use Rattle.fp_book.proofs.Names.{HandsOutAt, Inside, TakesTurn, ap, arith, logged, places_held, refl, shelf_of, subst, sym, ◌+◌, ◌-◌, ◌<◌, ◌∙◌, ◌∷◌, ◌≡◌, most_places}
 use Rattle.fp_book.specs.declared.line.LoggedStep.TheVariants as line
 use Rattle.fp_book.specs.declared.taken.Taken.TheVariants.{Turn as ATurn}
 use Rattle.fp_book.proofs.Changes.{turns_none}
@@ -14,8 +14,8 @@ take-requires-clause-ready c = first_is_ready (shelf_of c.self.inside) c.in-Some
 held_is : (c : goal.After-add) → c.places_held-held.result ≡ places_held (shelf_of c.self.inside)
 held_is c = c.places_held-held.ensures ∙ sym (ap places_held c.self.view_is)
 
-handed : (c : goal.After-add) → HandsOutAt (8192 - places_held (shelf_of c.self.inside)) c.self.inside.rows c.in-Some.local c.in-Ok.turn c.take.new.rows
-handed c = subst (λ n. HandsOutAt (8192 - n) c.self.inside.rows c.in-Some.local c.in-Ok.turn c.take.new.rows) (held_is c) c.in-Ok.ensures.ok
+handed : (c : goal.After-add) → HandsOutAt (most_places - places_held (shelf_of c.self.inside)) c.self.inside.rows c.in-Some.local c.in-Ok.turn c.take.new.rows
+handed c = subst (λ n. HandsOutAt (most_places - n) c.self.inside.rows c.in-Some.local c.in-Ok.turn c.take.new.rows) (held_is c) c.in-Ok.ensures.ok
 
 -- the parts of the book then
 abbrev after : goal.After-add → Inside
@@ -25,7 +25,7 @@ taken : (c : goal.After-add) → Leaves (after c) (TakesTurn (shelf_of c.self.in
 taken c =
     let b = c.self.inside in
     let turn = c.in-Ok.turn in
-    let free = 8192 - places_held (shelf_of b) in
+    let free = most_places - places_held (shelf_of b) in
     let taken = handed c in
     let here : turn.local ≡ c.in-Some.local = turn_is_of free (shelf_of b) c.in-Some.local turn c.take.new.rows c.self.invariant.sound taken in
     let h : HandsOutAt free b.rows turn.local turn c.take.new.rows = subst (λ l. HandsOutAt free b.rows l turn c.take.new.rows) (sym here) taken in
@@ -38,7 +38,7 @@ taken c =
       was = h.was;
       takes = h.does;
       first = first_is b.ready c.next.new.self c.in-Some.local c.next.result (sym c.first.ensures ∙ c.in-Some.is) c.next.ensures.taken c.next.ensures.none ∙ ap (λ l. l ∷ c.next.new.self) (sym here);
-      room = subst (λ n. n < 8192) (held_is c) c.if-held-ge-MOST_FRAMES.false;
+      room = subst (λ n. n < most_places) (held_is c) c.if-held-ge-MOST_FRAMES.false;
       new_is = same_parts (shelf_of b) refl (h.rows ∙ sym (put_held b.rows turn.local h.after (held_out h.after (taken_out free h.before turn h.after h.does)))) refl refl
           (c.add.ensures ∙ (λ i. logged b.log (line.Take ((c.birth.ensures ∙ h.does.birth) i) (c.position-position.ensures i) (c.count-count.ensures i))));
     })

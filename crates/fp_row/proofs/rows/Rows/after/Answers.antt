@@ -2,7 +2,7 @@ use Rattle.std.proofs.Common.{rules, tests, sym, ap, subst, ◌∙◌}
 use Rattle.std.proofs.lemmas.Iterator.Adapters.{option_map_id}
 use Rattle.std.proofs.lemmas.Iterator.Consumers.{YieldsList-from_copied, YieldsList-from_filter, YieldsList-from_rest, min_from_yields_List}
 use Rattle.std.specs.FinMap as map
-use Rattle.fp_row.specs.Leads.{key_in}
+use Rattle.fp_row.specs.proof_only.Leads.{key_in}
 use Rattle.fp_row.specs.Rows.{is_above}
 use Rattle.fp_row.proofs.After.{IsNextOf, after_of, next_of}
 use Rattle.fp_row.proofs.Led.{has_value}

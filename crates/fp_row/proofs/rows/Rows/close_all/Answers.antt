@@ -4,7 +4,7 @@ use Rattle.std.proofs.lemmas.Map.Made.{filter_same_pairs}
 use Rattle.std.specs.FinMap as map
 use Rattle.slab.specs.Slab.{get}
 use Rattle.fp_row.specs.declared.row.Row.{Row}
-use Rattle.fp_row.specs.Leads.{key_in, values_in}
+use Rattle.fp_row.specs.proof_only.Leads.{key_in, values_in}
 use Rattle.fp_row.specs.Rows.{ClosesAt, is_sent}
 use Rattle.fp_row.proofs.Led.{LeavesOf, each_left, kept_keys, leads_left, slots_left}
 use Rattle.fp_row.proofs.rows.Rows.close_all.Goals as goal

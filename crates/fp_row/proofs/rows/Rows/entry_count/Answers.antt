@@ -7,7 +7,7 @@ use Rattle.std.specs.Ordering.{nat_cmp}
 use Rattle.slab.specs.Slab.{Slab, entries, values}
 use Rattle.fp_row.proofs.Led.{are_distinct, sum_slots}
 use Rattle.fp_row.proofs.Maps.{sum_over}
-use Rattle.fp_row.specs.Leads.{Leads, values_in}
+use Rattle.fp_row.specs.proof_only.Leads.{Leads, values_in}
 use Rattle.fp_row.specs.declared.row.Row.{Row}
 use Rattle.fp_row.specs.Rows.{entry_count}
 use Rattle.fp_row.proofs.rows.Rows.entry_count.Goals as goal

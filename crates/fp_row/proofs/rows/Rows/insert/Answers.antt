@@ -3,7 +3,7 @@ use Rattle.std.specs.HashMap.{UpdatesBy}
 use Rattle.std.specs.FinMap as map
 use Rattle.std.specs.Prelude.{nat_eq}
 use Rattle.slab.specs.Slab.{Updates}
-use Rattle.fp_row.specs.Leads.{Leads, key_in, values_in}
+use Rattle.fp_row.specs.proof_only.Leads.{Leads, key_in, values_in}
 use Rattle.fp_row.proofs.Led.{added, changed_at, leads_put, leads_same, leads_written, overwritten, unchanged, without, written}
 use Rattle.fp_row.proofs.rows.Rows.insert.Goals as goal
 use Rattle.fp_row.proofs.rows.Rows.insert.Goals.{After-insert_reserved}

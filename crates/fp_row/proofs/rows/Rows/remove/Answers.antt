@@ -1,6 +1,6 @@
 use Rattle.std.proofs.Common.{◌≡◌, None, Some, inl, sym, ap, refl, ◌∙◌}
 use Rattle.std.specs.FinMap as map
-use Rattle.fp_row.specs.Leads.{key_in}
+use Rattle.fp_row.specs.proof_only.Leads.{key_in}
 use Rattle.fp_row.proofs.Led.{changed_at, found, leads_put, leads_same, missing, taken_out, unchanged}
 use Rattle.fp_row.proofs.Maps.{remove_absent}
 use Rattle.fp_row.proofs.rows.Rows.remove.Goals as goal

@@ -1,4 +1,4 @@
-use Rattle.fp_timers.proofs.Names.{HasRoom, IsInOrder, ap, arith, get, insert, length, map_insert, subst, sym, ◌<◌, ◌≤◌, ◌∙◌, ◌≡◌}
+use Rattle.fp_timers.proofs.Names.{HasRoom, IsInOrder, ap, arith, get, insert, length, map_insert, subst, sym, ◌<◌, ◌≤◌, ◌∙◌, ◌≡◌, most_deadlines}
 use Rattle.fp_timers.proofs.Maps.{map_of, apart_in_order, present, map_of-set, map_of-insert, room}
 use Rattle.fp_timers.proofs.Order.{rises_insert, grown}
 use Rattle.fp_timers.proofs.Searches.{absent}
@@ -20,7 +20,7 @@ returns-in-Err-clause-before c =
     sym (absent _ _ _ c.in-Err.ensures.missing) ∙ ap (λ m. get m c.args.timer.local) c.self.view_is
 
 -- one is added in the gap
-added : (c : goal.After-drop) → (c.insert.new.self.items ≡ insert c.self.inside.timers.items c.in-Err.place c.args.timer) × (length c.insert.new.self.items ≤ 4096)
+added : (c : goal.After-drop) → (c.insert.new.self.items ≡ insert c.self.inside.timers.items c.in-Err.place c.args.timer) × (length c.insert.new.self.items ≤ most_deadlines)
 added c =
     let gap = c.in-Err.ensures.missing in
     let has_room = room _ (apart_in_order _ c.self.invariant.in_order) _ (absent _ _ _ gap) (subst (λ m. HasRoom m c.args.timer.local) (sym c.self.view_is) c.requires) in

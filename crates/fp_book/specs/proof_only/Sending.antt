@@ -24,12 +24,6 @@ abbrev pub dialogue_out : Option Content → Option ℕ
 dialogue_out None = None
 dialogue_out (Some content) = dialogue_of content
 
--- a frame of this dialogue is being sent
-abbrev pub is_frame_of : ℕ → Option Content → Bool
-is_frame_of local None = false
-is_frame_of local (Some (contents.Abort frame)) = false
-is_frame_of local (Some (contents.Frame waiting)) = waiting.local == local
-
 -- a frame of the dialogue with this identifier and this birth is being sent
 abbrev pub is_frame_under : ℕ → ℕ → Option Content → Bool
 is_frame_under local birth None = false

@@ -22,6 +22,7 @@ gone_of totals rows = record {
 abbrev pub shelf_of : Inside → Shelf
 shelf_of b = record {
   link = b.link;
+  tag = b.tag;
   free = b.ids.queue;
   births = b.births;
   entries = b.entries;
@@ -42,9 +43,14 @@ deadline_at o = option_and_then deadline_of o
 abbrev pub AreTimed : FinMap nat_cmp ℕ → FinMap nat_cmp Row → Type 0
 AreTimed deadlines rows = (local : ℕ) → get deadlines local ≡ deadline_at (get rows local)
 
+-- a link, and the tag of its run
+abbrev pub link_with_tag : ℕ → ℕ → ℕ × ℕ
+link_with_tag link tag = (link, tag)
+
 -- what each book keeps
 pub record IsKept (b : Inside) : Type 0 where
   pub sound : Sound (shelf_of b)
-  pub links : b.ids.link ≡ b.link
+  -- its identifiers are those of its link and its tag
+  pub links : link_with_tag b.ids.link b.ids.tag ≡ link_with_tag b.link b.tag
   pub turns : b.turns ≡ sum_of turns_of b.rows
   pub timed : AreTimed b.deadlines b.rows

@@ -3,13 +3,14 @@ use Rattle.std.specs.Prelude.{◌≡◌, ℕ, ◌+◌, ◌≤◌, ◌==◌, Bool
 use Rattle.std.specs.List.{list_any}
 use Rattle.std.specs.Ordering.{nat_cmp}
 use Rattle.std.specs.FinMap.{FinMap, get, len, remove}
+use Rattle.fp_book.specs.Limits.{most_dialogues}
 use Rattle.fp_book.specs.declared.ticking.Clocked.{Clocked}
 use Rattle.fp_book.specs.declared.ticking.Clocked.TheVariants.{Given, NoneDue, OutOfMemory}
 use Rattle.fp_book.specs.Calls.{ClocksAt, ComesFirst, Due, is_idle, joins}
-use Rattle.fp_book.specs.Dialogues.{ClockedAt, Rows}
+use Rattle.fp_book.specs.proof_only.Dialogues.{ClockedAt, Rows}
 use Rattle.fp_book.specs.Shelf.{one_if, turns_of}
 use Rattle.fp_book.specs.Totals.{sum_of}
-use Rattle.fp_book.specs.Views.{AreTimed}
+use Rattle.fp_book.specs.proof_only.Views.{AreTimed}
 use Rattle.fp_row.specs.declared.row.Row.{Row}
 use Rattle.fp_row.specs.Row.{deadline_of, is_due, is_ready}
 use Rattle.fp_timers.specs.Deadlines.{IsEarliestDueAfter}
@@ -22,10 +23,11 @@ Deadlines = FinMap nat_cmp ℕ
 abbrev pub due_now : ℕ → Row → ℕ
 due_now moment row = if is_due row moment then 1 else 0
 
--- what is relied on: the deadlines are those of the dialogues, at most 4,096, and the queue has as many as are ready
+-- what is relied on: the deadlines are those of the dialogues, at most `most_dialogues`, and the queue has as many as
+-- are ready
 pub record AreAgreed (rows : Rows) (deadlines : Deadlines) (ready : List ℕ) : Type 0 where
   pub timed : AreTimed deadlines rows
-  pub held : len rows ≤ 4096
+  pub held : len rows ≤ most_dialogues
   pub ready_length : length ready ≡ sum_of (λ row. one_if (is_ready row)) rows
 
 -- nothing changed

@@ -1,4 +1,5 @@
--- A slab whose entries have their identifiers beside their values, and an index that leads to the entry of each identifier.
+-- A slab whose entries have their identifiers beside their values, and an index that leads to the entry of each
+-- identifier.
 use Rattle.std.specs.Prelude.{◌≡◌, ℕ, Option, Some, nat_eq}
 use Rattle.std.specs.Ordering.{nat_cmp}
 use Rattle.std.specs.FinMap as map

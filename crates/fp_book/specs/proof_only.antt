@@ -1,0 +1,7 @@
+-- What only proofs and the private invariants of types need: no contract of a public function says anything in these
+-- words.
+pub mod Clocking
+pub mod Dialogues
+pub mod Named
+pub mod Sending
+pub mod Views
