@@ -1,5 +1,5 @@
 -- What is made of a book, by cases: each step with the answers that it may have.
-use Rattle.fp_steps.proofs.Names.{Content, Contents, Done, Follows, Given, GivesDone, GoesDown, IsRead, IsReadBy, IsSome, List, LoggedStep, MakesOf, None, Option, Output, Parcel, PicksParcel, Posted, PostsTo, Prepared, PutsTurnBack, Sends, Shelf, Some, Step, TakesTurn, Ticks, Turn, Unsends, [], components_in, get, length, nothing, parcel_local as local_of, parcel_octets as octets_of, places_held, posted_totals, refl, subst, sym, turn_of, verdict, ℕ, ⊤, ◌≡◌, ◌≢◌, ◌≤◌}
+use Rattle.fp_steps.proofs.Names.{Content, Contents, Done, Follows, Given, GivesDone, GoesDown, IsRead, IsReadBy, IsSome, List, LoggedStep, MakesOf, None, Option, Output, Parcel, PicksParcel, Posted, PostsTo, Prepared, PutsTurnBack, Sends, Shelf, Some, Step, TakesTurn, Ticks, Turn, Unsends, [], components_in, get, length, most_places, nothing, parcel_local as local_of, parcel_octets as octets_of, places_held, posted_totals, refl, subst, sym, turn_of, verdict, ℕ, ⊤, ◌≡◌, ◌≢◌, ◌≤◌}
 
 -- a step that posts a message
 abbrev pub IsPost : Step → Type 0
@@ -22,7 +22,7 @@ pub record Cases (P : Step → Output → Type 0) (came : Option Prepared) (old 
   pub none_posted : (step : Step) → IsPost step → came ≡ None → new ≡ old → P step Output.Nothing
   pub ticked : (moment added wanting : ℕ) → wanting ≡ 0 → Ticks old moment added wanting new → P (Step.Tick moment) (Output.Ticked added wanting)
   pub took : (turn : Turn) → TakesTurn old turn new → P Step.Take (Output.Took turn.local turn.position (length turn.entries))
-  pub no_room : old.ready ≢ [] → 8192 ≤ places_held old → new ≡ old → P Step.Take Output.NoRoom
+  pub no_room : old.ready ≢ [] → most_places ≤ places_held old → new ≡ old → P Step.Take Output.NoRoom
   pub none_taken : old.ready ≡ [] → new ≡ old → P Step.Take Output.Nothing
   pub gave : (done : Done) (given : Given) → GivesDone old done given new → P (Step.Give done.turn.local) (Output.Gave done.turn.local done.turn.position done.served given)
   pub none_given : (local : ℕ) → turn_of (get old.rows local) ≡ None → new ≡ old → P (Step.Give local) Output.Nothing

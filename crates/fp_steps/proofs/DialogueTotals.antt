@@ -1,5 +1,5 @@
 -- Each step adds to the totals of its book, and to the sums over all dialogues, what its output tells.
-use Rattle.fp_steps.proofs.Names.{AbortCause, AddUp, AreFew, Bool, Clock, Content, Entry, Event, Follows, Headline, List, MakesOf, None, Option, Output, Posted, Prepared, Request, Row, RowsKeepTheirOrder, Sends, Shelf, Some, Sound, Step, Story, Tells, Tid, Tied, Totals, Verdict, [], abort_for, accepted, accepted_in, add-one, ap, arith, arrival_of, births, births_after, cases_Bool, component_count, components_came, components_in, cond, course, destination, entries_in, entry_at, eqb, eqb-false, eqb-true, false, first_identifier, for_one, frame_for, frame_of, frames_of, handed, is_from_component, is_none, is_sent, length, length-append, length-map, more_accepted, named, ne_eqb, no_totals, not, numbers_from, octets_of, opened_by, opened_in, opened_with, option_map, out, outputs_of, plus, position_in, positions, posted_totals, receiver, refl, refused_by, requests_of, sent, sent_by, sent_in, served, served_by, story, subst, suc, sum-le, sum_by-append, sum_of, sum_to, sym, totals_of, totals_over, true, untold, verdict, verdict_tells, zero, ℕ, ⊎_elim, ⊤, ◌++◌, ◌+◌, ◌<◌, ◌^◌, ◌∙◌, ◌∷◌, ◌≡◌, ◌≤◌}
+use Rattle.fp_steps.proofs.Names.{AbortCause, AddUp, AreFew, Bool, Clock, Content, Entry, Event, Follows, Headline, List, MakesOf, None, Option, Output, Posted, Prepared, Request, Row, RowsKeepTheirOrder, Sends, Shelf, Some, Sound, Step, Story, Tells, Tid, Tied, Totals, Verdict, [], abort_for, accepted, accepted_in, add-one, all_entries, ap, arith, arrival_of, base, births, births_after, cases_Bool, component_count, components_came, components_in, cond, course, destination, entries_in, entry_at, eqb, eqb-false, eqb-true, false, first_identifier, for_one, frame_for, frame_of, frames_of, handed, is_from_component, is_none, is_sent, length, length-append, length-map, more_accepted, most_dialogues, named, ne_eqb, no_totals, not, numbers_from, octets_of, opened_in, opened_with, option_map, out, outputs_of, plus, position_in, positions, posted_totals, receiver, refl, refused_by, requests_of, sent, sent_by, sent_in, served, served_by, story, subst, suc, sum-le, sum_by-append, sum_of, sum_to, sym, totals_of, totals_over, true, untold, verdict, verdict_tells, zero, ℕ, ⊎_elim, ⊤, ◌*◌, ◌++◌, ◌+◌, ◌<◌, ◌∙◌, ◌∷◌, ◌≡◌, ◌≤◌}
 use Rattle.fp_steps.proofs.Cases.{Cases, by_made}
 use Rattle.fp_steps.proofs.HeldDialogues.{event, for_other, for_own, held_of, length-numbers_from, none_named, not_abort}
 use Rattle.fp_steps.proofs.MessageAnswers.{answer_is, answer_of}
@@ -62,7 +62,7 @@ sums n h = make (sum_to n (components_at h)) (sum_to n (served_at h)) (sum_to n 
 
 -- what all of them get of an event
 abbrev shares : ℕ → List Event → Event → Totals
-shares n h e = make (sum_to n (λ d. component_count (accepted_in e h d (course h d) e.output))) (sum_to n (λ d. length (position_in e.output h d))) (sum_to n (λ d. length (sent_in e.output h d)))
+shares n h e = make (sum_to n (λ d. component_count (accepted_in e.output e.step e.came h d (course h d)))) (sum_to n (λ d. length (position_in e.output h d))) (sum_to n (λ d. length (sent_in e.output h d)))
 
 count_more : (xs ys : List Entry) → component_count (xs ++ ys) ≡ component_count xs + component_count ys
 count_more xs ys = sum_by-append (λ (entry : Entry). cond {A = ℕ} (is_from_component entry.kind) 1 0) xs ys
@@ -73,8 +73,8 @@ sums_next h e none =
     let n = births (e ∷ h) in
     let had : (f : Story → ℕ) → f untold ≡ 0 → sum_to n (λ d. f (story h d)) ≡ sum_to (births h) (λ d. f (story h d)) = λ f nothing. sum_new (opened_in e.output) (births h) (λ d. f (story h d)) (ap f none ∙ nothing) in
     same (sums n (e ∷ h)) (plus (sums (births h) h) (shares n h e))
-    (sum_more n (components_at h) (components_at (e ∷ h)) (λ d. component_count (accepted_in e h d (course h d) e.output)) (λ d. count_more (accepted h d) (accepted_in e h d (course h d) e.output))
-    ∙ ap (λ m. m + sum_to n (λ d. component_count (accepted_in e h d (course h d) e.output))) (had (λ t. component_count t.accepts) refl))
+    (sum_more n (components_at h) (components_at (e ∷ h)) (λ d. component_count (accepted_in e.output e.step e.came h d (course h d))) (λ d. count_more (accepted h d) (accepted_in e.output e.step e.came h d (course h d)))
+    ∙ ap (λ m. m + sum_to n (λ d. component_count (accepted_in e.output e.step e.came h d (course h d)))) (had (λ t. component_count t.accepts) refl))
     (sum_more n (served_at h) (served_at (e ∷ h)) (λ d. length (position_in e.output h d)) (λ d. length-append (positions h d) (position_in e.output h d))
     ∙ ap (λ m. m + sum_to n (λ d. length (position_in e.output h d))) (had (λ t. length t.places) refl))
     (sum_more n (sent_at h) (sent_at (e ∷ h)) (λ d. length (sent_in e.output h d)) (λ d. length-append (sent h d) (sent_in e.output h d))
@@ -109,7 +109,7 @@ ticked : (h : List Event) (came : Option Prepared) (moment many wanting : ℕ) (
 ticked h came moment many wanting old new stay =
     let e = event (Step.Tick moment) came (Output.Ticked many wanting) in
     quiet h e old new stay refl
-    (same (shares (births h) h e) no_totals (sum_none (births h) (λ d. component_count (accepted_in e h d (course h d) e.output)) (λ d le. clock_none _ moment)) (zeros (births h)) (zeros (births h)))
+    (same (shares (births h) h e) no_totals (sum_none (births h) (λ d. component_count (accepted_in e.output e.step e.came h d (course h d))) (λ d le. clock_none _ moment)) (zeros (births h)) (zeros (births h)))
 
 -- what is out to be sent
 out_is : {h : List Event} {s : Shelf} (content : Content) → Tied h s → s.outbox.out ≡ Some content → out h ≡ Some (handed h content)
@@ -151,14 +151,12 @@ abbrev Receives : List Event → Prepared → Posted → Type 0
 Receives h came (Posted.Accepted count) = (b : ℕ) × (destination h (Some came) ≡ Some b) × (0 < b) × (b ≤ births h)
 Receives h came _ = ⊤
 
-received : (h : List Event) (came : Prepared) (answer : Posted) → Receives h came answer
-    → sum_to (births_after (opened_by answer) (births h)) (λ d. component_count (for_one (receiver answer (Some came) h) d (entries_in came))) ≡ components_in answer came
-received h came (Posted.Opened local) r =
+received : (h : List Event) (came : Prepared) (components : ℕ) (answer : Posted) → Receives h came answer
+    → sum_to (births_after (opened_in (Output.Posted answer components)) (births h)) (λ d. component_count (for_one (receiver answer (Some came) h) d (entries_in came))) ≡ components_in answer came
+received h came components (Posted.Opened local) r =
     sum_for component_count (births h + 1) (Some (births h + 1)) (births h + 1) (entries_in came) refl refl (omega arith) (omega arith) ∙ sym (components_are came)
-received h came (Posted.Accepted count) r = sum_for component_count (births h) (destination h (Some came)) r.0 (entries_in came) refl r.1 r.2 r.3 ∙ sym (components_are came)
-received h came (Posted.Aborted cause) r = zeros (births h)
-received h came Posted.Ended r = zeros (births h)
-received h came Posted.Discarded r = zeros (births h)
+received h came components (Posted.Accepted count) r = sum_for component_count (births h) (destination h (Some came)) r.0 (entries_in came) refl r.1 r.2 r.3 ∙ sym (components_are came)
+received h came components answer r = zeros (births h)
 
 -- what a book counts of it, by its answer
 accepts : (t : Totals) (came : Prepared) → more_accepted t (entries_in came) ≡ plus t (make (components_came came) 0 0)
@@ -173,9 +171,9 @@ message : (h : List Event) (step : Step) (came : Prepared) (answer : Posted) (co
     → Counts h (posts step came answer components) old new
 message h step came answer components old new r count grows =
     let e = posts step came answer components in
-    let n = births_after (opened_by answer) (births h) in
+    let n = births_after (opened_in (Output.Posted answer components)) (births h) in
     record {
-      shared = same (shares n h e) (added h e) (received h came answer r ∙ sym count) (zeros n) (zeros n);
+      shared = same (shares n h e) (added h e) (received h came components answer r ∙ sym count) (zeros n) (zeros n);
       counted = grows ∙ counted_by old.totals came answer ∙ ap (λ n. plus old.totals (make n 0 0)) (sym count);
     }
 
@@ -213,7 +211,7 @@ counts {h} came {old} new t k =
     record {
       posted = λ step posting p answer components is count g totals.
           let v = verdict old p in let waiting = length old.outbox.aborts in
-          let next = first_identifier old.link old.free in
+          let next = first_identifier (base old) old.free in
           let says = answer_is old new p answer v g in
           subst (λ c. Counts h (event step c (Output.Posted answer components)) old new) (sym is)
           (message h step p answer components old new (subst (Receives h p) (sym says) (receives p answer new waiting next v t (verdict_tells old p) g)) count totals);
@@ -247,7 +245,7 @@ counts {h} came {old} new t k =
 -- THE BOUND
 
 pub none_few : AreFew no_totals
-none_few = let low : 0 ≤ 2 ^ 63 + 8192 = omega arith in record { accepted = low; served = low; sent = low }
+none_few = let low : 0 ≤ all_entries + 2 * most_dialogues = omega arith in record { accepted = low; served = low; sent = low }
 
 sent_most : RowsKeepTheirOrder → (row : Row) → row.sent ≤ row.served
 sent_most law row =

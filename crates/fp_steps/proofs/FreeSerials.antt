@@ -1,5 +1,5 @@
 -- What each event makes of the serials that may be given, by what its call makes of the dialogues of a book.
-use Rattle.fp_steps.proofs.Names.{Bool, ClocksAt, ClosesOne, Content, Due, Event, Follows, Freed, IdentifiersHold, IsOwn, Lined, List, MakesOf, None, OneChanges, OpensDialogue, Option, Output, Posted, Prepared, Row, Rows, RowsKeepTheirOrder, Sends, Shelf, Some, Sound, Step, Tid, Tied, Verdict, [], abort_for, ap, append-nil, arith, arrival_of, births, by_local, cases_Bool, cond, dialogue_held as is_held, eqb, eqb-true, false, filter, filter-append, free, free_with, get, goes, gone_at, held, identifier, is_free, is_held as row_held, is_some, keep, left_by, left_of, length, list_any, local_of, map_list, named, nat_tests, ne_eqb, not, numbers_from, opened_by, opened_in, parcel_local, refl, row_at, row_of, same_Some, serial_of, subst, suc, sym, true, true≢false, verdict, without_first, zero, ℕ, ⊎_elim, ◌&&◌, ◌++◌, ◌+◌, ◌<◌, ◌∙◌, ◌∷◌, ◌≡◌, ◌≤◌}
+use Rattle.fp_steps.proofs.Names.{AreSerials, Bool, ClocksAt, ClosesOne, Content, Due, Event, Follows, Freed, IdentifiersHold, IsOwn, Lined, List, MakesOf, None, OneChanges, OpensDialogue, Option, Output, Posted, Prepared, Row, Rows, RowsKeepTheirOrder, Sends, Shelf, Some, Sound, Step, Tid, Tied, Verdict, [], abort_for, ap, append-nil, arith, arrival_of, base, births, by_local, cases_Bool, cond, dialogue_held as is_held, eqb, eqb-true, false, filter, filter-append, free, free_with, get, goes, gone_at, held, identifier, is_free, is_held as row_held, is_some, keep, left_by, left_of, length, list_any, local_of, map_list, most_dialogues, named, nat_tests, ne_eqb, not, numbers_from, opened_in, parcel_local, refl, row_at, row_of, same_Some, serial_of, subst, suc, sym, true, true≢false, verdict, without_first, zero, ℕ, ⊎_elim, ◌&&◌, ◌++◌, ◌+◌, ◌<◌, ◌∙◌, ◌∷◌, ◌≡◌, ◌≤◌}
 use Rattle.fp_steps.proofs.HeldCount.{held_as, held_is}
 use Rattle.fp_steps.proofs.Cases.{Cases, by_made}
 use Rattle.fp_tids.proofs.Serials.{shown}
@@ -62,8 +62,10 @@ identifiers_hold law {h} {s} a f = record {
       let n = local_of h d in let x = row_of_held law d a is in
       let own : IsOwn s n x.0 = a.sound.own n x.0 (row_there d (get s.rows n) x.0 x.1).0 in
       let serial = own.serial in
-      ap (is_free (serial_of n)) (f (sym a.lined.down ∙ up)) ∙ ap (λ m. is_free m s.free) (shown s.link serial.0 n serial.2 serial.3) ∙ serial.4;
+      ap (is_free (serial_of n)) (f (sym a.lined.down ∙ up)) ∙ ap (λ m. is_free m s.free) (shown s.link s.tag serial.0 n serial.1 serial.2 serial.3) ∙ serial.4;
+  distinct = λ up. subst AreSerials (sym (f (sym a.lined.down ∙ up))) a.sound.serials;
   all = λ up. ap (λ q. length q + held h) (f (sym a.lined.down ∙ up)) ∙ ap (λ m. length s.free + m) (held_is law a.tied a.sound a.lined) ∙ a.sound.serial_count (sym a.lined.down ∙ up);
+  few = subst (λ n. n ≤ most_dialogues) (sym (held_is law a.tied a.sound a.lined)) a.sound.held;
 }
 
 -- a dialogue goes if its row does
@@ -174,28 +176,28 @@ closes law e closed new (Some local) a b f none c rows down same =
 opens : RowsKeepTheirOrder → {h : List Event} (step : Step) {came : Prepared} {answer : Posted} (components : ℕ) {old : Shelf} (new : Shelf) {peer : Tid} → Known h old → Known (posts step came answer components ∷ h) new → Freed h old
     → OpensDialogue old peer came answer new → Freed (posts step came answer components ∷ h) new
 opens law {h} step {came} {answer} components {old} new a b f g up =
-    let e = posts step came answer components in let l = identifier old.link g.serial in
-    free_opened law e g.after a b (ap opened_by g.answer_is) (one_put old new l None g.after (fresh_at a.sound g.first) (ap (λ (s : Shelf). s.rows) g.new_is))
+    let e = posts step came answer components in let l = identifier (base old) g.serial in
+    free_opened law e g.after a b (ap (λ a. opened_in (Output.Posted a components)) g.answer_is) (one_put old new l None g.after (fresh_at a.sound g.first) (ap (λ (s : Shelf). s.rows) g.new_is))
     (g.extends.same.birth ∙ g.opens.birth_is ∙ ap (λ n. n + 1) (sym a.tied.births_are))
     ∙ ap (without_first (Some l)) (f (sym (ap (λ (s : Shelf). s.is_down) g.new_is) ∙ up) ∙ g.first) ∙ sym (ap (λ (s : Shelf). s.free) g.new_is)
 
 followed : RowsKeepTheirOrder → {h : List Event} (step : Step) (came : Prepared) (answer : Posted) (components : ℕ) {old : Shelf} (new : Shelf) (v : Verdict) → Known h old → Known (posts step came answer components ∷ h) new → Freed h old
     → Follows v old came answer new → Freed (posts step came answer components ∷ h) new
 followed law step came answer components {old} new Verdict.Discard a b f g =
-    quiet law (posts step came answer components) new a b f (ap opened_by g.answer_is) (ap (λ (s : Shelf). s.is_down) g.new_is) (ap (λ (s : Shelf). s.free) g.new_is)
+    quiet law (posts step came answer components) new a b f (ap (λ a. opened_in (Output.Posted a components)) g.answer_is) (ap (λ (s : Shelf). s.is_down) g.new_is) (ap (λ (s : Shelf). s.free) g.new_is)
     (keeps_same old.rows new.rows (ap (λ (s : Shelf). s.rows) g.new_is))
 followed law step came answer components {old} new (Verdict.Refuse cause closed) a b f g =
     let abort = abort_for (length old.outbox.aborts) cause (arrival_of came).ids.orig in
     let with = answered_with g.closed closed abort answer g.answered g.answering in
-    closes law (posts step came answer components) g.closed new closed a b f (refused_opens g.closed closed abort answer g.answered g.answering) g.closing
+    closes law (posts step came answer components) g.closed new closed a b f (refused_opens components g.closed closed abort answer g.answered g.answering) g.closing
     (ap (λ (s : Shelf). s.rows) g.new_is ∙ ap (λ (s : Shelf). s.rows) with.1) (ap (λ (s : Shelf). s.is_down) g.new_is ∙ ap (λ (s : Shelf). s.is_down) with.1)
     (ap (λ (s : Shelf). s.free) g.new_is ∙ ap (λ (s : Shelf). s.free) with.1)
 followed law step came answer components new (Verdict.Open peer) a b f g = opens law step components new a b f g
 followed law step came answer components {old} new (Verdict.Extend local false) a b f g =
-    quiet law (posts step came answer components) new a b f (ap opened_by g.answer_is) (ap (λ (s : Shelf). s.is_down) g.new_is) (ap (λ (s : Shelf). s.free) g.new_is)
+    quiet law (posts step came answer components) new a b f (ap (λ a. opened_in (Output.Posted a components)) g.answer_is) (ap (λ (s : Shelf). s.is_down) g.new_is) (ap (λ (s : Shelf). s.free) g.new_is)
     (keeps_one g.before g.after (one_put old new local (Some g.before) g.after g.was (ap (λ (s : Shelf). s.rows) g.new_is)) g.extends.same.birth)
 followed law step came answer components new (Verdict.Extend local true) a b f g =
-    left law (posts step came answer components) new local g.before g.after a b f (ap opened_by g.answer_is) g.was (ap (λ (s : Shelf). s.rows) g.new_is) (g.ends.same.birth ∙ g.extends.same.birth)
+    left law (posts step came answer components) new local g.before g.after a b f (ap (λ a. opened_in (Output.Posted a components)) g.answer_is) g.was (ap (λ (s : Shelf). s.rows) g.new_is) (g.ends.same.birth ∙ g.extends.same.birth)
     (ap (λ (s : Shelf). s.is_down) g.new_is) (ap (λ (s : Shelf). s.free) g.new_is)
 
 -- what was being sent was

@@ -1,5 +1,5 @@
 -- What a history tells of a dialogue, one event further; and of one that a book holds.
-use Rattle.fp_steps.proofs.Names.{Beginning, Ending, Entry, Event, IsGone, IsPrefix, IsSame, IsStraight, IsTied, KeepsOrder, List, None, NotHeld, OneChanges, Opened, Option, Output, Prepared, Row, RowsKeepTheirOrder, Shelf, Some, Step, Story, Tied, TiedAt, [], accepted, accepted_in, add-one, add-zero, admits, and_left, and_right, ap, append-nil, append_assoc, arith, asked_in, beginning, beginning_of, births, by_held, by_local, cond, cond_some, core_after, core_in, count_after, count_out, course, cut, drop, drop-take, drop_at, ending, ending_in, eq-eqb, eqb, eqb-false, eqb-true, false, for_one, frame_from, frames_of, fresh, get, get_or_from_slice_get, in_places, insert, inserted, is_admitted, is_closed, is_one, is_over, is_some, keep, kept, left_of, length, length-append, length-take-le, local_of, lt-leb, map_list as map, named, nat_le, nat_lt, nat_tests, ne_eqb, none-some, not, not_held, numbers, numbers_from, octets_of, option_map_or, option_to_list, position_in, positions, queued, queued_in, queued_of, refl, requests, row_at, row_of, row_unserved, row_waits as waits, same_Some, sent, sent_in, sent_of, served_in, served_of, slice_get, start_in, start_of, story, subst, suc, sym, take, take_more, true, turns_none, unserved, waits_in, zero, ℕ, ◌&&◌, ◌++◌, ◌+◌, ◌<◌, ◌∙◌, ◌∷◌, ◌≡◌, ◌≤◌}
+use Rattle.fp_steps.proofs.Names.{Beginning, Ending, Entry, Event, IsGone, IsPrefix, IsSame, IsStraight, IsTied, KeepsOrder, List, None, NotHeld, OneChanges, Opened, Option, Output, Prepared, Row, RowsKeepTheirOrder, Shelf, Some, Step, Story, Tied, TiedAt, [], accepted, accepted_in, add-one, add-zero, admits, and_left, and_right, ap, append-nil, append_assoc, arith, asked_in, beginning, beginning_of, births, by_held, by_local, cond, cond_some, core_after, core_in, count_after, count_out, course, cut, drop, drop-take, drop_at, ending, ending_in, eq-eqb, eqb, eqb-false, eqb-true, false, for_one, frame_from, frames_of, fresh, get, get_or_from_slice_get, in_places, insert, inserted, is_admitted, is_closed, is_one, is_over, is_some, keep, kept, left_of, length, length-append, length-take-le, local_of, lt-leb, map_list as map, named, nat_le, nat_lt, nat_tests, ne_eqb, none-some, not, not_held, numbers_from, octets_of, option_map_or, option_to_list, position_in, positions, queued, queued_in, queued_of, refl, requests, row_at, row_of, row_unserved, row_waits as waits, same_Some, sent, sent_in, sent_of, served_in, served_of, slice_get, start_in, start_of, story, subst, suc, sym, take, take_more, true, turns_none, unserved, waits_in, zero, ℕ, ◌&&◌, ◌++◌, ◌+◌, ◌<◌, ◌∙◌, ◌∷◌, ◌≡◌, ◌≤◌}
 use Rattle.std.proofs.lemmas.List.Concat.{flat_map-append}
 use Rattle.fp_row.proofs.Fronts.{slice_get_some}
 
@@ -24,19 +24,19 @@ pub none_more : {X : Type 0} → (xs ys : List X) → ys ≡ [] → xs ++ ys ≡
 none_more xs ys e = ap (λ y. xs ++ y) e ∙ append-nil xs
 
 -- an event that adds nothing to the lists of a dialogue
-pub becomes : (e : Event) (h : List Event) (d : ℕ) (x : Option Ending) (o : ℕ) → beginning (e ∷ h) d ≡ beginning h d → accepted_in e h d (course h d) e.output ≡ []
+pub becomes : (e : Event) (h : List Event) (d : ℕ) (x : Option Ending) (o : ℕ) → beginning (e ∷ h) d ≡ beginning h d → accepted_in e.output e.step e.came h d (course h d) ≡ []
     → position_in e.output h d ≡ [] → queued_in e.output h d ≡ []
     → sent_in e.output h d ≡ [] → ending_in e.output e.came h d (course h d) ≡ x → count_after e.output e.step h d (count_out h d) ≡ o
     → story (e ∷ h) d ≡ record (story h d) { ended = x; out = o }
 becomes e h d x o b a p q s n t =
     same_story (story (e ∷ h) d) (record (story h d) { ended = x; out = o }) b
-    (none_more (accepted h d) (accepted_in e h d (course h d) e.output) a)
+    (none_more (accepted h d) (accepted_in e.output e.step e.came h d (course h d)) a)
     (none_more (positions h d) (position_in e.output h d) p)
     (none_more (queued h d) (queued_in e.output h d) q)
     (none_more (sent h d) (sent_in e.output h d) s) n t
 
 -- or has nothing to do with it at all
-pub stays : (e : Event) (h : List Event) (d : ℕ) → beginning (e ∷ h) d ≡ beginning h d → accepted_in e h d (course h d) e.output ≡ [] → position_in e.output h d ≡ [] → queued_in e.output h d ≡ []
+pub stays : (e : Event) (h : List Event) (d : ℕ) → beginning (e ∷ h) d ≡ beginning h d → accepted_in e.output e.step e.came h d (course h d) ≡ [] → position_in e.output h d ≡ [] → queued_in e.output h d ≡ []
     → sent_in e.output h d ≡ [] → ending_in e.output e.came h d (course h d) ≡ ending h d → count_after e.output e.step h d (count_out h d) ≡ count_out h d
     → story (e ∷ h) d ≡ story h d
 stays e h d b a p q s n t = becomes e h d (ending h d) (count_out h d) b a p q s n t
@@ -55,40 +55,37 @@ is_own o d e = ap (λ o. is_one o d) e ∙ eq-eqb d d refl
 pub is_other : (o : Option ℕ) (d own : ℕ) → o ≡ Some own → eqb d own ≡ false → is_one o d ≡ false
 is_other o d own e ne = ap (λ o. is_one o d) e ∙ ne
 
-pub length-numbers : (n : ℕ) → length (numbers n) ≡ n
-length-numbers zero = refl
-length-numbers (suc n) = let e = length-numbers n in omega (arith, length-append (numbers n) (n ∷ []), e)
-
 pub length-numbers_from : (first n : ℕ) → length (numbers_from first n) ≡ n
 length-numbers_from first zero = refl
 length-numbers_from first (suc n) = let e = length-numbers_from first n in omega (arith, length-append (numbers_from first n) ((first + n) ∷ []), e)
 
 -- the places below a number are those of so many first entries
-pub first_places : (xs : List Entry) (n : ℕ) → n ≤ length xs → in_places xs (numbers n) ≡ take n xs
+pub first_places : (xs : List Entry) (n : ℕ) → n ≤ length xs → in_places xs (numbers_from 0 n) ≡ take n xs
 first_places xs zero h = refl
 first_places xs (suc n) h =
     let f : ℕ → List Entry = λ p. option_to_list (slice_get xs p) in
     let below : n < length xs = omega (arith, h) in
     let found : (x : Entry) × (slice_get xs n ≡ Some x) = slice_get_some xs n below in
-    flat_map-append f (numbers n) (n ∷ [])
-    ∙ ap (λ r. r ++ (f n ++ [])) (first_places xs n (omega (arith, h)))
+    let same : 0 + n ≡ n = omega arith in
+    flat_map-append f (numbers_from 0 n) ((0 + n) ∷ [])
+    ∙ (λ i. first_places xs n (omega (arith, h)) i ++ (f (same i) ++ []))
     ∙ ap (λ r. take n xs ++ r) (append-nil (f n)) ∙ ap (λ o. take n xs ++ option_to_list o) found.1
     ∙ ap (λ x. take n xs ++ x ∷ []) (sym (get_or_from_slice_get xs n found.0 found.0 found.1))
     ∙ sym (take_more xs n found.0 below) ∙ ap (λ m. take m xs) (add-one n)
 
 -- after so many numbers come those from there on
-pub numbers_more : (n k : ℕ) → numbers n ++ numbers_from n k ≡ numbers (n + k)
-numbers_more n zero = append-nil (numbers n) ∙ ap numbers (sym (add-zero n))
+pub numbers_more : (n k : ℕ) → numbers_from 0 n ++ numbers_from n k ≡ numbers_from 0 (n + k)
+numbers_more n zero = append-nil (numbers_from 0 n) ∙ ap (numbers_from 0) (sym (add-zero n))
 numbers_more n (suc k) =
-    let next : n + suc k ≡ suc (n + k) = omega arith in
-    sym (append_assoc (numbers n) (numbers_from n k) ((n + k) ∷ [])) ∙ ap (λ ns. ns ++ (n + k) ∷ []) (numbers_more n k) ∙ ap numbers (sym next)
+    let next : n + suc k ≡ suc (n + k) = omega arith in let same : n + k ≡ 0 + (n + k) = omega arith in
+    sym (append_assoc (numbers_from 0 n) (numbers_from n k) ((n + k) ∷ [])) ∙ (λ i. numbers_more n k i ++ same i ∷ []) ∙ ap (numbers_from 0) (sym next)
 
 -- and the places from one on are those of so many entries from there on
 pub next_places : (xs : List Entry) (n k : ℕ) → n + k ≤ length xs → in_places xs (numbers_from n k) ≡ take k (drop n xs)
 next_places xs n k within =
     let here = in_places xs (numbers_from n k) in let few : n ≤ length xs = omega (arith, within) in
     let all : take n xs ++ here ≡ take (n + k) xs =
-    ap (λ ys. ys ++ here) (sym (first_places xs n few)) ∙ sym (flat_map-append (λ p. option_to_list (slice_get xs p)) (numbers n) (numbers_from n k))
+    ap (λ ys. ys ++ here) (sym (first_places xs n few)) ∙ sym (flat_map-append (λ p. option_to_list (slice_get xs p)) (numbers_from 0 n) (numbers_from n k))
     ∙ ap (in_places xs) (numbers_more n k) ∙ first_places xs (n + k) within
     in
     sym (drop_at (take n xs) here n (length-take-le n xs few)) ∙ ap (drop n) all ∙ drop-take n k xs
@@ -119,7 +116,7 @@ prefix_same xs ys us vs a b p = (p.0, ap (λ r. r ++ p.0) a ∙ p.1 ∙ sym b)
 
 -- so many were served
 pub count_tied : {d : ℕ} {t : Story} {row : Row} → IsTied d t row → length t.places ≡ row.served
-count_tied {row} k = ap length k.serves ∙ length-numbers row.served
+count_tied {row} k = ap length k.serves ∙ length-numbers_from 0 row.served
 
 -- and the same entries weren't
 pub unserved_tied : (h : List Event) {row : Row} {d : ℕ} → IsTied d (story h d) row → unserved h d ≡ row_unserved row
@@ -133,7 +130,7 @@ straight_tied law {t} {row} k =
     record {
       served_first = prefix_same _ _ _ _ (served_tied k) (ap (λ c. cut c t.accepts) (start_tied k) ∙ ap (cut (start_of row)) k.accepts) o.served;
       sent_first = prefix_same _ _ _ _ k.sends asked (prefix_trans _ _ _ sent_queued o.queued);
-      each_once = k.serves ∙ ap numbers (sym (count_tied k));
+      each_once = k.serves ∙ ap (numbers_from 0) (sym (count_tied k));
       each_there = ap length (served_tied k) ∙ length-take-le row.served row.accepted row.served_within ∙ sym (count_tied k);
       sent_queued = prefix_same _ _ _ _ k.sends k.queues sent_queued;
       queued_first = prefix_same _ _ _ _ k.queues asked o.queued;

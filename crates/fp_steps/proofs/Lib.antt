@@ -72,3 +72,7 @@ mod RunsSoFar
 mod SentAlike
 -- a step has one answer, and a run one history
 mod OneAnswer
+-- and has an answer
+mod AnswersExist
+-- identifiers come back late
+mod ComeBack

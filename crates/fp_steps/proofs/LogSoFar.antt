@@ -1,5 +1,5 @@
 -- The log of a run so far, and what is kept while it is told.
-use Rattle.fp_steps.proofs.Names.{AllAnswered, AllByRecursion, Bool, Contents, Event, Handed, HistoryTells as Tells, IsAnswer, IsLine, IsLog, IsLongestReady, Line, List, LoggedStep, Named, NamesThen, None, Option, Output, Prepared, Some, Step, [], ap, append-nil, arith, back_by, birth_out, birth_under, births, births_after, cases_Bool, cond, count_out, eqb, eqb-true, false, false≢true, for_one, get_or, is_one, length, length-map, length-reverse, length_push, lines_told, log_of, logged, map-append, map_list, min, name_in, name_of, named, named_after, names_in, nat_lt, nat_tests, numbers_from, opened_in, option_and_then, option_map, option_to_list, others, others_if, out, out_after, outputs_of, place_if, place_in, positions, put_back, refl, reverse, reverse-append, reverse_onto, same_from_push, sending_after, subst, sym, take, take_all, take_more, told, told_back, told_where, true, turn_out, turns_after, written, ℕ, ⊎_elim, ◌++◌, ◌+◌, ◌<◌, ◌∙◌, ◌∷◌, ◌≡◌, ◌≤◌}
+use Rattle.fp_steps.proofs.Names.{AllAnswered, AllByRecursion, Bool, Contents, Event, Handed, HistoryTells as Tells, IsAnswer, IsLine, IsLog, IsLongestReady, Line, List, LoggedStep, Named, NamesThen, None, Option, Output, Prepared, Some, Step, [], ap, append-nil, arith, back_by, base_of, birth_out, birth_under, births, births_after, cases_Bool, cond, count_out, eqb, eqb-true, false, false≢true, for_one, get_or, is_one, last_tag, length, length-map, length-reverse, length_push, lines_told, log_of, logged, map-append, map_list, min, name_in, name_of, named, named_after, names_in, nat_lt, nat_tests, numbers_from, opened_in, option_and_then, option_map, option_to_list, others, others_if, out, out_after, outputs_of, place_if, place_in, positions, put_back, refl, reverse, reverse-append, reverse_onto, same_from_push, sending_after, subst, sym, take, take_all, take_more, told, told_back, told_where, true, turn_out, turns_after, written, ℕ, ⊎_elim, ◌++◌, ◌+◌, ◌<◌, ◌∙◌, ◌∷◌, ◌≡◌, ◌≤◌}
 use Rattle.fp_steps.specs.declared.log.TurnOut.{TurnOut}
 use Rattle.fp_steps.proofs.HeldDialogues.{eqb_swap}
 use Rattle.fp_steps.proofs.OpenedDialogues.{took_is, turned_if}
@@ -91,14 +91,14 @@ took_stays {h} turns {l} {position} {count} d taken k =
     (sym taken.name) (took_by h turns taken.dialogue position count d taken.next k)
 
 -- after a step
-moved : (link : ℕ) (h : List Event) (turns : List TurnOut) (step : Step) (came : Option Prepared) (output : Output) → IsAnswer link h step came output → AreOut h turns
+moved : (base : ℕ) (h : List Event) (turns : List TurnOut) (step : Step) (came : Option Prepared) (output : Output) → IsAnswer base h step came output → AreOut h turns
     → AreOut (record { step = step; came = came; output = output } ∷ h) (turns_after (name_at h step output) output turns)
-moved link h turns step came (Output.Took l position count) is k d out_now = took_stays turns d (took_is link h step came l position count is) k out_now
-moved link h turns step came (Output.Gave l position served given) is k d out_now =
+moved base h turns step came (Output.Took l position count) is k d out_now = took_stays turns d (took_is base h step came l position count is) k out_now
+moved base h turns step came (Output.Gave l position served given) is k d out_now =
     back_stays h turns (named h l) d k out_now
     ∙ ap (λ xs. Some (length (positions h d ++ xs))) (sym (no_place (named h l) d (numbers_from position served) (not_one (is_one (named h l) d) (count_out h d) out_now)))
-moved link h turns (Step.PutBack lo) came Output.WentBack is k d out_now = back_stays h turns (named h lo) d k out_now
-moved link h turns step came output is k d out_now = stays h turns d k out_now
+moved base h turns (Step.PutBack lo) came Output.WentBack is k d out_now = back_stays h turns (named h lo) d k out_now
+moved base h turns step came output is k d out_now = stays h turns d k out_now
 
 -- WHAT IS TOLD
 
@@ -111,15 +111,15 @@ out_there h turns (Some d) k is =
     (λ ne. absurd (let clash : Output.WentBack ≡ Output.Nothing = is ∙ ap (λ b. cond b Output.WentBack Output.Nothing) ne in cc))
     (cases_Bool (turn_out h d))
 
-back_told : (link : ℕ) (h : List Event) (turns : List TurnOut) (step : Step) (came : Option Prepared) → AreOut h turns → IsAnswer link h step came Output.WentBack
+back_told : (base : ℕ) (h : List Event) (turns : List TurnOut) (step : Step) (came : Option Prepared) → AreOut h turns → IsAnswer base h step came Output.WentBack
     → back_by (name_at h step Output.WentBack) (place_if (name_at h step Output.WentBack) turns) ≡ told_back h step
-back_told link h turns (Step.PutBack lo) came k is = out_there h turns (named h lo) k is
-back_told link h turns step came k is = refl
+back_told base h turns (Step.PutBack lo) came k is = out_there h turns (named h lo) k is
+back_told base h turns step came k is = refl
 
-pub told_is : (link : ℕ) (h : List Event) (turns : List TurnOut) (step : Step) (came : Option Prepared) (output : Output) → AreOut h turns → IsAnswer link h step came output
+pub told_is : (base : ℕ) (h : List Event) (turns : List TurnOut) (step : Step) (came : Option Prepared) (output : Output) → AreOut h turns → IsAnswer base h step came output
     → told_where (name_at h step output) turns (birth_out h) step output ≡ told h step output
-told_is link h turns step came Output.WentBack k is = back_told link h turns step came k is
-told_is link h turns step came output k is = refl
+told_is base h turns step came Output.WentBack k is = back_told base h turns step came k is
+told_is base h turns step came output k is = refl
 
 -- what is out
 abbrev birth_of : Option Handed → Option ℕ
@@ -134,8 +134,8 @@ sending_more h step output o before is = is
 -- THE LINES
 
 -- the lines after a history, and what is kept
-pub record Telling (link : ℕ) (h : List Event) (log : List Line) (names : Named) (turns : List TurnOut) (out_now : Option ℕ) : Type 0 where
-  pub lines_are : log ≡ log_of link h
+pub record Telling (link tag : ℕ) (h : List Event) (log : List Line) (names : Named) (turns : List TurnOut) (out_now : Option ℕ) : Type 0 where
+  pub lines_are : log ≡ log_of link tag h
   pub names_are : NamesAre h names
   pub turns_are : AreOut h turns
   pub sending_is : out_now ≡ birth_out h
@@ -144,11 +144,11 @@ back_to_front : (o : Option LoggedStep) → reverse (option_to_list o) ≡ optio
 back_to_front None = refl
 back_to_front (Some step) = refl
 
-log_more : (link : ℕ) (h : List Event) (e : Event) → log_of link (e ∷ h) ≡ log_of link h ++ map_list (Line.Step link) (option_to_list (logged h e.step e.output))
-log_more link h e =
+log_more : (link tag : ℕ) (h : List Event) (e : Event) → log_of link tag (e ∷ h) ≡ log_of link tag h ++ map_list (Line.Step link) (option_to_list (logged h e.step e.output))
+log_more link tag h e =
     let one = option_to_list (logged h e.step e.output) in
-    ap (λ xs. Line.Head (link + 1) ∷ map_list (Line.Step link) xs) (reverse-append one (lines_told h) ∙ ap (λ xs. reverse (lines_told h) ++ xs) (back_to_front (logged h e.step e.output)))
-    ∙ ap (λ xs. Line.Head (link + 1) ∷ xs) (map-append (Line.Step link) (reverse (lines_told h)) one)
+    ap (λ xs. Line.Head (link + 1) tag ∷ map_list (Line.Step link) xs) (reverse-append one (lines_told h) ∙ ap (λ xs. reverse (lines_told h) ++ xs) (back_to_front (logged h e.step e.output)))
+    ∙ ap (λ xs. Line.Head (link + 1) tag ∷ xs) (map-append (Line.Step link) (reverse (lines_told h)) one)
 
 -- what a step makes of a log and of what is kept, by the dialogue that its answer is of
 pub record StepTold (link : ℕ) (step : Step) (output : Output) (log : List Line) (names : Named) (turns : List TurnOut) (before : Option ℕ) (more : List Line) (names_then : Named) (then : List TurnOut) (after : Option ℕ) : Type 0 where
@@ -159,33 +159,33 @@ pub record StepTold (link : ℕ) (step : Step) (output : Output) (log : List Lin
   pub sending : after ≡ sending_after (name_in names step output) output before
 
 -- one step more
-telling_more : {link : ℕ} {h : List Event} (e : Event) {log : List Line} (more : List Line) {names : Named} (names_then : Named) {turns : List TurnOut} (then : List TurnOut) {before : Option ℕ} (after : Option ℕ) → IsAnswer link h e.step e.came e.output
-    → Telling link h log names turns before → StepTold link e.step e.output log names turns before more names_then then after → Telling link (e ∷ h) more names_then then after
-telling_more {link} {h} e more {names} names_then {turns} then {before} after is k g =
+telling_more : {link tag : ℕ} {h : List Event} (e : Event) {log : List Line} (more : List Line) {names : Named} (names_then : Named) {turns : List TurnOut} (then : List TurnOut) {before : Option ℕ} (after : Option ℕ) → IsAnswer (base_of link tag) h e.step e.came e.output
+    → Telling link tag h log names turns before → StepTold link e.step e.output log names turns before more names_then then after → Telling link tag (e ∷ h) more names_then then after
+telling_more {link} {tag} {h} e more {names} names_then {turns} then {before} after is k g =
     let name : name_in names e.step e.output ≡ name_at h e.step e.output = name_is e.step e.output k.names_are in
     record {
       lines_are =
           let says : told_where (name_in names e.step e.output) turns before e.step e.output ≡ told h e.step e.output =
-          (λ i. told_where (name i) turns (k.sending_is i) e.step e.output) ∙ told_is link h turns e.step e.came e.output k.turns_are is in
-          g.lines ∙ (λ i. k.lines_are i ++ map_list (Line.Step link) (option_to_list (written (says i)))) ∙ sym (log_more link h e);
+          (λ i. told_where (name i) turns (k.sending_is i) e.step e.output) ∙ told_is (base_of link tag) h turns e.step e.came e.output k.turns_are is in
+          g.lines ∙ (λ i. k.lines_are i ++ map_list (Line.Step link) (option_to_list (written (says i)))) ∙ sym (log_more link tag h e);
       names_are = names_next e names_then k.names_are g.named;
-      turns_are = subst (AreOut (e ∷ h)) (sym (g.turns_are ∙ ap (λ o. turns_after o e.output turns) name)) (moved link h turns e.step e.came e.output is k.turns_are);
+      turns_are = subst (AreOut (e ∷ h)) (sym (g.turns_are ∙ ap (λ o. turns_after o e.output turns) name)) (moved (base_of link tag) h turns e.step e.came e.output is k.turns_are);
       sending_is = g.sending ∙ ap (λ o. sending_after o e.output before) name ∙ sending_more h e.step e.output (out h) before k.sending_is;
     }
 
 -- whatever the history is of which these are the steps and outputs
-abbrev pub SoTold : ℕ → List Step → List Output → List Line → Named → List TurnOut → Option ℕ → Type 0
-SoTold link steps outputs log names turns out_now =
-    (tables : List Contents) (contexts : List (List ℕ)) (h : List Event) → Tells tables contexts steps outputs h → AllAnswered link h → Telling link h log names turns out_now
+abbrev pub SoTold : ℕ → ℕ → List Step → List Output → List Line → Named → List TurnOut → Option ℕ → Type 0
+SoTold link tag steps outputs log names turns out_now =
+    (tables : List Contents) (contexts : List (List ℕ)) (h : List Event) → Tells tables contexts steps outputs h → AllAnswered (base_of link tag) h → Telling link tag h log names turns out_now
 
 no_more_steps : (steps : List Step) (step : Step) → [] ≡ steps ++ step ∷ [] → ⊥
 no_more_steps [] step e = cc
 no_more_steps (s ∷ steps) step e = cc
 
-told_more : (link : ℕ) (steps : List Step) (outputs : List Output) (step : Step) (output : Output) (log more : List Line) (names names_then : Named) (turns then : List TurnOut) (before after : Option ℕ) → SoTold link steps outputs log names turns before
-    → StepTold link step output log names turns before more names_then then after → SoTold link (steps ++ step ∷ []) (outputs ++ output ∷ []) more names_then then after
-told_more link steps outputs step output log more names names_then turns then before after k g tables contexts [] tells all = absurd (no_more_steps steps step tells.steps_are)
-told_more link steps outputs step output log more names names_then turns then before after k g tables contexts (e ∷ h) tells (is, all) =
+told_more : (link tag : ℕ) (steps : List Step) (outputs : List Output) (step : Step) (output : Output) (log more : List Line) (names names_then : Named) (turns then : List TurnOut) (before after : Option ℕ) → SoTold link tag steps outputs log names turns before
+    → StepTold link step output log names turns before more names_then then after → SoTold link tag (steps ++ step ∷ []) (outputs ++ output ∷ []) more names_then then after
+told_more link tag steps outputs step output log more names names_then turns then before after k g tables contexts [] tells all = absurd (no_more_steps steps step tells.steps_are)
+told_more link tag steps outputs step output log more names names_then turns then before after k g tables contexts (e ∷ h) tells (is, all) =
     let s = same_from_push (reverse (map_list (λ (e : Event). e.step) h)) steps e.step step (sym (reverse_onto (map_list (λ (e : Event). e.step) h) e.step []) ∙ tells.steps_are) in
     let o = same_from_push (outputs_of h) outputs e.output output (sym (outputs_more h e) ∙ tells.outputs_are) in
     let before_it : Tells tables contexts steps outputs h = record { steps_are = s.0; outputs_are = o.0; messages = tells.messages.1 } in
@@ -195,27 +195,27 @@ told_more link steps outputs step output log more names names_then turns then be
 -- THE LOOP
 
 -- the log so far
-pub record Logging (link : ℕ) (steps : List Step) (outputs : List Output) (log : List Line) (names : Named) (turns : List TurnOut) (out_now : Option ℕ) : Type 0 where
-  pub told : SoTold link steps outputs log names turns out_now
+pub record Logging (link tag : ℕ) (steps : List Step) (outputs : List Output) (log : List Line) (names : Named) (turns : List TurnOut) (out_now : Option ℕ) : Type 0 where
+  pub told : SoTold link tag steps outputs log names turns out_now
   pub in_range : AllByRecursion IsLine log
   pub few : names.count ≤ length outputs
 
-told_none : (link : ℕ) (steps : List Step) (outputs : List Output) (log : List Line) (names : Named) (turns : List TurnOut) → log ≡ Line.Head (link + 1) ∷ [] → ((local : ℕ) → name_of names local ≡ None) → names.count ≡ 0 → turns ≡ []
-    → SoTold link (take 0 steps) (take 0 outputs) log names turns None
-told_none link steps outputs log names turns log_is unnamed zero none tables contexts [] tells all = record {
+told_none : (link tag : ℕ) (steps : List Step) (outputs : List Output) (log : List Line) (names : Named) (turns : List TurnOut) → log ≡ Line.Head (link + 1) tag ∷ [] → ((local : ℕ) → name_of names local ≡ None) → names.count ≡ 0 → turns ≡ []
+    → SoTold link tag (take 0 steps) (take 0 outputs) log names turns None
+told_none link tag steps outputs log names turns log_is unnamed zero none tables contexts [] tells all = record {
   lines_are = log_is;
   names_are = record { name = unnamed; count = zero };
   turns_are = λ d is. absurd (cc);
   sending_is = refl;
 }
-told_none link steps outputs log names turns log_is unnamed zero none tables contexts (e ∷ h) tells all =
+told_none link tag steps outputs log names turns log_is unnamed zero none tables contexts (e ∷ h) tells all =
     absurd (no_more_steps (reverse (map_list (λ (e : Event). e.step) h)) e.step (sym (sym (reverse_onto (map_list (λ (e : Event). e.step) h) e.step []) ∙ tells.steps_are)))
 
-pub logging_none : (link : ℕ) (steps : List Step) (outputs : List Output) (log : List Line) (names : Named) (turns : List TurnOut) → link < 8 → log ≡ Line.Head (link + 1) ∷ [] → ((local : ℕ) → name_of names local ≡ None) → names.count ≡ 0 → turns ≡ []
-    → Logging link (take 0 steps) (take 0 outputs) log names turns None
-logging_none link steps outputs log names turns low log_is unnamed zero none = record {
-  told = told_none link steps outputs log names turns log_is unnamed zero none;
-  in_range = subst (AllByRecursion IsLine) (sym log_is) ((omega (arith, low), omega (arith, low)), tt);
+pub logging_none : (link tag : ℕ) (steps : List Step) (outputs : List Output) (log : List Line) (names : Named) (turns : List TurnOut) → link < 8 → tag ≤ last_tag → log ≡ Line.Head (link + 1) tag ∷ [] → ((local : ℕ) → name_of names local ≡ None) → names.count ≡ 0 → turns ≡ []
+    → Logging link tag (take 0 steps) (take 0 outputs) log names turns None
+logging_none link tag steps outputs log names turns low few log_is unnamed zero none = record {
+  told = told_none link tag steps outputs log names turns log_is unnamed zero none;
+  in_range = subst (AllByRecursion IsLine) (sym log_is) ((omega (arith, low), omega (arith, low), few), tt);
   few = omega (arith, zero);
 }
 
@@ -223,27 +223,27 @@ few_more : (o : Option ℕ) (n m k : ℕ) → n ≤ k → m ≡ births_after o n
 few_more None n m k few is = omega (arith, few, is)
 few_more (Some l) n m k few is = omega (arith, few, is)
 
-pub logging_next : {link : ℕ} (steps : List Step) (outputs : List Output) (i : ℕ) (step : Step) (output : Output) {log : List Line} (more : List Line) {names : Named} (names_then : Named) {turns : List TurnOut} (then : List TurnOut) {before : Option ℕ} (after : Option ℕ) → Logging link (take i steps) (take i outputs) log names turns before
+pub logging_next : {link tag : ℕ} (steps : List Step) (outputs : List Output) (i : ℕ) (step : Step) (output : Output) {log : List Line} (more : List Line) {names : Named} (names_then : Named) {turns : List TurnOut} (then : List TurnOut) {before : Option ℕ} (after : Option ℕ) → Logging link tag (take i steps) (take i outputs) log names turns before
     → i < length steps → i < length outputs → step ≡ get_or steps i step → output ≡ get_or outputs i output
-    → StepTold link step output log names turns before more names_then then after → Logging link (take (i + 1) steps) (take (i + 1) outputs) more names_then then after
-logging_next {link} steps outputs i step output {log} more {names} names_then {turns} then {before} after k in_steps in_outputs step_is output_is g =
-    subst (λ ss. Logging link ss (take (i + 1) outputs) more names_then then after) (sym (take_more steps i step in_steps ∙ ap (λ s. take i steps ++ s ∷ []) (sym step_is)))
-    (subst (λ os. Logging link (take i steps ++ step ∷ []) os more names_then then after) (sym (take_more outputs i output in_outputs ∙ ap (λ o. take i outputs ++ o ∷ []) (sym output_is)))
+    → StepTold link step output log names turns before more names_then then after → Logging link tag (take (i + 1) steps) (take (i + 1) outputs) more names_then then after
+logging_next {link} {tag} steps outputs i step output {log} more {names} names_then {turns} then {before} after k in_steps in_outputs step_is output_is g =
+    subst (λ ss. Logging link tag ss (take (i + 1) outputs) more names_then then after) (sym (take_more steps i step in_steps ∙ ap (λ s. take i steps ++ s ∷ []) (sym step_is)))
+    (subst (λ os. Logging link tag (take i steps ++ step ∷ []) os more names_then then after) (sym (take_more outputs i output in_outputs ∙ ap (λ o. take i outputs ++ o ∷ []) (sym output_is)))
     (record {
-      told = told_more link (take i steps) (take i outputs) step output log more names names_then turns then before after k.told g;
+      told = told_more link tag (take i steps) (take i outputs) step output log more names names_then turns then before after k.told g;
       in_range = g.ranges k.in_range;
       few = let le = few_more (opened_in output) names.count names_then.count (length (take i outputs)) k.few g.named.count in omega (arith, le, length_push (take i outputs) output);
     }))
 
-pub logging_all : (link : ℕ) (steps : List Step) (outputs : List Output) (i : ℕ) (log : List Line) (names : Named) (turns : List TurnOut) (out_now : Option ℕ) → Logging link (take i steps) (take i outputs) log names turns out_now → i ≡ min (length steps) (length outputs)
-    → IsLog link steps outputs log
-logging_all link steps outputs i log names turns out_now k end = record {
+pub logging_all : (link tag : ℕ) (steps : List Step) (outputs : List Output) (i : ℕ) (log : List Line) (names : Named) (turns : List TurnOut) (out_now : Option ℕ) → Logging link tag (take i steps) (take i outputs) log names turns out_now → i ≡ min (length steps) (length outputs)
+    → IsLog link tag steps outputs log
+logging_all link tag steps outputs i log names turns out_now k end = record {
   lines_are = λ tables contexts h tells all.
       let many : length steps ≡ length h = ap length (sym tells.steps_are) ∙ length-reverse (map_list (λ (e : Event). e.step) h) ∙ length-map h (λ (e : Event). e.step) in
       let also : length outputs ≡ length h = ap length (sym tells.outputs_are) ∙ length-reverse (map_list (λ (e : Event). e.output) h) ∙ length-map h (λ (e : Event). e.output) in
       let all_steps : take i steps ≡ steps = take_all i steps (omega (arith, end, many, also)) in
       let all_outputs : take i outputs ≡ outputs = take_all i outputs (omega (arith, end, many, also)) in
-      let so : SoTold link steps outputs log names turns out_now = subst (λ ss. SoTold link ss outputs log names turns out_now) all_steps (subst (λ os. SoTold link (take i steps) os log names turns out_now) all_outputs k.told) in
+      let so : SoTold link tag steps outputs log names turns out_now = subst (λ ss. SoTold link tag ss outputs log names turns out_now) all_steps (subst (λ os. SoTold link tag (take i steps) os log names turns out_now) all_outputs k.told) in
       (so tables contexts h tells all).lines_are;
   in_range = k.in_range;
 }

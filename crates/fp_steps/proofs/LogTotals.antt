@@ -23,25 +23,25 @@ lost_none octets moment (Posted.Opened local) (Prepared.Lost a) is = refl
 lost_none octets moment answer (Prepared.Lost a) is = refl
 lost_none octets moment answer came is = absurd is
 
-answered : (link : ℕ) (h : List Event) (came : Prepared) (answer : Posted) (components : ℕ) → Output.Posted answer components ≡ Output.Posted (answer_to link h came) (components_in (answer_to link h came) came) → components ≡ components_in answer came
-answered link h came answer components is =
-    let so : answer ≡ answer_to link h came = cc in
-    let many : components ≡ components_in (answer_to link h came) came = cc in
+answered : (base : ℕ) (h : List Event) (came : Prepared) (answer : Posted) (components : ℕ) → Output.Posted answer components ≡ Output.Posted (answer_to base h came) (components_in (answer_to base h came) came) → components ≡ components_in answer came
+answered base h came answer components is =
+    let so : answer ≡ answer_to base h came = cc in
+    let many : components ≡ components_in (answer_to base h came) came = cc in
     many ∙ ap (λ a. components_in a came) (sym so)
 
 if_line : (P : LoggedStep → Type 0) (b : Bool) (line : LoggedStep) → P line → IfSome (cond b (Some line) None) P
 if_line P true line is = is
 if_line P false line is = tt
 
-message_counts : (tables : List Contents) (contexts : List (List ℕ)) (link : ℕ) (h : List Event) (step : Step) (came : Option Prepared) (answer : Posted) (components : ℕ) → IsCame tables contexts step came
-    → IsAnswer link h step came (Output.Posted answer components) → IfSome (told_message step answer) (Counts (out h) came (Output.Posted answer components))
-message_counts tables contexts link h (Step.Post table frame moment) None answer components c is = absurd (cc)
-message_counts tables contexts link h (Step.Post table frame moment) (Some came) answer components c is =
+message_counts : (tables : List Contents) (contexts : List (List ℕ)) (base : ℕ) (h : List Event) (step : Step) (came : Option Prepared) (answer : Posted) (components : ℕ) → IsCame tables contexts step came
+    → IsAnswer base h step came (Output.Posted answer components) → IfSome (told_message step answer) (Counts (out h) came (Output.Posted answer components))
+message_counts tables contexts base h (Step.Post table frame moment) None answer components c is = absurd (cc)
+message_counts tables contexts base h (Step.Post table frame moment) (Some came) answer components c is =
     if_line (Counts (out h) (Some came) (Output.Posted answer components)) (nat_le table LAST_INDEX) (LoggedStep.Post table moment frame answer)
-    (ap (λ n. make n 0 0) (answered link h came answer components is ∙ by_answer answer came))
-message_counts tables contexts link h (Step.Lost frame moment) None answer components c is = absurd c
-message_counts tables contexts link h (Step.Lost frame moment) (Some came) answer components c is = ap (λ n. make n 0 0) (answered link h came answer components is ∙ lost_none frame moment answer came c)
-message_counts tables contexts link h step came answer components c is = tt
+    (ap (λ n. make n 0 0) (answered base h came answer components is ∙ by_answer answer came))
+message_counts tables contexts base h (Step.Lost frame moment) None answer components c is = absurd c
+message_counts tables contexts base h (Step.Lost frame moment) (Some came) answer components c is = ap (λ n. make n 0 0) (answered base h came answer components is ∙ lost_none frame moment answer came c)
+message_counts tables contexts base h step came answer components c is = tt
 
 -- WHAT IS OUT
 
@@ -61,21 +61,21 @@ next_named h (abort ∷ aborts) frames local octets is ne = absurd (false≢true
 next_named h [] (first ∷ frames) local octets is ne = subst (λ l. eqb l 0 ≡ false → 0 < option_map_or (λ d. d) (named h l) 0) (sym is.0) (place_named h first.dialogue (beginning h first.dialogue) refl) ne
 next_named h [] [] local octets is ne = absurd is
 
-out_has : (link : ℕ) (h : List Event) (e : Event) (output : Output) (o : Option Handed) → IsAnswer link h e.step e.came output → HasBirth o → HasBirth (out_after output h o)
-out_has link h e (Output.Picked local frame) o is has = next_named h (aborts_waiting h) (waiting h) local frame (picked_is link h e.step e.came local frame is)
-out_has link h e Output.Sent o is has = tt
-out_has link h e Output.Unsent o is has = tt
-out_has link h e output o is has = has
+out_has : (base : ℕ) (h : List Event) (e : Event) (output : Output) (o : Option Handed) → IsAnswer base h e.step e.came output → HasBirth o → HasBirth (out_after output h o)
+out_has base h e (Output.Picked local frame) o is has = next_named h (aborts_waiting h) (waiting h) local frame (picked_is base h e.step e.came local frame is)
+out_has base h e Output.Sent o is has = tt
+out_has base h e Output.Unsent o is has = tt
+out_has base h e output o is has = has
 
-all_have : (link : ℕ) (h : List Event) → AllAnswered link h → HasBirth (out h)
-all_have link [] all = tt
-all_have link (e ∷ h) (is, all) = out_has link h e e.output (out h) is (all_have link h all)
+all_have : (base : ℕ) (h : List Event) → AllAnswered base h → HasBirth (out h)
+all_have base [] all = tt
+all_have base (e ∷ h) (is, all) = out_has base h e e.output (out h) is (all_have base h all)
 
-retold_answers : (tables : List Contents) (contexts : List (List ℕ)) (link : ℕ) (lines : List LoggedStep) (h : List Event) → Retells tables contexts link lines h → AllAnswered link h
-retold_answers tables contexts link [] [] k = tt
-retold_answers tables contexts link [] (e ∷ h) k = absurd k
-retold_answers tables contexts link (line ∷ lines) [] k = absurd k
-retold_answers tables contexts link (line ∷ lines) (e ∷ h) (one, rest) = (one.answer, retold_answers tables contexts link lines h rest)
+retold_answers : (tables : List Contents) (contexts : List (List ℕ)) (base : ℕ) (lines : List LoggedStep) (h : List Event) → Retells tables contexts base lines h → AllAnswered base h
+retold_answers tables contexts base [] [] k = tt
+retold_answers tables contexts base [] (e ∷ h) k = absurd k
+retold_answers tables contexts base (line ∷ lines) [] k = absurd k
+retold_answers tables contexts base (line ∷ lines) (e ∷ h) (one, rest) = (one.answer, retold_answers tables contexts base lines h rest)
 
 -- OTHER STEPS
 
@@ -99,19 +99,19 @@ sent_counts : (o : Option Handed) (came : Option Prepared) → HasBirth o → If
 sent_counts None came has = tt
 sent_counts (Some handed) came has = ap (λ b. make 0 0 (one_if b)) (not_zero handed.local (option_map_or (λ d. d) handed.dialogue 0) has)
 
-told_counts : (tables : List Contents) (contexts : List (List ℕ)) (link : ℕ) (h : List Event) (step : Step) (came : Option Prepared) (output : Output) → IsCame tables contexts step came → IsAnswer link h step came output → HasBirth (out h)
+told_counts : (tables : List Contents) (contexts : List (List ℕ)) (base : ℕ) (h : List Event) (step : Step) (came : Option Prepared) (output : Output) → IsCame tables contexts step came → IsAnswer base h step came output → HasBirth (out h)
     → IfSome (told h step output) (Counts (out h) came output)
-told_counts tables contexts link h step came (Output.Posted answer components) c is has = message_counts tables contexts link h step came answer components c is
-told_counts tables contexts link h step came (Output.Ticked many wanting) c is has = tick_counts (out h) came step many wanting
-told_counts tables contexts link h step came (Output.Took local position count) c is has = over_counts (Counts (out h) came (Output.Took local position count)) (named h local) (λ d. LoggedStep.Take d position count) (λ d. refl)
-told_counts tables contexts link h step came (Output.Gave local position served given) c is has = over_counts (Counts (out h) came (Output.Gave local position served given)) (named h local) (λ d. LoggedStep.Give d position served given) (λ d. refl)
-told_counts tables contexts link h step came Output.WentBack c is has = back_counts (out h) came h step
-told_counts tables contexts link h step came Output.Sent c is has = sent_counts (out h) came has
-told_counts tables contexts link h step came Output.Unsent c is has = over_counts (Counts (out h) came Output.Unsent) (birth_out h) (λ d. LoggedStep.Unsent d) (λ x. refl)
-told_counts tables contexts link h step came Output.NoRoom c is has = tt
-told_counts tables contexts link h step came Output.Busy c is has = tt
-told_counts tables contexts link h step came Output.Nothing c is has = tt
-told_counts tables contexts link h step came output c is has = refl
+told_counts tables contexts base h step came (Output.Posted answer components) c is has = message_counts tables contexts base h step came answer components c is
+told_counts tables contexts base h step came (Output.Ticked many wanting) c is has = tick_counts (out h) came step many wanting
+told_counts tables contexts base h step came (Output.Took local position count) c is has = over_counts (Counts (out h) came (Output.Took local position count)) (named h local) (λ d. LoggedStep.Take d position count) (λ d. refl)
+told_counts tables contexts base h step came (Output.Gave local position served given) c is has = over_counts (Counts (out h) came (Output.Gave local position served given)) (named h local) (λ d. LoggedStep.Give d position served given) (λ d. refl)
+told_counts tables contexts base h step came Output.WentBack c is has = back_counts (out h) came h step
+told_counts tables contexts base h step came Output.Sent c is has = sent_counts (out h) came has
+told_counts tables contexts base h step came Output.Unsent c is has = over_counts (Counts (out h) came Output.Unsent) (birth_out h) (λ d. LoggedStep.Unsent d) (λ x. refl)
+told_counts tables contexts base h step came Output.NoRoom c is has = tt
+told_counts tables contexts base h step came Output.Busy c is has = tt
+told_counts tables contexts base h step came Output.Nothing c is has = tt
+told_counts tables contexts base h step came output c is has = refl
 
 -- ALL LINES
 
@@ -123,9 +123,9 @@ lines_next lines h line e =
     same (totals_in (line ∷ lines) (e ∷ h)) (plus (totals_in lines h) (counted line e.came)) refl (omega (arith, served)) (omega (arith, sends))
 
 pub retold_counted : RetoldLinesAreCounted
-retold_counted tables contexts link [] [] k = refl
-retold_counted tables contexts link [] (e ∷ h) k = absurd k
-retold_counted tables contexts link (line ∷ lines) [] k = absurd k
-retold_counted tables contexts link (line ∷ lines) (e ∷ h) (one, rest) =
-    let counts : added h e ≡ counted line e.came = subst (λ o. IfSome o (Counts (out h) e.came e.output)) one.tells (told_counts tables contexts link h e.step e.came e.output one.came one.answer (all_have link h (retold_answers tables contexts link lines h rest))) in
-    totals_next h e ∙ ap (λ t. plus t (added h e)) (retold_counted tables contexts link lines h rest) ∙ ap (plus (totals_in lines h)) counts ∙ sym (lines_next lines h line e)
+retold_counted tables contexts base [] [] k = refl
+retold_counted tables contexts base [] (e ∷ h) k = absurd k
+retold_counted tables contexts base (line ∷ lines) [] k = absurd k
+retold_counted tables contexts base (line ∷ lines) (e ∷ h) (one, rest) =
+    let counts : added h e ≡ counted line e.came = subst (λ o. IfSome o (Counts (out h) e.came e.output)) one.tells (told_counts tables contexts base h e.step e.came e.output one.came one.answer (all_have base h (retold_answers tables contexts base lines h rest))) in
+    totals_next h e ∙ ap (λ t. plus t (added h e)) (retold_counted tables contexts base lines h rest) ∙ ap (plus (totals_in lines h)) counts ∙ sym (lines_next lines h line e)

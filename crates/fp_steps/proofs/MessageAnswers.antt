@@ -1,5 +1,5 @@
 -- Each message is answered as its history tells: by the rules of receipt.
-use Rattle.fp_steps.proofs.Names.{AbortCause, Answers, Bool, Contents, Event, Follows, Freed, IsLost, IsPrepared, IsTied, Lined, List, None, Option, Output, Posted, Prepared, Row, RowsKeepTheirOrder, Rule, Shelf, Some, Sound, Tid, Tied, TiedAt, Verdict, [], abort_for, aborts_waiting, addressee, admits, admitted, answer_by, answer_to, ap, arrival_of, births, cases_Bool, components_in, cond, entries_in, facts_in, facts_with, false, first_identifier, first_that_fits, frame_octets, free, get, held, inl, inr, is_admitted, is_down, is_none, is_some, len, length, length-map, named, named_in, none-some, opened_with, option_and_then, option_map_or, place_count, places_taken, refl, refused, refused_by, rule, rules_up, story, subst, sym, taking, true, unserved, verdict, verdict_by, ℕ, ⊎_elim, ◌∙◌, ◌≡◌, ◌⊎◌}
+use Rattle.fp_steps.proofs.Names.{AbortCause, Answers, Bool, Contents, Event, Follows, Freed, IsLost, IsPrepared, IsTied, Lined, List, None, Option, Output, Posted, Prepared, Row, RowsKeepTheirOrder, Rule, Shelf, Some, Sound, Tid, Tied, TiedAt, Verdict, [], abort_for, aborts_waiting, addressee, admits, admitted, answer_by, answer_to, ap, arrival_of, base, births, cases_Bool, components_in, cond, entries_in, facts_in, facts_with, false, first_identifier, first_that_fits, frame_octets, free, get, held, inl, inr, is_admitted, is_down, is_none, is_some, len, length, length-map, named, named_in, none-some, opened_with, option_and_then, option_map_or, place_count, places_taken, refl, refused, refused_by, rule, rules_up, story, subst, sym, taking, true, unserved, verdict, verdict_by, ℕ, ⊎_elim, ◌∙◌, ◌≡◌, ◌⊎◌}
 use Rattle.fp_steps.proofs.HeldCount.{held_is}
 use Rattle.fp_steps.proofs.HeldDialogues.{row_named, unserved_tied}
 use Rattle.fp_steps.proofs.TieAtMessages.{named_admits, number_in}
@@ -17,10 +17,10 @@ refused_is s None None answer answered g = g.0
 refused_is s (Some local) None answer answered g = g.0
 refused_is s closes (Some (peer, named)) answer answered g = g.0
 
-pub answer_is : (old new : Shelf) (came : Prepared) (answer : Posted) (v : Verdict) → Follows v old came answer new → answer ≡ answer_of (length old.outbox.aborts) (first_identifier old.link old.free) came v
+pub answer_is : (old new : Shelf) (came : Prepared) (answer : Posted) (v : Verdict) → Follows v old came answer new → answer ≡ answer_of (length old.outbox.aborts) (first_identifier (base old) old.free) came v
 answer_is old new came answer Verdict.Discard g = g.answer_is
 answer_is old new came answer (Verdict.Refuse named closes) g = refused_is g.closed closes (abort_for (length old.outbox.aborts) named (arrival_of came).ids.orig) answer g.answered g.answering
-answer_is old new came answer (Verdict.Open peer) g = g.answer_is ∙ sym (ap (λ fs. opened_with (first_identifier old.link fs)) g.first)
+answer_is old new came answer (Verdict.Open peer) g = g.answer_is ∙ sym (ap (λ fs. opened_with (first_identifier (base old) fs)) g.first)
 answer_is old new came answer (Verdict.Extend local false) g = g.answer_is
 answer_is old new came answer (Verdict.Extend local true) g = g.answer_is
 
@@ -81,19 +81,19 @@ same_facts {h} {s} o p t down many names places =
 record Agrees (h : List Event) (s : Shelf) (o p : Option ℕ) : Type 0 where
   none : is_none o ≡ is_none p
   facts : facts_with s o ≡ facts_in h p
-  extends : (link : ℕ) (came : Prepared) (waiting : ℕ) (next : Option ℕ) (ends : Bool) → answer_of waiting next came (verdict_by (Rule.Extend ends) o (arrival_of came).ids.orig) ≡ answer_by link h came p (Rule.Extend ends)
+  extends : (n : ℕ) (came : Prepared) (waiting : ℕ) (next : Option ℕ) (ends : Bool) → answer_of waiting next came (verdict_by (Rule.Extend ends) o (arrival_of came).ids.orig) ≡ answer_by n h came p (Rule.Extend ends)
 
 agrees : {h : List Event} {s : Shelf} (came : Prepared) → Tied h s → Lined h s → held h ≡ len s.rows → Agrees h s (named_in s (arrival_of came).ids) (addressee h came)
 agrees {h} {s} came t l many =
     ⊎_elim
     (λ neither. subst (λ o. Agrees h s o (addressee h came)) (sym neither.0)
-    (subst (λ p. Agrees h s None p) (sym neither.1) (record { none = refl; facts = same_facts None None t l.down many refl refl; extends = λ link came waiting next ends. refl })))
+    (subst (λ p. Agrees h s None p) (sym neither.1) (record { none = refl; facts = same_facts None None t l.down many refl refl; extends = λ n came waiting next ends. refl })))
     (λ both. subst (λ o. Agrees h s o (addressee h came)) (sym both.is)
     (subst (λ p. Agrees h s (Some both.local) p) (sym both.also)
     (record {
       none = refl;
       facts = same_facts (Some both.local) (Some both.birth) t l.down many refl (ap (λ o. option_map_or places_taken o 0) both.was ∙ sym (ap place_count (unserved_tied h both.tied)));
-      extends = λ link came waiting next ends. refl;
+      extends = λ n came waiting next ends. refl;
     })))
     (named_both (number_in came) t)
 
@@ -102,41 +102,41 @@ opened_by waiting next came dialogue None = refl
 opened_by waiting next came dialogue (Some peer) = refl
 
 rule_answered : {h : List Event} {s : Shelf} (came : Prepared) (o p : Option ℕ) (r : Rule) → Tied h s → Sound s → Lined h s → free h ≡ s.free → Agrees h s o p
-    → answer_of (length s.outbox.aborts) (first_identifier s.link s.free) came (verdict_by r o (arrival_of came).ids.orig) ≡ answer_by s.link h came p r
+    → answer_of (length s.outbox.aborts) (first_identifier (base s) s.free) came (verdict_by r o (arrival_of came).ids.orig) ≡ answer_by (base s) h came p r
 rule_answered came o p Rule.Discard t k l freed a = refl
 rule_answered {h} {s} came o p (Rule.Refuse named) t k l freed a =
     let aborts : length s.outbox.aborts ≡ length (aborts_waiting h) = sym (length-map s.outbox.aborts frame_octets) ∙ ap length (sym (aborts_wait t k l)) in
     λ i. refused (aborts i) came named (a.none i)
 rule_answered {h} {s} came o p Rule.Open t k l freed a =
-    opened_by (length s.outbox.aborts) (first_identifier s.link s.free) came o (arrival_of came).ids.orig
-    ∙ ap (λ fs. option_map_or (λ (peer : Tid). opened_with (first_identifier s.link fs)) (arrival_of came).ids.orig Posted.Discarded) (sym freed)
-rule_answered {h} {s} came o p (Rule.Extend ends) t k l freed a = a.extends s.link came (length s.outbox.aborts) (first_identifier s.link s.free) ends
+    opened_by (length s.outbox.aborts) (first_identifier (base s) s.free) came o (arrival_of came).ids.orig
+    ∙ ap (λ fs. option_map_or (λ (peer : Tid). opened_with (first_identifier (base s) fs)) (arrival_of came).ids.orig Posted.Discarded) (sym freed)
+rule_answered {h} {s} came o p (Rule.Extend ends) t k l freed a = a.extends (base s) came (length s.outbox.aborts) (first_identifier (base s) s.free) ends
 
 -- what a message is answered
 pub answered_so : {h : List Event} {s : Shelf} (came : Prepared) → Tied h s → Sound s → Lined h s → Freed h s → held h ≡ len s.rows
-    → answer_of (length s.outbox.aborts) (first_identifier s.link s.free) came (verdict s came) ≡ answer_to s.link h came
+    → answer_of (length s.outbox.aborts) (first_identifier (base s) s.free) came (verdict s came) ≡ answer_to (base s) h came
 answered_so {h} {s} came t k l f many =
     let o = named_in s (arrival_of came).ids in
     let p = addressee h came in
     let a : Agrees h s o p = agrees came t l many in
     let waiting = length s.outbox.aborts in
-    let next = first_identifier s.link s.free in
+    let next = first_identifier (base s) s.free in
     let others = first_that_fits (rules_up (facts_with s o) came (arrival_of came).ids.kind) in
     let same : rule (facts_with s o) came ≡ rule (facts_in h p) came = ap (λ f. rule f came) a.facts in
     ⊎_elim
     (λ down.
     let none : rule (facts_with s o) came ≡ Rule.Discard = ap (λ b. cond b Rule.Discard others) down in
-    ap (λ r. answer_of waiting next came (verdict_by r o (arrival_of came).ids.orig)) none ∙ sym (ap (answer_by s.link h came p) (sym same ∙ none)))
-    (λ up. rule_answered came o p (rule (facts_with s o) came) t k l (f up) a ∙ ap (answer_by s.link h came p) same)
+    ap (λ r. answer_of waiting next came (verdict_by r o (arrival_of came).ids.orig)) none ∙ sym (ap (answer_by (base s) h came p) (sym same ∙ none)))
+    (λ up. rule_answered came o p (rule (facts_with s o) came) t k l (f up) a ∙ ap (answer_by (base s) h came p) same)
     (cases_Bool s.is_down)
 
 -- EACH MESSAGE
 
 pub posted_is : RowsKeepTheirOrder → {h : List Event} {old : Shelf} (new : Shelf) (p : Prepared) (answer : Posted) (components : ℕ) → Tied h old → Sound old → Lined h old → Freed h old
-    → components ≡ components_in answer p → Follows (verdict old p) old p answer new → Output.Posted answer components ≡ Output.Posted (answer_to old.link h p) (components_in (answer_to old.link h p) p)
+    → components ≡ components_in answer p → Follows (verdict old p) old p answer new → Output.Posted answer components ≡ Output.Posted (answer_to (base old) h p) (components_in (answer_to (base old) h p) p)
 posted_is law {h} {old} new p answer components t k l f count g =
-    let so : answer ≡ answer_to old.link h p = answer_is old new p answer (verdict old p) g ∙ answered_so p t k l f (held_is law t k l) in
-    let many : components ≡ components_in (answer_to old.link h p) p = count ∙ ap (λ a. components_in a p) so in
+    let so : answer ≡ answer_to (base old) h p = answer_is old new p answer (verdict old p) g ∙ answered_so p t k l f (held_is law t k l) in
+    let many : components ≡ components_in (answer_to (base old) h p) p = count ∙ ap (λ a. components_in a p) so in
     λ i. Output.Posted (so i) (many i)
 
 -- one that wasn't read is prepared so by the first table, whatever its records are

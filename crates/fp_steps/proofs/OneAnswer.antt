@@ -1,5 +1,5 @@
 -- What is answered and retold is one.
-use Rattle.fp_steps.proofs.Names.{AllAnswered, AllByRecursion, AnswersAreOne, Arrival, Contents, Event, IsAnswer, IsCame, IsLongestReady, IsLost, IsNext, IsNone, IsPicked, IsPosted, IsReadBy, IsReadyBefore, IsTaken, LinesAreRetoldOnce, List, None, Option, Output, Prepared, QueuedFrame, RetellsOne, RunsAreOne, SameAnswers as Answers, SameArrival, SameIncoming, Some, Step, Tid, [], aborts_waiting, ap, arith, cases_Bool, eqb, eqb-true, false, false≢true, is_lost, is_some, length, map_list as map, min, most_entries, octets_of, option_map, out, outputs_of, places, positions, refl, reverse, reverse-reverse, subst, sym, table_at, true, unserved, waiting, ℕ, ⊎_elim, ◌-◌, ◌<◌, ◌∙◌, ◌∷◌, ◌≡◌, ◌≤◌}
+use Rattle.fp_steps.proofs.Names.{AllAnswered, AllByRecursion, AnswersAreOne, Arrival, Contents, Event, IsAnswer, IsCame, IsLongestReady, IsLost, IsNext, IsNone, IsPicked, IsReadBy, IsReadyBefore, IsTaken, LinesAreRetoldOnce, List, None, Option, Output, Prepared, QueuedFrame, RetellsOne, RunsAreOne, SameAnswers as Answers, SameArrival, SameIncoming, Some, Step, Tid, [], aborts_waiting, ap, arith, cases_Bool, eqb, eqb-true, false, false≢true, is_lost, is_some, length, map_list as map, min, most_entries, most_places, octets_of, option_map, out, outputs_of, places, positions, refl, reverse, reverse-reverse, subst, sym, table_at, true, unserved, waiting, ℕ, ⊎_elim, ◌-◌, ◌<◌, ◌∙◌, ◌∷◌, ◌≡◌, ◌≤◌}
 use Rattle.fp_entry.specs.Laws.{PreparedIsOne}
 use Rattle.fp_entry.specs.declared.incoming.Incoming.{Incoming}
 use Rattle.fp_steps.proofs.MessageAnswers.{lost_prepared, no_records}
@@ -69,14 +69,14 @@ one_longest {h} {l} {p} {n} {m} a b =
     (cases_Bool (eqb a.dialogue b.dialogue)) in
     let local = same_name h l m a.dialogue a.name (b.name ∙ ap Some (sym same)) in
     let position = a.next ∙ ap (λ d. length (positions h d)) same ∙ sym b.next in
-    let count = a.count_is ∙ ap (λ d. min most_entries (min (length (unserved h d)) (8192 - places h))) same ∙ sym b.count_is in
+    let count = a.count_is ∙ ap (λ d. min most_entries (min (length (unserved h d)) (most_places - places h))) same ∙ sym b.count_is in
     λ i. Output.Took (local i) (position i) (count i)
 
 one_taken : (h : List Event) (x y : Output) → IsTaken h x → IsTaken h y → x ≡ y
 one_taken h (Output.Took l p n) (Output.Took m q k) a b = one_longest a.0 b.0
-one_taken h (Output.Took l p n) Output.NoRoom a b = absurd (let lt : places h < 8192 = a.1 in let le : 8192 ≤ places h = b.1 in omega (arith, lt, le))
+one_taken h (Output.Took l p n) Output.NoRoom a b = absurd (let lt : places h < most_places = a.1 in let le : most_places ≤ places h = b.1 in omega (arith, lt, le))
 one_taken h (Output.Took l p n) Output.Nothing a b = absurd (false≢true (sym (b a.0.dialogue) ∙ a.0.stands))
-one_taken h Output.NoRoom (Output.Took m q k) a b = absurd (let lt : places h < 8192 = b.1 in let le : 8192 ≤ places h = a.1 in omega (arith, lt, le))
+one_taken h Output.NoRoom (Output.Took m q k) a b = absurd (let lt : places h < most_places = b.1 in let le : most_places ≤ places h = a.1 in omega (arith, lt, le))
 one_taken h Output.NoRoom Output.NoRoom a b = refl
 one_taken h Output.NoRoom Output.Nothing a b = absurd (false≢true (sym (b a.0.0) ∙ a.0.1))
 one_taken h Output.Nothing (Output.Took m q k) a b = absurd (false≢true (sym (a b.0.dialogue) ∙ b.0.stands))
@@ -115,53 +115,47 @@ one_picked h Output.Busy y a b = absurd b
 one_picked h Output.Nothing y a b = absurd b
 one_picked h x y a b = absurd a
 
-one_posted : (link : ℕ) (h : List Event) (came : Option Prepared) (x y : Output) → IsPosted link h came x → IsPosted link h came y → x ≡ y
-one_posted link h None x y a b = a ∙ sym b
-one_posted link h (Some came) x y a b = a ∙ sym b
-
-one_answer : (link : ℕ) (h : List Event) (step : Step) (came : Option Prepared) (x y : Output) → IsAnswer link h step came x → IsAnswer link h step came y → x ≡ y
-one_answer link h (Step.Post table frame moment) came x y a b = one_posted link h came x y a b
-one_answer link h (Step.Lost frame moment) came x y a b = one_posted link h came x y a b
-one_answer link h Step.Take came x y a b = one_taken h x y a b
-one_answer link h Step.Pick came x y a b = one_picked h x y a b
-one_answer link h step came x y a b = a ∙ sym b
+one_answer : (base : ℕ) (h : List Event) (step : Step) (came : Option Prepared) (x y : Output) → IsAnswer base h step came x → IsAnswer base h step came y → x ≡ y
+one_answer base h Step.Take came x y a b = one_taken h x y a b
+one_answer base h Step.Pick came x y a b = one_picked h x y a b
+one_answer base h step came x y a b = a ∙ sym b
 
 pub answers_one : PreparedIsOne → AnswersAreOne
-answers_one one tables contexts link h step came other x y p q a b =
+answers_one one tables contexts base h step came other x y p q a b =
     let same : other ≡ came = came_is_one one tables contexts step other came q p in
-    one_answer link h step came x y a (subst (λ o. IsAnswer link h step o y) same b)
+    one_answer base h step came x y a (subst (λ o. IsAnswer base h step o y) same b)
 
 -- HISTORIES
 
 -- an event is one by its step
-one_event : PreparedIsOne → (tables : List Contents) (contexts : List (List ℕ)) (link : ℕ) (h : List Event) (e f : Event) → e.step ≡ f.step → IsCame tables contexts e.step e.came → IsCame tables contexts f.step f.came
-    → IsAnswer link h e.step e.came e.output → IsAnswer link h f.step f.came f.output → e ≡ f
-one_event one tables contexts link h e f same p q a b =
+one_event : PreparedIsOne → (tables : List Contents) (contexts : List (List ℕ)) (base : ℕ) (h : List Event) (e f : Event) → e.step ≡ f.step → IsCame tables contexts e.step e.came → IsCame tables contexts f.step f.came
+    → IsAnswer base h e.step e.came e.output → IsAnswer base h f.step f.came f.output → e ≡ f
+one_event one tables contexts base h e f same p q a b =
     let came_then : IsCame tables contexts e.step f.came = subst (λ s. IsCame tables contexts s f.came) (sym same) q in
-    let answer_then : IsAnswer link h e.step f.came f.output = subst (λ s. IsAnswer link h s f.came f.output) (sym same) b in
+    let answer_then : IsAnswer base h e.step f.came f.output = subst (λ s. IsAnswer base h s f.came f.output) (sym same) b in
     λ i. record {
       step = same i;
       came = came_is_one one tables contexts e.step e.came f.came p came_then i;
-      output = answers_one one tables contexts link h e.step e.came f.came e.output f.output p came_then a answer_then i;
+      output = answers_one one tables contexts base h e.step e.came f.came e.output f.output p came_then a answer_then i;
     }
 
 -- a history is one by its steps
-one_history : PreparedIsOne → (tables : List Contents) (contexts : List (List ℕ)) (link : ℕ) (g h : List Event) → map (λ (e : Event). e.step) g ≡ map (λ (e : Event). e.step) h
-    → AllByRecursion (λ (e : Event). IsCame tables contexts e.step e.came) g → AllByRecursion (λ (e : Event). IsCame tables contexts e.step e.came) h → AllAnswered link g → AllAnswered link h → g ≡ h
-one_history one tables contexts link [] [] same p q a b = refl
-one_history one tables contexts link [] (f ∷ h) same p q a b = absurd (let clash : [] ≡ f.step ∷ map (λ (e : Event). e.step) h = same in cc)
-one_history one tables contexts link (e ∷ g) [] same p q a b = absurd (let clash : e.step ∷ map (λ (e : Event). e.step) g ≡ [] = same in cc)
-one_history one tables contexts link (e ∷ g) (f ∷ h) same p q a b =
+one_history : PreparedIsOne → (tables : List Contents) (contexts : List (List ℕ)) (base : ℕ) (g h : List Event) → map (λ (e : Event). e.step) g ≡ map (λ (e : Event). e.step) h
+    → AllByRecursion (λ (e : Event). IsCame tables contexts e.step e.came) g → AllByRecursion (λ (e : Event). IsCame tables contexts e.step e.came) h → AllAnswered base g → AllAnswered base h → g ≡ h
+one_history one tables contexts base [] [] same p q a b = refl
+one_history one tables contexts base [] (f ∷ h) same p q a b = absurd (let clash : [] ≡ f.step ∷ map (λ (e : Event). e.step) h = same in cc)
+one_history one tables contexts base (e ∷ g) [] same p q a b = absurd (let clash : e.step ∷ map (λ (e : Event). e.step) g ≡ [] = same in cc)
+one_history one tables contexts base (e ∷ g) (f ∷ h) same p q a b =
     let all : e.step ∷ map (λ (e : Event). e.step) g ≡ f.step ∷ map (λ (e : Event). e.step) h = same in
     let first : e.step ≡ f.step = cc in
     let others : map (λ (e : Event). e.step) g ≡ map (λ (e : Event). e.step) h = cc in
-    let rest : g ≡ h = one_history one tables contexts link g h others p.1 q.1 a.1 b.1 in
-    ap (λ x. x ∷ g) (one_event one tables contexts link g e f first p.0 q.0 a.0 (subst (λ k. IsAnswer link k f.step f.came f.output) (sym rest) b.0)) ∙ ap (λ k. f ∷ k) rest
+    let rest : g ≡ h = one_history one tables contexts base g h others p.1 q.1 a.1 b.1 in
+    ap (λ x. x ∷ g) (one_event one tables contexts base g e f first p.0 q.0 a.0 (subst (λ k. IsAnswer base k f.step f.came f.output) (sym rest) b.0)) ∙ ap (λ k. f ∷ k) rest
 
 pub runs_one : PreparedIsOne → RunsAreOne
-runs_one one tables contexts link steps outputs others r t =
+runs_one one tables contexts base steps outputs others r t =
     let forth = λ (h : List Event). reverse-reverse (map (λ (e : Event). e.step) h) in
-    let same : r.history ≡ t.history = one_history one tables contexts link r.history t.history
+    let same : r.history ≡ t.history = one_history one tables contexts base r.history t.history
     (sym (forth r.history) ∙ ap reverse (r.tells.steps_are ∙ sym t.tells.steps_are) ∙ forth t.history)
     r.tells.messages t.tells.messages r.answers t.answers in
     (sym r.tells.outputs_are ∙ ap outputs_of same ∙ t.tells.outputs_are, same)
@@ -169,12 +163,12 @@ runs_one one tables contexts link steps outputs others r t =
 -- WHAT IS RETOLD
 
 pub retold_once : PreparedIsOne → LinesAreRetoldOnce
-retold_once one tables contexts link [] [] [] a b = refl
-retold_once one tables contexts link (line ∷ lines) (e ∷ g) (f ∷ h) (a, r) (b, t) =
-    let rest : h ≡ g = retold_once one tables contexts link lines h g t r in
-    let then : RetellsOne tables contexts link line g f = subst (λ k. RetellsOne tables contexts link line k f) rest b in
+retold_once one tables contexts base [] [] [] a b = refl
+retold_once one tables contexts base (line ∷ lines) (e ∷ g) (f ∷ h) (a, r) (b, t) =
+    let rest : h ≡ g = retold_once one tables contexts base lines h g t r in
+    let then : RetellsOne tables contexts base line g f = subst (λ k. RetellsOne tables contexts base line k f) rest b in
     let both : Some e.step ≡ Some f.step = sym a.step ∙ then.step in let same : e.step ≡ f.step = cc in
-    ap (λ x. x ∷ g) (one_event one tables contexts link g e f same a.came b.came a.answer then.answer) ∙ ap (λ k. f ∷ k) (sym rest)
-retold_once one tables contexts link [] (e ∷ g) h a b = absurd a
-retold_once one tables contexts link (line ∷ lines) [] h a b = absurd a
-retold_once one tables contexts link lines g h a b = absurd b
+    ap (λ x. x ∷ g) (one_event one tables contexts base g e f same a.came b.came a.answer then.answer) ∙ ap (λ k. f ∷ k) (sym rest)
+retold_once one tables contexts base [] (e ∷ g) h a b = absurd a
+retold_once one tables contexts base (line ∷ lines) [] h a b = absurd a
+retold_once one tables contexts base lines g h a b = absurd b

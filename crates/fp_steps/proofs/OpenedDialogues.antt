@@ -1,5 +1,5 @@
 -- Which dialogue an identifier names, and of which a turn may be out, by the answers of a history.
-use Rattle.fp_steps.proofs.Names.{IsNext, aborts_waiting, waiting, Beginning, Bool, Event, IsAnswer, IsLongestReady, List, None, Opened, OpenedTo, Option, Output, Prepared, Some, Step, [], ap, arith, arrival_of, began_with, beginning, beginning_after, births, births_after, cases_Bool, cond, cond_both, eq-eqb, eqb, eqb-true, false, false≢true, gave, if_out, inl, inr, is_one, local_of, named, named_after, nat_lt, nat_tests, ne_eqb, opened_in, out, put_back, refl, same_Some, sender_of, subst, sym, true, turn_out, ℕ, ⊎_elim, ⊤, ◌+◌, ◌<◌, ◌∙◌, ◌∷◌, ◌≡◌, ◌≤◌, ◌⊎◌}
+use Rattle.fp_steps.proofs.Names.{IsNext, aborts_waiting, waiting, Beginning, Bool, Event, IsAnswer, IsLongestReady, List, None, Opened, OpenedTo, Option, Output, Posted, Prepared, Some, Step, [], ap, arith, arrival_of, began_with, beginning, beginning_after, births, births_after, cases_Bool, cond, cond_both, eq-eqb, eqb, eqb-true, false, false≢true, gave, if_out, inl, inr, is_one, local_of, named, named_after, nat_lt, nat_tests, ne_eqb, opened_in, out, posted, put_back, refl, same_Some, sender_of, subst, sym, true, turn_out, ℕ, ⊎_elim, ⊤, ◌+◌, ◌<◌, ◌∙◌, ◌∷◌, ◌≡◌, ◌≤◌, ◌⊎◌}
 use Rattle.fp_steps.proofs.Cases.{IsPost}
 use Rattle.fp_steps.proofs.HeldDialogues.{by_option}
 
@@ -14,23 +14,23 @@ Fits (Output.Took local position count) Step.Take = ⊤
 Fits (Output.Took local position count) step = ⊥
 Fits output step = ⊤
 
-fits : (link : ℕ) (h : List Event) (step : Step) (came : Option Prepared) (output : Output) → IsAnswer link h step came output → Fits output step
-fits link h (Step.Post table frame moment) (Some came) output is = subst (λ o. Fits o (Step.Post table frame moment)) (sym is) tt
-fits link h (Step.Lost frame moment) (Some came) output is = subst (λ o. Fits o (Step.Lost frame moment)) (sym is) tt
-fits link h (Step.Post table frame moment) None output is = subst (λ o. Fits o (Step.Post table frame moment)) (sym is) tt
-fits link h (Step.Lost frame moment) None output is = subst (λ o. Fits o (Step.Lost frame moment)) (sym is) tt
-fits link h (Step.Tick moment) came output is = subst (λ o. Fits o (Step.Tick moment)) (sym is) tt
-fits link h (Step.Give lo) came output is = subst (λ o. Fits o (Step.Give lo)) (sym is)
+fits : (base : ℕ) (h : List Event) (step : Step) (came : Option Prepared) (output : Output) → IsAnswer base h step came output → Fits output step
+fits base h (Step.Post table frame moment) (Some came) output is = subst (λ o. Fits o (Step.Post table frame moment)) (sym is) tt
+fits base h (Step.Lost frame moment) (Some came) output is = subst (λ o. Fits o (Step.Lost frame moment)) (sym is) tt
+fits base h (Step.Post table frame moment) None output is = subst (λ o. Fits o (Step.Post table frame moment)) (sym is) tt
+fits base h (Step.Lost frame moment) None output is = subst (λ o. Fits o (Step.Lost frame moment)) (sym is) tt
+fits base h (Step.Tick moment) came output is = subst (λ o. Fits o (Step.Tick moment)) (sym is) tt
+fits base h (Step.Give lo) came output is = subst (λ o. Fits o (Step.Give lo)) (sym is)
     (by_option (λ o. Fits (gave h lo o) (Step.Give lo)) (named h lo) (λ name. tt) (λ d name. cond_both (turn_out h d) _ _ (λ o. Fits o (Step.Give lo)) (λ e. tt) (λ e. tt)))
-fits link h (Step.PutBack lo) came output is = subst (λ o. Fits o (Step.PutBack lo)) (sym is)
+fits base h (Step.PutBack lo) came output is = subst (λ o. Fits o (Step.PutBack lo)) (sym is)
     (by_option (λ o. Fits (put_back h o) (Step.PutBack lo)) (named h lo) (λ name. tt) (λ d name. cond_both (turn_out h d) _ _ (λ o. Fits o (Step.PutBack lo)) (λ e. tt) (λ e. tt)))
-fits link h Step.Sent came output is = subst (λ o. Fits o Step.Sent) (sym is) (by_option (λ o. Fits (if_out o Output.Sent) Step.Sent) (out h) (λ none. tt) (λ handed some. tt))
-fits link h Step.Unsent came output is = subst (λ o. Fits o Step.Unsent) (sym is) (by_option (λ o. Fits (if_out o Output.Unsent) Step.Unsent) (out h) (λ none. tt) (λ handed some. tt))
-fits link h Step.Down came output is = subst (λ o. Fits o Step.Down) (sym is) tt
-fits link h step came (Output.Posted answer components) is = absurd is
-fits link h Step.Pick came (Output.Took local position count) is = absurd is
-fits link h Step.Take came (Output.Picked local octets) is = absurd is
-fits link h step came output is = tt
+fits base h Step.Sent came output is = subst (λ o. Fits o Step.Sent) (sym is) (by_option (λ o. Fits (if_out o Output.Sent) Step.Sent) (out h) (λ none. tt) (λ handed some. tt))
+fits base h Step.Unsent came output is = subst (λ o. Fits o Step.Unsent) (sym is) (by_option (λ o. Fits (if_out o Output.Unsent) Step.Unsent) (out h) (λ none. tt) (λ handed some. tt))
+fits base h Step.Down came output is = subst (λ o. Fits o Step.Down) (sym is) tt
+fits base h step came (Output.Posted answer components) is = absurd is
+fits base h Step.Pick came (Output.Took local position count) is = absurd is
+fits base h Step.Take came (Output.Picked local octets) is = absurd is
+fits base h step came output is = tt
 
 -- an event opens no dialogue, or one for a message, and not with the identifier of an Abort of the provider
 abbrev pub OpensNext : Option ℕ → Option Prepared → Type 0
@@ -39,14 +39,20 @@ OpensNext (Some local) None = ⊥
 OpensNext (Some local) (Some came) = 0 < local
 
 -- a turn is taken for the dialogue that has been ready longest
-pub took_is : (link : ℕ) (h : List Event) (step : Step) (came : Option Prepared) (local position count : ℕ) → IsAnswer link h step came (Output.Took local position count) → IsLongestReady h local position count
-took_is link h Step.Take came local position count is = is.0
-took_is link h step came local position count is = absurd (fits link h step came (Output.Took local position count) is)
+pub took_is : (base : ℕ) (h : List Event) (step : Step) (came : Option Prepared) (local position count : ℕ) → IsAnswer base h step came (Output.Took local position count) → IsLongestReady h local position count
+took_is base h Step.Take came local position count is = is.0
+took_is base h step came local position count is = absurd (fits base h step came (Output.Took local position count) is)
 
 -- and a parcel is picked that is next
-pub picked_is : (link : ℕ) (h : List Event) (step : Step) (came : Option Prepared) (local : ℕ) (octets : List ℕ) → IsAnswer link h step came (Output.Picked local octets) → IsNext h (aborts_waiting h) (waiting h) local octets
-picked_is link h Step.Pick came local octets is = is.1
-picked_is link h step came local octets is = absurd (fits link h step came (Output.Picked local octets) is)
+pub picked_is : (base : ℕ) (h : List Event) (step : Step) (came : Option Prepared) (local : ℕ) (octets : List ℕ) → IsAnswer base h step came (Output.Picked local octets) → IsNext h (aborts_waiting h) (waiting h) local octets
+picked_is base h Step.Pick came local octets is = is.1
+picked_is base h step came local octets is = absurd (fits base h step came (Output.Picked local octets) is)
+
+-- and a message is posted by the rules of receipt
+pub posted_so : (base : ℕ) (h : List Event) (step : Step) (came : Option Prepared) (answer : Posted) (components : ℕ) → IsAnswer base h step came (Output.Posted answer components) → Output.Posted answer components ≡ posted base h came
+posted_so base h (Step.Post table frame moment) came answer components is = is
+posted_so base h (Step.Lost frame moment) came answer components is = is
+posted_so base h step came answer components is = absurd (fits base h step came (Output.Posted answer components) is)
 
 -- THE DIALOGUES THAT WERE OPENED
 

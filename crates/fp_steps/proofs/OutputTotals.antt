@@ -1,5 +1,5 @@
 -- Totals, and what each output adds to them.
-use Rattle.fp_steps.proofs.Names.{AreFew, Bool, Event, Handed, List, None, Option, Output, Totals, [], added_by, ap, arith, capped, capped_totals, components_of, cond, frames_sent, length, local_after, local_out, map_list, no_totals, option_map, out, out_after, outputs_of, plus, refl, reverse, reverse-append, reverse-reverse, reverse_onto, slice_index_or, subst, sum_by_push, sym, take, take_all, take_more, totals_of, ℕ, ◌++◌, ◌+◌, ◌<◌, ◌^◌, ◌∙◌, ◌∷◌, ◌≡◌, ◌≤◌, entries_served}
+use Rattle.fp_steps.proofs.Names.{AreFew, Bool, Event, Handed, List, None, Option, Output, Totals, [], added_by, all_entries, ap, arith, capped, capped_totals, components_of, cond, entries_served, frames_sent, length, local_after, local_out, map_list, most_dialogues, no_totals, option_map, out, out_after, outputs_of, plus, refl, reverse, reverse-append, reverse-reverse, reverse_onto, slice_index_or, subst, sum_by_push, sym, take, take_all, take_more, totals_of, ℕ, ◌*◌, ◌++◌, ◌+◌, ◌<◌, ◌∙◌, ◌∷◌, ◌≡◌, ◌≤◌}
 
 abbrev pub one_if : Bool → ℕ
 one_if b = cond {A = ℕ} b 1 0
@@ -92,7 +92,7 @@ pub so_far_all : (list : List Output) (i : ℕ) {totals : Totals} {out : Option 
 so_far_all list i k end = k.totals_are ∙ ap (λ xs. capped_totals (totals_of xs)) (take_all i list end)
 
 -- 64 bits hold the totals of a run
-fits : (n : ℕ) → n ≤ 2 ^ 63 + 8192 → capped n ≡ n
+fits : (n : ℕ) → n ≤ all_entries + 2 * most_dialogues → capped n ≡ n
 fits n le = omega (arith, le)
 
 pub exact : (list : List Output) → AreFew (totals_of list) → capped_totals (totals_of list) ≡ totals_of list

@@ -1,5 +1,5 @@
 -- A step after a history that leads to the book, and a run so far.
-use Rattle.fp_steps.proofs.Names.{AddUp, AllAnswered, AtEachMoment, Contents, Event, FollowsHistory as Follows, Freed, Headline, HeadlineHolds, HistoryTells as Tells, IdentifiersHold, IdleIsDone, IsAfter, IsAnswer, IsCame, LeadsTo, Lined, List, LoggedStep, MakesOf, MakesStep, None, Option, Output, Prepared, Retells, RowsKeepTheirOrder, Runs, Shelf, Some, Sound, Step, Tied, [], ap, cond_some, empty_shelf, is_written, length, lines_told, logged, map_list as map, option_to_list, outputs_of, refl, reverse_onto, rules, slice_index_or, subst, sym, take, take_more, told, told_from, totals_of, written, ℕ, ◌++◌, ◌+◌, ◌<◌, ◌∙◌, ◌∷◌, ◌≡◌}
+use Rattle.fp_steps.proofs.Names.{AddUp, AllAnswered, AtEachMoment, Contents, Event, FollowsHistory as Follows, Freed, Headline, HeadlineHolds, HistoryTells as Tells, IdentifiersHold, IdleIsDone, IsAfter, IsAnswer, IsCame, LeadsTo, Lined, List, LoggedStep, LogsRun, MakesOf, MakesStep, None, Option, Output, Prepared, Retells, RowsKeepTheirOrder, Runs, Shelf, Some, Sound, Step, Tied, [], ap, base, cond_some, empty_shelf, is_written, length, lines_told, logged, map_list as map, option_to_list, outputs_of, refl, reverse_onto, rules, slice_index_or, subst, sym, take, take_more, told, told_from, totals_of, written, ℕ, ◌++◌, ◌+◌, ◌<◌, ◌∙◌, ◌∷◌, ◌≡◌}
 use Rattle.fp_steps.specs.declared.stepped.Stepped.{Stepped}
 use Rattle.fp_steps.proofs.DialogueTotals.{add_up_next, none_few}
 use Rattle.fp_steps.proofs.IdleDone.{idle_is_done, idle_none}
@@ -7,7 +7,7 @@ use Rattle.fp_steps.proofs.BookLog.{line_is}
 use Rattle.fp_steps.proofs.FreeSerials.{Freed-makes, identifiers_hold}
 use Rattle.fp_steps.proofs.LoggedLines.{line_step, unwritten_is}
 use Rattle.fp_steps.proofs.OutputTotals.{outputs_more}
-use Rattle.fp_steps.proofs.StepAnswers.{answer_made, link_made}
+use Rattle.fp_steps.proofs.StepAnswers.{SameMarks, answer_made, base_made, marks_made}
 use Rattle.fp_steps.proofs.TieKept.{Tied-makes, Tied-none, headline, headline_none}
 use Rattle.fp_steps.proofs.WaitingKept.{Lined-makes, Lined-none}
 
@@ -18,7 +18,7 @@ at_the_end (e ∷ h) k = k.0
 
 -- a step after a history that leads to the book
 record Next (tables : List Contents) (contexts : List (List ℕ)) (h : List Event) (step : Step) (came : Option Prepared) (output : Output) (old new : Shelf) : Type 0 where
-  answer : IsAnswer new.link h step came output
+  answer : IsAnswer (base new) h step came output
   line_is : told_from new.log step output ≡ told h step output
   leads : LeadsTo tables contexts (record { step = step; came = came; output = output } ∷ h) new
 
@@ -35,9 +35,9 @@ next : RowsKeepTheirOrder → {tables : List Contents} {contexts : List (List �
 next law {tables} {contexts} {step} {came} {output} {old} {new} m {h} f =
     let e : Event = record { step = step; came = came; output = output } in
     let tied : Tied (e ∷ h) new = Tied-makes law e new f.tied m.sound m.makes in
-    let link : new.link ≡ old.link = link_made step came output new m.sound m.makes in
-    let answer : IsAnswer new.link h step came output =
-    subst (λ n. IsAnswer n h step came output) (sym link) (answer_made law step came output new f.tied m.sound f.lined f.freed m.makes)
+    let same : base new ≡ base old = base_made step came output new m.sound m.makes in
+    let answer : IsAnswer (base new) h step came output =
+    subst (λ n. IsAnswer n h step came output) (sym same) (answer_made law step came output new f.tied m.sound f.lined f.freed m.makes)
     in
     let lined : Lined (e ∷ h) new = Lined-makes e f.tied m.sound f.lined m.makes tied m.then in
     let freed : Freed (e ∷ h) new =
@@ -49,7 +49,7 @@ next law {tables} {contexts} {step} {came} {output} {old} {new} m {h} f =
     add_up_next law e f.tied m.sound m.makes m.then (at_the_end h f.moments) first f.adds_up f.counted
     in
     let is : told_from new.log step output ≡ told h step output = line_is tables contexts step came output new f.tied m.sound m.empty m.is_came m.makes in
-    let answers : AllAnswered new.link h = subst (λ n. AllAnswered n h) (sym link) f.answers in
+    let answers : AllAnswered (base new) h = subst (λ n. AllAnswered n h) (sym same) f.answers in
     let idle : IdleIsDone (e ∷ h) = idle_is_done law tied lined m.then first in search rules
 
 -- WHAT IS RETOLD
@@ -58,7 +58,7 @@ next law {tables} {contexts} {step} {came} {output} {old} {new} m {h} f =
 record Retelling (tables : List Contents) (contexts : List (List ℕ)) (lines : List LoggedStep) (book : Shelf) : Type 0 where
   retold : List Event
   leads : LeadsTo tables contexts retold book
-  retells : Retells tables contexts book.link lines retold
+  retells : Retells tables contexts (base book) lines retold
 
 the_written : (o : Option LoggedStep) (line : LoggedStep) → written o ≡ Some line → o ≡ Some line
 the_written None line e = absurd (cc)
@@ -76,7 +76,7 @@ retold_by law {tables} {contexts} {step} {came} {output} {old} {new} m lines (So
       leads = n.leads;
       retells = (
         record { step = line_step step came output new k.leads.tied m.makes line tells; came = m.is_came; answer = n.answer; tells = tells },
-        subst (λ n. Retells tables contexts n lines k.retold) (sym (link_made step came output new m.sound m.makes)) k.retells,
+        subst (λ n. Retells tables contexts n lines k.retold) (sym (base_made step came output new m.sound m.makes)) k.retells,
       );
     }
 
@@ -105,9 +105,9 @@ followed law {tables} {contexts} step made {old} {mid} new sound empty then (cam
       after = emptied tables contexts (record { step = step; came = came; output = made.output } ∷ h) mid new.log (record { leads = n.leads; retold = r.retold; retold_leads = r.leads; retells = r.retells });
     })
 
--- on the same link
-pub followed_link : (tables : List Contents) (contexts : List (List ℕ)) (step : Step) (output : Output) {old : Shelf} (mid new : Shelf) → Sound old → MakesStep tables contexts old step output mid → new ≡ record mid { log = new.log } → new.link ≡ old.link
-followed_link tables contexts step output mid new sound (came, is, makes) dropped = ap (λ (s : Shelf). s.link) dropped ∙ link_made step came output mid sound makes
+-- on the same link, with the same tag
+pub followed_marks : (tables : List Contents) (contexts : List (List ℕ)) (step : Step) (output : Output) {old : Shelf} (mid new : Shelf) → Sound old → MakesStep tables contexts old step output mid → new ≡ record mid { log = new.log } → SameMarks old new
+followed_marks tables contexts step output {old} mid new sound (came, is, makes) dropped = subst (SameMarks old) (sym dropped) (marks_made step came output mid sound makes)
 
 -- what isn't written changes nothing
 pub followed_unwritten : (tables : List Contents) (contexts : List (List ℕ)) (step : Step) (made : Stepped) (old mid new : Shelf) → old.log ≡ [] → MakesStep tables contexts old step made.output mid → made.line ≡ told_from mid.log step made.output → new ≡ record mid { log = new.log }
@@ -116,13 +116,13 @@ followed_unwritten tables contexts step made old mid new empty (came, is, makes)
     dropped ∙ ap (λ (s : Shelf). record s { log = new.log }) (unwritten_is step came made.output old mid makes empty (sym (ap written line) ∙ un))
 
 -- the history of a link on which nothing came yet
-pub after_none : RowsKeepTheirOrder → (tables : List Contents) (contexts : List (List ℕ)) (link : ℕ) → Sound (empty_shelf link) → IsAfter tables contexts [] (empty_shelf link)
-after_none law tables contexts link sound =
+pub after_none : RowsKeepTheirOrder → (tables : List Contents) (contexts : List (List ℕ)) (link tag : ℕ) → Sound (empty_shelf link tag) → IsAfter tables contexts [] (empty_shelf link tag)
+after_none law tables contexts link tag sound =
     let first : Headline [] = headline_none in
-    let tied : Tied [] (empty_shelf link) = Tied-none link in
-    let lined : Lined [] (empty_shelf link) = Lined-none link in
-    let freed : Freed [] (empty_shelf link) = λ up. refl in
-    let leads : LeadsTo tables contexts [] (empty_shelf link) =
+    let tied : Tied [] (empty_shelf link tag) = Tied-none link tag in
+    let lined : Lined [] (empty_shelf link tag) = Lined-none link tag in
+    let freed : Freed [] (empty_shelf link tag) = λ up. refl in
+    let leads : LeadsTo tables contexts [] (empty_shelf link tag) =
     record {
       messages = tt;
       answers = tt;
@@ -139,7 +139,7 @@ after_none law tables contexts link sound =
 -- RUNS
 
 pub headline_holds : HeadlineHolds
-headline_holds tables contexts link steps outputs r = at_the_end r.history r.headline
+headline_holds tables contexts base steps outputs r = at_the_end r.history r.headline
 
 -- a history tells of one step more
 tells_more : (tables : List Contents) (contexts : List (List ℕ)) (steps : List Step) (outputs : List Output) (h : List Event) (e : Event) → Tells tables contexts steps outputs h → IsCame tables contexts e.step e.came
@@ -180,11 +180,12 @@ Going-more {tables} {contexts} steps i {outputs} more new step made f within at 
     let taken : take (i + 1) steps ≡ take i steps ++ step ∷ [] = take_more steps i step within ∙ ap (λ s. take i steps ++ s ∷ []) (sym at) in
     subst (λ ss. SoFar tables contexts ss more new) (sym taken) (subst (λ os. SoFar tables contexts (take i steps ++ step ∷ []) os new) (sym more_is) longer)
 
-pub Going-all : {tables : List Contents} {contexts : List (List ℕ)} (steps : List Step) (i link : ℕ) {outputs : List Output} {book : Shelf} → SoFar tables contexts (take i steps) outputs book → take i steps ≡ steps → book.link ≡ link → Runs tables contexts link steps outputs
-Going-all {tables} {contexts} steps i link {outputs} {book} f all same =
+pub Going-all : {tables : List Contents} {contexts : List (List ℕ)} (steps : List Step) (i n : ℕ) {outputs : List Output} {book : Shelf} → SoFar tables contexts (take i steps) outputs book → take i steps ≡ steps → base book ≡ n → LogsRun tables contexts n steps outputs
+Going-all {tables} {contexts} steps i n {outputs} {book} f all same =
     let g : SoFar tables contexts steps outputs book = subst (λ ss. SoFar tables contexts ss outputs book) all f in
     let k : LeadsTo tables contexts g.history book = g.after.leads in
     let also : LeadsTo tables contexts g.after.retold book = g.after.retold_leads in
+    let run : Runs tables contexts n steps outputs =
     record {
       history = g.history;
       tells = g.tells;
@@ -193,9 +194,12 @@ Going-all {tables} {contexts} steps i link {outputs} {book} f all same =
       answers = subst (λ n. AllAnswered n g.history) same k.answers;
       adds_up = subst (λ os. AddUp os g.history) g.tells.outputs_are k.adds_up;
       idle = k.idle;
-      retold = record {
+    }
+    in (
+      run,
+      record {
         history = g.after.retold;
         retells = subst (λ n. Retells tables contexts n (lines_told g.history) g.after.retold) same g.after.retells;
         totals = sym also.counted ∙ k.counted;
-      };
-    }
+      },
+    )

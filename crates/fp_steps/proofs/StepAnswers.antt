@@ -1,5 +1,5 @@
--- Each step is answered as its history tells, and keeps its link.
-use Rattle.fp_steps.proofs.Names.{Bool, ByAge, Freed, Content, Done, Ending, Event, Given, GivesDone, Handed, IsAnswer, IsLongestReady, IsNext, IsOut, IsPosted, IsTied, KeepsOrder, Lined, List, MakesOf, None, Option, Outbox, Output, PicksParcel, Prepared, PutsTurnBack, QueuedFrame, Request, Row, RowsKeepTheirOrder, Sends, Shelf, Some, Sorted, Sound, Step, TakesTurn, Ticks, Tied, TiedAt, Turn, Waiting, [], aborts_waiting, amount, ap, arith, as_waiting, births, cond, core_of, count, count-cons, count_out, cut, due_at, ending, eqb, eqb-false, false, false_from_ne_true, frame_octets, frame_of, gave, get, given_for, given_of, handed, how_many, if_out, is_closed, is_due, is_over, is_ready, is_sending, is_some, known_turn, length, length-map, local_of, map_list, min, most_entries, named, nat_lt, nat_tests, ne_eqb, next_served, not, octets_of, one_if, option_map, option_map_or, out, parcel_local, parcel_octets, places, places_held, places_out, positions, put_back, refl, requested_of, requests, row_at, row_turn, same_Some, story, subst, sum_of, sym, take, ticked, true, turn_of, turn_out, turns_of, unserved, waiting, waiting_ready, ℕ, ◌-◌, ◌<◌, ◌||◌, ◌∙◌, ◌∷◌, ◌≡◌, ◌≢◌}
+-- Each step is answered as its history tells, and keeps its link and its tag.
+use Rattle.fp_steps.proofs.Names.{Bool, ByAge, Content, Done, Ending, Event, Freed, Given, GivesDone, Handed, IsAnswer, IsLongestReady, IsNext, IsOut, IsReadyBefore, IsTied, KeepsOrder, Lined, List, MakesOf, None, Option, Outbox, Output, PicksParcel, Prepared, PutsTurnBack, QueuedFrame, Request, Row, RowsKeepTheirOrder, Sends, Shelf, Some, Sorted, Sound, Step, TakesTurn, Ticks, Tied, TiedAt, Turn, Waiting, [], aborts_waiting, amount, ap, arith, as_waiting, base, base_of, births, cond, core_of, count, count-cons, count_out, cut, due_at, ending, eqb, eqb-false, false, false_from_ne_true, frame_octets, frame_of, gave, get, given_for, given_of, handed, how_many, if_out, is_closed, is_due, is_over, is_ready, is_sending, is_some, known_turn, length, length-map, local_of, map_list, min, most_entries, most_places, named, nat_lt, nat_tests, ne_eqb, next_served, not, octets_of, one_if, option_map, option_map_or, out, parcel_local, parcel_octets, places, places_held, places_out, positions, posted, put_back, refl, requested_of, requests, row_at, row_turn, same_Some, story, subst, sum_of, sym, take, ticked, true, turn_of, turn_out, turns_of, unserved, waiting, waiting_ready, ℕ, ◌-◌, ◌<◌, ◌||◌, ◌∙◌, ◌∷◌, ◌≡◌, ◌≢◌}
 use Rattle.fp_steps.proofs.Cases.{Cases, IsPost, by_made}
 use Rattle.fp_steps.proofs.HeldDialogues.{Held, by_option, core_tied, count_tied, held_at, held_of, not_abort, row_named, unserved_tied}
 use Rattle.fp_steps.proofs.MessageAnswers.{posted_is}
@@ -116,6 +116,17 @@ places_are {h} {s} t k l =
 
 -- TAKE
 
+-- the dialogue at the front of the queue has been ready longest
+pub front_longest : {h : List Event} {s : Shelf} (lo b : ℕ) (rest : List ℕ) → Tied h s → Sound s → Lined h s → s.ready ≡ lo ∷ rest → named h lo ≡ Some b
+    → (c : ℕ) → is_ready h c ≡ true → eqb c b ≡ false → IsReadyBefore h b c
+front_longest {h} {s} lo b rest t k l first name c r ne =
+    let order : Sorted (ByAge h) (lo ∷ rest) = subst (Sorted (ByAge h)) first l.order in
+    let n = local_of h c in let row = ready_held c t r in
+    let other : Held h n c row.0 = held_at c row.0 t row.1 in
+    let there : count n s.ready ≡ 1 = in_queue c t k r in
+    let none : one_if (eqb lo n) ≡ 0 = ap one_if (ne_eqb lo n (λ same. eqb-false c b ne (same_Some c b (sym other.name ∙ ap (named h) (sym same) ∙ name)))) in
+    all_at (ByAge h lo) rest n order.0 (omega (arith, there, ap (count n) first, count-cons n lo rest, none)) b c name other.name
+
 pub longest_is : {h : List Event} {old new : Shelf} {turn : Turn} → Tied h old → Sound old → Lined h old → TakesTurn old turn new → IsLongestReady h turn.local turn.position (length turn.entries)
 longest_is {h} {old} {turn} t k l g =
     let lo = turn.local in let b = g.before.birth in
@@ -123,19 +134,13 @@ longest_is {h} {old} {turn} t k l g =
     let waits : waiting_of g.before ≡ unserved h b =
     waiting_ready (is_closed g.before.ended) (is_over g.before.core) g.before.accepted g.before.served g.before.out g.takes.was_ready ∙ sym (unserved_tied h held.tied)
     in
-    let order : Sorted (ByAge h) (lo ∷ g.rest) = subst (Sorted (ByAge h)) g.first l.order in
     record {
       dialogue = b;
       name = held.name;
       stands = ready_is _ _ b t ∙ ap ready_at (row_named lo b t held.name ∙ g.was) ∙ g.takes.was_ready;
-      longest = λ c r ne.
-          let n = local_of h c in let row = ready_held c t r in
-          let other : Held h n c row.0 = held_at c row.0 t row.1 in
-          let there : count n old.ready ≡ 1 = in_queue c t k r in
-          let none : one_if (eqb lo n) ≡ 0 = ap one_if (ne_eqb lo n (λ same. eqb-false c b ne (same_Some c b (sym other.name ∙ ap (named h) (sym same) ∙ held.name)))) in
-          all_at (ByAge h lo) g.rest n order.0 (omega (arith, there, ap (count n) g.first, count-cons n lo g.rest, none)) b c held.name other.name;
+      longest = front_longest lo b g.rest t k l g.first held.name;
       next = sym (turn_place (known_turn g.after turn g.takes.turn_is)) ∙ g.takes.stay.served ∙ sym (count_tied held.tied);
-      count_is = g.takes.count ∙ (λ i. min most_entries (min (length (waits i)) (8192 - sym (places_are t k l) i)));
+      count_is = g.takes.count ∙ (λ i. min most_entries (min (length (waits i)) (most_places - sym (places_are t k l) i)));
     }
 
 pub some_ready : {h : List Event} {s : Shelf} (xs : List ℕ) → Tied h s → Sound s → s.ready ≡ xs → s.ready ≢ [] → (d : ℕ) × (is_ready h d ≡ true)
@@ -168,20 +173,19 @@ some_handed h (Some content) e = refl
 
 -- EACH STEP
 
-posted_answer : (link : ℕ) (h : List Event) (step : Step) (came : Option Prepared) (output : Output) → IsPost step → IsPosted link h came output → IsAnswer link h step came output
-posted_answer link h (Step.Post table frame moment) came output posting is = is
-posted_answer link h (Step.Lost frame moment) came output posting is = is
-posted_answer link h step came output posting is = absurd posting
+posted_answer : (n : ℕ) (h : List Event) (step : Step) (came : Option Prepared) (output : Output) → IsPost step → output ≡ posted n h came → IsAnswer n h step came output
+posted_answer n h (Step.Post table frame moment) came output posting is = is
+posted_answer n h (Step.Lost frame moment) came output posting is = is
+posted_answer n h step came output posting is = absurd posting
 
 answers : RowsKeepTheirOrder → {h : List Event} (came : Option Prepared) {old : Shelf} (new : Shelf) → Tied h old → Sound old → Lined h old → Freed h old
-    → Cases (λ step output. IsAnswer old.link h step came output) came old new
+    → Cases (λ step output. IsAnswer (base old) h step came output) came old new
 answers law {h} came {old} new t k l f = record {
   posted = λ step posting p answer components is count g totals.
-      posted_answer old.link h step came (Output.Posted answer components) posting
-      (subst (λ c. IsPosted old.link h c (Output.Posted answer components)) (sym is) (posted_is law new p answer components t k l f count g));
-  none_posted = λ step posting none same. posted_answer old.link h step came Output.Nothing posting (subst (λ c. IsPosted old.link h c Output.Nothing) (sym none) refl);
+      posted_answer (base old) h step came (Output.Posted answer components) posting (posted_is law new p answer components t k l f count g ∙ ap (posted (base old) h) (sym is));
+  none_posted = λ step posting none same. posted_answer (base old) h step came Output.Nothing posting (ap (posted (base old) h) (sym none));
   ticked = λ moment added wanting none g. ticked_is t none g;
-  took = λ turn g. (longest_is t k l g, (let room : places_held old < 8192 = g.room in omega (arith, room, places_are t k l)));
+  took = λ turn g. (longest_is t k l g, (let room : places_held old < most_places = g.room in omega (arith, room, places_are t k l)));
   no_room = λ some full same. (some_ready old.ready t k refl some, omega (arith, full, places_are t k l));
   none_taken = λ none same. none_ready t k none;
   gave = λ done given g. gave_done t k l g;
@@ -199,17 +203,23 @@ answers law {h} came {old} new t k l f = record {
   down = λ g. refl;
 }
 
-pub answer_made : RowsKeepTheirOrder → {h : List Event} (step : Step) (came : Option Prepared) (output : Output) {old : Shelf} (new : Shelf) → Tied h old → Sound old → Lined h old → Freed h old → MakesOf step came output old new → IsAnswer old.link h step came output
-answer_made law {h} step came output {old} new t k l f g = by_made (λ step output. IsAnswer old.link h step came output) step output (answers law came new t k l f) g
+pub answer_made : RowsKeepTheirOrder → {h : List Event} (step : Step) (came : Option Prepared) (output : Output) {old : Shelf} (new : Shelf) → Tied h old → Sound old → Lined h old → Freed h old → MakesOf step came output old new → IsAnswer (base old) h step came output
+answer_made law {h} step came output {old} new t k l f g = by_made (λ step output. IsAnswer (base old) h step came output) step output (answers law came new t k l f) g
 
--- the link is the same
+-- the link and the tag are the same
 
-sent_link : (old : Shelf) (content : Content) (new : Shelf) → Sends old content new → new.link ≡ old.link
-sent_link old (Content.Abort frame) new g = ap (λ (s : Shelf). s.link) g.new_is
-sent_link old (Content.Frame w) new g = ap (λ (s : Shelf). s.link) g.new_is
+abbrev pub SameMarks : Shelf → Shelf → Type 0
+SameMarks old new = (new.link ≡ old.link) × (new.tag ≡ old.tag)
 
-link_cases : (came : Option Prepared) {old : Shelf} (new : Shelf) → Sound old → Cases (λ step output. new.link ≡ old.link) came old new
-link_cases came new k = grind (arith, follows_untouched, sent_link)
+sent_marks : (old : Shelf) (content : Content) (new : Shelf) → Sends old content new → SameMarks old new
+sent_marks old (Content.Abort frame) new g = subst (SameMarks old) (sym g.new_is) (refl, refl)
+sent_marks old (Content.Frame w) new g = subst (SameMarks old) (sym g.new_is) (refl, refl)
 
-pub link_made : (step : Step) (came : Option Prepared) (output : Output) {old : Shelf} (new : Shelf) → Sound old → MakesOf step came output old new → new.link ≡ old.link
-link_made step came output {old} new k g = by_made (λ step output. new.link ≡ old.link) step output (link_cases came new k) g
+marks_cases : (came : Option Prepared) {old : Shelf} (new : Shelf) → Sound old → Cases (λ step output. SameMarks old new) came old new
+marks_cases came new k = grind (arith, follows_untouched, sent_marks)
+
+pub marks_made : (step : Step) (came : Option Prepared) (output : Output) {old : Shelf} (new : Shelf) → Sound old → MakesOf step came output old new → SameMarks old new
+marks_made step came output {old} new k g = by_made (λ step output. SameMarks old new) step output (marks_cases came new k) g
+
+pub base_made : (step : Step) (came : Option Prepared) (output : Output) {old : Shelf} (new : Shelf) → Sound old → MakesOf step came output old new → base new ≡ base old
+base_made step came output new k g = let same = marks_made step came output new k g in λ i. base_of (same.0 i) (same.1 i)

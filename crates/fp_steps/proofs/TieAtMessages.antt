@@ -1,5 +1,5 @@
 -- A message keeps the tie between a book and its history.
-use Rattle.fp_steps.proofs.Names.{AbortCause, AbortFrame, AbortsTied, Answers, Beginning, Bool, ClosesOne, Content, Discards, Ending, EndsDialogue, Entry, Event, Extends, ExtendsDialogue, IsTied, List, LoggedStep, None, OneChanges, OpensDialogue, Option, Output, Posted, Prepared, Refuses, Row, RowsKeepTheirOrder, Shelf, Some, Sound, Step, Story, Tid, Tied, TiedAt, [], abort_for, abort_out, aborts, aborts_sent, accepted, add-zero, admits, admitted as admitted_in, and_right, ap, append-nil, append_assoc, arith, arrival_of, began_with, beginning, births, book_logged as logged, by_local, cases_Bool, cond, cond_some, core_in, core_of, count_out, destination, ended_by, ending, ending_at, ending_by, entries_in, entry_count, eq-eqb, eqb, false, for_one, frame_octets, frames_of, get, identifier, insert, inserted, is_admitted, is_ending, is_one, is_over, is_some, length, local_of, map-append, map_list, named, named_in, names_by, nat_le, nat_lt, nat_tests, ne_eqb, none-some, not, number_of, numbers, octets_of, opened_in, option_and_then, option_map_or, out, parcel_local, positions, posted_line, queued, refl, row_at, row_of, rules, sender_of, sent, story, subst, sym, take, true, unnamed_by, untold, ℕ, ⊎_elim, ◌&&◌, ◌++◌, ◌+◌, ◌<◌, ◌∙◌, ◌∷◌, ◌≡◌}
+use Rattle.fp_steps.proofs.Names.{AbortCause, AbortFrame, AbortsTied, Answers, Beginning, Bool, ClosesOne, Content, Discards, Ending, EndsDialogue, Entry, Event, Extends, ExtendsDialogue, IsTied, List, LoggedStep, None, OneChanges, OpensDialogue, Option, Output, Posted, Prepared, Refuses, Row, RowsKeepTheirOrder, Shelf, Some, Sound, Step, Story, Tid, Tied, TiedAt, [], abort_for, abort_out, aborts, aborts_sent, accepted, add-zero, admits, admitted as admitted_in, and_right, ap, append-nil, append_assoc, arith, arrival_of, base, began_with, beginning, births, book_logged as logged, by_local, cases_Bool, cond, cond_some, core_in, core_of, count_out, destination, ended_by, ending, ending_at, ending_by, entries_in, entry_count, eq-eqb, eqb, false, for_one, frame_octets, frames_of, get, identifier, insert, inserted, is_admitted, is_ending, is_one, is_over, is_some, length, local_of, map-append, map_list, named, named_in, names_by, nat_le, nat_lt, nat_tests, ne_eqb, none-some, not, number_of, numbers_from, octets_of, opened_in, option_and_then, option_map_or, out, parcel_local, positions, posted_line, queued, refl, row_at, row_of, rules, sender_of, sent, story, subst, sym, take, true, unnamed_by, untold, ℕ, ⊎_elim, ◌&&◌, ◌++◌, ◌+◌, ◌<◌, ◌∙◌, ◌∷◌, ◌≡◌}
 use Rattle.fp_ber.specs.Canon.{canon}
 use Rattle.fp_frames.specs.Frame.{framed}
 use Rattle.fp_q773.specs.ProviderAbort.{cause_code, provider_abort}
@@ -75,7 +75,7 @@ posts step came answer components = record { step = step; came = Some came; outp
 tied_discarded : {h : List Event} (step : Step) (came : Prepared) (components : ℕ) {old : Shelf} (log : List LoggedStep) → Tied h old → Tied (posts step came Posted.Discarded components ∷ h) (record old { log = log })
 tied_discarded {h} step came components log t =
     let e = posts step came Posted.Discarded components in
-    Tied-quiet _ t (quiet e _ t refl (add-zero (entry_count h) ∙ t.entries_are) refl refl refl refl refl refl refl refl) (λ d. stays e h d refl refl refl refl refl refl refl) refl
+    Tied-quiet _ t (quiet e _ t refl (add-zero (entry_count h) ∙ t.entries_are) refl refl refl refl refl refl refl) (λ d. stays e h d refl refl refl refl refl refl refl) refl
 
 pub Tied-discards : {h : List Event} (step : Step) {came : Prepared} {answer : Posted} (components : ℕ) {old new : Shelf} → Tied h old → Discards old came answer new → Tied (posts step came answer components ∷ h) new
 Tied-discards {h} step {came} {answer} components {old} {new} t g =
@@ -91,7 +91,7 @@ closes_tied : RowsKeepTheirOrder → {h : List Event} (e : Event) {old : Shelf} 
     → Tied (e ∷ h) (record closed { outbox = record closed.outbox { aborts = waiting }; log = log })
 closes_tied law {h} e closed came None waiting log t names told none entries out_stays aborts_are c =
     subst (λ (s : Shelf). Tied (e ∷ h) (record s { outbox = record s.outbox { aborts = waiting }; log = log })) (sym c)
-    (Tied-quiet e t (record { link_is = refl; opens_none = none; born = refl; entries = entries ∙ add-zero (entry_count h) ∙ t.entries_are; is_out = out_stays ∙ t.is_out; aborts = aborts_are _ refl refl })
+    (Tied-quiet e t (record { opens_none = none; born = refl; entries = entries ∙ add-zero (entry_count h) ∙ t.entries_are; is_out = out_stays ∙ t.is_out; aborts = aborts_are _ refl refl })
     (λ d. told d ∙ no_end (story h d) (names_taker h came d) (none_named_takes came d t names)) refl)
 closes_tied law {h} e closed came (Some local) waiting log t names told none entries out_stays aborts_are c =
     let b = c.before.birth in
@@ -102,7 +102,7 @@ closes_tied law {h} e closed came (Some local) waiting log t names told none ent
     tied_ends x (held_of local c.before t c.was).tied c.ends is in
     subst (λ (s : Shelf). Tied (e ∷ h) (record s { outbox = record s.outbox { aborts = waiting }; log = log })) (sym c.new_is)
     (Tied-left law {e = e} local c.before t
-    (record { link_is = refl; opens_none = none; born = refl; entries = entries ∙ add-zero (entry_count h) ∙ t.entries_are; is_out = out_stays ∙ t.is_out; aborts = aborts_are _ refl refl })
+    (record { opens_none = none; born = refl; entries = entries ∙ add-zero (entry_count h) ∙ t.entries_are; is_out = out_stays ∙ t.is_out; aborts = aborts_are _ refl refl })
     c.was refl (subst (λ t. IsTied b t c.after) (sym (told b)) tied)
     (λ d ne. told d ∙ no_end (story h d) (names_taker h came d) (only d ∙ ne)))
 
@@ -195,7 +195,7 @@ Tied-extends {h} step {came} components {new} {local} t names no_end g =
     in
     subst (λ a. Tied (posts step came a components ∷ h) new) (sym g.answer_is)
     (subst (Tied (e ∷ h)) (sym g.new_is)
-    (Tied-put local g.before t (quiet e _ t refl (ap (λ n. n + count) t.entries_are) refl refl refl refl refl refl refl refl) g.was refl
+    (Tied-put local g.before t (quiet e _ t refl (ap (λ n. n + count) t.entries_are) refl refl refl refl refl refl refl) g.was refl
     (subst (λ s. IsTied b s g.after) (sym told) (tied_extends (held_of local g.before t g.was).tied g.extends))
     (others_told h step came count components b dest)))
 
@@ -222,7 +222,7 @@ Tied-ends law {h} step {came} components {old} {new} {local} t names is_end g =
     tied_ends (Some Ending.ByPeer) extended g.ends (ap (ended_by Ending.ByPeer) (sym was_none)) in
     subst (λ a. Tied (posts step came a components ∷ h) new) (sym g.answer_is)
     (subst (Tied (e ∷ h)) (sym g.new_is)
-    (Tied-left law local g.before t (quiet e _ t refl (ap (λ n. n + count) t.entries_are) refl refl refl refl refl refl refl refl) g.was refl
+    (Tied-left law local g.before t (quiet e _ t refl (ap (λ n. n + count) t.entries_are) refl refl refl refl refl refl refl) g.was refl
     (subst (λ s. IsTied b s g.after) (sym told) tied)
     (others_told h step came count components b dest)))
 
@@ -244,10 +244,10 @@ none_of_new {s} l (Content.Frame w) k some fresh is =
 pub Tied-opens : {h : List Event} (step : Step) {came : Prepared} {answer : Posted} (components : ℕ) {old new : Shelf} {peer : Tid} → Tied h old → Sound old
     → (arrival_of came).ids.orig ≡ Some peer → OpensDialogue old peer came answer new → Tied (posts step came answer components ∷ h) new
 Tied-opens {h} step {came} components {old} {new} {peer} t k orig g =
-    let n = births h in let b = n + 1 in let l = identifier old.link g.serial in
+    let n = births h in let b = n + 1 in let l = identifier (base old) g.serial in
     let e = posts step came (Posted.Opened l) components in let rows = insert old.rows l g.after in
     let all : n ≡ old.births = t.births_are in
-    let place : 0 < l = above_zero old.link g.serial (first_serial k g.first).0 in
+    let place : 0 < l = above_zero (base old) g.serial (first_serial k g.first).0 in
     let untold_yet : story h b ≡ untold = t.later b (omega arith) in
     let start : Beginning = record { local = l; peer = sender_of came; moment = (arrival_of came).moment } in
     let fresh_one : Story = record { began = Some start; accepts = entries_in came; places = []; queues = []; sends = []; ended = None; out = 0 } in
@@ -268,7 +268,7 @@ Tied-opens {h} step {came} components {old} {new} {peer} t k orig g =
           let sender : sender_of came ≡ octets_of g.after.peer = ap (λ o. option_map_or octets_of o []) orig ∙ ap octets_of (sym (g.extends.same.peer ∙ g.opens.peer_is)) in
           λ i. Some (record { local = sym (g.extends.same.local ∙ g.opens.local_is) i; peer = sender i; moment = sym (g.extends.same.opened ∙ g.opens.opened) i });
       accepts = sym (g.extends.accepted ∙ ap (λ xs. xs ++ entries_in came) g.opens.accepted);
-      serves = ap numbers (sym (g.extends.stay.served ∙ g.opens.served));
+      serves = ap (numbers_from 0) (sym (g.extends.stay.served ∙ g.opens.served));
       queues = sym (g.extends.stay.queued_frames ∙ ap (λ n. take n (frames_of g.opened)) g.opens.queued);
       sends = sym (g.extends.stay.sent_frames ∙ ap (λ n. take n (frames_of g.opened)) g.opens.sent);
       ends = sym (g.extends.ended ∙ g.opens.ended);

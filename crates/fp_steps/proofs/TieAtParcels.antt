@@ -1,5 +1,5 @@
 -- Steps of parcels, and the end of a link, keep the tie between a book and its history.
-use Rattle.fp_steps.proofs.Names.{AbortFrame, AbortsTied, BookNext as IsNext, Bool, ClosesAt, Content, Ending, Ends, Event, GoesDown, IsGone, IsStraight, IsTied, List, LoggedStep, None, Option, Outbox, Output, Parcel, PicksParcel, Prepared, Row, RowsKeepTheirOrder, Sends, Shelf, Some, Sound, Step, Story, Tied, TiedAt, Unsends, Waiting, [], abort_out, aborts, aborts_sent, accepted, add-zero, and_right, ap, append-nil, append_assoc, arith, births, cases_Bool, cond, count_out, ended_by, ending, entry_count, false, for_one, frame_for, frame_octets, frame_out, frames_at, frames_for, get, handed, is_frame_of, is_held, kept_of, le-leb, left_by, lt-leb, map_list, named, nat_le, nat_lt, numbers, opened_in, option_map, out, parcel_local, parcel_octets as octets_of, positions, queued, refl, sent, sent_of, story, subst, sym, true, true≢false, ℕ, ⊎_elim, ◌&&◌, ◌++◌, ◌+◌, ◌∙◌, ◌∷◌, ◌≡◌}
+use Rattle.fp_steps.proofs.Names.{AbortFrame, AbortsTied, BookNext as IsNext, Bool, ClosesAt, Content, Ending, Ends, Event, GoesDown, IsGone, IsStraight, IsTied, List, LoggedStep, None, Option, Outbox, Output, Parcel, PicksParcel, Prepared, Row, RowsKeepTheirOrder, Sends, Shelf, Some, Sound, Step, Story, Tied, TiedAt, Unsends, Waiting, [], abort_out, aborts, aborts_sent, accepted, add-zero, and_right, ap, append-nil, append_assoc, arith, births, cases_Bool, cond, count_out, ended_by, ending, entry_count, false, for_one, frame_for, frame_octets, frame_out, frames_at, frames_for, get, handed, is_frame_of, is_held, kept_of, le-leb, left_by, lt-leb, map_list, named, nat_le, nat_lt, numbers_from, opened_in, option_map, out, parcel_local, parcel_octets as octets_of, positions, queued, refl, sent, sent_of, story, subst, sym, true, true≢false, ℕ, ⊎_elim, ◌&&◌, ◌++◌, ◌+◌, ◌∙◌, ◌∷◌, ◌≡◌}
 use Rattle.fp_book.proofs.Unsent.{first_own}
 use Rattle.fp_steps.proofs.HeldDialogues.{Held, becomes, event, for_other, for_own, held_of, left_tied, none_named, not_abort, same_beginning, stays, by_option}
 use Rattle.fp_steps.proofs.TieNext.{Next, Stay, Tied-left, Tied-next, Tied-quiet, rows_next}
@@ -59,17 +59,16 @@ Tied-picks {h} came {content} frame t k octets_are g =
     let e = event Step.Pick came (Output.Picked (parcel_local content) frame) in
     let is : out (e ∷ h) ≡ Some (handed h content) = ap (λ xs. Some (record { local = parcel_local content; dialogue = named h (parcel_local content); octets = xs })) (sym octets_are) in
     subst (Tied (e ∷ h)) (sym g.new_is) (Tied-quiet e t
-    (record { link_is = refl; opens_none = refl; born = refl; entries = add-zero (entry_count h) ∙ t.entries_are; is_out = is; aborts = aborts_picked e content g.rest t k g.none_out g.next refl refl is _ refl refl })
+    (record { opens_none = refl; born = refl; entries = add-zero (entry_count h) ∙ t.entries_are; is_out = is; aborts = aborts_picked e content g.rest t k g.none_out g.next refl refl is _ refl refl })
     (λ d. stays e h d refl refl refl refl refl refl refl) refl)
 
 -- one that was out was sent
-sent_rest : {h : List Event} (came : Option Prepared) {old : Shelf} (new : Shelf) → Tied h old → new.link ≡ old.link → new.births ≡ old.births → new.entries ≡ old.entries
+sent_rest : {h : List Event} (came : Option Prepared) {old : Shelf} (new : Shelf) → Tied h old → new.births ≡ old.births → new.entries ≡ old.entries
     → new.outbox.out ≡ None → new.is_down ≡ old.is_down → new.outbox.aborts ≡ old.outbox.aborts
     → Next h (event Step.Sent came Output.Sent) old new
-sent_rest {h} came {old} new t link born entries none down waits =
+sent_rest {h} came {old} new t born entries none down waits =
     let a : AbortsTied h old = t.aborts_are in
     record {
-      link_is = link;
       opens_none = refl;
       born = born;
       entries = add-zero (entry_count h) ∙ t.entries_are ∙ sym entries;
@@ -87,7 +86,7 @@ Tied-sends law {h} came {old} new (Content.Abort frame) t k g =
     let e = event Step.Sent came Output.Sent in
     let was : out h ≡ Some (handed h (Content.Abort frame)) = t.is_out ∙ ap (option_map (handed h)) g.was_out in
     subst (Tied (e ∷ h)) (sym g.new_is)
-    (Tied-quiet _ t (sent_rest came _ t refl refl refl refl refl refl)
+    (Tied-quiet _ t (sent_rest came _ t refl refl refl refl refl)
     (λ d. stays e h d refl refl refl refl (ap (λ o. frame_for o d) was ∙ ap (λ o. for_one o d (frame_octets frame ∷ [])) (none_named h t.opened)) refl refl) refl)
 Tied-sends law {h} came {old} new (Content.Frame w) t k g =
     let e = event Step.Sent came Output.Sent in let l = w.local in let b = g.before.birth in
@@ -102,14 +101,14 @@ Tied-sends law {h} came {old} new (Content.Frame w) t k g =
       birth = g.sends.same.birth;
       begins = before.begins ∙ ap Some (sym (same_beginning g.sends.same));
       accepts = append-nil (accepted h b) ∙ before.accepts ∙ sym g.sends.accepted;
-      serves = append-nil (positions h b) ∙ before.serves ∙ ap numbers (sym g.sends.served);
+      serves = append-nil (positions h b) ∙ before.serves ∙ ap (numbers_from 0) (sym g.sends.served);
       queues = append-nil (queued h b) ∙ before.queues ∙ sym g.sends.queued_frames;
       sends = ap (λ o. sent h b ++ frame_for o b) was ∙ ap (λ xs. sent h b ++ xs) (for_own (named h l) b (w.frame ∷ []) held.name)
           ∙ ap (λ xs. xs ++ w.frame ∷ []) before.sends ∙ sym (g.sends.one_more w.frame waits_for all);
       ends = before.ends ∙ sym g.sends.ended;
       outs = before.outs ∙ sym g.sends.out;
     } in subst (Tied (e ∷ h)) (sym g.new_is)
-    (Tied-left law l g.before t (sent_rest came _ t refl refl refl refl refl refl) g.was refl tied
+    (Tied-left law l g.before t (sent_rest came _ t refl refl refl refl refl) g.was refl tied
     (λ d ne. stays e h d refl refl refl refl (ap (λ o. frame_for o d) was ∙ for_other (named h l) d b (w.frame ∷ []) held.name ne) refl refl))
 
 -- THE END OF THE LINK
@@ -166,7 +165,6 @@ closes_all law {h} e {old} {new} {out_then} t g opens entries is_out rest all to
     let stay : Stay old.rows new.rows = λ l after is. closed_stay (is_frame_of l out_then) (get old.rows l) after (subst (ClosesAt (is_frame_of l out_then) (get old.rows l)) is (g.rows l)) in
     Tied-next t
     (record {
-      link_is = λ i. (g.new_is i).link;
       opens_none = opens;
       born = λ i. (g.new_is i).births;
       entries = entries ∙ add-zero (entry_count h) ∙ t.entries_are ∙ sym (ap (λ (s : Shelf). s.entries) g.new_is);

@@ -1,5 +1,5 @@
 -- A tick keeps the tie between a book and its history: those that are given a Clock are all that are due.
-use Rattle.fp_steps.proofs.Names.{AllByRecursion, Bool, Clock, ClocksAt, Due, Entry, Event, IsDue, IsGone, IsTied, List, None, OneChanges, Option, Output, Prepared, Row, Rows, Shelf, Some, Step, Ticks, Tied, TiedAt, [], accepted, admits_on, amount, ap, append-nil, arith, births, book_is_full, cases_Bool, cond, core_in, core_on, count_by, course, drop, due_at, ending, entry_at, eqb, eqb-true, false, get, has_clock, has_clock_on, is_admitted, is_clock, is_full, is_over, is_some, length, list_any, nat_le, nat_lt, nat_tests, next_due, not, option_map_or, or_parts, positions, queued, recursion_from_All, refl, remove, removed, row_at, row_is_due, same_Some, sent, slice_index_or, story, subst, sum_of, sym, true, ℕ, ⊎_elim, ◌&&◌, ◌++◌, ◌+◌, ◌<◌, ◌^◌, ◌||◌, ◌∙◌, ◌∷◌, ◌≡◌, ◌≤◌}
+use Rattle.fp_steps.proofs.Names.{AllByRecursion, Bool, Clock, ClocksAt, Due, Entry, Event, IsDue, IsGone, IsTied, List, None, OneChanges, Option, Output, Prepared, Row, Rows, Shelf, Some, Step, Ticks, Tied, TiedAt, [], accepted, admits_on, all_entries, amount, ap, append-nil, arith, births, book_is_full, cases_Bool, cond, core_in, core_on, count_by, course, drop, due_at, ending, entry_at, eqb, eqb-true, false, get, has_clock, has_clock_on, is_admitted, is_clock, is_full, is_over, is_some, length, list_any, nat_le, nat_lt, nat_tests, next_due, not, option_map_or, or_parts, positions, queued, recursion_from_All, refl, remove, removed, row_at, row_is_due, same_Some, sent, slice_index_or, story, subst, sum_of, sym, true, ℕ, ⊎_elim, ◌&&◌, ◌++◌, ◌+◌, ◌<◌, ◌||◌, ◌∙◌, ◌∷◌, ◌≡◌, ◌≤◌}
 use Rattle.fp_book.proofs.Clocks.{Apart, apart}
 use Rattle.fp_steps.proofs.HeldDialogues.{count_tied, Held, born_at, core_tied, event, held_at, live_tied, not_born, same_story, stays, eqb_swap}
 use Rattle.fp_steps.proofs.TieAtMessages.{tied_extends}
@@ -100,7 +100,7 @@ clock_in h moment d = not (is_full h) && is_next h moment d
 -- that is so where the book gives it one
 clock_is : {h : List Event} {s : Shelf} (moment : ℕ) {local d : ℕ} {row : Row} → Tied h s → Held h local d row → clock_in h moment d ≡ due_at s moment row
 clock_is {h} {s} moment {d = d} t held =
-    ap (λ n. not (nat_le (2 ^ 63) n) && is_next h moment d) t.entries_are ∙ ap (λ b. not (book_is_full s) && b) (due_tied h moment held.first held.last held.tied)
+    ap (λ n. not (nat_le all_entries n) && is_next h moment d) t.entries_are ∙ ap (λ b. not (book_is_full s) && b) (due_tied h moment held.first held.last held.tied)
 
 gone_due : (h : List Event) (moment d : ℕ) → admits_on h d (course h d) ≡ false → clock_in h moment d ≡ false
 gone_due h moment d none = grind (arith, nat_tests)
@@ -138,7 +138,7 @@ Tied-ticks {h} came {old} {new} {moment} {added} {wanting} t nothing g =
     let e = ticks came moment added wanting in
     let stay : Stay old.rows new.rows = λ l after is. clocked_stay (among l g.due) moment (get old.rows l) after (subst (ClocksAt (among l g.due) moment (get old.rows l)) is (g.rows l)) in
     subst (Tied (e ∷ h)) (sym g.new_is)
-    (Tied-next t (quiet e _ t refl (ap (λ n. n + added) t.entries_are) refl refl refl refl refl refl refl refl)
+    (Tied-next t (quiet e _ t refl (ap (λ n. n + added) t.entries_are) refl refl refl refl refl refl refl)
     stay
     (rows_next e new t stay (λ d none gone. subst (IsGone (births h) d) (sym (tick_stays h came moment added wanting d (gone_due h moment d gone.admitted))) gone)
     (λ l row was held.

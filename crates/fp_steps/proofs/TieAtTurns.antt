@@ -1,5 +1,5 @@
 -- Steps of turns keep the tie between a book and its history.
-use Rattle.fp_steps.proofs.Names.{Done, Ending, Entry, Event, Given, GivesDone, IsOut, IsTied, List, None, Option, Output, Prepared, PutsTurnBack, Row, RowsKeepTheirOrder, Shelf, Some, Step, TakesTurn, Tied, Turn, [], accepted, add-zero, ap, append-nil, append_assoc, arith, asked_at, cond, count_out, cut, cut-front, drop, ending, entry_count, frame_from, frames_in, frames_under, given_of, if_queued, in_places, known_turn, length, map_list, named, numbers, numbers_from, positions, queued, queued_in, refl, requested_of, requests, row_entries_out, sent, story, subst, sym, take, take-append-drop, take_at, turn_frames, turn_served, ℕ, ◌++◌, ◌∙◌, ◌∷◌, ◌≡◌, ◌≤◌}
+use Rattle.fp_steps.proofs.Names.{Done, Ending, Entry, Event, Given, GivesDone, IsOut, IsTied, List, None, Option, Output, Prepared, PutsTurnBack, Row, RowsKeepTheirOrder, Shelf, Some, Step, TakesTurn, Tied, Turn, [], accepted, add-zero, ap, append-nil, append_assoc, arith, asked_at, cond, count_out, cut, cut-front, drop, ending, entry_count, frame_from, frames_in, frames_under, given_of, if_queued, in_places, known_turn, length, map_list, named, numbers_from, positions, queued, queued_in, refl, requested_of, requests, row_entries_out, sent, story, subst, sym, take, take-append-drop, take_at, turn_frames, turn_served, ℕ, ◌++◌, ◌∙◌, ◌∷◌, ◌≡◌, ◌≤◌}
 use Rattle.fp_steps.proofs.HeldDialogues.{Held, becomes, core_tied, event, for_other, for_own, held_of, is_other, is_own, next_places, numbers_more, same_beginning, stays, tied_same}
 use Rattle.fp_steps.proofs.TieNext.{quiet, Tied-left, Tied-put}
 
@@ -18,7 +18,7 @@ Tied-takes {h} came {turn} t g =
     becomes e h b (ending h b) n refl refl refl refl refl refl (ap (λ x. cond x n (count_out h b)) (is_own (named h l) b held.name))
     in
     subst (Tied (e ∷ h)) (sym g.new_is)
-    (Tied-put l g.before t (quiet e _ t refl (add-zero (entry_count h) ∙ t.entries_are) refl refl refl refl refl refl refl refl) g.was refl
+    (Tied-put l g.before t (quiet e _ t refl (add-zero (entry_count h) ∙ t.entries_are) refl refl refl refl refl refl refl) g.was refl
     (subst (λ s. IsTied b s g.after) (sym told)
     (tied_same n held.tied g.takes.same g.takes.accepted g.takes.stay.served g.takes.stay.queued_frames g.takes.stay.sent_frames g.takes.stay.core g.takes.ended g.takes.out))
     (λ d ne. stays e h d refl refl refl refl refl refl (ap (λ x. cond x n (count_out h d)) (is_other (named h l) d b held.name ne))))
@@ -33,7 +33,7 @@ Tied-puts_back law {h} came {turn} t g =
     becomes e h b (ending h b) 0 refl refl refl refl refl refl (ap (λ x. cond {A = ℕ} x 0 (count_out h b)) (is_own (named h l) b held.name))
     in
     subst (Tied (e ∷ h)) (sym g.new_is)
-    (Tied-left law l g.before t (quiet e _ t refl (add-zero (entry_count h) ∙ t.entries_are) refl refl refl refl refl refl refl refl) g.was refl
+    (Tied-left law l g.before t (quiet e _ t refl (add-zero (entry_count h) ∙ t.entries_are) refl refl refl refl refl refl refl) g.was refl
     (subst (λ s. IsTied b s g.after) (sym told)
     (tied_same 0 held.tied g.puts.same g.puts.accepted g.puts.stay.served g.puts.stay.queued_frames g.puts.stay.sent_frames g.puts.stay.core g.puts.ended g.puts.out))
     (λ d ne. stays e h d refl refl refl refl refl refl (ap (λ x. cond {A = ℕ} x 0 (count_out h d)) (is_other (named h l) d b held.name ne))))
@@ -106,13 +106,13 @@ Tied-gives law {h} came {done} {given} t g =
       accepts = append-nil (accepted h b) ∙ before.accepts ∙ sym g.gives.accepted;
       serves = ap (λ ps. positions h b ++ ps) (for_own (named h l) b (numbers_from p n) name)
           ∙ (λ i. before.serves i ++ numbers_from (sym (place_of (known_turn g.before done.turn g.gives.was_out)) i) n)
-          ∙ numbers_more g.before.served n ∙ sym (ap numbers g.gives.served);
+          ∙ numbers_more g.before.served n ∙ sym (ap (numbers_from 0) g.gives.served);
       queues = ap (λ fs. queued h b ++ fs) (queued_asked t g) ∙ ap (λ fs. fs ++ frames_in g.asked) before.queues ∙ sym g.gives.queued_frames;
       sends = append-nil (sent h b) ∙ before.sends ∙ sym g.gives.sent_frames;
       ends = before.ends ∙ sym g.gives.ended;
       outs = ap (λ x. cond {A = ℕ} x 0 (count_out h b)) (is_own (named h l) b name) ∙ sym g.gives.out;
     } in subst (Tied (e ∷ h)) (sym g.new_is)
-    (Tied-left law l g.before t (quiet e _ t refl (add-zero (entry_count h) ∙ t.entries_are) refl refl refl refl refl refl refl refl) g.was refl tied
+    (Tied-left law l g.before t (quiet e _ t refl (add-zero (entry_count h) ∙ t.entries_are) refl refl refl refl refl refl refl) g.was refl tied
     (λ d ne. stays e h d refl refl (for_other (named h l) d b (numbers_from p n) name ne)
     (ap (if_queued given) (for_other (named h l) d b (asked_at h d p n) name ne) ∙ none_queued given)
     refl refl (ap (λ x. cond {A = ℕ} x 0 (count_out h d)) (is_other (named h l) d b name ne))))

@@ -15,7 +15,7 @@ still : {h : List Event} (e : Event) {old : Shelf} (new : Shelf) → Tied h old 
     → aborts (e ∷ h) ≡ aborts h ++ [] → aborts_sent (e ∷ h) ≡ aborts_sent h ++ [] → out (e ∷ h) ≡ out h → ((d : ℕ) → story (e ∷ h) d ≡ story h d)
     → Tied (e ∷ h) new
 still {h} e {old} new t same none entries all sent_all out_stays told =
-    subst (Tied (e ∷ h)) (sym same) (Tied-quiet _ t (quiet e old t none (entries ∙ add-zero (entry_count h) ∙ t.entries_are) all sent_all out_stays refl refl refl refl refl) told refl)
+    subst (Tied (e ∷ h)) (sym same) (Tied-quiet _ t (quiet e old t none (entries ∙ add-zero (entry_count h) ∙ t.entries_are) all sent_all out_stays refl refl refl refl) told refl)
 
 -- by the step, and by its answer
 
@@ -65,8 +65,8 @@ Tied-makes law {h} e new t k g = by_made (λ step output. Tied (event step e.cam
 
 -- a book on which nothing came yet is tied to no history
 
-pub none_there : (link l : ℕ) → get (empty_shelf link).rows l ≡ None
-none_there link l = get-empty nat_cmp l
+pub none_there : (link tag l : ℕ) → get (empty_shelf link tag).rows l ≡ None
+none_there link tag l = get-empty nat_cmp l
 
 none_born : (d : ℕ) → (nat_lt 0 d && nat_le d 0) ≡ false
 none_born d = grind (arith, nat_tests)
@@ -80,13 +80,13 @@ none_yet d = record {
   all_sent = λ live. refl;
 }
 
-pub Tied-none : (link : ℕ) → Tied [] (empty_shelf link)
-Tied-none link = record {
+pub Tied-none : (link tag : ℕ) → Tied [] (empty_shelf link tag)
+Tied-none link tag = record {
   births_are = refl;
   entries_are = refl;
   opened = opened_none;
-  names = λ local row was. absurd (none-some row (sym (none_there link local) ∙ was));
-  rows = λ d. subst (TiedAt 0 d untold) (sym (ap (row_of d) (none_there link 0))) (none_yet d);
+  names = λ local row was. absurd (none-some row (sym (none_there link tag local) ∙ was));
+  rows = λ d. subst (TiedAt 0 d untold) (sym (ap (row_of d) (none_there link tag 0))) (none_yet d);
   later = λ d past. refl;
   is_out = refl;
   aborts_are = record { rest = []; all = refl; waiting = λ up. refl };

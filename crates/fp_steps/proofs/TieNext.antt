@@ -5,7 +5,6 @@ use Rattle.fp_steps.proofs.OpenedDialogues.{OpensNext, opened_after}
 
 -- what such a step owes, but for its dialogues
 pub record Next (h : List Event) (e : Event) (old new : Shelf) : Type 0 where
-  pub link_is : new.link ≡ old.link
   pub opens_none : opened_in e.output ≡ None
   pub born : new.births ≡ old.births
   pub entries : entry_count (e ∷ h) ≡ new.entries
@@ -24,8 +23,8 @@ aborts_stay {h} e new a all sent_all same down waiting = record {
 -- nothing is done with what is out, and with the Aborts
 pub quiet : {h : List Event} (e : Event) {old : Shelf} (new : Shelf) → Tied h old → opened_in e.output ≡ None → entry_count (e ∷ h) ≡ new.entries → aborts (e ∷ h) ≡ aborts h ++ []
     → aborts_sent (e ∷ h) ≡ aborts_sent h ++ [] → out (e ∷ h) ≡ out h
-    → new.link ≡ old.link → new.births ≡ old.births → new.outbox.out ≡ old.outbox.out → new.is_down ≡ old.is_down → new.outbox.aborts ≡ old.outbox.aborts → Next h e old new
-quiet {h} e new t none entries all sent_all out_stays link born out_is down waits =
+    → new.births ≡ old.births → new.outbox.out ≡ old.outbox.out → new.is_down ≡ old.is_down → new.outbox.aborts ≡ old.outbox.aborts → Next h e old new
+quiet {h} e new t none entries all sent_all out_stays born out_is down waits =
     let is_out = out_stays ∙ t.is_out ∙ ap (option_map (handed h)) (sym out_is) in
     let left = aborts_stay e new t.aborts_are all sent_all out_stays down waits in search rules
 

@@ -1,5 +1,5 @@
 -- The tokens that a run keeps are those that its book handed out.
-use Rattle.fp_steps.proofs.Names.{AbortCause, Answers, Bool, ClosesOne, Content, Done, EndsDialogue, ExtendsDialogue, FinMap, Follows, Given, GivesDone, Holds, IsOwn, List, LoggedStep, None, OneChanges, OpensDialogue, Option, Parcel, ParcelIs, Posted, Prepared, PutsTurnBack, Refuses, Row, Sends, Shelf, Some, Sound, TakesFirst, TakesOut, TakesTurn, Tid, Turn, Verdict, [], abort_for, add-one, and_parts, ap, append-nil, arith, arrival_of, by_held, by_local, common_remove as remove, cond, cond_some, drop, eq-eqb, eqb, eqb-true, false, false≢true, filter, filter-append, find, get, identifier, inserted, is_free, kept, left_of, length, ltb-false, ltb-true, nat_cmp, nat_lt, nat_tests, not, not-true, not_held, option_map, option_to_list, passes_at_first, position, position_or_len, refl, row_turn as turn_out, row_waits as waits, rules, slice_index_or, split_at_first, subst, suc, sym, take, take_all, true, turn_of, turns_at, ℕ, ◌++◌, ◌+◌, ◌<◌, ◌||◌, ◌∙◌, ◌∷◌, ◌≡◌, ◌≤◌}
+use Rattle.fp_steps.proofs.Names.{AbortCause, Answers, Bool, ClosesOne, Content, Done, EndsDialogue, ExtendsDialogue, FinMap, Follows, Given, GivesDone, Holds, IsOwn, List, LoggedStep, None, OneChanges, OpensDialogue, Option, Parcel, ParcelIs, Posted, Prepared, PutsTurnBack, Refuses, Row, Sends, Shelf, Some, Sound, TakesFirst, TakesOut, TakesTurn, Tid, Turn, Verdict, [], abort_for, add-one, and_parts, ap, append-nil, arith, arrival_of, base, by_held, by_local, common_remove as remove, cond, cond_some, drop, eq-eqb, eqb, eqb-true, false, false≢true, filter, filter-append, find, get, identifier, inserted, is_free, kept, last_serial, left_of, length, ltb-false, ltb-true, nat_cmp, nat_lt, nat_tests, not, not-true, not_held, option_map, option_to_list, passes_at_first, position, position_or_len, refl, row_turn as turn_out, row_waits as waits, rules, slice_index_or, split_at_first, subst, suc, sym, take, take_all, true, turn_of, turns_at, ℕ, ◌++◌, ◌+◌, ◌<◌, ◌||◌, ◌∙◌, ◌∷◌, ◌≡◌, ◌≤◌}
 use Rattle.fp_row.specs.Row as row
 use Rattle.fp_row.specs.Row.{has_turn_out}
 use Rattle.fp_steps.proofs.HeldDialogues.{one_put, by_option, eqb_swap}
@@ -8,6 +8,7 @@ use Rattle.fp_steps.proofs.HeldDialogues.{one_put, by_option, eqb_swap}
 pub record Untouched (old new : Shelf) : Type 0 where
   pub turns_stay : (local : ℕ) → turn_of (get new.rows local) ≡ turn_of (get old.rows local)
   pub link_is : new.link ≡ old.link
+  pub tag_is : new.tag ≡ old.tag
   pub out_is : new.outbox.out ≡ old.outbox.out
 
 parcel_at : (parcel : Option Parcel) (old new : Shelf) → new.link ≡ old.link → new.outbox.out ≡ old.outbox.out → ParcelIs parcel old → ParcelIs parcel new
@@ -21,10 +22,10 @@ holds_untouched {parcel} {old} {new} u k = record {
 }
 
 pub untouched_log : (s : Shelf) (log : List LoggedStep) → Untouched s (record s { log = log })
-untouched_log s log = record { turns_stay = λ local. refl; link_is = refl; out_is = refl }
+untouched_log s log = record { turns_stay = λ local. refl; link_is = refl; tag_is = refl; out_is = refl }
 
 untouched_same : (old new : Shelf) → new ≡ old → Untouched old new
-untouched_same old new same = subst (Untouched old) (sym same) (record { turns_stay = λ local. refl; link_is = refl; out_is = refl })
+untouched_same old new same = subst (Untouched old) (sym same) (record { turns_stay = λ local. refl; link_is = refl; tag_is = refl; out_is = refl })
 
 pub untouched_then : {a b c : Shelf} → Untouched a b → Untouched b c → Untouched a c
 untouched_then u v = grind arith
@@ -52,25 +53,25 @@ closes_untouched old (Some local) closed g = subst (Untouched old) (sym g.new_is
 answers_untouched : (old : Shelf) (closes : Option ℕ) (abort : Option (Tid × AbortCause)) (answer : Posted) (answered : Shelf) → Answers old closes abort answer answered → Untouched old answered
 answers_untouched old closes None answer answered g = untouched_same old answered g.1
 answers_untouched old closes (Some (peer, cause)) answer answered g =
-    subst (Untouched old) (sym g.1.new_is) (record { turns_stay = λ local. refl; link_is = refl; out_is = refl })
+    subst (Untouched old) (sym g.1.new_is) (record { turns_stay = λ local. refl; link_is = refl; tag_is = refl; out_is = refl })
 
 -- the serial that is given next is one, and no dialogue's that is held
-pub first_serial : {s : Shelf} {serial : ℕ} {rest : List ℕ} → Sound s → s.free ≡ serial ∷ rest → (0 < serial) × (serial ≤ 131072)
+pub first_serial : {s : Shelf} {serial : ℕ} {rest : List ℕ} → Sound s → s.free ≡ serial ∷ rest → (0 < serial) × (serial ≤ last_serial)
 first_serial {s} {serial} {rest} k first = k.serials.within serial (ap (is_free serial) first ∙ ap (λ b. b || is_free serial rest) (eq-eqb serial serial refl))
 
-pub above_zero : (link serial : ℕ) → 0 < serial → 0 < identifier link serial
-above_zero link serial some = omega (arith, some)
+pub above_zero : (base serial : ℕ) → 0 < serial → 0 < identifier base serial
+above_zero base serial some = omega (arith, some)
 
-pub fresh_at : {s : Shelf} {serial : ℕ} {rest : List ℕ} → Sound s → s.free ≡ serial ∷ rest → get s.rows (identifier s.link serial) ≡ None
-fresh_at {s} {serial} {rest} k first = by_option (λ o. o ≡ None) (get s.rows (identifier s.link serial)) (λ was. refl) (λ row was.
-    let own : IsOwn s (identifier s.link serial) row = k.own (identifier s.link serial) row was in
-    let is : identifier s.link serial ≡ identifier s.link own.serial.0 = own.serial.3 in
+pub fresh_at : {s : Shelf} {serial : ℕ} {rest : List ℕ} → Sound s → s.free ≡ serial ∷ rest → get s.rows (identifier (base s) serial) ≡ None
+fresh_at {s} {serial} {rest} k first = by_option (λ o. o ≡ None) (get s.rows (identifier (base s) serial)) (λ was. refl) (λ row was.
+    let own : IsOwn s (identifier (base s) serial) row = k.own (identifier (base s) serial) row was in
+    let is : identifier (base s) serial ≡ identifier (base s) own.serial.0 = own.serial.3 in
     let same : serial ≡ own.serial.0 = omega (arith, is) in
     absurd (false≢true (sym own.serial.4 ∙ ap (λ n. is_free n s.free) (sym same) ∙ ap (is_free serial) first ∙ ap (λ b. b || is_free serial rest) (eq-eqb serial serial refl))))
 
 opens_untouched : {old new : Shelf} {peer : Tid} {came : Prepared} {answer : Posted} → Sound old → OpensDialogue old peer came answer new → Untouched old new
 opens_untouched {old} k g =
-    let l = identifier old.link g.serial in let none : get old.rows l ≡ None = fresh_at k g.first in
+    let l = identifier (base old) g.serial in let none : get old.rows l ≡ None = fresh_at k g.first in
     subst (Untouched old) (sym g.new_is)
     (let stays = one_turn (inserted old.rows l None g.after none) (g.extends.turn ∙ no_turn g.opened (ap (nat_lt 0) g.opens.out)) in search rules)
 

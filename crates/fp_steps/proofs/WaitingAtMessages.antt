@@ -1,5 +1,5 @@
 -- A message keeps what waits in a book as its history tells.
-use Rattle.fp_steps.proofs.Names.{AbortCause, AbortFrame, AllByRecursion, Answers, Beginning, Bool, ClosesOne, Discards, Ending, EndsDialogue, Event, ExtendsDialogue, Follows, Lined, List, LoggedStep, None, OpensDialogue, Option, Posted, Prepared, QueuedFrame, Row, Shelf, Some, Sound, Step, Story, Tells, Tid, Tied, Verdict, Waiting, [], abort_for, ap, arith, arrival_of, as_waiting, began_with, beginning, beginning_after, births, book_logged as logged, cond, ending, ending_at, ending_by, entries_in, eqb, false, filter, filter_agree, frames, get, identifier, is_down, is_ending, is_of_other, is_sending, is_some, is_waiting, length, local_of, map_list, named_in, nat_le, nat_tests, not, opened_by, picked, posted_line, refl, row_is_ready, sender_of, subst, sym, true, waiting, ℕ, ⊎_elim, ◌&&◌, ◌++◌, ◌+◌, ◌||◌, ◌∙◌, ◌∷◌, ◌≡◌}
+use Rattle.fp_steps.proofs.Names.{AbortCause, AbortFrame, AllByRecursion, Answers, Beginning, Bool, ClosesOne, Discards, Ending, EndsDialogue, Event, ExtendsDialogue, Follows, Lined, List, LoggedStep, None, OpensDialogue, Option, Output, Posted, Prepared, QueuedFrame, Row, Shelf, Some, Sound, Step, Story, Tells, Tid, Tied, Verdict, Waiting, [], abort_for, ap, arith, arrival_of, as_waiting, base, began_with, beginning, beginning_after, births, book_logged as logged, cond, ending, ending_at, ending_by, entries_in, eqb, false, filter, filter_agree, frames, get, identifier, is_down, is_ending, is_of_other, is_sending, is_some, is_waiting, length, local_of, map_list, named_in, nat_le, nat_tests, not, opened_in, picked, posted_line, refl, row_is_ready, sender_of, subst, sym, true, waiting, ℕ, ⊎_elim, ◌&&◌, ◌++◌, ◌+◌, ◌||◌, ◌∙◌, ◌∷◌, ◌≡◌}
 use Rattle.fp_steps.proofs.FramesInOrder.{counted, n_of, waits_by}
 use Rattle.fp_steps.proofs.HeldDialogues.{eqb_swap}
 use Rattle.fp_steps.proofs.HeldFrames.{waiting_named}
@@ -70,12 +70,12 @@ closes_by : (closed : Shelf) (local : ℕ) (abort : Option (Tid × AbortCause)) 
 closes_by closed local None answer answered came g = ap (λ a. ending_by a came) g.0
 closes_by closed local (Some (peer, cause)) answer answered came g = ap (λ a. ending_by a came) g.0
 
-pub refused_opens : (closed : Shelf) (closes : Option ℕ) (abort : Option (Tid × AbortCause)) (answer : Posted) (answered : Shelf) → Answers closed closes abort answer answered → opened_by answer ≡ None
-refused_opens closed None None answer answered g = ap opened_by g.0
-refused_opens closed (Some local) None answer answered g = ap opened_by g.0
-refused_opens closed closes (Some (peer, cause)) answer answered g = ap opened_by g.0
+pub refused_opens : (components : ℕ) (closed : Shelf) (closes : Option ℕ) (abort : Option (Tid × AbortCause)) (answer : Posted) (answered : Shelf) → Answers closed closes abort answer answered → opened_in (Output.Posted answer components) ≡ None
+refused_opens components closed None None answer answered g = ap (λ a. opened_in (Output.Posted a components)) g.0
+refused_opens components closed (Some local) None answer answered g = ap (λ a. opened_in (Output.Posted a components)) g.0
+refused_opens components closed closes (Some (peer, cause)) answer answered g = ap (λ a. opened_in (Output.Posted a components)) g.0
 
-names_stay : (h : List Event) (step : Step) (came : Prepared) (answer : Posted) (components : ℕ) (xs : List QueuedFrame) → opened_by answer ≡ None
+names_stay : (h : List Event) (step : Step) (came : Prepared) (answer : Posted) (components : ℕ) (xs : List QueuedFrame) → opened_in (Output.Posted answer components) ≡ None
     → map_list (as_waiting (posts step came answer components ∷ h)) xs ≡ map_list (as_waiting h) xs
 names_stay h step came answer components xs none =
     ap (λ o. map_list (λ (a : QueuedFrame). record { local = began_with (beginning_after o (Some came) (eqb a.dialogue (births h + 1)) (beginning h a.dialogue)); birth = a.dialogue; frame = a.frame }) xs) none
@@ -87,14 +87,14 @@ refused_moves {h} step came answer components {old} closed answered None abort a
     let e = posts step came answer components in
     subst (λ (s : Shelf). Moves h e old (record s { outbox = record s.outbox { aborts = aborts }; log = log })) (sym c)
     (moves_to l refl (λ d. refl) refl
-    (names_stay h step came answer components (waiting (e ∷ h)) (refused_opens closed None abort answer answered a)
+    (names_stay h step came answer components (waiting (e ∷ h)) (refused_opens components closed None abort answer answered a)
     ∙ ap (map_list (as_waiting h)) (quiet_frames h step came answer components (λ d. unended (ending_by answer (Some came)) (names_taker h came d) (ending h d) (none_named_takes came d t names)))
     ∙ l.frames) (joins_same refl l.order (cores_same old.rows)))
 refused_moves {h} step came answer components {old} closed answered (Some local) abort aborts log l t names c a =
     let e = posts step came answer components in
     subst (λ (s : Shelf). Moves h e old (record s { outbox = record s.outbox { aborts = aborts }; log = log })) (sym c.new_is)
     (moves_to l refl (λ d. refl) refl
-    (names_stay h step came answer components (waiting (e ∷ h)) (refused_opens closed (Some local) abort answer answered a)
+    (names_stay h step came answer components (waiting (e ∷ h)) (refused_opens components closed (Some local) abort answer answered a)
     ∙ ended_frames step came answer components local c.before Ending.Closed t l names c.was (closes_by closed local abort answer answered (Some came) a))
     (joins_without local refl l.order
     (cores_left old.rows local c.before c.after c.was (c.ends.same.birth, λ free. c.ends.core))))
@@ -103,7 +103,7 @@ refused_moves {h} step came answer components {old} closed answered (Some local)
 opens_moves : {h : List Event} (step : Step) {came : Prepared} {answer : Posted} (components : ℕ) {old new : Shelf} {peer : Tid} → Lined h old → Tied h old → Sound old
     → Sound new → OpensDialogue old peer came answer new → Moves h (posts step came answer components) old new
 opens_moves {h} step {came} components {old} {new} {peer} l t k m g =
-    let place = identifier old.link g.serial in let d = births h + 1 in
+    let place = identifier (base old) g.serial in let d = births h + 1 in
     let e = posts step came (Posted.Opened place) components in
     let none : n_of d (frames h) ≡ 0 = counted h d ∙ ap (λ (s : Story). length s.queues) (t.later d (omega arith)) in
     let start : Option Beginning = Some (record { local = place; peer = sender_of came; moment = (arrival_of came).moment }) in

@@ -42,5 +42,5 @@ pub Lined-makes : {h : List Event} (e : Event) {old new : Shelf} → Tied h old 
 Lined-makes e t k l g u m =
     Lined-next t k u m (by_made _ e.step e.output (moves e.came t k l m) g u)
 
-pub Lined-none : (link : ℕ) → Lined [] (empty_shelf link)
-Lined-none link = record { down = refl; frames = refl; few = λ d. omega arith; order = tt }
+pub Lined-none : (link tag : ℕ) → Lined [] (empty_shelf link tag)
+Lined-none link tag = record { down = refl; frames = refl; few = λ d. omega arith; order = tt }

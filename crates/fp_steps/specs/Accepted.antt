@@ -1,10 +1,11 @@
 -- The entries that each dialogue of a run accepts, and those of them that are served.
-use Rattle.std.specs.Prelude.{ℕ, ◌+◌, ◌^◌, ◌&&◌, not, Bool, true, false, List, [], ◌∷◌, ◌++◌, Option, Some, None, length, drop, count_by, is_some, slice_get, option_to_list, nat_le, nat_lt, suc, zero, if◌then◌else◌}
+use Rattle.std.specs.Prelude.{ℕ, ◌+◌, ◌&&◌, not, Bool, true, false, List, [], ◌∷◌, ◌++◌, Option, Some, None, length, drop, count_by, is_some, slice_get, option_to_list, nat_le, nat_lt, suc, zero, if◌then◌else◌}
 use Rattle.std.specs.List.{flat_map}
 use Rattle.std.specs.Option.{option_map_or}
+use Rattle.fp_book.specs.Limits.{all_entries}
 use Rattle.fp_book.specs.declared.answers.Posted.{Posted}
-use Rattle.fp_book.specs.declared.answers.Posted.TheVariants.{Opened, Accepted, Aborted, Ended, Discarded}
-use Rattle.fp_book.specs.Calls.{entries_in}
+use Rattle.fp_book.specs.declared.answers.Posted.TheVariants.{Opened, Accepted, Aborted, Ended}
+use Rattle.fp_book.specs.Rules.{entries_in}
 use Rattle.fp_entry.specs.declared.entry.Entry.{Entry}
 use Rattle.fp_entry.specs.declared.entry.EntryKind.TheVariants.{Clock}
 use Rattle.fp_entry.specs.declared.prepared.Prepared.{Prepared}
@@ -41,16 +42,12 @@ positions (e ∷ h) d = positions h d ++ position_in e.output h d
 
 -- the peer's own end of a dialogue, or its abort
 abbrev pub is_ending : Kind → Bool
-is_ending kinds.Unidirectional = false
-is_ending kinds.Begin = false
 is_ending kinds.End = true
-is_ending kinds.Continue = false
 is_ending kinds.Abort = true
-is_ending kinds.Unknown = false
+is_ending _ = false
 
 abbrev pub ends_peer : Option Prepared → Bool
-ends_peer None = false
-ends_peer (Some came) = is_ending (arrival_of came).ids.kind
+ends_peer came = option_map_or (λ (p : Prepared). is_ending (arrival_of p).ids.kind) came false
 
 -- what a history tells of the course of a dialogue: the entries that it accepted, in order, and how it was ended from
 -- outside, if it was
@@ -79,20 +76,14 @@ admits_on h d c = (nat_lt 0 d && nat_le d (births h)) && (not (is_some c.ending)
 abbrev pub has_clock_on : List Event → ℕ → List Entry → Bool
 has_clock_on h d entries = nat_lt 0 (count_by (λ (entry : Entry). is_clock entry.kind) (drop (length (positions h d)) entries))
 
--- how many entries the link accepted at an event
-abbrev pub entries_by : Posted → List Entry → ℕ
-entries_by (Opened local) entries = length entries
-entries_by (Accepted count) entries = length entries
-entries_by (Aborted cause) entries = 0
-entries_by Ended entries = 0
-entries_by Discarded entries = 0
-
+-- the entries of the message of an event
 abbrev pub entries_came : Option Prepared → List Entry
-entries_came None = []
-entries_came (Some came) = entries_in came
+entries_came came = option_map_or entries_in came []
 
+-- how many entries the link accepted at an event
 abbrev pub entry_count_in : Output → Option Prepared → ℕ
-entry_count_in (outputs.Posted answer components) came = entries_by answer (entries_came came)
+entry_count_in (outputs.Posted (Opened local) components) came = length (entries_came came)
+entry_count_in (outputs.Posted (Accepted count) components) came = length (entries_came came)
 entry_count_in (outputs.Ticked added wanting) came = added
 entry_count_in _ came = 0
 
@@ -103,7 +94,7 @@ entry_count (e ∷ h) = entry_count h + entry_count_in e.output e.came
 
 -- whether it accepts no more: it accepted 2^63
 abbrev pub is_full : List Event → Bool
-is_full h = nat_le (2 ^ 63) (entry_count h)
+is_full h = nat_le all_entries (entry_count h)
 
 -- whether the dialogue of this course is given a Clock at a moment; none is, once the link has accepted 2^63 entries
 abbrev pub is_due_on : List Event → ℕ → ℕ → Course → Bool
@@ -115,16 +106,14 @@ is_due_on h moment d c =
 -- an Abort is its peer's end. One that is Discarded closes none: where a refusal closes a dialogue and no Abort of the
 -- provider is sent, the answer is Ended; and no dialogue takes messages once the link is down.
 abbrev pub ending_by : Posted → Option Prepared → Option Ending
-ending_by (Opened local) came = None
 ending_by (Accepted count) came = if ends_peer came then Some ByPeer else None
 ending_by (Aborted cause) came = Some Closed
 ending_by Ended came = Some Closed
-ending_by Discarded came = None
+ending_by _ came = None
 
 -- a message ends the dialogue that it names only while that takes messages
 abbrev pub ending_at : Option Ending → Bool → Option Ending → Option Ending
-ending_at None takes before = before
-ending_at (Some ending) takes before = if takes then Some ending else before
+ending_at ending takes before = if is_some ending && takes then ending else before
 
 -- how a dialogue was ended from outside, after an event: the end of the link closes all that were opened
 abbrev pub ending_in : Output → Option Prepared → List Event → ℕ → Course → Option Ending
@@ -138,26 +127,19 @@ ending_in _ came h d c = c.ending
 abbrev pub receiver : Posted → Option Prepared → List Event → Option ℕ
 receiver (Opened local) came h = Some (births h + 1)
 receiver (Accepted count) came h = destination h came
-receiver (Aborted cause) came h = None
-receiver Ended came h = None
-receiver Discarded came h = None
+receiver _ came h = None
 
--- a Clock, where the dialogue is due at the moment of a tick
-abbrev pub clock_at : Step → (ℕ → Bool) → List Entry
-clock_at (steps.Tick moment) is_due = if is_due moment then entry_at moment Clock ∷ [] else []
-clock_at _ is_due = []
-
--- what a dialogue of this course accepts at an event
-abbrev pub accepted_in : Event → List Event → ℕ → Course → Output → List Entry
-accepted_in e h d c (outputs.Posted answer components) = for_one (receiver answer e.came h) d (entries_came e.came)
-accepted_in e h d c (outputs.Ticked added wanting) = clock_at e.step (λ moment. is_due_on h moment d c)
-accepted_in e h d c _ = []
+-- what a dialogue of this course accepts at an event: the entries of a message, and a Clock, if it is due at a tick
+abbrev pub accepted_in : Output → Step → Option Prepared → List Event → ℕ → Course → List Entry
+accepted_in (outputs.Posted answer components) step came h d c = for_one (receiver answer came h) d (entries_came came)
+accepted_in (outputs.Ticked added wanting) (steps.Tick moment) came h d c = if is_due_on h moment d c then entry_at moment Clock ∷ [] else []
+accepted_in _ step came h d c = []
 
 -- the course of a dialogue
 abbrev pub course : List Event → ℕ → Course
 course [] d = record { accepts = []; ending = None }
 course (e ∷ h) d = record {
-  accepts = (course h d).accepts ++ accepted_in e h d (course h d) e.output;
+  accepts = (course h d).accepts ++ accepted_in e.output e.step e.came h d (course h d);
   ending = ending_in e.output e.came h d (course h d);
 }
 

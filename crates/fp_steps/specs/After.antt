@@ -1,7 +1,7 @@
 -- How a run stands to a history that leads to it, and what a step adds to both.
 use Rattle.std.specs.Prelude.{◌≡◌, ℕ, List, ◌∷◌, Option}
 use Rattle.std.specs.List.{AllByRecursion}
-use Rattle.fp_book.specs.Shelf.{Shelf}
+use Rattle.fp_book.specs.Shelf.{Shelf, base}
 use Rattle.fp_entry.specs.declared.prepared.Prepared.{Prepared}
 use Rattle.fp_records.specs.Table.{Contents}
 use Rattle.fp_steps.specs.declared.step.Step.{Step}
@@ -22,7 +22,7 @@ use Rattle.fp_steps.specs.Totals.{AddUp, totals_of}
 -- to do at those at which the link is idle, and the book has what the history tells.
 pub record LeadsTo (tables : List Contents) (contexts : List (List ℕ)) (h : List Event) (book : Shelf) : Type 0 where
   pub messages : AllByRecursion (λ (e : Event). IsCame tables contexts e.step e.came) h
-  pub answers : AllAnswered book.link h
+  pub answers : AllAnswered (base book) h
   pub moments : AtEachMoment Headline h
   pub identifiers : AtEachMoment IdentifiersHold h
   pub idle : AtEachMoment IdleIsDone h
@@ -39,13 +39,13 @@ pub record IsAfter (tables : List Contents) (contexts : List (List ℕ)) (h : Li
   pub leads : LeadsTo tables contexts h book
   pub retold : List Event
   pub retold_leads : LeadsTo tables contexts retold book
-  pub retells : Retells tables contexts book.link (lines_told h) retold
+  pub retells : Retells tables contexts (base book) (lines_told h) retold
 
 -- A step is made after this history: it is answered and told as that tells, and the longer history leads to what the
 -- book is then.
 pub record Follows (tables : List Contents) (contexts : List (List ℕ)) (h : List Event) (step : Step) (made : Stepped) (book : Shelf) : Type 0 where
   pub came : Option Prepared
   pub is_came : IsCame tables contexts step came
-  pub answer : IsAnswer book.link h step came made.output
+  pub answer : IsAnswer (base book) h step came made.output
   pub line : made.line ≡ told h step made.output
   pub after : IsAfter tables contexts (record { step = step; came = came; output = made.output } ∷ h) book

@@ -1,5 +1,7 @@
 -- What each step of a run is answered, from what its history tells before it.
 use Rattle.std.specs.Prelude.{◌≡◌, ◌≤◌, ◌<◌, ℕ, ◌-◌, ◌==◌, Bool, true, false, List, [], ◌∷◌, Option, Some, None, length, min, is_some, ⊤, if◌then◌else◌}
+use Rattle.std.specs.Option.{option_map_or}
+use Rattle.fp_book.specs.Limits.{most_places}
 use Rattle.fp_book.specs.declared.answers.Given.{Given}
 use Rattle.fp_book.specs.declared.answers.Given.TheVariants.{Silent, Queued, Dropped}
 use Rattle.fp_entry.specs.declared.prepared.Prepared.{Prepared}
@@ -22,9 +24,9 @@ use Rattle.fp_steps.specs.Waiting.{QueuedFrame, aborts_waiting, is_sending, plac
 
 -- the first rule of receipt that fits says what is answered; the components are those of a message that is accepted; a
 -- message by a table that wasn't handed in doesn't come
-abbrev pub IsPosted : ℕ → List Event → Option Prepared → Output → Type 0
-IsPosted link h None output = output ≡ outputs.Nothing
-IsPosted link h (Some came) output = output ≡ outputs.Posted (answer_to link h came) (components_in (answer_to link h came) came)
+abbrev pub posted : ℕ → List Event → Option Prepared → Output
+posted base h None = outputs.Nothing
+posted base h (Some came) = outputs.Posted (answer_to base h came) (components_in (answer_to base h came) came)
 
 -- GIVE
 
@@ -46,15 +48,13 @@ gave h local (Some d) =
 
 -- the turn of this dialogue goes back, if it is out
 abbrev pub put_back : List Event → Option ℕ → Output
-put_back h None = outputs.Nothing
-put_back h (Some d) = if turn_out h d then outputs.WentBack else outputs.Nothing
+put_back h dialogue = option_map_or (λ d. if turn_out h d then outputs.WentBack else outputs.Nothing) dialogue outputs.Nothing
 
 -- SENT, UNSENT
 
 -- this, if something is out to be sent
 abbrev pub if_out : Option Handed → Output → Output
-if_out None output = outputs.Nothing
-if_out (Some handed) output = output
+if_out out output = if is_some out then output else outputs.Nothing
 
 -- TICK
 
@@ -73,12 +73,12 @@ pub record IsLongestReady (h : List Event) (local position count : ℕ) : Type 0
   pub longest : (other : ℕ) → is_ready h other ≡ true → (other == dialogue) ≡ false → IsReadyBefore h dialogue other
   -- its next entries, as many as wait and have a free place each, at most sixteen
   pub next : position ≡ length (positions h dialogue)
-  pub count_is : count ≡ min most_entries (min (length (unserved h dialogue)) (8192 - places h))
+  pub count_is : count ≡ min most_entries (min (length (unserved h dialogue)) (most_places - places h))
 
 -- that one gets a turn; or all places are held; or no dialogue is ready
 abbrev pub IsTaken : List Event → Output → Type 0
-IsTaken h (outputs.Took local position count) = IsLongestReady h local position count × (places h < 8192)
-IsTaken h outputs.NoRoom = ((d : ℕ) × (is_ready h d ≡ true)) × (8192 ≤ places h)
+IsTaken h (outputs.Took local position count) = IsLongestReady h local position count × (places h < most_places)
+IsTaken h outputs.NoRoom = ((d : ℕ) × (is_ready h d ≡ true)) × (most_places ≤ places h)
 IsTaken h outputs.Nothing = (d : ℕ) → is_ready h d ≡ false
 IsTaken h _ = ⊥
 
@@ -100,18 +100,18 @@ IsPicked h _ = ⊥
 -- EACH STEP
 
 abbrev pub IsAnswer : ℕ → List Event → Step → Option Prepared → Output → Type 0
-IsAnswer link h (steps.Post table frame moment) came output = IsPosted link h came output
-IsAnswer link h (steps.Lost frame moment) came output = IsPosted link h came output
-IsAnswer link h (steps.Tick moment) came output = output ≡ ticked h moment
-IsAnswer link h steps.Take came output = IsTaken h output
-IsAnswer link h (steps.Give local) came output = output ≡ gave h local (named h local)
-IsAnswer link h (steps.PutBack local) came output = output ≡ put_back h (named h local)
-IsAnswer link h steps.Pick came output = IsPicked h output
-IsAnswer link h steps.Sent came output = output ≡ if_out (out h) outputs.Sent
-IsAnswer link h steps.Unsent came output = output ≡ if_out (out h) outputs.Unsent
-IsAnswer link h steps.Down came output = output ≡ outputs.Down
+IsAnswer base h (steps.Post table frame moment) came output = output ≡ posted base h came
+IsAnswer base h (steps.Lost frame moment) came output = output ≡ posted base h came
+IsAnswer base h (steps.Tick moment) came output = output ≡ ticked h moment
+IsAnswer base h steps.Take came output = IsTaken h output
+IsAnswer base h (steps.Give local) came output = output ≡ gave h local (named h local)
+IsAnswer base h (steps.PutBack local) came output = output ≡ put_back h (named h local)
+IsAnswer base h steps.Pick came output = IsPicked h output
+IsAnswer base h steps.Sent came output = output ≡ if_out (out h) outputs.Sent
+IsAnswer base h steps.Unsent came output = output ≡ if_out (out h) outputs.Unsent
+IsAnswer base h steps.Down came output = output ≡ outputs.Down
 
 -- each output of a history is the answer at its moment
 abbrev pub AllAnswered : ℕ → List Event → Type 0
-AllAnswered link [] = ⊤
-AllAnswered link (e ∷ h) = IsAnswer link h e.step e.came e.output × AllAnswered link h
+AllAnswered base [] = ⊤
+AllAnswered base (e ∷ h) = IsAnswer base h e.step e.came e.output × AllAnswered base h

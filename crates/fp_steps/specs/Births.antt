@@ -1,8 +1,7 @@
 -- The dialogues of a run, by their births: the n-th that is opened has birth n.
 use Rattle.std.specs.Prelude.{ℕ, ◌+◌, ◌==◌, Bool, false, List, [], ◌∷◌, Option, Some, None, suc, zero, if◌then◌else◌}
 use Rattle.std.specs.Option.{option_and_then, option_map_or}
-use Rattle.fp_book.specs.declared.answers.Posted.{Posted}
-use Rattle.fp_book.specs.declared.answers.Posted.TheVariants.{Opened, Accepted, Aborted, Ended, Discarded}
+use Rattle.fp_book.specs.declared.answers.Posted.TheVariants.{Opened}
 use Rattle.fp_book.specs.Rules.{number_of}
 use Rattle.fp_entry.specs.declared.prepared.Prepared.{Prepared}
 use Rattle.fp_entry.specs.Prepared.{arrival_of}
@@ -11,37 +10,25 @@ use Rattle.fp_steps.specs.declared.output.Output.{Output}
 use Rattle.fp_steps.specs.declared.output.Output.TheVariants as outputs
 use Rattle.fp_steps.specs.History.{Event}
 
--- the local transaction identifier that is answered where a dialogue is opened
-abbrev pub opened_by : Posted → Option ℕ
-opened_by (Opened local) = Some local
-opened_by (Accepted count) = None
-opened_by (Aborted cause) = None
-opened_by Ended = None
-opened_by Discarded = None
+-- whether the number of an event, if it has one, is this one
+abbrev pub is_one : Option ℕ → ℕ → Bool
+is_one None n = false
+is_one (Some other) n = n == other
 
+-- the local transaction identifier that is answered where a dialogue is opened
 abbrev pub opened_in : Output → Option ℕ
-opened_in (outputs.Posted answer components) = opened_by answer
+opened_in (outputs.Posted (Opened local) components) = Some local
 opened_in _ = None
 
--- one more, where a dialogue is opened
-abbrev pub births_after : Option ℕ → ℕ → ℕ
-births_after None births = births
-births_after (Some local) births = births + 1
-
--- how many dialogues were opened
+-- how many dialogues were opened: one more at each event that opens one
 abbrev pub births : List Event → ℕ
 births [] = 0
-births (e ∷ h) = births_after (opened_in e.output) (births h)
+births (e ∷ h) = option_map_or (λ local. births h + 1) (opened_in e.output) (births h)
 
--- an identifier names the dialogue that was opened with it last
-abbrev pub named_after : Option ℕ → ℕ → Option ℕ → ℕ → Option ℕ
-named_after None birth before local = before
-named_after (Some opened) birth before local = if local == opened then Some birth else before
-
--- the birth of the dialogue that a local transaction identifier names
+-- the birth of the dialogue that a local transaction identifier names: the one that was opened with it last
 abbrev pub named : List Event → ℕ → Option ℕ
 named [] local = None
-named (e ∷ h) local = named_after (opened_in e.output) (births h + 1) (named h local) local
+named (e ∷ h) local = if is_one (opened_in e.output) local then Some (births h + 1) else named h local
 
 -- how a dialogue began: both identifiers, and the moment of its Begin
 pub record Beginning : Type 0 where
@@ -53,11 +40,11 @@ pub record Beginning : Type 0 where
 abbrev pub sender_of : Prepared → List ℕ
 sender_of came = option_map_or octets_of (arrival_of came).ids.orig []
 
+-- so after an event: a dialogue that is opened begins with the identifier that is answered and those of its Begin
 abbrev pub beginning_after : Option ℕ → Option Prepared → Bool → Option Beginning → Option Beginning
-beginning_after None came is_new before = before
-beginning_after (Some local) None is_new before = before
 beginning_after (Some local) (Some came) is_new before =
     if is_new then Some (record { local = local; peer = sender_of came; moment = (arrival_of came).moment }) else before
+beginning_after _ _ is_new before = before
 
 -- how the dialogue of a birth began
 abbrev pub beginning : List Event → ℕ → Option Beginning
@@ -75,13 +62,7 @@ destination h (Some came) = option_and_then (named h) (option_and_then (λ tid. 
 
 -- a list, if the dialogue of an event is this one; else nothing
 abbrev pub for_one : {X : Type 0} → Option ℕ → ℕ → List X → List X
-for_one None d list = []
-for_one (Some other) d list = if d == other then list else []
-
--- whether it is this one
-abbrev pub is_one : Option ℕ → ℕ → Bool
-is_one None d = false
-is_one (Some other) d = d == other
+for_one dialogue d list = if is_one dialogue d then list else []
 
 -- a number of each of the births 1 to n, added up
 abbrev pub sum_to : ℕ → (ℕ → ℕ) → ℕ

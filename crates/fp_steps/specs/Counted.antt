@@ -3,7 +3,7 @@ use Rattle.std.specs.Prelude.{ℕ, ◌+◌, ◌==◌, Bool, false, not, List, []
 use Rattle.std.specs.List.{sum_by}
 use Rattle.std.specs.Option.{option_map_or}
 use Rattle.fp_book.specs.declared.answers.Posted.{Posted}
-use Rattle.fp_book.specs.declared.answers.Posted.TheVariants.{Opened, Accepted, Aborted, Ended, Discarded}
+use Rattle.fp_book.specs.declared.answers.Posted.TheVariants.{Opened, Accepted}
 use Rattle.fp_book.specs.declared.line.LoggedStep.{LoggedStep}
 use Rattle.fp_book.specs.declared.line.LoggedStep.TheVariants as line
 use Rattle.fp_book.specs.declared.totals.Totals.{Totals}
@@ -25,9 +25,7 @@ is_sent_frame _ = false
 abbrev pub accepted_by : Posted → Option Prepared → ℕ
 accepted_by (Opened local) came = option_map_or components_of came 0
 accepted_by (Accepted count) came = option_map_or components_of came 0
-accepted_by (Aborted cause) came = 0
-accepted_by Ended came = 0
-accepted_by Discarded came = 0
+accepted_by _ came = 0
 
 abbrev pub accepted_by_line : LoggedStep → Option Prepared → ℕ
 accepted_by_line (line.Post table moment message answer) came = accepted_by answer came

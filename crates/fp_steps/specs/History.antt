@@ -9,7 +9,7 @@ use Rattle.fp_records.specs.declared.table.TheConstants.Table.{LAST_INDEX}
 use Rattle.fp_book.specs.Rules.{is_lost}
 use Rattle.fp_steps.specs.declared.output.Output.{Output}
 use Rattle.fp_steps.specs.declared.step.Step.{Step}
-use Rattle.fp_steps.specs.declared.step.Step.TheVariants.{Post, Lost, Tick, Take, Give, PutBack, Pick, Sent, Unsent, Down}
+use Rattle.fp_steps.specs.declared.step.Step.TheVariants.{Post, Lost}
 
 -- a step, what its message was prepared to, where it posts one, and what was answered
 pub record Event : Type 0 where
@@ -50,14 +50,7 @@ IsUnread octets moment (Some came) = IsLost octets moment came
 abbrev pub IsCame : List Contents → List (List ℕ) → Step → Option Prepared → Type 0
 IsCame tables contexts (Post table frame moment) came = IsReadBy (table_at tables table) contexts frame moment came
 IsCame tables contexts (Lost frame moment) came = IsUnread frame moment came
-IsCame tables contexts (Tick moment) came = IsNone came
-IsCame tables contexts Take came = IsNone came
-IsCame tables contexts (Give local) came = IsNone came
-IsCame tables contexts (PutBack local) came = IsNone came
-IsCame tables contexts Pick came = IsNone came
-IsCame tables contexts Sent came = IsNone came
-IsCame tables contexts Unsent came = IsNone came
-IsCame tables contexts Down came = IsNone came
+IsCame tables contexts _ came = IsNone came
 
 -- the history tells of these steps, by these tables and names, and of these outputs
 pub record Tells (tables : List Contents) (contexts : List (List ℕ)) (steps : List Step) (outputs : List Output) (h : List Event) : Type 0 where

@@ -24,11 +24,10 @@ pub mod Laws
 -- WHAT ONLY PROOFS NEED: `run`, `lines_of` and the laws, but for one, promise nothing in these words
 
 -- what a run keeps, and what a step makes of its book (the law `books_log_what_is_told` speaks of this)
-pub mod Tokens
 pub mod Makes
-pub mod Log
 -- WHAT `LinkRun` HANDS ON FROM STEP TO STEP, and that law supposes: how a book stands to its history, and that it
 -- does so
 pub mod Tied
 pub mod Lined
 pub mod After
+pub mod proof_only

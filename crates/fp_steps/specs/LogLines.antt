@@ -13,6 +13,7 @@ use Rattle.fp_book.specs.declared.answers.Given.TheVariants.{Dropped, Queued, Si
 use Rattle.fp_book.specs.declared.line.LoggedStep.TheVariants.{Down, Gap, Give, Lost, Pick, Post, PutBack, Sent, Take, Tick, Unsent}
 use Rattle.fp_records.specs.Table.{Contents}
 use Rattle.fp_records.specs.declared.table.TheConstants.Table.{LAST_INDEX}
+use Rattle.fp_tids.specs.Identifiers.{base_of, last_tag}
 use Rattle.fp_steps.specs.declared.output.Output.{Output}
 use Rattle.fp_steps.specs.declared.step.Step.{Step}
 use Rattle.fp_steps.specs.Answers.{AllAnswered}
@@ -64,12 +65,12 @@ IsStep (Unsent birth) = birth < 2 ^ 64
 IsStep Down = ⊤
 IsStep (Gap lost) = lost < 2 ^ 64
 
--- a line of a log: there are one to eight links, and a step is of one of eight
+-- a line of a log: there are one to eight links and a tag of 0 to 4,094, and a step is of one of eight links
 abbrev pub IsLine : Line → Type 0
-IsLine (lines.Head links) = (1 ≤ links) × (links ≤ 8)
+IsLine (lines.Head links tag) = (1 ≤ links) × (links ≤ 8) × (tag ≤ last_tag)
 IsLine (lines.Step link step) = (link < 8) × IsStep step
 
--- these lines are the log of a link, by its steps and outputs: whatever history these are of, they are its lines
-pub record IsLog (link : ℕ) (steps : List Step) (outputs : List Output) (log : List Line) : Type 0 where
-  pub lines_are : (tables : List Contents) (contexts : List (List ℕ)) (h : List Event) → Tells tables contexts steps outputs h → AllAnswered link h → log ≡ log_of link h
+-- these lines are the log of a link and a tag, by its steps and outputs: whatever history these are of, they are its lines
+pub record IsLog (link tag : ℕ) (steps : List Step) (outputs : List Output) (log : List Line) : Type 0 where
+  pub lines_are : (tables : List Contents) (contexts : List (List ℕ)) (h : List Event) → Tells tables contexts steps outputs h → AllAnswered (base_of link tag) h → log ≡ log_of link tag h
   pub in_range : AllByRecursion IsLine log

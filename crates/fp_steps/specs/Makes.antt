@@ -1,6 +1,7 @@
 -- What a step makes of the book of a run.
 use Rattle.std.specs.Prelude.{◌≡◌, ◌≢◌, ◌≤◌, ℕ, List, [], Option, Some, None, IsSome, length}
 use Rattle.std.specs.FinMap.{get}
+use Rattle.fp_book.specs.Limits.{most_places}
 use Rattle.fp_book.specs.declared.line.LoggedStep.TheVariants as line
 use Rattle.fp_book.specs.declared.parcel.Content.{Content}
 use Rattle.fp_book.specs.declared.parcel.Parcel.{Parcel}
@@ -33,7 +34,7 @@ TicksTo moment _ old new = ⊥
 abbrev pub TakesTo : Output → Shelf → Shelf → Type 0
 TakesTo (outputs.Took local position count) old new =
     (turn : Turn) × (turn.local ≡ local) × (turn.position ≡ position) × (length turn.entries ≡ count) × TakesTurn old turn new
-TakesTo outputs.NoRoom old new = (old.ready ≢ []) × (8192 ≤ places_held old) × (new ≡ old)
+TakesTo outputs.NoRoom old new = (old.ready ≢ []) × (most_places ≤ places_held old) × (new ≡ old)
 TakesTo outputs.Nothing old new = (old.ready ≡ []) × (new ≡ old)
 TakesTo _ old new = ⊥
 

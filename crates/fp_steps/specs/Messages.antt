@@ -5,7 +5,7 @@ use Rattle.fp_book.specs.declared.answers.Posted.{Posted}
 use Rattle.fp_book.specs.declared.answers.Posted.TheVariants as answers
 use Rattle.fp_book.specs.declared.rules.Facts.{Facts}
 use Rattle.fp_book.specs.declared.rules.Rule.{Rule}
-use Rattle.fp_book.specs.declared.rules.Rule.TheVariants.{Discard, Refuse, Open, Extend}
+use Rattle.fp_book.specs.declared.rules.Rule.TheVariants.{Refuse, Open, Extend}
 use Rattle.fp_book.specs.Calls.{abort_for}
 -- how many components are accepted
 pub use Rattle.fp_book.specs.Receipt.{accepted_components as components_in}
@@ -55,19 +55,19 @@ refused waiting came named closes_none = refused_by (abort_for waiting named (ar
 abbrev pub opened_with : Option ℕ → Posted
 opened_with next = option_map_or (λ local. answers.Opened local) next answers.Discarded
 
--- A Begin that is taken opens a dialogue with the identifier of the serial that is given next. There is always one (see
--- IdentifiersHold): at most 4,096 of 131,072 are held. One without its sender's identifier isn't a message.
+-- A Begin that is taken opens a dialogue with the identifier of the serial that is given next: the sum of that serial
+-- and the number that serials are added to on the link. There is always one (see IdentifiersHold): at most 4,096 of
+-- 131,072 are held. One without its sender's identifier isn't a message.
 abbrev pub begun : ℕ → List Event → Prepared → Posted
-begun link h came = option_map_or (λ (peer : Tid). opened_with (first_of link (free h))) (arrival_of came).ids.orig answers.Discarded
+begun base h came = option_map_or (λ (peer : Tid). opened_with (first_of base (free h))) (arrival_of came).ids.orig answers.Discarded
 
 -- what a rule answers to a message that names this dialogue, or none
 abbrev pub answer_by : ℕ → List Event → Prepared → Option ℕ → Rule → Posted
-answer_by link h came dialogue Discard = answers.Discarded
-answer_by link h came dialogue (Refuse named) = refused (length (aborts_waiting h)) came named (is_none dialogue)
-answer_by link h came dialogue Open = begun link h came
-answer_by link h came None (Extend ends) = answers.Discarded
-answer_by link h came (Some d) (Extend ends) = answers.Accepted (length (entries_in came))
+answer_by base h came dialogue (Refuse named) = refused (length (aborts_waiting h)) came named (is_none dialogue)
+answer_by base h came dialogue Open = begun base h came
+answer_by base h came (Some d) (Extend ends) = answers.Accepted (length (entries_in came))
+answer_by base h came dialogue _ = answers.Discarded
 
 -- what a message is answered
 abbrev pub answer_to : ℕ → List Event → Prepared → Posted
-answer_to link h came = answer_by link h came (addressee h came) (rule (facts_in h (addressee h came)) came)
+answer_to base h came = answer_by base h came (addressee h came) (rule (facts_in h (addressee h came)) came)

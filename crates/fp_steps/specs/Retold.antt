@@ -1,11 +1,13 @@
--- Which histories retell the lines of a log.
+-- Which histories retell the lines of a log, and that the log of a run is retold.
 use Rattle.std.specs.Prelude.{◌≡◌, ℕ, List, [], ◌∷◌, Option, Some, None, option_map, ⊤}
 use Rattle.fp_book.specs.declared.line.LoggedStep.{LoggedStep}
 use Rattle.fp_book.specs.declared.line.LoggedStep.TheVariants as line
 use Rattle.fp_records.specs.Table.{Contents}
+use Rattle.fp_steps.specs.declared.output.Output.{Output}
 use Rattle.fp_steps.specs.declared.step.Step.{Step}
 use Rattle.fp_steps.specs.declared.step.Step.TheVariants as steps
 use Rattle.fp_steps.specs.Answers.{IsAnswer}
+use Rattle.fp_steps.specs.Headline.{Runs}
 use Rattle.fp_steps.specs.History.{Event, IsCame, outputs_of}
 use Rattle.fp_steps.specs.Told.{lines_told, told}
 use Rattle.fp_steps.specs.Totals.{totals_of}
@@ -28,21 +30,27 @@ step_of h (line.Gap lost) = None
 
 -- an event retells a line after this history: its step is the line's, by these tables and names its message is what
 -- that brings, its output is the answer there, and what a log tells of it is that line
-pub record RetellsOne (tables : List Contents) (contexts : List (List ℕ)) (link : ℕ) (line : LoggedStep) (h : List Event) (e : Event) : Type 0 where
+pub record RetellsOne (tables : List Contents) (contexts : List (List ℕ)) (base : ℕ) (line : LoggedStep) (h : List Event) (e : Event) : Type 0 where
   pub step : step_of h line ≡ Some e.step
   pub came : IsCame tables contexts e.step e.came
-  pub answer : IsAnswer link h e.step e.came e.output
+  pub answer : IsAnswer base h e.step e.came e.output
   pub tells : told h e.step e.output ≡ Some line
 
 -- the events of a history retell these lines, each after those before it; both have the newest first
 abbrev pub Retells : List Contents → List (List ℕ) → ℕ → List LoggedStep → List Event → Type 0
-Retells tables contexts link [] [] = ⊤
-Retells tables contexts link [] (e ∷ h) = ⊥
-Retells tables contexts link (line ∷ lines) [] = ⊥
-Retells tables contexts link (line ∷ lines) (e ∷ h) = RetellsOne tables contexts link line h e × Retells tables contexts link lines h
+Retells tables contexts base [] [] = ⊤
+Retells tables contexts base [] (e ∷ h) = ⊥
+Retells tables contexts base (line ∷ lines) [] = ⊥
+Retells tables contexts base (line ∷ lines) (e ∷ h) = RetellsOne tables contexts base line h e × Retells tables contexts base lines h
 
 -- the lines of the log of a run are retold by a history, and that has the same totals
-pub record LogIsRetold (tables : List Contents) (contexts : List (List ℕ)) (link : ℕ) (h : List Event) : Type 0 where
+pub record LogIsRetold (tables : List Contents) (contexts : List (List ℕ)) (base : ℕ) (h : List Event) : Type 0 where
   pub history : List Event
-  pub retells : Retells tables contexts link (lines_told h) history
+  pub retells : Retells tables contexts base (lines_told h) history
   pub totals : totals_of (outputs_of history) ≡ totals_of (outputs_of h)
+
+-- these are outputs of these steps on a link (see Runs), and the lines of the log of that run are retold by a history
+-- with the same totals
+abbrev pub LogsRun : List Contents → List (List ℕ) → ℕ → List Step → List Output → Type 0
+LogsRun tables contexts base steps outputs =
+    (run : Runs tables contexts base steps outputs) × LogIsRetold tables contexts base run.history

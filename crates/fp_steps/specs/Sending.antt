@@ -1,10 +1,10 @@
 -- What the service logic of each dialogue of a run requests, what of that is accepted for sending, and what is sent.
 use Rattle.std.specs.Prelude.{ℕ, ◌==◌, List, [], ◌∷◌, ◌++◌, Option, Some, None, map, if◌then◌else◌}
+use Rattle.std.specs.Option.{option_map_or}
 use Rattle.fp_ber.specs.Canon.{canon}
 use Rattle.fp_book.specs.declared.answers.Given.{Given}
-use Rattle.fp_book.specs.declared.answers.Given.TheVariants.{Silent, Queued, Dropped}
-use Rattle.fp_book.specs.declared.answers.Posted.{Posted}
-use Rattle.fp_book.specs.declared.answers.Posted.TheVariants.{Opened, Accepted, Aborted, Ended, Discarded}
+use Rattle.fp_book.specs.declared.answers.Given.TheVariants.{Queued}
+use Rattle.fp_book.specs.declared.answers.Posted.TheVariants.{Aborted}
 use Rattle.fp_entry.specs.declared.prepared.Prepared.{Prepared}
 use Rattle.fp_frames.specs.Frame.{framed}
 use Rattle.fp_q773.specs.ProviderAbort.{cause_code, provider_abort}
@@ -19,8 +19,7 @@ use Rattle.fp_steps.specs.History.{Event}
 
 -- the frame of a request, under the identifiers with which its dialogue began
 abbrev pub frame_from : Option Beginning → Request → List ℕ
-frame_from None request = []
-frame_from (Some b) request = frame_of request b.local b.peer
+frame_from began request = option_map_or (λ (b : Beginning). frame_of request b.local b.peer) began []
 
 -- the frames of what the service logic requests along the entries that were served, in order
 abbrev pub asked : List Event → ℕ → List (List ℕ)
@@ -32,9 +31,8 @@ asked_at h d place count = map (frame_from (beginning h d)) (requests (core_of h
 
 -- the requests were accepted for sending
 abbrev pub if_queued : Given → List (List ℕ) → List (List ℕ)
-if_queued Silent frames = []
 if_queued (Queued count) frames = frames
-if_queued (Dropped count) frames = []
+if_queued _ frames = []
 
 abbrev pub queued_in : Output → List Event → ℕ → List (List ℕ)
 queued_in (outputs.Gave local position served given) h d = if_queued given (for_one (named h local) d (asked_at h d position served))
@@ -65,8 +63,7 @@ out (e ∷ h) = out_after e.output h (out h)
 
 -- a dialogue's frame that was out
 abbrev pub frame_for : Option Handed → ℕ → List (List ℕ)
-frame_for None d = []
-frame_for (Some handed) d = for_one handed.dialogue d (handed.octets ∷ [])
+frame_for out d = option_map_or (λ (handed : Handed). for_one handed.dialogue d (handed.octets ∷ [])) out []
 
 abbrev pub sent_in : Output → List Event → ℕ → List (List ℕ)
 sent_in outputs.Sent h d = frame_for (out h) d
@@ -77,17 +74,9 @@ abbrev pub sent : List Event → ℕ → List (List ℕ)
 sent [] d = []
 sent (e ∷ h) d = sent h d ++ sent_in e.output h d
 
--- an Abort of the provider for this cause, to the sender of a message
-abbrev pub abort_by : Posted → Option Prepared → List (List ℕ)
-abort_by (Aborted cause) None = []
-abort_by (Aborted cause) (Some came) = framed (canon (provider_abort (sender_of came) (cause_code cause))) ∷ []
-abort_by (Opened local) came = []
-abort_by (Accepted count) came = []
-abort_by Ended came = []
-abort_by Discarded came = []
-
+-- the Abort of the provider that a message is answered, for a cause, to its sender
 abbrev pub abort_in : Output → Option Prepared → List (List ℕ)
-abort_in (outputs.Posted answer components) came = abort_by answer came
+abort_in (outputs.Posted (Aborted cause) components) (Some came) = framed (canon (provider_abort (sender_of came) (cause_code cause))) ∷ []
 abort_in _ came = []
 
 -- the Aborts of the provider that were answered, as frames, in order
@@ -96,8 +85,7 @@ aborts [] = []
 aborts (e ∷ h) = aborts h ++ abort_in e.output e.came
 
 abbrev pub abort_out : Option Handed → List (List ℕ)
-abort_out None = []
-abort_out (Some handed) = if handed.local == 0 then handed.octets ∷ [] else []
+abort_out out = option_map_or (λ (handed : Handed). if handed.local == 0 then handed.octets ∷ [] else []) out []
 
 abbrev pub abort_sent_in : Output → List Event → List (List ℕ)
 abort_sent_in outputs.Sent h = abort_out (out h)

@@ -15,9 +15,8 @@ use Rattle.fp_row.specs.Row.{is_closed, queued_of, sent_of}
 use Rattle.fp_service.specs.declared.dialogue.Core.{Core}
 use Rattle.fp_service.specs.Dialogue.{fresh, is_over}
 use Rattle.fp_service.specs.Fold.{core_after, cut, requests}
-use Rattle.fp_steps.specs.Accepted.{accepted, ending, entry_count, in_places, positions}
+use Rattle.fp_steps.specs.Accepted.{accepted, ending, entry_count, in_places, numbers_from, positions}
 use Rattle.fp_steps.specs.Births.{Beginning, beginning, births, local_of, named}
-use Rattle.fp_steps.specs.Headline.{numbers}
 use Rattle.fp_steps.specs.History.{Event}
 use Rattle.fp_steps.specs.Sending.{Handed, abort_out, aborts, aborts_sent, frame_from, out, queued, sent}
 use Rattle.fp_steps.specs.Turns.{count_out}
@@ -60,7 +59,7 @@ asked_in d t = map (frame_from t.began) (requests (start_in d t) (served_in t))
 pub record IsStraight (d : ℕ) (t : Story) : Type 0 where
   pub served_first : IsPrefix (served_in t) (cut (start_in d t) t.accepts)
   pub sent_first : IsPrefix t.sends (asked_in d t)
-  pub each_once : t.places ≡ numbers (length t.places)
+  pub each_once : t.places ≡ numbers_from 0 (length t.places)
   pub each_there : length (served_in t) ≡ length t.places
   pub sent_queued : IsPrefix t.sends t.queues
   pub queued_first : IsPrefix t.queues (asked_in d t)
@@ -82,7 +81,7 @@ pub record IsTied (d : ℕ) (t : Story) (row : Row) : Type 0 where
   pub birth : row.birth ≡ d
   pub begins : t.began ≡ Some (beginning_of row)
   pub accepts : t.accepts ≡ row.accepted
-  pub serves : t.places ≡ numbers row.served
+  pub serves : t.places ≡ numbers_from 0 row.served
   pub queues : t.queues ≡ queued_of row
   pub sends : t.sends ≡ sent_of row
   pub ends : t.ended ≡ row.ended

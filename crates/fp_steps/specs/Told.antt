@@ -49,15 +49,13 @@ abbrev pub told : List Event → Step → Output → Option LoggedStep
 told h step (outputs.Posted answer components) = told_message step answer
 told h step (outputs.Ticked added wanting) = told_tick step added wanting
 told h step (outputs.Took local position count) = option_map (λ d. line.Take d position count) (named h local)
-told h step outputs.NoRoom = None
 told h step (outputs.Gave local position served given) = option_map (λ d. line.Give d position served given) (named h local)
 told h step outputs.WentBack = told_back h step
 told h step (outputs.Picked local frame) = Some (line.Pick (birth_picked h local))
-told h step outputs.Busy = None
 told h step outputs.Sent = option_map (λ d. line.Sent d) (birth_out h)
 told h step outputs.Unsent = option_map (λ d. line.Unsent d) (birth_out h)
 told h step outputs.Down = Some line.Down
-told h step outputs.Nothing = None
+told h step _ = None
 
 -- whether a log has a line for what is told: it leaves out ticks at which no dialogue was due
 abbrev pub is_written : LoggedStep → Bool
@@ -76,6 +74,7 @@ abbrev pub lines_told : List Event → List LoggedStep
 lines_told [] = []
 lines_told (e ∷ h) = option_to_list (logged h e.step e.output) ++ lines_told h
 
--- the log of a run on a link: how many links there are up to that, and then the lines of its steps, in order
-abbrev pub log_of : ℕ → List Event → List Line
-log_of link h = lines.Head (link + 1) ∷ map (lines.Step link) (reverse (lines_told h))
+-- the log of a run on a link, with this tag: how many links there are up to that, the tag, and then the lines of its
+-- steps, in order
+abbrev pub log_of : ℕ → ℕ → List Event → List Line
+log_of link tag h = lines.Head (link + 1) tag ∷ map (lines.Step link) (reverse (lines_told h))

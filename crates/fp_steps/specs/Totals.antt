@@ -1,7 +1,8 @@
 -- The totals of a run, from its outputs alone; and the sums over its dialogues, which they are.
-use Rattle.std.specs.Prelude.{◌≡◌, ℕ, ◌+◌, ◌^◌, ◌≤◌, ◌==◌, Bool, false, not, List, [], ◌∷◌, Option, Some, None, length, min, reverse, if◌then◌else◌}
+use Rattle.std.specs.Prelude.{◌≡◌, ℕ, ◌+◌, ◌≤◌, ◌*◌, ◌==◌, Bool, false, not, List, [], ◌∷◌, Option, Some, None, length, min, reverse, if◌then◌else◌}
 use Rattle.std.specs.List.{sum_by}
 use Rattle.std.specs.Option.{option_map_or}
+use Rattle.fp_book.specs.Limits.{all_entries, most_dialogues}
 use Rattle.fp_book.specs.declared.totals.Totals.{Totals}
 use Rattle.fp_steps.specs.declared.output.Output.{Output}
 use Rattle.fp_steps.specs.declared.output.Output.TheVariants as outputs
@@ -71,23 +72,19 @@ capped_totals t = record { accepted = capped t.accepted; served = capped t.serve
 
 -- over all dialogues: how many of the entries that each accepted come from components, how many of them were served,
 -- and how many frames were sent for it
-abbrev pub all_components : List Event → ℕ
-all_components h = sum_to (births h) (λ d. component_count (accepted h d))
-
-abbrev pub all_served : List Event → ℕ
-all_served h = sum_to (births h) (λ d. length (served h d))
-
-abbrev pub all_sent : List Event → ℕ
-all_sent h = sum_to (births h) (λ d. length (sent h d))
-
 abbrev pub totals_over : List Event → Totals
-totals_over h = record { accepted = all_components h; served = all_served h; sent = all_sent h }
+totals_over h = record {
+  accepted = sum_to (births h) (λ d. component_count (accepted h d));
+  served = sum_to (births h) (λ d. length (served h d));
+  sent = sum_to (births h) (λ d. length (sent h d));
+}
 
--- none of them is more than the entries that a link can accept
+-- none of them is more than the entries that a link accepts: after the last one it takes no more, but those of one tick,
+-- and the end of each dialogue
 pub record AreFew (totals : Totals) : Type 0 where
-  pub accepted : totals.accepted ≤ 2 ^ 63 + 8192
-  pub served : totals.served ≤ 2 ^ 63 + 8192
-  pub sent : totals.sent ≤ 2 ^ 63 + 8192
+  pub accepted : totals.accepted ≤ all_entries + 2 * most_dialogues
+  pub served : totals.served ≤ all_entries + 2 * most_dialogues
+  pub sent : totals.sent ≤ all_entries + 2 * most_dialogues
 
 -- the totals of these outputs are the sums over the dialogues of their history, which 64 bits hold
 pub record AddUp (outputs : List Output) (h : List Event) : Type 0 where

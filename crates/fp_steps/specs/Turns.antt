@@ -13,16 +13,12 @@ use Rattle.fp_steps.specs.Accepted.{accepted, core_of, ending, positions}
 use Rattle.fp_steps.specs.Births.{is_one, local_of, named}
 use Rattle.fp_steps.specs.History.{Event}
 
--- how many entries of a dialogue are out after a turn was put back: none, if the step names that dialogue
-abbrev pub put_back_after : Step → List Event → ℕ → ℕ → ℕ
-put_back_after (steps.PutBack local) h d before = if is_one (named h local) d then 0 else before
-put_back_after _ h d before = before
-
--- how many entries of a dialogue are out after an event, by its answer
+-- how many entries of a dialogue are out after an event: as many as the answer to a Take that names it says, and none
+-- after a turn of it was given or put back
 abbrev pub count_after : Output → Step → List Event → ℕ → ℕ → ℕ
 count_after (outputs.Took local position count) step h d before = if is_one (named h local) d then count else before
 count_after (outputs.Gave local position served given) step h d before = if is_one (named h local) d then 0 else before
-count_after outputs.WentBack step h d before = put_back_after step h d before
+count_after outputs.WentBack (steps.PutBack local) h d before = if is_one (named h local) d then 0 else before
 count_after _ step h d before = before
 
 -- how many entries of a dialogue are out as a turn: those of the one that was taken, and since then neither given nor

@@ -1,5 +1,5 @@
 -- What of a run waits to be sent, and how much it holds.
-use Rattle.std.specs.Prelude.{ℕ, ◌+◌, ◌==◌, ◌&&◌, ◌||◌, Bool, true, false, not, List, [], ◌∷◌, ◌++◌, Option, Some, None, drop, filter, length, suc, nat_le, if◌then◌else◌}
+use Rattle.std.specs.Prelude.{ℕ, ◌+◌, ◌==◌, ◌&&◌, ◌||◌, Bool, true, false, not, List, [], ◌∷◌, ◌++◌, Option, drop, filter, length, suc, nat_le, if◌then◌else◌}
 use Rattle.std.specs.List.{list_any}
 use Rattle.std.specs.Option.{option_map_or}
 use Rattle.fp_steps.specs.declared.output.Output.{Output}
@@ -34,8 +34,7 @@ numbered d place (frame ∷ frames) = record { dialogue = d; place = place; fram
 
 -- those that are accepted for sending by an answer, of the dialogue that it names
 abbrev pub frames_by : Option ℕ → Output → List Event → List QueuedFrame
-frames_by None output h = []
-frames_by (Some d) output h = numbered d (length (queued h d)) (queued_in output h d)
+frames_by dialogue output h = option_map_or (λ d. numbered d (length (queued h d)) (queued_in output h d)) dialogue []
 
 -- all of them after an event
 abbrev pub frames_after : Output → List Event → List QueuedFrame → List QueuedFrame

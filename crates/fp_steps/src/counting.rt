@@ -79,8 +79,8 @@ fn with_output(totals: Totals, output: &Output, out: Option<u32>) -> Totals
 /// The totals of these outputs: the components that were accepted, the entries that were served, and the frames of
 /// dialogues that were sent. A number above the greatest one is given as that; no run has one. Takes no memory.
 pub fn totals(outputs: &[Output]) -> Totals
-    ensures of_runs { (tables : List Contents) (contexts : List (List ℕ)) (link : ℕ) (steps : List Step)
-        → Runs tables contexts link steps outputs.now → result ≡ totals_of outputs.now }
+    ensures of_runs { (tables : List Contents) (contexts : List (List ℕ)) (base : ℕ) (steps : List Step)
+        → Runs tables contexts base steps outputs.now → result ≡ totals_of outputs.now }
     ensures of_all { result ≡ capped_totals (totals_of outputs.now) }
 {
     let mut totals = Totals {

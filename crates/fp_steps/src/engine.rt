@@ -1,12 +1,12 @@
 //! A book, and the tokens that are out of it.
 
-ghost use Rattle.std.specs.Prelude.{◌≡◌, ◌<◌, IfOk, Some, is_some};
+ghost use Rattle.std.specs.Prelude.{◌≡◌, ◌<◌, ◌≤◌, IfOk, Some, is_some};
 ghost use Rattle.std.specs.FinMap.{get};
 ghost use Rattle.fp_book.specs.Calls.{PutsTurnBack, turn_of};
 ghost use Rattle.fp_book.specs.Shelf.{Sound, empty_shelf};
 ghost use Rattle.fp_steps.specs.History.{table_at};
 ghost use Rattle.fp_steps.specs.Makes.{GivesTo, MakesStep, PicksTo, PostsTo, PutsBackTo, SendsTo, TakesTo, TicksTo, UnsendsTo};
-ghost use Rattle.fp_steps.specs.Tokens.{Holds};
+ghost use Rattle.fp_steps.specs.proof_only.Tokens.{Holds};
 
 use crate::parts::{is_lost, take_turn};
 use crate::{Output, Step};
@@ -212,14 +212,15 @@ impl Engine {
     }
 
     /// The engine of a link on which nothing came yet.
-    pub(crate) fn new(alloc: Global, link: u8) -> Result<Engine, AllocError>
-        requires { link < LocalIds.LINKS }
-        ensures value { IfOk result (λ engine. engine.book ≡ empty_shelf link) }
+    pub(crate) fn new(alloc: Global, link: u8, tag: u16) -> Result<Engine, AllocError>
+        requires links { link < LocalIds.LINKS }
+        requires tags { tag ≤ LocalIds.LAST_TAG }
+        ensures value { IfOk result (λ engine. engine.book ≡ empty_shelf link tag) }
         ensures sound { IfOk result (λ engine. Sound engine.book) }
         ensures holds { IfOk result (λ engine. Holds engine.turns.items engine.parcel engine.book) }
     {
         Ok(Engine {
-            book: Book::new(alloc, link)?,
+            book: Book::with_tag(alloc, link, tag)?,
             turns: Vec::new(alloc),
             parcel: None,
         })

@@ -1,6 +1,6 @@
 //! What holds of all runs.
 
-ghost use Rattle.fp_steps.specs.Laws.{AnswersAreOne, BooksLogWhatIsTold, HeadlineHolds, LinesAreRetoldOnce, RetoldLinesAreCounted, RunsAreOne, SentAlike};
+ghost use Rattle.fp_steps.specs.Laws.{AnswersAreOne, AnswersExist, BooksLogWhatIsTold, HeadlineHolds, IdentifiersComeBackLate, LinesAreRetoldOnce, RetoldLinesAreCounted, RunsAreOne, SentAlike};
 
 use fp_entry::prepared_is_one;
 
@@ -25,6 +25,19 @@ pub fn answers_are_one()
 {
     prepared_is_one();
 }
+
+/// After each history that leads to a book each step has an answer, whatever its message is prepared to; by
+/// [`answers_are_one`] it has no other. That every frame is prepared to something isn't said here: `Prepared::read` of
+/// `fp_entry` prepares it, unless memory runs out.
+pub fn every_step_has_an_answer()
+    ensures { AnswersExist }
+{}
+
+/// An identifier comes back late: between two dialogues of a run that are opened with one local transaction identifier
+/// at least 126,976 others are opened, since of 131,072 serials at most 4,096 are those of dialogues that are held.
+pub fn identifiers_come_back_late()
+    ensures { IdentifiersComeBackLate }
+{}
 
 /// A list of steps has one list of outputs and one history, by the same tables and names, on the same link: the event
 /// of each step has the same message and the same output, whatever makes the steps.

@@ -1,13 +1,13 @@
 //! A run of a link, step by step.
 
-ghost use Rattle.std.specs.Prelude.{◌≡◌, ◌<◌, ℕ, List, [], None, IfOk, drop, option_to_list};
+ghost use Rattle.std.specs.Prelude.{◌≡◌, ◌<◌, ◌≤◌, ℕ, List, [], None, IfOk, drop, option_to_list};
 ghost use Rattle.fp_book.specs.Shelf.{Sound};
 ghost use Rattle.fp_records.specs.Table.{Contents};
 ghost use Rattle.fp_steps.specs.After.{Follows, IsAfter};
 ghost use Rattle.fp_steps.specs.History.{Event, outputs_of};
-ghost use Rattle.fp_steps.specs.Log.{first_of, place_or, placed, step_in, tick_in, told_from};
+ghost use Rattle.fp_steps.specs.proof_only.Log.{first_of, place_or, placed, step_in, tick_in, told_from};
 ghost use Rattle.fp_steps.specs.Told.{written};
-ghost use Rattle.fp_steps.specs.Tokens.{IsPlace};
+ghost use Rattle.fp_steps.specs.proof_only.Tokens.{IsPlace};
 ghost use Rattle.fp_steps.specs.Totals.{totals_of};
 ghost use Rattle.fp_steps.specs.Turns.{local_if_out};
 
@@ -43,7 +43,7 @@ impl Model for LinkRun {
 
     ghost coded = { Prim.hlevel (codes, map.code {R = nat_cmp} coded_ℕ row_type.the_row.coded) };
 
-    ghost use Rattle.fp_steps.specs.Tokens.{IsKept};
+    ghost use Rattle.fp_steps.specs.proof_only.Tokens.{IsKept};
 
     ghost view = { λ run. run.engine.book };
 
@@ -55,7 +55,7 @@ fn step_in(line: Line) -> Option<LoggedStep>
     ensures { result ≡ step_in line }
 {
     match line {
-        Line::Head { links: _ } => None,
+        Line::Head { links: _, tag: _ } => None,
         Line::Step { link: _, step } => Some(step),
     }
 }
@@ -141,15 +141,18 @@ fn told_from(line: Option<LoggedStep>, step: &Step, output: &Output) -> Option<L
 }
 
 impl LinkRun {
-    /// The run of a link, 0 to 7, on which nothing came yet. `Err`: memory ran out.
-    pub fn new(alloc: Global, link: u8) -> Result<LinkRun, AllocError>
-        requires { link < LocalIds.LINKS }
+    /// The run of a link, 0 to 7, with this tag, 0 to 4,094, on which nothing came yet. A run without a tag has 0. `Err`:
+    /// memory ran out.
+    pub fn new(alloc: Global, link: u8, tag: u16) -> Result<LinkRun, AllocError>
+        requires links { link < LocalIds.LINKS }
+        requires tags { tag ≤ LocalIds.LAST_TAG }
         ensures link { IfOk result (λ run. run.link ≡ link) }
+        ensures tag { IfOk result (λ run. run.tag ≡ tag) }
         ensures after { IfOk result (λ run. (tables : List Contents) (contexts : List (List ℕ)) → IsAfter tables contexts [] run) }
     {
         rows_keep_their_order();
         let lines = Vec::with_capacity(alloc, 1)?;
-        let engine = Engine::new(alloc, link)?;
+        let engine = Engine::new(alloc, link, tag)?;
         Ok(LinkRun { engine, lines })
     }
 
@@ -164,6 +167,7 @@ impl LinkRun {
         step: &Step,
     ) -> Result<Stepped, AllocError>
         ensures link { IfOk result (λ made. self.new.link ≡ self.old.link) }
+        ensures tag { IfOk result (λ made. self.new.tag ≡ self.old.tag) }
         ensures follows { IfOk result (λ made. (h : List Event) → IsAfter tables.now contexts.now h self.old → Follows tables.now contexts.now h step.now made self.new) }
         ensures unwritten { IfOk result (λ made. written made.line ≡ None → self.new ≡ record self.old { log = self.new.log }) }
     {

@@ -1,11 +1,11 @@
 //! The log of a run.
 
-ghost use Rattle.std.specs.Prelude.{◌≡◌, ◌<◌, ◌+◌, ◌^◌, ◌++◌, ℕ, IfOk, IfSome, None, Some, map, option_to_list};
+ghost use Rattle.std.specs.Prelude.{◌≡◌, ◌<◌, ◌≤◌, ◌+◌, ◌^◌, ◌++◌, ℕ, IfOk, IfSome, None, Some, map, option_to_list};
 ghost use Rattle.std.specs.List.{AllByRecursion};
 ghost use Rattle.std.specs.Option.{option_and_then};
 ghost use Rattle.fp_book.specs.declared.line.Line.TheVariants as line;
 ghost use Rattle.fp_steps.specs.Births.{opened_in};
-ghost use Rattle.fp_steps.specs.Log.{NamesThen, back_by, back_in, moves, name_in, name_of, names_in, others, others_if, place_if, place_in, place_of, sending_after, taken_in, told_by, told_where, turns_after};
+ghost use Rattle.fp_steps.specs.proof_only.Log.{NamesThen, back_by, back_in, moves, name_in, name_of, names_in, others, others_if, place_if, place_in, place_of, sending_after, taken_in, told_by, told_where, turns_after};
 ghost use Rattle.fp_steps.specs.LogLines.{HasPlace, IsLine, IsLog};
 ghost use Rattle.fp_steps.specs.Told.{birth_under, is_written, told_message, told_tick, written};
 
@@ -387,7 +387,22 @@ pub fn lines_of(
     outputs: &[Output],
 ) -> Result<Vec<Line>, AllocError>
     requires { link < LocalIds.LINKS }
-    ensures { IfOk result (λ lines. IsLog link steps.now outputs.now lines.items) }
+    ensures { IfOk result (λ lines. IsLog link 0 steps.now outputs.now lines.items) }
+{
+    lines_with_tag(alloc, link, 0, steps, outputs)
+}
+
+/// As [`lines_of`], of a run with this tag, 0 to 4,094.
+pub fn lines_with_tag(
+    alloc: Global,
+    link: u8,
+    tag: u16,
+    steps: &[Step],
+    outputs: &[Output],
+) -> Result<Vec<Line>, AllocError>
+    requires links { link < LocalIds.LINKS }
+    requires tags { tag ≤ LocalIds.LAST_TAG }
+    ensures { IfOk result (λ lines. IsLog link tag steps.now outputs.now lines.items) }
 {
     let mut log = LogSoFar {
         lines: Vec::new(alloc),
@@ -395,7 +410,10 @@ pub fn lines_of(
         turns: Vec::new(alloc),
         sending: None,
     };
-    log.lines.push(Line::Head { links: link + 1 })?;
+    log.lines.push(Line::Head {
+        links: link + 1,
+        tag,
+    })?;
     for (step, output) in steps.iter().zip(outputs) {
         log.tell(link, step, output)?;
     }

@@ -4,7 +4,7 @@ ghost use Rattle.std.specs.Prelude.{◌≡◌, ◌==◌};
 ghost use Rattle.std.specs.List.{position};
 ghost use Rattle.fp_row.specs.declared.turn.Turn.{Turn};
 ghost use Rattle.fp_book.specs.Rules.{is_lost};
-ghost use Rattle.fp_steps.specs.Tokens.{TakesOut, local_in};
+ghost use Rattle.fp_steps.specs.proof_only.Tokens.{TakesOut, local_in};
 
 use fp_entry::Prepared;
 use fp_row::Turn;

@@ -1,8 +1,11 @@
 //! Whole runs of a link.
 
-ghost use Rattle.std.specs.Prelude.{◌≡◌, ◌<◌, [], IfOk};
+ghost use Rattle.std.specs.Prelude.{◌≡◌, ◌<◌, ◌≤◌, [], IfOk};
+ghost use Rattle.fp_book.specs.Shelf.{base};
 ghost use Rattle.fp_steps.specs.After.{IsAfter};
 ghost use Rattle.fp_steps.specs.Headline.{Runs};
+ghost use Rattle.fp_steps.specs.Retold.{LogsRun};
+ghost use Rattle.fp_tids.specs.Identifiers.{base_of};
 
 use crate::{LinkRun, Output, Step};
 use fp_apdu::Name;
@@ -19,7 +22,7 @@ fn make_all(
     steps: &[Step],
 ) -> Result<Vec<Output>, AllocError>
     requires { IsAfter tables.now contexts.now [] run.old }
-    ensures { IfOk result (λ outputs. Runs tables.now contexts.now run.old.link steps.now outputs.items) }
+    ensures { IfOk result (λ outputs. LogsRun tables.now contexts.now (base run.old) steps.now outputs.items) }
 {
     let mut outputs = Vec::new(alloc);
     for step in steps {
@@ -55,6 +58,8 @@ fn make_all(
 /// provider that were answered were sent.
 ///
 /// What the log of the run has of its steps ([`lines_of`](crate::lines_of)) fits a history with the same totals.
+///
+/// The run has no tag: an identifier is the sum of the link times 2^29 and a serial. [`run_with_tag`] has one.
 pub fn run(
     alloc: Global,
     tables: &[Table],
@@ -63,9 +68,28 @@ pub fn run(
     steps: &[Step],
 ) -> Result<Vec<Output>, AllocError>
     requires { link < LocalIds.LINKS }
-    ensures headline { IfOk result (λ outputs. Runs tables.now contexts.now link steps.now outputs.items) }
+    ensures headline { IfOk result (λ outputs. Runs tables.now contexts.now (base_of link 0) steps.now outputs.items) }
+    ensures log { IfOk result (λ outputs. LogsRun tables.now contexts.now (base_of link 0) steps.now outputs.items) }
 {
-    let mut made = LinkRun::new(alloc, link)?;
+    run_with_tag(alloc, tables, contexts, link, 0, steps)
+}
+
+/// As [`run`], in a run with this tag, 0 to 4,094: to each identifier the tag times 2^17 is added, so that the
+/// identifiers of two tags never meet (`identifiers_are_distinct` of `fp_tids`).
+pub fn run_with_tag(
+    alloc: Global,
+    tables: &[Table],
+    contexts: &[Name],
+    link: u8,
+    tag: u16,
+    steps: &[Step],
+) -> Result<Vec<Output>, AllocError>
+    requires links { link < LocalIds.LINKS }
+    requires tags { tag ≤ LocalIds.LAST_TAG }
+    ensures headline { IfOk result (λ outputs. Runs tables.now contexts.now (base_of link tag) steps.now outputs.items) }
+    ensures log { IfOk result (λ outputs. LogsRun tables.now contexts.now (base_of link tag) steps.now outputs.items) }
+{
+    let mut made = LinkRun::new(alloc, link, tag)?;
     let outputs = make_all(alloc, tables, contexts, &mut made, steps);
     made.abandon();
     outputs

@@ -13,4 +13,4 @@ loop-output-preserved c =
 pub returns : goal.returns
 returns c =
     let all = so_far_all c.args.outputs.now c.loop-output.output-index c.loop-output.invariant c.loop-output-test.false in
-    record { of_runs = λ tables contexts link steps run. all ∙ exact c.args.outputs.now run.adds_up.few; of_all = all }
+    record { of_runs = λ tables contexts base steps run. all ∙ exact c.args.outputs.now run.adds_up.few; of_all = all }

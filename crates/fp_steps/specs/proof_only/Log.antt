@@ -2,7 +2,7 @@
 -- be sent.
 use Rattle.std.specs.Prelude.{◌≡◌, ℕ, ◌+◌, ◌==◌, not, List, [], ◌∷◌, ◌++◌, Option, Some, None, filter, find, nat_le, option_map, option_to_list, unwrap_or, if◌then◌else◌}
 use Rattle.std.specs.BTreeMap as map
-use Rattle.std.specs.Option.{option_and_then}
+use Rattle.std.specs.Option.{option_and_then, option_map_or}
 use Rattle.std.specs.Ordering.{nat_cmp}
 use Rattle.fp_book.specs.declared.line.Line.{Line}
 use Rattle.fp_book.specs.declared.line.Line.TheVariants as lines
@@ -15,8 +15,16 @@ use Rattle.fp_steps.specs.declared.output.Output.{Output}
 use Rattle.fp_steps.specs.declared.output.Output.TheVariants as outputs
 use Rattle.fp_steps.specs.declared.step.Step.{Step}
 use Rattle.fp_steps.specs.declared.step.Step.TheVariants as steps
-use Rattle.fp_steps.specs.Births.{births_after, named_after}
+use Rattle.fp_steps.specs.Births.{is_one}
 use Rattle.fp_steps.specs.Told.{birth_under, told_message, told_tick}
+
+-- one more, where a dialogue is opened
+abbrev pub births_after : Option ℕ → ℕ → ℕ
+births_after opened births = option_map_or (λ local. births + 1) opened births
+
+-- an identifier names the dialogue that was opened with it last
+abbrev pub named_after : Option ℕ → ℕ → Option ℕ → ℕ → Option ℕ
+named_after opened birth before local = if is_one opened local then Some birth else before
 
 -- the birth of the dialogue that an identifier names
 abbrev pub name_of : Named → ℕ → Option ℕ
@@ -116,7 +124,7 @@ tick_in step _ = None
 
 -- the step of a line
 abbrev pub step_in : Line → Option LoggedStep
-step_in (lines.Head links) = None
+step_in (lines.Head links tag) = None
 step_in (lines.Step link step) = Some step
 
 -- the first step of a log

@@ -1,0 +1,10 @@
+use Rattle.fp_steps.proofs.Names.{IfOk, LogsRun, base_of, subst}
+use Rattle.fp_steps.proofs.whole_run.run_with_tag.Goals as goal
+
+pub make_all-outputs-requires : goal.make_all-outputs-requires
+make_all-outputs-requires c = c.in_ok-made.ensures.after c.args.tables.now c.args.contexts.now
+
+pub returns-clause-log : goal.returns-clause-log
+returns-clause-log c =
+    subst (λ n. IfOk c.make_all-outputs.result (λ outputs. LogsRun c.args.tables.now c.args.contexts.now n c.args.steps.now outputs.items))
+    (λ i. base_of (c.in_ok-made.ensures.link i) (c.in_ok-made.ensures.tag i)) c.make_all-outputs.ensures
