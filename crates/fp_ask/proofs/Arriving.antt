@@ -9,8 +9,9 @@ use Rattle.fp_book.specs.Calls.{Answers, ClosesOne, Discards, EndsDialogue, Exte
 use Rattle.fp_book.specs.declared.line.LoggedStep.{LoggedStep}
 use Rattle.fp_book.specs.declared.verdict.Verdict.{Verdict}
 use Rattle.fp_book.specs.declared.verdict.Verdict.TheVariants.{Discard, Refuse, Open, Extend}
+use Rattle.fp_book.specs.Limits.{most_elements}
 use Rattle.fp_book.specs.Outbox.{Outbox, without_frames_of}
-use Rattle.fp_book.specs.Shelf.{Shelf, Sound, free_with}
+use Rattle.fp_book.specs.Shelf.{Shelf, Sound, base, free_with}
 use Rattle.fp_book.proofs.Fits.{Allowed, CanEnd, CanOpen}
 use Rattle.fp_book.proofs.Sums.{OneChanges, inserted, kept, left_of}
 use Rattle.fp_entry.specs.declared.entry.Entry.{Entry}
@@ -25,8 +26,9 @@ use Rattle.fp_row.specs.Calls.{ended_by}
 use Rattle.fp_row.specs.Row.{has_turn_out, is_admitted, is_closed, is_ready, waiting_of}
 use Rattle.fp_service.specs.Dialogue.{fresh, is_over}
 use Rattle.fp_tids.specs.Identifiers.{first_of, identifier, serial_of}
-use Rattle.fp_ask.specs.Solo.{Outcome, Dialogue, LinkState, Served, aborts, continued, ended, found, Job, jobs_for, left_by, newborn, opened, outcome, serve_all, without}
-use Rattle.fp_ask.specs.Tied.{Came, Concerned, Concerns, Fit, GoesOn, IsServed, KeepsEnd, KeepsDialogues, Matches, Midway, Rest, Rows, Same, SameCounts, all_free, dialogue_of, frames_in, is_leaving, is_out, jobs_of, leaving, live, senders, times, waiting_at}
+use Rattle.fp_ask.specs.Solo.{Outcome, Dialogue, LinkState, Served, aborts, continued, ended, found, Job, jobs_for, left, left_by, newborn, opened, outcome, serve_all, without}
+use Rattle.fp_ask.specs.Tied.{GoesOn, Matches, Rest, Rows, Same, dialogue_of, is_out, live, times}
+use Rattle.fp_ask.specs.proof_only.Serving.{Came, Concerned, Concerns, Fit, IsServed, KeepsEnd, KeepsDialogues, Midway, SameCounts, all_free, frames_in, is_leaving, jobs_of, leaving, senders, waiting_at}
 use Rattle.fp_ask.proofs.OneSent.{no_jobs}
 use Rattle.fp_ask.proofs.Resting.{is_fresh, not_leaving, quiet, stands_nowhere}
 use Rattle.fp_ask.proofs.Rows.{cut, ended_gone, joined, live_is, live_left, live_stays, none_waits, out_left, outs_then, same_then, waiting_left}
@@ -39,7 +41,7 @@ use Rattle.fp_ask.proofs.Serials.{count_joins, free_left, own_serial}
 pub record Arrives (s new : Shelf) (d : ℕ) (waiting : List Entry) (aborts : List AbortFrame) : Type 0 where
   pub idle : (k : ℕ) → is_out (fin.get new.rows k) ≡ false
   pub ready : (jobs_of new ≡ jobs_for d waiting) × (length new.ready ≤ 1)
-  pub few : length waiting ≤ 17
+  pub few : length waiting ≤ most_elements + 1
   pub outbox : new.outbox ≡ record { aborts = aborts; frames = []; out = None }
   pub link : new.link ≡ s.link
   pub up : new.is_down ≡ s.is_down
@@ -49,8 +51,8 @@ pub record Arrives (s new : Shelf) (d : ℕ) (waiting : List Entry) (aborts : Li
 pub arrived_fit : {s new : Shelf} {d : ℕ} {waiting : List Entry} {aborts : List AbortFrame} → Rest s → Sound new → Arrives s new d waiting aborts → Fit new
 arrived_fit {d = d} {waiting} r sound a = record {
   sound = sound;
-  link = a.link ∙ r.served.fit.link;
-  up = a.up ∙ r.served.fit.up;
+  link = a.link ∙ r.link;
+  up = a.up ∙ r.up;
   idle = a.idle;
   none_out = ap (λ (o : Outbox). o.out) a.outbox;
   orderly = inl a.ready.1;
@@ -61,28 +63,28 @@ arrived_fit {d = d} {waiting} r sound a = record {
 stands_alone : {s : Shelf} {rows : Rows} {ready : List ℕ} {d : ℕ} {before left : Option Row} (joining : Bool) → Rest s → OneChanges s.rows rows d before left → ready ≡ s.ready ++ joins d joining
     → (other : ℕ) → eqb other d ≡ false → (count other ready ≡ 0) × (is_leaving (fin.get rows other) ≡ false)
 stands_alone {s} {d = d} joining r one queue other ne = (
-  ap (count other) (queue ∙ ap (λ q. q ++ joins d joining) r.served.ready) ∙ count_joins d other joining (swapped other d ne),
+  ap (count other) (queue ∙ ap (λ q. q ++ joins d joining) r.ready) ∙ count_joins d other joining (swapped other d ne),
   ap is_leaving (one.others other ne) ∙ not_leaving s r other,
 )
 
 -- what comes of a message for which these are served, after these Aborts
-abbrev pub outcome_after : ℕ → ℕ → List ℕ → List AbortFrame → Served → Outcome
-outcome_after births entries free aborts served = record {
-  link = record { births = births; entries = entries; free = free ++ served.returned; dialogues = served.dialogues };
+abbrev pub outcome_after : LinkState → List AbortFrame → Served → Outcome
+outcome_after w aborts served = record {
+  link = record w { free = w.free ++ served.returned; dialogues = served.dialogues };
   frames = frames_in (record { aborts = aborts; frames = []; out = None }) ++ served.frames;
 }
 
 -- what is served then is served in the list
-midway_of : {s new : Shelf} {d : ℕ} {waiting : List Entry} {aborts : List AbortFrame} (births entries : ℕ) (free : List ℕ) (dialogues : List Dialogue) → Arrives s new d waiting aborts
-    → Same dialogues new.rows → all_free (Concerned.one d) new ≡ free → Midway new (outcome_after births entries free aborts (serve_all (jobs_for d waiting) dialogues))
-midway_of {d = d} births entries free dialogues a same is = record {
-  dialogues = dialogues;
+midway_of : {s new : Shelf} {d : ℕ} {waiting : List Entry} {aborts : List AbortFrame} (w : LinkState) → Arrives s new d waiting aborts
+    → Same w.dialogues new.rows → all_free (Concerned.one d) new ≡ w.free → Midway new (outcome_after w aborts (serve_all (jobs_for d waiting) w.dialogues))
+midway_of {d = d} w a same is = record {
+  dialogues = w.dialogues;
   same = same;
-  dialogues_end = ap (λ j. (serve_all j dialogues).dialogues) a.ready.0;
-  frames_end = λ i. frames_in (a.outbox i) ++ (serve_all (a.ready.0 i) dialogues).frames;
+  dialogues_end = ap (λ j. (serve_all j w.dialogues).dialogues) a.ready.0;
+  frames_end = λ i. frames_in (a.outbox i) ++ (serve_all (a.ready.0 i) w.dialogues).frames;
   who = Concerned.one d;
   concerns = a.alone;
-  free_end = λ i. is i ++ (serve_all (a.ready.0 i) dialogues).returned;
+  free_end = λ i. is i ++ (serve_all (a.ready.0 i) w.dialogues).returned;
 }
 
 -- a dialogue that wasn't ready and isn't has nothing that waits
@@ -97,7 +99,7 @@ fresh_goes row birth moment ended core = λ i. not (is_some (ended i)) && not (i
 
 module _ {s new : Shelf} {peer : Tid} {came : Prepared} {answer : Posted} (r : Rest s) (can : CanOpen s came) (o : OpensDialogue s peer came answer new) where
   abbrev d : ℕ
-  d = identifier s.link o.serial
+  d = identifier (base s) o.serial
 
   there : OneChanges s.rows (fin.insert s.rows d o.after) d (fin.get s.rows d) (Some o.after)
   there = inserted s.rows d (fin.get s.rows d) o.after refl
@@ -111,8 +113,8 @@ module _ {s new : Shelf} {peer : Tid} {came : Prepared} {answer : Posted} (r : R
       o.extends.waiting (λ i. not (is_some (row.ended i)) && not (is_over (row.core i)))
       ∙ (λ i. cond (is_closed (row.ended i) || is_over (row.core i)) [] (drop (row.out i) (drop (row.served i) (row.accepted i))) ++ entries_in came) in
       subst (λ n. Arrives s n d (entries_in came) []) (sym o.new_is) (record {
-        idle = outs_then there r.served.fit.idle out;
-        ready = joined _ d (entries_in came) s.ready (is_ready o.after) r.served.ready (ap waiting_at there.there ∙ waits) (λ e. sym waits ∙ none_waits o.after out e);
+        idle = outs_then there r.idle out;
+        ready = joined _ d (entries_in came) s.ready (is_ready o.after) r.ready (ap waiting_at there.there ∙ waits) (λ e. sym waits ∙ none_waits o.after out e);
         few = can.grow.few;
         outbox = r.outbox;
         link = refl;
@@ -130,6 +132,12 @@ module _ {s new : Shelf} {peer : Tid} {came : Prepared} {answer : Posted} (r : R
   opens_local : (w : LinkState) (n : ℕ) → Matches w s → d ≡ n → Came (opened w (Some n) peer (arrival_of came).moment (entries_in came)) new
   opens_local w n m local =
       let one = newborn w n peer (arrival_of came).moment in
+      let then : LinkState = record w {
+        births = w.births + 1;
+        entries = w.entries + length (entries_in came);
+        free = drop 1 w.free;
+        dialogues = one ∷ w.dialogues;
+      } in
       let born : s.births + 1 ≡ w.births + 1 = ap (λ n. n + 1) (sym m.births) in
       let core : o.after.core ≡ one.core = o.extends.stay.core ∙ o.opens.core ∙ ap (λ n. fresh n (arrival_of came).moment) born in
       let one_is : dialogue_of o.after ≡ one = λ i. record {
@@ -142,11 +150,12 @@ module _ {s new : Shelf} {peer : Tid} {came : Prepared} {answer : Posted} (r : R
       (ap (λ b. cond b (Some one) (found d w.dialogues)) (eq-eqb n d (sym local)) ∙ sym (live_is o.after None one (o.extends.ended ∙ o.opens.ended) one_is))
       (λ k ne. ap (λ b. cond b (Some one) (found k w.dialogues)) (ap (λ n. eqb n k) (sym local) ∙ swapped k d ne)) in
       let free : times one.local w.dialogues ≡ 0 =
-      stands_nowhere one.local w.dialogues (m.same one.local ∙ ap live (ap (fin.get s.rows) (sym local) ∙ is_fresh s o.serial o.rest r.served.fit.sound o.first)) in
+      stands_nowhere one.local w.dialogues (m.same one.local ∙ ap live (ap (fin.get s.rows) (sym local) ∙ is_fresh s o.serial o.rest r.sound o.first)) in
       record {
-        midway = subst (λ n. Midway new (outcome_after (w.births + 1) (w.entries + length (entries_in came)) (drop 1 w.free) [] (serve_all (jobs_for n (entries_in came)) (one ∷ w.dialogues)))) local
-            (midway_of (w.births + 1) (w.entries + length (entries_in came)) (drop 1 w.free) (one ∷ w.dialogues) opens_arrives (subst (λ (n : Shelf). Same (one ∷ w.dialogues) n.rows) (sym o.new_is) same)
+        midway = subst (λ n. Midway new (outcome_after then [] (serve_all (jobs_for n (entries_in came)) (one ∷ w.dialogues)))) local
+            (midway_of then opens_arrives (subst (λ (n : Shelf). Same (one ∷ w.dialogues) n.rows) (sym o.new_is) same)
             (opens_free ∙ sym (ap (drop 1) (m.free ∙ o.first))));
+        bases = m.bases ∙ sym (ap base o.new_is);
         births = ap (λ n. n + 1) m.births ∙ sym (ap (λ (x : Shelf). x.births) o.new_is);
         entries = ap (λ n. n + length (entries_in came)) m.entries ∙ sym (ap (λ (x : Shelf). x.entries) o.new_is);
         once = once_served (jobs_for one.local (entries_in came)) (one ∷ w.dialogues) (λ k. by_number k one.local (λ k. times k (one ∷ w.dialogues) ≤ 1)
@@ -155,14 +164,14 @@ module _ {s new : Shelf} {peer : Tid} {came : Prepared} {answer : Posted} (r : R
       }
 
   -- with the identifier of the next serial
-  opens_came : (w : LinkState) → Matches w s → Came (opened w (first_of 0 w.free) peer (arrival_of came).moment (entries_in came)) new
+  opens_came : (w : LinkState) → Matches w s → Came (opened w (first_of w.base w.free) peer (arrival_of came).moment (entries_in came)) new
   opens_came w m =
-      subst (λ n. Came (opened w n peer (arrival_of came).moment (entries_in came)) new) (sym (ap (first_of 0) (m.free ∙ o.first)))
-      (opens_local w (identifier 0 o.serial) m (ap (λ l. identifier l o.serial) r.served.fit.link))
+      subst (λ n. Came (opened w n peer (arrival_of came).moment (entries_in came)) new) (sym (ap (first_of w.base) (m.free ∙ o.first)))
+      (opens_local w (identifier w.base o.serial) m (ap (λ b. identifier b o.serial) (sym m.bases)))
 
 -- A DIALOGUE GOES ON
 
-module _ {s new : Shelf} {d : ℕ} {came : Prepared} {answer : Posted} (r : Rest s) (few : length (entries_in came) ≤ 17) (x : ExtendsDialogue s d came answer new) where
+module _ {s new : Shelf} {d : ℕ} {came : Prepared} {answer : Posted} (r : Rest s) (few : length (entries_in came) ≤ most_elements + 1) (x : ExtendsDialogue s d came answer new) where
   -- the book after it,
   extends_arrives : Arrives s new d (entries_in came) []
   extends_arrives =
@@ -171,8 +180,8 @@ module _ {s new : Shelf} {d : ℕ} {came : Prepared} {answer : Posted} (r : Rest
       let out : has_turn_out x.after ≡ false = ap (nat_lt 0) x.extends.out ∙ q.is_out in
       let waits : waiting_of x.after ≡ entries_in came = x.extends.waiting q.admitted ∙ ap (λ w. w ++ entries_in came) q.waiting in
       subst (λ n. Arrives s n d (entries_in came) []) (sym x.new_is) (record {
-        idle = outs_then there r.served.fit.idle out;
-        ready = joined _ d (entries_in came) s.ready (not (is_ready x.before) && is_ready x.after) r.served.ready (ap waiting_at there.there ∙ waits)
+        idle = outs_then there r.idle out;
+        ready = joined _ d (entries_in came) s.ready (not (is_ready x.before) && is_ready x.after) r.ready (ap waiting_at there.there ∙ waits)
             (λ e. sym waits ∙ none_joined x.before x.after q.unready out e);
         few = few;
         outbox = r.outbox;
@@ -195,7 +204,9 @@ module _ {s new : Shelf} {d : ℕ} {came : Prepared} {answer : Posted} (r : Rest
       let same = same_then w.dialogues w.dialogues there m.same
       (m.same d ∙ ap live x.was ∙ sym (live_stays x.before x.after x.extends.same x.extends.ended x.extends.stay.core)) (λ k ne. refl) in
       record {
-        midway = midway_of w.births (w.entries + length (entries_in came)) w.free w.dialogues extends_arrives (subst (λ (n : Shelf). Same w.dialogues n.rows) (sym x.new_is) same) (extends_free ∙ sym m.free);
+        midway = midway_of (record w { entries = w.entries + length (entries_in came) }) extends_arrives (subst (λ (n : Shelf). Same w.dialogues n.rows) (sym x.new_is) same)
+            (extends_free ∙ sym m.free);
+        bases = m.bases ∙ sym (ap base x.new_is);
         births = m.births ∙ sym (ap (λ (x : Shelf). x.births) x.new_is);
         entries = ap (λ n. n + length (entries_in came)) m.entries ∙ sym (ap (λ (x : Shelf). x.entries) x.new_is);
         once = once_served (jobs_for d (entries_in came)) w.dialogues m.once;
@@ -219,12 +230,12 @@ ends_free : (free : List ℕ) (d : ℕ) (ending : Ending) (ended : Option Ending
 ends_free free d ending ended after e = free_left free d after ∙ ap (λ b. free ++ map serial_of (cond (not b) (d ∷ []) [])) (ends_out ending ended after e)
 
 -- what comes of a message for which nothing is served
-nothing_served : {new : Shelf} (births entries : ℕ) (free : List ℕ) (aborts : List AbortFrame) (dialogues : List Dialogue) (frames : List (List ℕ)) → map frame_octets aborts ≡ frames
-    → Midway new (outcome_after births entries free aborts (record { dialogues = dialogues; returned = []; frames = [] }))
-    → Midway new (record { link = record { births = births; entries = entries; free = free; dialogues = dialogues }; frames = frames })
-nothing_served {new} births entries free aborts dialogues frames is m =
-    subst (λ f. Midway new (record { link = record { births = births; entries = entries; free = free; dialogues = dialogues }; frames = f })) (append-nil _ ∙ append-nil _ ∙ is)
-    (subst (λ f. Midway new (record { link = record { births = births; entries = entries; free = f; dialogues = dialogues }; frames = (map frame_octets aborts ++ []) ++ [] })) (append-nil free) m)
+nothing_served : {new : Shelf} (w : LinkState) (aborts : List AbortFrame) (frames : List (List ℕ)) → map frame_octets aborts ≡ frames
+    → Midway new (outcome_after w aborts (record { dialogues = w.dialogues; returned = []; frames = [] }))
+    → Midway new (record { link = w; frames = frames })
+nothing_served {new} w aborts frames is m =
+    subst (λ f. Midway new (record { link = w; frames = f })) (append-nil _ ∙ append-nil _ ∙ is)
+    (subst (λ f. Midway new (record { link = record w { free = f }; frames = (map frame_octets aborts ++ []) ++ [] })) (append-nil w.free) m)
 
 module _ {s new : Shelf} {d : ℕ} {came : Prepared} {answer : Posted} (r : Rest s) (can : CanEnd s d came) (x : EndsDialogue s d came answer new) where
   -- the book after it,
@@ -236,8 +247,8 @@ module _ {s new : Shelf} {d : ℕ} {came : Prepared} {answer : Posted} (r : Rest
       let waits : waiting_of x.after ≡ cond (is_closed x.after.ended) [] (entries_in came) =
       x.ends.waiting ∙ ap (cond (is_closed x.after.ended) []) (x.extends.waiting q.admitted ∙ ap (λ w. w ++ entries_in came) q.waiting) in
       subst (λ n. Arrives s n d (waiting_of x.after) []) (sym x.new_is) (record {
-        idle = outs_then there r.served.fit.idle (out_left x.after out);
-        ready = joined _ d (waiting_of x.after) s.ready (not (is_ready x.before) && is_ready x.after) r.served.ready (ap waiting_at there.there ∙ waiting_left x.after)
+        idle = outs_then there r.idle (out_left x.after out);
+        ready = joined _ d (waiting_of x.after) s.ready (not (is_ready x.before) && is_ready x.after) r.ready (ap waiting_at there.there ∙ waiting_left x.after)
             (none_joined x.before x.after q.unready out);
         few = omega (arith, ap length waits, (cut (is_closed x.after.ended) d (entries_in came)).0, can.few);
         outbox = ap (without_frames_of d) r.outbox;
@@ -249,16 +260,18 @@ module _ {s new : Shelf} {d : ℕ} {came : Prepared} {answer : Posted} (r : Rest
   -- and the list, which the dialogue has left
   ends_came : (w : LinkState) → Matches w s → Came (ended w d (entries_in came)) new
   ends_came w m =
-      let then = without d w.dialogues in
+      let others = without d w.dialogues in
+      let then : LinkState = record (left d w) { entries = w.entries + length (entries_in came) } in
       let there = kept s.rows d (Some x.before) x.after x.was in
-      let same = same_then w.dialogues then there m.same
+      let same = same_then w.dialogues others there m.same
       (found_without d w.dialogues ∙ sym (ends_gone Ending.ByPeer x.extended.ended x.after x.ends.ended)) (λ k ne. found_others d k w.dialogues ne) in
       record {
-        midway = nothing_served w.births (w.entries + length (entries_in came)) (w.free ++ serial_of d ∷ []) [] then [] refl
-            (subst (λ v. Midway new (outcome_after w.births (w.entries + length (entries_in came)) (w.free ++ serial_of d ∷ []) [] v)) (serve_none d (waiting_of x.after) then (found_without d w.dialogues))
-            (midway_of w.births (w.entries + length (entries_in came)) (w.free ++ serial_of d ∷ []) then ends_arrives (subst (λ (n : Shelf). Same then n.rows) (sym x.new_is) same)
+        midway = nothing_served then [] [] refl
+            (subst (λ v. Midway new (outcome_after then [] v)) (serve_none d (waiting_of x.after) others (found_without d w.dialogues))
+            (midway_of then ends_arrives (subst (λ (n : Shelf). Same others n.rows) (sym x.new_is) same)
             (ap (all_free (Concerned.one d)) x.new_is ∙ ap (λ r. free_with s.free d x.after ++ own_serial d r) there.there
             ∙ ends_free s.free d Ending.ByPeer x.extended.ended x.after x.ends.ended ∙ ap (λ f. f ++ serial_of d ∷ []) (sym m.free))));
+        bases = m.bases ∙ sym (ap base x.new_is);
         births = m.births ∙ sym (ap (λ (x : Shelf). x.births) x.new_is);
         entries = ap (λ n. n + length (entries_in came)) m.entries ∙ sym (ap (λ (x : Shelf). x.entries) x.new_is);
         once = λ k. omega (arith, times_fewer d k w.dialogues, m.once k);
@@ -276,6 +289,7 @@ record Leaves (s new : Shelf) (closes : Option ℕ) (aborts : List AbortFrame) :
   pub arrives : Arrives s new (closed_local closes) [] aborts
   pub same : (w : LinkState) → Same w.dialogues s.rows → Same (left_by closes w).dialogues new.rows
   pub free : (w : LinkState) → w.free ≡ s.free → all_free (Concerned.one (closed_local closes)) new ≡ (left_by closes w).free
+  pub bases : base new ≡ base s
   pub births : new.births ≡ s.births
   pub entries : new.entries ≡ s.entries
 
@@ -283,27 +297,28 @@ record Leaves (s new : Shelf) (closes : Option ℕ) (aborts : List AbortFrame) :
 closed_as : (s closed : Shelf) (closes : Option ℕ) → Rest s → ClosesOne s closes closed → Leaves s closed closes []
 closed_as s closed None r e = subst (λ c. Leaves s c None []) (sym e) (record {
   arrives = record {
-    idle = r.served.fit.idle;
-    ready = rw r.served.ready (refl, omega arith);
+    idle = r.idle;
+    ready = rw r.ready (refl, omega arith);
     few = omega arith;
     outbox = r.outbox;
     link = refl;
     up = refl;
-    alone = λ other ne. (ap (count other) r.served.ready, not_leaving s r other);
+    alone = λ other ne. (ap (count other) r.ready, not_leaving s r other);
   };
   same = λ w same. same;
   free = λ w is. ap (λ b. s.free ++ map serial_of (cond b (0 ∷ []) [])) (not_leaving s r 0) ∙ append-nil s.free ∙ sym is;
+  bases = refl;
   births = refl;
   entries = refl;
 })
 closed_as s closed (Some d) r x =
     let there = kept s.rows d (Some x.before) x.after x.was in
     let out = out_left x.after (ap (nat_lt 0) x.ends.out ∙ (quiet s r d x.before x.was).is_out) in
-    let queue : without_ready d s.ready ≡ s.ready ++ joins d false = ap (without_ready d) r.served.ready ∙ sym (ap (λ q. q ++ []) r.served.ready) in
+    let queue : without_ready d s.ready ≡ s.ready ++ joins d false = ap (without_ready d) r.ready ∙ sym (ap (λ q. q ++ []) r.ready) in
     subst (λ c. Leaves s c (Some d) []) (sym x.new_is) (record {
       arrives = record {
-        idle = outs_then there r.served.fit.idle out;
-        ready = rw r.served.ready (refl, omega arith);
+        idle = outs_then there r.idle out;
+        ready = rw r.ready (refl, omega arith);
         few = omega arith;
         outbox = ap (without_frames_of d) r.outbox;
         link = refl;
@@ -313,6 +328,7 @@ closed_as s closed (Some d) r x =
       same = λ w same. same_then w.dialogues (without d w.dialogues) there same
           (found_without d w.dialogues ∙ sym (ends_gone Ending.Closed x.before.ended x.after x.ends.ended)) (λ k ne. found_others d k w.dialogues ne);
       free = λ w is. ap (λ r. free_with s.free d x.after ++ own_serial d r) there.there ∙ ends_free s.free d Ending.Closed x.before.ended x.after x.ends.ended ∙ ap (λ f. f ++ serial_of d ∷ []) (sym is);
+      bases = refl;
       births = refl;
       entries = refl;
     })
@@ -338,6 +354,7 @@ answered_as s closed answered closes (Some cause) (Some sender) answer l e =
         };
         same = l.same;
         free = l.free;
+        bases = l.bases;
         births = l.births;
         entries = l.entries;
       }),
@@ -349,10 +366,11 @@ left_once : (closes : Option ℕ) (w : LinkState) → ((k : ℕ) → times k w.d
 left_once None w once k = once k
 left_once (Some d) w once k = omega (arith, times_fewer d k w.dialogues, once k)
 
--- as many dialogues were opened, and entries accepted
-left_counts : (closes : Option ℕ) (w : LinkState) → ((left_by closes w).births ≡ w.births) × ((left_by closes w).entries ≡ w.entries)
-left_counts None w = (refl, refl)
-left_counts (Some d) w = (refl, refl)
+-- serials are added to the same, as many dialogues were opened, and entries accepted
+left_counts : (closes : Option ℕ) (w : LinkState)
+    → ((left_by closes w).base ≡ w.base) × ((left_by closes w).births ≡ w.births) × ((left_by closes w).entries ≡ w.entries)
+left_counts None w = (refl, refl, refl)
+left_counts (Some d) w = (refl, refl, refl)
 
 -- only the log has changed since
 logged : (s answered new : Shelf) (closes : Option ℕ) (aborts : List AbortFrame) (log : List LoggedStep) → new ≡ record answered { log = log } → Leaves s answered closes aborts → Leaves s new closes aborts
@@ -364,10 +382,10 @@ leaves_came : (s new : Shelf) (closes : Option ℕ) (waiting : List AbortFrame) 
 leaves_came s new closes waiting w frames l e m =
     let then = left_by closes w in
     record {
-      midway = nothing_served then.births then.entries then.free waiting then.dialogues frames e
-          (midway_of then.births then.entries then.free then.dialogues l.arrives (l.same w m.same) (l.free w m.free));
-      births = (left_counts closes w).0 ∙ m.births ∙ sym l.births;
-      entries = (left_counts closes w).1 ∙ m.entries ∙ sym l.entries;
+      midway = nothing_served then waiting frames e (midway_of then l.arrives (l.same w m.same) (l.free w m.free));
+      bases = (left_counts closes w).0 ∙ m.bases ∙ sym l.bases;
+      births = (left_counts closes w).1 ∙ m.births ∙ sym l.births;
+      entries = (left_counts closes w).2 ∙ m.entries ∙ sym l.entries;
       once = left_once closes w m.once;
     }
 
@@ -422,6 +440,7 @@ finished came served sent p frames c ends counts is keeps rest sent_are =
     ∙ sym (append-nil (all_free m.who served)) ∙ ap (λ f. all_free m.who served ++ f) (sym (ap (λ j. (serve_all j m.dialogues).returned) none)) ∙ m.free_end in
     record {
       matches = record {
+        bases = c.bases ∙ sym (keeps.counts.bases ∙ counts.bases);
         births = c.births ∙ sym (keeps.counts.births ∙ counts.births);
         entries = c.entries ∙ sym (keeps.counts.entries ∙ counts.entries);
         free = sym free_is;

@@ -13,7 +13,7 @@ use Rattle.fp_service.specs.Fold.{core_after, cut, requests}
 use Rattle.fp_service.specs.Serve.{next, request_of}
 use Rattle.fp_tids.specs.Identifiers.{serial_of}
 use Rattle.fp_ask.specs.Solo.{Job, Dialogue, Served, after, answer_of, found, going_on, jobs_for, serve_all, serve_at, serve_one, without}
-pub use Rattle.fp_ask.specs.Tied.{count}
+pub use Rattle.fp_ask.specs.proof_only.Serving.{count}
 use Rattle.fp_ask.specs.Tied.{times}
 
 -- two numbers are different, the other way round

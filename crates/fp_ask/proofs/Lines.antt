@@ -11,10 +11,11 @@ use Rattle.fp_digits.specs.declared.moment.TheConstants.Moment.{END}
 use Rattle.fp_entry.specs.declared.prepared.Prepared.{Prepared}
 use Rattle.fp_entry.specs.Prepared.{IsPrepared}
 use Rattle.fp_ask.specs.declared.answerer.Answerer.{Answerer}
-use Rattle.fp_ask.specs.Answering.{Answers, IsAt}
+use Rattle.fp_ask.specs.proof_only.Answering.{Answers, IsAt}
 use Rattle.fp_ask.specs.Solo.{is_read, post, tick}
-use Rattle.fp_ask.specs.Tied.{LinkFollows}
-use Rattle.fp_ask.specs.Line.{Input, line_in, message, message_in, some_wait, text_of, wait, wait_in}
+use Rattle.fp_ask.specs.proof_only.Serving.{LinkFollows}
+use Rattle.fp_ask.specs.declared.line.TheConstants.{MOST as most_line}
+use Rattle.fp_ask.specs.Line.{Input, line_in, message, message_in, most_octets, some_wait, text_of, wait, wait_in}
 use Rattle.fp_ask.specs.Lines.{IsBad, Solo, State, Takes, Written, written_at}
 use Rattle.fp_ask.proofs.Waits.{wait_in-over}
 
@@ -49,15 +50,15 @@ none_if true b m e = ap (λ x. cond {A = Option Input} x (Some m) None) e
 none_if false b m e = refl
 
 -- as the message of a line of more than 8,192 characters
-no_message : (text : List ℕ) (r : Result (List ℕ) FromHexError) → decode_of text ≡ r → 8192 < length text → message_in r ≡ None
+no_message : (text : List ℕ) (r : Result (List ℕ) FromHexError) → decode_of text ≡ r → most_line < length text → message_in r ≡ None
 no_message text (Ok octets) e long =
     let size = (decode_of-ok text octets e).2 in
-    let most : nat_le (length octets) 4096 ≡ false = lt-leb (length octets) 4096 (omega (arith, size, long)) in
-    none_if (nat_le 1 (length octets)) (nat_le (length octets) 4096) (message octets) most
+    let most : nat_le (length octets) most_octets ≡ false = lt-leb (length octets) most_octets (omega (arith, size, long)) in
+    none_if (nat_le 1 (length octets)) (nat_le (length octets) most_octets) (message octets) most
 no_message text (Err e') e long = refl
 
 -- a line of more than 8,192 characters is bad
-pub long_is_bad : (state : State) (line : List ℕ) → 8192 < length line → IsBad state (line_in line)
+pub long_is_bad : (state : State) (line : List ℕ) → most_line < length line → IsBad state (line_in line)
 long_is_bad state line long = cond_both (starts_with nat_eq line (codes "+")) (some_wait (wait_in (drop 1 line))) (message_in (decode_of line)) (IsBad state)
     (λ _. subst (λ o. IsBad state (some_wait o)) (sym (wait_in-over (drop 1 line) (omega (arith, length-drop 1 line, long)))) tt)
     (λ _. subst (IsBad state) (sym (no_message line (decode_of line) refl long)) tt)

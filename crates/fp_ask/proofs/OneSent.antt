@@ -10,7 +10,8 @@ use Rattle.fp_book.proofs.Sums.{OneChanges, kept, left_of}
 use Rattle.fp_reply.specs.ProviderAbort.{AbortFrame, frame_octets}
 use Rattle.fp_row.specs.Row.{is_ready}
 use Rattle.fp_service.specs.Dialogue.{is_over}
-use Rattle.fp_ask.specs.Tied.{IsServed, KeepsDialogues, KeepsFree, frames_in, is_out, jobs_in, jobs_of, live}
+use Rattle.fp_ask.specs.Tied.{is_out, live}
+use Rattle.fp_ask.specs.proof_only.Serving.{IsServed, KeepsDialogues, KeepsFree, frames_in, jobs_in, jobs_of}
 use Rattle.fp_ask.proofs.Rows.{live_left, live_stays, out_left, outs_then}
 use Rattle.fp_ask.proofs.Dialogues.{by_number, count, none_if}
 use Rattle.fp_ask.proofs.Serials.{frees_same, nothing_left, sent_frees}
@@ -68,7 +69,7 @@ picked_and_sent s mid new (Content.Abort frame) served p all sound =
         };
         ready = served.ready;
       };
-      keeps = record { lives = λ k. refl; counts = record { births = refl; entries = refl }; free = frees };
+      keeps = record { lives = λ k. refl; counts = record { bases = refl; births = refl; entries = refl }; free = frees };
       frames = λ i. map frame_octets (p.next.0 i) ++ map (λ (w : Waiting). w.frame) (sym p.next.1 i);
     }) sound (abort_frees s mid new frame p all)) all
 picked_and_sent s mid new (Content.Frame w) served p all sound =
@@ -93,7 +94,7 @@ picked_and_sent s mid new (Content.Frame w) served p all sound =
         lives = λ k. by_number k w.local (λ k. live (fin.get (keep s.rows w.local g.after) k) ≡ live (fin.get s.rows k))
             (ap live there.there ∙ live_left g.after ∙ live_stays g.before g.after g.sends.same g.sends.ended g.sends.core ∙ sym (ap live was))
             (λ ne. ap live (there.others k ne));
-        counts = record { births = refl; entries = refl };
+        counts = record { bases = refl; births = refl; entries = refl };
         free = frees;
       };
       frames =

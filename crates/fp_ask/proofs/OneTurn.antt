@@ -9,6 +9,7 @@ use Rattle.std.proofs.lemmas.Bool.Decides.{nat_tests}
 use Rattle.fp_book.specs.declared.answers.Given.{Given}
 use Rattle.fp_book.specs.declared.parcel.Waiting.{Waiting}
 use Rattle.fp_book.specs.Calls.{GivesDone, TakesTurn, joins, turn_of, waiting_in}
+use Rattle.fp_book.specs.Limits.{most_places}
 use Rattle.fp_book.specs.Outbox.{places_out, waiting_frames}
 use Rattle.fp_book.specs.Shelf.{Shelf, Sound, free_with, places_held, ready_count, turns_of}
 use Rattle.fp_book.specs.Totals.{sum_of}
@@ -37,7 +38,8 @@ use Rattle.fp_service.specs.Fold as fold
 use Rattle.fp_service.specs.Serve.{next, request_of}
 use Rattle.fp_ask.specs.Solo.{Served, Dialogue, Job, found, jobs_for, serve_all}
 use Rattle.fp_tids.specs.Identifiers.{serial_of}
-use Rattle.fp_ask.specs.Tied.{Concerned, Concerns, Fit, HasClock, KeepsEnd, Rows, Same, SameCounts, Singles, all_free, dialogue_of, frames_in, is_leaving, is_out, jobs_in, jobs_of, live, senders, waiting_at}
+use Rattle.fp_ask.specs.Tied.{Rows, Same, dialogue_of, is_out, live}
+use Rattle.fp_ask.specs.proof_only.Serving.{Concerned, Concerns, Fit, HasClock, KeepsEnd, SameCounts, Singles, all_free, frames_in, is_leaving, jobs_in, jobs_of, senders, waiting_at}
 use Rattle.fp_ask.proofs.Clocks.{clock_says}
 use Rattle.fp_ask.proofs.Counting.{sum_zero_at}
 use Rattle.fp_ask.proofs.Rows.{cut, ended_gone, joined, live_is, live_left, none_ready, none_waits, out_left, outs_then, same_then, waiting_left}
@@ -532,7 +534,7 @@ taken_and_given {s} {new = new} {done} {given} f sound_mid sound t g =
       none_out = refl;
       link = refl;
       up = refl;
-      counts = record { births = refl; entries = refl };
+      counts = record { bases = refl; births = refl; entries = refl };
     }) f sound) sound) sound_mid g
 
 -- the turn that was taken is the one that is out
@@ -544,7 +546,7 @@ known_done {s} done t =
 -- NO PLACE FOR FRAMES IS MISSED
 
 -- nothing is out, so all places that are held are held by frames that wait, which are fewer
-pub has_room : (s : Shelf) → Fit s → 8192 ≤ places_held s → ⊥
+pub has_room : (s : Shelf) → Fit s → most_places ≤ places_held s → ⊥
 has_room s f full =
     let turns : sum_of turns_of s.rows ≡ 0 = sum_zero_at turns_of s.rows (λ k row was. turns_none row (sym (ap is_out was) ∙ f.idle k)) in
     absurd (omega (arith, full, turns, ap places_out f.none_out, f.room))

@@ -9,7 +9,8 @@ use Rattle.fp_book.proofs.Fits.{verdict_allowed}
 use Rattle.fp_entry.specs.declared.prepared.Prepared.{Prepared}
 use Rattle.fp_entry.specs.Prepared.{arrival_of}
 use Rattle.fp_ask.specs.Solo.{LinkState, outcome, post}
-use Rattle.fp_ask.specs.Tied.{Came, Fit, Matches, Rest}
+use Rattle.fp_ask.specs.Tied.{Matches, Rest}
+use Rattle.fp_ask.specs.proof_only.Serving.{Came, Fit}
 use Rattle.fp_ask.proofs.Arriving.{follows_came, follows_fit}
 use Rattle.fp_ask.proofs.Resting.{verdict_is}
 

@@ -5,9 +5,9 @@ use Rattle.std.specs.Option.{option_and_then, option_map_or}
 use Rattle.std.proofs.lemmas.Bool.{cond_both, eq-eqb, false≢true}
 use Rattle.std.proofs.lemmas.Bool.Decides.{nat_tests}
 use Rattle.std.proofs.lemmas.List.{length-take-le}
-use Rattle.fp_book.specs.declared.book.TheConstants.Book.{ALL_ENTRIES}
+use Rattle.fp_book.specs.Limits.{all_entries}
 use Rattle.fp_book.specs.Rules as book
-use Rattle.fp_book.specs.Shelf.{Shelf, Sound, of_row, ready_count, unsent_for}
+use Rattle.fp_book.specs.Shelf.{Shelf, Sound, base, of_row, ready_count, unsent_for}
 use Rattle.fp_book.proofs.Sums.{len-sum, removed, sum-none}
 use Rattle.fp_book.proofs.Changes.{turns_none}
 use Rattle.fp_entry.specs.declared.entry.Entry.{Entry}
@@ -22,7 +22,8 @@ use Rattle.fp_row.proofs.Keeping.{queued_within, sent_within}
 use Rattle.fp_service.specs.Dialogue.{is_over}
 use Rattle.fp_tids.specs.Identifiers.{identifier, is_free}
 use Rattle.fp_ask.specs.Solo.{Dialogue, LinkState, facts, found, going, is_full, named, verdict}
-use Rattle.fp_ask.specs.Tied.{Matches, Rest, Rows, Same, is_leaving, is_out, live, dialogue_of, times}
+use Rattle.fp_ask.specs.Tied.{Matches, Rest, Rows, Same, is_out, live, dialogue_of, times}
+use Rattle.fp_ask.specs.proof_only.Serving.{is_leaving}
 use Rattle.fp_ask.proofs.Rows.{none_waits}
 use Rattle.fp_ask.proofs.Dialogues.{by_number, count, none_if, swapped, times-cons, unit}
 
@@ -62,9 +63,9 @@ unserved_by ended over k xs a o h = absurd (cc)
 -- it is known of each dialogue that is held
 pub quiet : (s : Shelf) → Rest s → (d : ℕ) (row : Row) → fin.get s.rows d ≡ Some row → Quiet row
 quiet s r d row was =
-    let sound = r.served.fit.sound in
-    let out : has_turn_out row ≡ false = sym (ap is_out was) ∙ r.served.fit.idle d in
-    let unready : is_ready row ≡ false = none_if (is_ready row) (sym (sound.ready d ∙ ap ready_count was) ∙ ap (count d) r.served.ready) in
+    let sound = r.sound in
+    let out : has_turn_out row ≡ false = sym (ap is_out was) ∙ r.idle d in
+    let unready : is_ready row ≡ false = none_if (is_ready row) (sym (sound.ready d ∙ ap ready_count was) ∙ ap (count d) r.ready) in
     let none = none_waits row out unready in
     let frames : sent_of row ≡ kept_of row =
     sym (append-nil (sent_of row)) ∙ (λ i. of_row sent_of (sym was i) ++ unsent_for d (sym r.outbox i)) ∙ sound.frames d ∙ ap (of_row kept_of) was in
@@ -151,7 +152,7 @@ size_is s w r m = same_size w.dialogues s.rows m.same (λ d row was. (quiet s r 
 
 -- the link has accepted all that it accepts
 pub full_test : (s : Shelf) (w : LinkState) → Matches w s → is_full w ≡ book.is_full s
-full_test s w m = ap (nat_le ALL_ENTRIES) m.entries
+full_test s w m = ap (nat_le all_entries) m.entries
 
 some_by : (b : Bool) (t : Dialogue) → is_some (cond b (Some t) None) ≡ b
 some_by b t = grind arith
@@ -174,7 +175,7 @@ named_is s w came m = named_by s w m (option_and_then (λ tid. book.number_of (o
 -- and the facts
 facts_are : (s : Shelf) (w : LinkState) (came : Prepared) → Rest s → Matches w s → facts w came ≡ book.facts_of s came
 facts_are s w came r m = λ i. record {
-  is_down = sym r.served.fit.up i;
+  is_down = sym r.up i;
   names_one = is_some (named_is s w came m i);
   unserved = sym (unserved_none s r (book.named s (arrival_of came).ids)) i;
   entries = m.entries i;
@@ -186,13 +187,13 @@ pub verdict_is : (s : Shelf) (w : LinkState) (came : Prepared) → Rest s → Ma
 verdict_is s w came r m = λ i. book.verdict_by (book.rule (facts_are s w came r m i) came) (named_is s w came m i) (arrival_of came).ids.orig
 
 -- no dialogue has the identifier of the next serial
-fresh_by : (s : Shelf) (serial : ℕ) (rest : List ℕ) (o : Option Row) → Sound s → s.free ≡ serial ∷ rest → fin.get s.rows (identifier s.link serial) ≡ o → o ≡ None
+fresh_by : (s : Shelf) (serial : ℕ) (rest : List ℕ) (o : Option Row) → Sound s → s.free ≡ serial ∷ rest → fin.get s.rows (identifier (base s) serial) ≡ o → o ≡ None
 fresh_by s serial rest None sound first was = refl
 fresh_by s serial rest (Some row) sound first was =
-    let own = (sound.own (identifier s.link serial) row was).serial in
-    let names : identifier s.link serial ≡ identifier s.link own.0 = own.3 in
+    let own = (sound.own (identifier (base s) serial) row was).serial in
+    let names : identifier (base s) serial ≡ identifier (base s) own.0 = own.3 in
     let same : own.0 ≡ serial = omega (arith, names) in
     absurd (false≢true (sym own.4 ∙ ap (is_free own.0) first ∙ ap (λ b. b || is_free own.0 rest) (eq-eqb own.0 serial same)))
 
-pub is_fresh : (s : Shelf) (serial : ℕ) (rest : List ℕ) → Sound s → s.free ≡ serial ∷ rest → fin.get s.rows (identifier s.link serial) ≡ None
-is_fresh s serial rest sound first = fresh_by s serial rest (fin.get s.rows (identifier s.link serial)) sound first refl
+pub is_fresh : (s : Shelf) (serial : ℕ) (rest : List ℕ) → Sound s → s.free ≡ serial ∷ rest → fin.get s.rows (identifier (base s) serial) ≡ None
+is_fresh s serial rest sound first = fresh_by s serial rest (fin.get s.rows (identifier (base s) serial)) sound first refl

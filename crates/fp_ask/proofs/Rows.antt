@@ -14,7 +14,8 @@ use Rattle.fp_row.specs.Calls.{IsSame}
 use Rattle.fp_row.specs.Row.{is_closed, is_ready, waiting_of, waits, has_turn_out}
 use Rattle.fp_service.specs.Dialogue.{is_over}
 use Rattle.fp_ask.specs.Solo.{Dialogue, found, jobs_for}
-use Rattle.fp_ask.specs.Tied.{Rows, Same, dialogue_of, is_out, jobs_in, live, waiting_at}
+use Rattle.fp_ask.specs.Tied.{Rows, Same, dialogue_of, is_out, live}
+use Rattle.fp_ask.specs.proof_only.Serving.{jobs_in, waiting_at}
 use Rattle.fp_ask.proofs.Dialogues.{by_number}
 
 -- by its parts: what waits,

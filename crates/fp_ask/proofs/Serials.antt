@@ -12,7 +12,8 @@ use Rattle.fp_book.proofs.Sums.{OneChanges, left_of}
 use Rattle.fp_row.specs.declared.row.Row.{Row}
 use Rattle.fp_row.specs.Row.{has_turn_out, is_admitted, is_held, is_ready, kept_of, sent_of, waits}
 use Rattle.fp_tids.specs.Identifiers.{serial_of}
-use Rattle.fp_ask.specs.Tied.{Concerned, Concerns, HasClock, KeepsFree, Rows, all_free, is_leaving, senders}
+use Rattle.fp_ask.specs.Tied.{Rows}
+use Rattle.fp_ask.specs.proof_only.Serving.{Concerned, Concerns, HasClock, KeepsFree, all_free, is_leaving, senders}
 use Rattle.fp_ask.proofs.Dialogues.{by_number, count, count-cons, count_own, none_if, swapped, unit}
 use Rattle.fp_ask.proofs.Resting.{all_sent, not_less, waits_by}
 

@@ -11,7 +11,8 @@ use Rattle.fp_book.specs.Calls.{ClocksAt, ComesFirst, IsDue, Ticks, is_idle}
 use Rattle.fp_book.specs.Calls as book
 use Rattle.fp_book.specs.Outbox.{Outbox, nothing}
 use Rattle.fp_book.specs.Rules as receipt
-use Rattle.fp_book.specs.Shelf.{Shelf, Sound}
+use Rattle.fp_book.specs.Limits.{most_dialogues}
+use Rattle.fp_book.specs.Shelf.{Shelf, Sound, base}
 use Rattle.fp_book.specs.Totals.{sum_of}
 use Rattle.fp_book.proofs.Sums.{amount, len-sum, sum-le}
 use Rattle.fp_entry.specs.declared.entry.Entry.{Entry}
@@ -22,7 +23,8 @@ use Rattle.fp_row.specs.Row.{deadline_of, has_clock, is_due}
 use Rattle.fp_service.specs.Dialogue.{is_over, next_due}
 use Rattle.fp_tids.specs.Identifiers.{serial_of}
 use Rattle.fp_ask.specs.Solo.{Due, Job, accepted, Dialogue, LinkState, clocks, due_at, found, is_full, jobs_for, serve_all, tick}
-use Rattle.fp_ask.specs.Tied.{Came, Concerned, Concerns, Fit, Matches, Midway, Rest, Singles, all_free, dialogue_of, frames_in, is_leaving, is_out, jobs_in, jobs_of, live, senders, waiting_at}
+use Rattle.fp_ask.specs.Tied.{Matches, Rest, dialogue_of, is_out, live}
+use Rattle.fp_ask.specs.proof_only.Serving.{Came, Concerned, Concerns, Fit, Midway, Singles, all_free, frames_in, is_leaving, jobs_in, jobs_of, senders, waiting_at}
 use Rattle.fp_ask.proofs.Counting.{sum_zero_at}
 use Rattle.fp_ask.proofs.DueOrder.{Above, Ascends, Each, InOrder, all_are, in_order, keyed, locals, same_list}
 use Rattle.fp_ask.proofs.Resting.{Quiet, full_test, not_leaving, quiet, stands_nowhere}
@@ -139,7 +141,7 @@ module _ {s new : Shelf} {moment added wanting : ℕ} (r : Rest s) (t : Ticks s 
 
   -- what the tick makes of each dialogue
   at : (k : ℕ) → AtTick moment (list_any (λ (d : book.Due). eqb d.1 k) t.due) (fin.get s.rows k) (fin.get new.rows k)
-  at k = at_tick moment (list_any (λ (d : book.Due). eqb d.1 k) t.due) (fin.get s.rows k) (fin.get new.rows k) (r.served.fit.idle k) (λ row was. quiet s r k row was) (t.rows k)
+  at k = at_tick moment (list_any (λ (d : book.Due). eqb d.1 k) t.due) (fin.get s.rows k) (fin.get new.rows k) (r.idle k) (λ row was. quiet s r k row was) (t.rows k)
 
   -- each of them has a Clock alone
   clocked : (xs : List ℕ) → Each weight s.rows xs → (jobs_in xs new.rows ≡ clock_jobs moment xs) × Singles xs new.rows
@@ -151,7 +153,7 @@ module _ {s new : Shelf} {moment added wanting : ℕ} (r : Rest s) (t : Ticks s 
 
   -- they are ready, in this order,
   ready_is : new.ready ≡ dues
-  ready_is = ap (λ (x : Shelf). x.ready) t.new_is ∙ ap (λ q. q ++ filter (λ local. is_idle (fin.get s.rows local)) dues) r.served.ready ∙ (each_of t.due are).1
+  ready_is = ap (λ (x : Shelf). x.ready) t.new_is ∙ ap (λ q. q ++ filter (λ local. is_idle (fin.get s.rows local)) dues) r.ready ∙ (each_of t.due are).1
 
   -- each with its Clock
   jobs_are : jobs_of new ≡ clock_jobs moment dues
@@ -161,14 +163,14 @@ module _ {s new : Shelf} {moment added wanting : ℕ} (r : Rest s) (t : Ticks s 
   outbox_is = ap (λ (x : Shelf). x.outbox) t.new_is ∙ r.outbox
 
   -- they are as many as are held at most
-  few : length dues ≤ 4096
-  few = omega (arith, as_many, sum-le weight (λ _. 1) s.rows (λ row. unit_most (book.due_at s moment row)), len-sum s.rows, r.served.fit.sound.held)
+  few : length dues ≤ most_dialogues
+  few = omega (arith, as_many, sum-le weight (λ _. 1) s.rows (λ row. unit_most (book.due_at s moment row)), len-sum s.rows, r.sound.held)
 
   pub ticks_fit : Sound new → Fit new
   ticks_fit sound = record {
     sound = sound;
-    link = ap (λ (x : Shelf). x.link) t.new_is ∙ r.served.fit.link;
-    up = ap (λ (x : Shelf). x.is_down) t.new_is ∙ r.served.fit.up;
+    link = ap (λ (x : Shelf). x.link) t.new_is ∙ r.link;
+    up = ap (λ (x : Shelf). x.is_down) t.new_is ∙ r.up;
     idle = λ k. (at k).out;
     none_out = ap (λ (o : Outbox). o.out) outbox_is;
     orderly = inr (subst (λ q. Singles q new.rows) (sym ready_is) (clocked dues (each_of t.due are).0).1);
@@ -242,6 +244,7 @@ module _ {s new : Shelf} {moment added wanting : ℕ} (r : Rest s) (t : Ticks s 
         record {
           midway = subst (λ f. Midway new (record { link = record w { free = f }; frames = [] })) (append-nil w.free)
               (subst (λ n. Midway new (record { link = record w { entries = n; free = w.free ++ [] }; frames = [] })) (add-zero w.entries) (midway_of [] 0 (jobs_are ∙ ap (clock_jobs moment) none)));
+          bases = m.bases ∙ sym (ap base t.new_is);
           births = m.births ∙ sym (ap (λ (x : Shelf). x.births) t.new_is);
           entries = omega (arith, m.entries, entries_are, ap length none);
           once = m.once;
@@ -252,6 +255,7 @@ module _ {s new : Shelf} {moment added wanting : ℕ} (r : Rest s) (t : Ticks s 
         same_list key (locals due) dues order.ascends ascends (λ k. count_is (sym (full_test s w m) ∙ e) k (fin.get s.rows k) refl ∙ sym (counts k)) in
         record {
           midway = midway_of (clocks moment due) (length due) (jobs_are ∙ ap (clock_jobs moment) (sym same) ∙ jobs_of_dues moment due);
+          bases = m.bases ∙ sym (ap base t.new_is);
           births = m.births ∙ sym (ap (λ (x : Shelf). x.births) t.new_is);
           entries = omega (arith, m.entries, entries_are, ap length same, length-map due (λ (d : Due). d.local));
           once = once_served (clocks moment due) w.dialogues m.once;

@@ -6,7 +6,7 @@ use Rattle.std.proofs.Math.Nat.{pow-suc, pow-le-pow_right}
 use Rattle.std.proofs.Math.Seq.{drop-cons}
 use Rattle.std.proofs.lemmas.Bool.Decides.{nat_tests}
 use Rattle.std.proofs.lemmas.List.{drop_all}
-use Rattle.fp_ask.specs.Line.{wait_in}
+use Rattle.fp_ask.specs.Line.{most_digits, wait_in}
 
 -- the number that digits make after those of n
 unfoldable pub waiting : ℕ → List ℕ → Option ℕ
@@ -29,18 +29,18 @@ unfolding waiting
 waiting-end n i digits past = rw (drop_all i digits past) refl
 
 -- the number of 1 to 13 digits is what they make after no digit
-pub waiting-whole : (digits : List ℕ) → 0 < length digits → length digits ≤ 13 → wait_in digits ≡ waiting 0 digits
+pub waiting-whole : (digits : List ℕ) → 0 < length digits → length digits ≤ most_digits → wait_in digits ≡ waiting 0 digits
 unfolding waiting
 waiting-whole digits some most =
     let low : nat_le 1 (length digits) ≡ true = grind (arith, nat_tests) in
-    let high : nat_le (length digits) 13 ≡ true = grind (arith, nat_tests) in
+    let high : nat_le (length digits) most_digits ≡ true = grind (arith, nat_tests) in
     rw (low, high) refl
 
 -- fewer and more digits are no wait
-pub wait_in-over : (digits : List ℕ) → 13 < length digits → wait_in digits ≡ None
+pub wait_in-over : (digits : List ℕ) → most_digits < length digits → wait_in digits ≡ None
 wait_in-over digits over =
     let low : nat_le 1 (length digits) ≡ true = grind (arith, nat_tests) in
-    let high : nat_le (length digits) 13 ≡ false = grind (arith, nat_tests) in
+    let high : nat_le (length digits) most_digits ≡ false = grind (arith, nat_tests) in
     rw (low, high) refl
 
 -- one more digit makes a number of one more digit
@@ -51,7 +51,7 @@ more_digits n i d low digit =
     omega (arith, e')
 
 -- a number of 12 digits at most leaves room for one more
-pub few_digits : (n i : ℕ) → n < 10 ^ i → i < 13 → n < 1000000000000
+pub few_digits : (n i : ℕ) → n < 10 ^ i → i < most_digits → n < 1000000000000
 few_digits n i low few =
     let most : 10 ^ i ≤ 10 ^ 12 = pow-le-pow_right {n = 10} (omega arith) {i = i} {j = 12} (omega arith) in
     let e : 10 ^ 12 ≡ 1000000000000 = refl in

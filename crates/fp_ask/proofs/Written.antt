@@ -3,7 +3,7 @@ use Rattle.std.proofs.Common.{◌≡◌, ◌≢◌, ℕ, List, Result, Ok, Err, 
 use Rattle.std.specs.Prelude.{IfErr, MatchResult, OnErr, OnOk}
 use Rattle.std.specs.Io.KnownBytes.{Appends}
 use Rattle.fp_streams.specs.Write.{AppendsFront}
-use Rattle.fp_ask.specs.Answering.{RefusesOne, Taker, TakesOne, Taking, Writes, WriterFailed}
+use Rattle.fp_ask.specs.proof_only.Answering.{RefusesOne, Taker, TakesOne, Taking, Writes, WriterFailed}
 use Rattle.fp_ask.specs.Line.{text_of}
 use Rattle.fp_ask.specs.declared.refusal.Refusal.{Refusal}
 use Rattle.fp_ask.specs.declared.refusal.Refusal.TheVariants.{BadLine, WriteFault, Memory}

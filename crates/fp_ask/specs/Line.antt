@@ -4,32 +4,32 @@ use Rattle.std.specs.Char.{is_ascii_digit}
 use Rattle.std.specs.List.{flat_map, list_all, starts_with}
 use Rattle.hex.specs.Hex.{decode_of, encode_upper}
 use Rattle.hex.specs.declared.error.FromHexError.{FromHexError}
-use Rattle.fp_ask.specs.declared.line.Line.{Line}
-use Rattle.fp_ask.specs.declared.line.Line.TheVariants.{Message, Wait}
 
 -- the octets of a message, or the milliseconds of a wait
 pub data Input : Type 0 where
   message : List ℕ → Input
   wait : ℕ → Input
 
--- what a line that was read says
-abbrev pub input_of : Line → Input
-input_of (Message frame) = message frame
-input_of (Wait milliseconds) = wait milliseconds
-
 -- the number that decimal digits write
 abbrev pub number_of : List ℕ → ℕ
 number_of digits = fold (λ n digit. 10 * n + (digit - 48)) 0 digits
 
+-- how many digits a wait may have, and how many octets a message
+abbrev pub most_digits : ℕ
+most_digits = 13
+
+abbrev pub most_octets : ℕ
+most_octets = 4096
+
 -- the number of 1 to 13 decimal digits
 abbrev pub wait_in : List ℕ → Option ℕ
 wait_in digits =
-    if nat_le 1 (length digits) && (nat_le (length digits) 13 && list_all is_ascii_digit digits)
+    if nat_le 1 (length digits) && (nat_le (length digits) most_digits && list_all is_ascii_digit digits)
     then Some (number_of digits) else None
 
 -- a message of 1 to 4,096 octets
 abbrev pub message_in : Result (List ℕ) FromHexError → Option Input
-message_in (Ok octets) = if nat_le 1 (length octets) && nat_le (length octets) 4096 then Some (message octets) else None
+message_in (Ok octets) = if nat_le 1 (length octets) && nat_le (length octets) most_octets then Some (message octets) else None
 message_in (Err e) = None
 
 -- a wait, if there is one

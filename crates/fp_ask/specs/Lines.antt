@@ -13,9 +13,9 @@ pub record State : Type 0 where
   pub moment : ℕ
   pub link : LinkState
 
--- before the first line
-abbrev pub at_start : ℕ → State
-at_start moment = record { moment = moment; link = at_first }
+-- before the first line, on a link on which serials are added to this base
+abbrev pub at_start : ℕ → ℕ → State
+at_start base moment = record { moment = moment; link = at_first base }
 
 -- what is so then, and the text that is written
 pub record Written : Type 0 where

@@ -2,7 +2,7 @@
 -- that may be given to the next ones. What one of them brings is served and answered before the next one comes.
 use Rattle.std.specs.Prelude.{ℕ, Bool, true, false, not, ◌+◌, ◌==◌, ◌&&◌, ◌||◌, List, [], ◌∷◌, ◌++◌, Option, Some, None, is_some, drop, length, map, nat_le, nat_lt, if◌then◌else◌}
 use Rattle.std.specs.List.{filter, find}
-use Rattle.std.specs.Option.{option_and_then}
+use Rattle.std.specs.Option.{option_and_then, option_map_or}
 use Rattle.fp_ber.specs.Canon.{canon}
 use Rattle.fp_book.specs.Limits.{all_entries}
 use Rattle.fp_book.specs.declared.rules.Facts.{Facts}
@@ -35,17 +35,18 @@ pub record Dialogue : Type 0 where
   pub peer : List ℕ
   pub core : Core
 
--- how many dialogues were opened, how many entries were accepted, the serials that may be given to dialogues, the next
--- one first, and the dialogues that go on
+-- what serials are added to, how many dialogues were opened, how many entries were accepted, the serials that may be
+-- given to dialogues, the next one first, and the dialogues that go on
 pub record LinkState : Type 0 where
+  pub base : ℕ
   pub births : ℕ
   pub entries : ℕ
   pub free : List ℕ
   pub dialogues : List Dialogue
 
 -- no dialogue was opened yet
-abbrev pub at_first : LinkState
-at_first = record { births = 0; entries = 0; free = all_serials; dialogues = [] }
+abbrev pub at_first : ℕ → LinkState
+at_first base = record { base = base; births = 0; entries = 0; free = all_serials; dialogues = [] }
 
 -- the dialogue that this end knows by an identifier
 abbrev pub found : ℕ → List Dialogue → Option Dialogue
@@ -66,8 +67,7 @@ pub record Served : Type 0 where
 
 -- the frame of a request, under the identifiers of its dialogue
 abbrev pub answer_of : Dialogue → Option Request → List (List ℕ)
-answer_of dialogue None = []
-answer_of dialogue (Some request) = frame_of request dialogue.local dialogue.peer ∷ []
+answer_of dialogue asked = option_map_or (λ request. frame_of request dialogue.local dialogue.peer ∷ []) asked []
 
 -- the dialogue after an entry
 abbrev pub after : Dialogue → Entry → Dialogue
@@ -101,12 +101,10 @@ pub record Job : Type 0 where
 -- one entry after another
 abbrev pub serve_all : List Job → List Dialogue → Served
 serve_all [] dialogues = record { dialogues = dialogues; returned = []; frames = [] }
-serve_all (job ∷ jobs) dialogues = record {
-  dialogues = (serve_all jobs (serve_one job.local job.entry dialogues).dialogues).dialogues;
-  returned = (serve_one job.local job.entry dialogues).returned
-      ++ (serve_all jobs (serve_one job.local job.entry dialogues).dialogues).returned;
-  frames = (serve_one job.local job.entry dialogues).frames ++ (serve_all jobs (serve_one job.local job.entry dialogues).dialogues).frames;
-}
+serve_all (job ∷ jobs) dialogues =
+    let first = serve_one job.local job.entry dialogues in
+    let rest = serve_all jobs first.dialogues in
+    record { dialogues = rest.dialogues; returned = first.returned ++ rest.returned; frames = first.frames ++ rest.frames }
 
 -- the entries of one dialogue
 abbrev pub jobs_for : ℕ → List Entry → List Job
@@ -125,21 +123,16 @@ discarded w = record { link = w; frames = [] }
 
 -- the frame of the provider's Abort, if a cause is named and the message has its sender's identifier
 abbrev pub aborts : Option AbortCause → Option Tid → List (List ℕ)
-aborts None sender = []
-aborts (Some cause) None = []
 aborts (Some cause) (Some sender) = framed (canon (provider_abort (octets_of sender) (cause_code cause))) ∷ []
+aborts _ _ = []
 
 -- a dialogue leaves the list, and its serial comes after all others that may be given
 abbrev pub left : ℕ → LinkState → LinkState
-left local w = record w {
-  free = w.free ++ serial_of local ∷ [];
-  dialogues = without local w.dialogues;
-}
+left local w = record w { free = w.free ++ serial_of local ∷ []; dialogues = without local w.dialogues }
 
 -- the dialogue that is closed, if one is, leaves the list
 abbrev pub left_by : Option ℕ → LinkState → LinkState
-left_by None w = w
-left_by (Some local) w = left local w
+left_by closes w = option_map_or (λ local. left local w) closes w
 
 -- the message is refused: the dialogue that is closed for it leaves the list
 abbrev pub refused : LinkState → Option AbortCause → Option ℕ → Option Tid → Outcome
@@ -148,11 +141,7 @@ refused w cause closes sender = record { link = left_by closes w; frames = abort
 -- this many entries more were accepted, and these were served
 abbrev pub accepted : LinkState → ℕ → Served → Outcome
 accepted w entries served = record {
-  link = record w {
-    entries = w.entries + entries;
-    free = w.free ++ served.returned;
-    dialogues = served.dialogues;
-  };
+  link = record w { entries = w.entries + entries; free = w.free ++ served.returned; dialogues = served.dialogues };
   frames = served.frames;
 }
 
@@ -165,16 +154,13 @@ newborn w local sender moment = record {
   core = fresh (w.births + 1) moment;
 }
 
--- it was given the next serial
-abbrev pub opening : LinkState → LinkState
-opening w = record w { births = w.births + 1; free = drop 1 w.free }
-
--- A dialogue is opened with this identifier. One is always left: each of the 131,072 serials may be given or is that of
--- one of the dialogues that go on, at most 4,096. Without one nothing would come of the message.
+-- A dialogue is opened with this identifier, and is given the next serial. One is always left: each of the 131,072
+-- serials may be given or is that of one of the dialogues that go on, at most 4,096. Without one nothing would come of
+-- the message.
 abbrev pub opened : LinkState → Option ℕ → Tid → ℕ → List Entry → Outcome
 opened w None sender moment entries = discarded w
 opened w (Some local) sender moment entries =
-    accepted (opening w) (length entries)
+    accepted (record w { births = w.births + 1; free = drop 1 w.free }) (length entries)
     (serve_all (jobs_for local entries) (newborn w local sender moment ∷ w.dialogues))
 
 -- a dialogue goes on
@@ -183,10 +169,7 @@ continued w local entries = accepted w (length entries) (serve_all (jobs_for loc
 
 -- a dialogue is ended by its peer: it leaves the list, and nothing is sent
 abbrev pub ended : LinkState → ℕ → List Entry → Outcome
-ended w local entries = record {
-  link = record (left local w) { entries = w.entries + length entries };
-  frames = [];
-}
+ended w local entries = record { link = record (left local w) { entries = w.entries + length entries }; frames = [] }
 
 -- WHAT IS DONE WITH A MESSAGE
 
@@ -216,7 +199,7 @@ verdict w came = verdict_by (rule (facts w came) came) (named w came) (arrival_o
 abbrev pub outcome : LinkState → Option Tid → ℕ → List Entry → Verdict → Outcome
 outcome w sender moment entries Discard = discarded w
 outcome w sender moment entries (Refuse cause dialogue) = refused w cause dialogue sender
-outcome w sender moment entries (Open peer) = opened w (first_of 0 w.free) peer moment entries
+outcome w sender moment entries (Open peer) = opened w (first_of w.base w.free) peer moment entries
 outcome w sender moment entries (Extend local false) = continued w local entries
 outcome w sender moment entries (Extend local true) = ended w local entries
 
@@ -263,6 +246,5 @@ is_full w = nat_le all_entries w.entries
 -- what comes of a moment
 abbrev pub tick : LinkState → ℕ → Outcome
 tick w moment =
-    if is_full w then discarded w
-    else accepted w (length (due_at moment w.dialogues))
-    (serve_all (clocks moment (due_at moment w.dialogues)) w.dialogues)
+    let due = due_at moment w.dialogues in
+    if is_full w then discarded w else accepted w (length due) (serve_all (clocks moment due) w.dialogues)

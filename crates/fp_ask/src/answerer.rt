@@ -1,8 +1,9 @@
 //! One line after another, at its moment.
 
-ghost use Rattle.std.specs.Prelude.{◌≡◌, ◌+◌, nat_lt, IfOk, if◌then◌else◌, option_map, Some, None};
-ghost use Rattle.fp_ask.specs.Answering.{IsAt, Taking};
+ghost use Rattle.std.specs.Prelude.{◌≡◌, ◌≤◌, ◌+◌, nat_lt, IfOk, if◌then◌else◌, option_map, Some, None};
+ghost use Rattle.fp_ask.specs.proof_only.Answering.{IsAt, Taking};
 ghost use Rattle.fp_ask.specs.Lines.{at_start};
+ghost use Rattle.fp_tids.specs.Identifiers.{base_of};
 
 use crate::SentFrame;
 use crate::line::{Line, line_of};
@@ -11,6 +12,7 @@ use fp_apdu::Name;
 use fp_digits::Moment;
 use fp_entry::Prepared;
 use fp_records::Table;
+use fp_tids::LocalIds;
 use std::alloc::{AllocError, Global};
 
 /// A link, and the current moment.
@@ -21,12 +23,13 @@ pub(crate) struct Answerer {
 }
 
 impl Answerer {
-    /// A link to which nothing came yet.
-    pub(crate) fn new(alloc: Global, moment: Moment) -> Result<Answerer, AllocError>
-        ensures { IfOk result (IsAt (at_start moment)) }
+    /// A link to which nothing came yet, in a run with this tag.
+    pub(crate) fn new(alloc: Global, tag: u16, moment: Moment) -> Result<Answerer, AllocError>
+        requires { tag ≤ LocalIds.LAST_TAG }
+        ensures { IfOk result (IsAt (at_start (base_of 0 tag) moment)) }
     {
         Ok(Answerer {
-            link: Link::new(alloc)?,
+            link: Link::new(alloc, tag)?,
             moment,
         })
     }

@@ -2,10 +2,11 @@
 
 ghost use Rattle.std.specs.Prelude.{◌≡◌, IfErr, IfSome, OnOk};
 ghost use Rattle.std.specs.Io.KnownBytes.{IsAtEnd};
-ghost use Rattle.fp_ask.specs.Answering.{IsAt, RefusesOne, TakesOne, seen};
+ghost use Rattle.fp_ask.specs.proof_only.Answering.{IsAt, RefusesOne, TakesOne, seen};
 ghost use Rattle.fp_ask.specs.Asked.{AnswersAll, Stops, cause_of};
 ghost use Rattle.fp_ask.specs.Lines.{at_start};
 ghost use Rattle.fp_streams.specs.Ends.{CountsReads, CountsWrites, Reads};
+ghost use Rattle.fp_tids.specs.Identifiers.{base_of};
 
 use crate::AskFault;
 use crate::answerer::Answerer;
@@ -49,20 +50,22 @@ impl<W: LinkWrite> TakesLine for Answering<'_, W> {
 }
 
 impl<W: LinkWrite> Answering<'_, W> {
-    /// Answers each line of an input of which nothing was read, on a link to which nothing came before this moment.
+    /// Answers each line of an input of which nothing was read, on a link to which nothing came before this moment, in a
+    /// run with this tag.
     pub(crate) fn answer_lines<R: LinkRead>(
         &mut self,
+        tag: u16,
         moment: Moment,
         most_reads: u64,
         reader: &mut R,
     ) -> Result<(), AskFault>
-        requires at { IsAt (at_start moment) self.old.answerer.now }
+        requires at { IsAt (at_start (base_of 0 tag) moment) self.old.answerer.now }
         ensures same_writer { self.new.writer.ghost_name ≡ self.old.writer.ghost_name }
         ensures end { OnOk result (IsAtEnd (R.remaining reader.new)) }
         ensures answered { OnOk result (IfSome (R.remaining reader.old)
-            (AnswersAll self.old.table.now self.old.contexts.now moment
+            (AnswersAll self.old.table.now self.old.contexts.now (at_start (base_of 0 tag) moment)
             (W.contents self.old.writer.now) (W.contents self.new.writer.now))) }
-        ensures stopped { IfErr result (Stops self.old.table.now self.old.contexts.now moment
+        ensures stopped { IfErr result (Stops self.old.table.now self.old.contexts.now (at_start (base_of 0 tag) moment)
             (R.remaining reader.old) (R.remaining reader.new)
             (W.contents self.old.writer.now) (W.contents self.new.writer.now)) }
         ensures within { Reads cause_of most_reads (R.remaining reader.old) (R.remaining reader.new)

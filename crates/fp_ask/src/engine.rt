@@ -1,7 +1,8 @@
 //! A book, driven until nothing waits.
 
 ghost use Rattle.std.specs.Prelude.{◌≡◌, [], ◌∷◌, ◌++◌, IfOk, OnOk};
-ghost use Rattle.fp_ask.specs.Tied.{Fit, IsServed, KeepsEnd, Rest, SameCounts, KeepsDialogues, frames_in};
+ghost use Rattle.fp_ask.specs.Tied.{Rest};
+ghost use Rattle.fp_ask.specs.proof_only.Serving.{Fit, IsServed, KeepsEnd, SameCounts, KeepsDialogues, frames_in};
 
 use crate::SentFrame;
 use fp_book::{Book, Picked, Taken};

@@ -1,10 +1,11 @@
 //! One message after another: a book is handed messages and moments, and all that each of them brings is served and
 //! sent before the next one comes.
 //!
-//! The layer is handed the records, the names of application contexts, a moment, a reader and a writer, and asks the
-//! system for nothing but memory.
+//! The layer is handed the records, the names of application contexts, the tag of the run, a moment, a reader and a
+//! writer, and asks the system for nothing but memory.
 //!
-//! * [`ask`] answers the lines of a reader: it reads its lines with `fp_streams::follow_lines`.
+//! * [`ask_with_tag`] answers the lines of a reader: it reads its lines with `fp_streams::follow_lines`. [`ask`] does so
+//!   in a run without a tag.
 //! * [`Session`] is the link: [`Session::post`] takes a message that was prepared, and [`Session::tick`] a moment.
 //! * [`SentFrame`] is a frame that was sent, with its head.
 //!
@@ -13,11 +14,10 @@
 //!
 //! The layer above may rely on this: what is sent is what `post` and `tick` of `specs/Solo.antt` say, a definition over
 //! a plain list of dialogues and the serials that may be given to the next ones, which knows no entry that waits, no
-//! turn and no position; one line is answered by what `specs/Answering.antt` says; and what [`ask`] writes is what
-//! `specs/Lines.antt` has for the lines of its input, one after another. Which reads were made is known one by one
-//! (`specs/Asked.antt`). A session's clauses hold for every list that describes it before (`specs/Tied.antt`), and say
-//! that the list goes on to describe it after; at the beginning the empty one does. After an error no clause speaks of
-//! a session.
+//! turn and no position. What [`ask_with_tag`] writes is what `specs/Lines.antt` has for the lines of its input, one
+//! after another. Which reads were made is known one by one (`specs/Asked.antt`). A session's clauses hold for every
+//! list that describes it before (`specs/Tied.antt`), and say that the list goes on to describe it after; at the
+//! beginning the empty one does. After an error no clause speaks of a session.
 #![tactic(auto)]
 
 mod answerer;
@@ -34,7 +34,7 @@ mod sent_frame;
 mod session;
 
 pub use fault::AskFault;
-pub use input::ask;
+pub use input::{ask, ask_with_tag};
 pub use laws::lines_have_one_text;
 pub use sent_frame::SentFrame;
 pub use session::Session;

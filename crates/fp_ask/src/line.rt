@@ -2,7 +2,8 @@
 
 ghost use Rattle.std.specs.Prelude.{◌≡◌, IfOk, IfSome, length, option_map};
 ghost use Rattle.fp_frames.specs.Frame.{IsMessageLength};
-ghost use Rattle.fp_ask.specs.Line.{line_in, input_of, wait_in};
+ghost use Rattle.fp_ask.specs.Line.{line_in, wait_in};
+ghost use Rattle.fp_ask.specs.proof_only.Answering.{input_of};
 
 use bytes::Bytes;
 use fp_frames::Frame;

@@ -1,12 +1,15 @@
 //! A link on which nothing waits.
 
-ghost use Rattle.std.specs.Prelude.{◌≡◌, true, IfOk, OnOk};
+ghost use Rattle.std.specs.Prelude.{◌≡◌, ◌≤◌, true, IfOk, OnOk};
 ghost use Rattle.fp_ask.specs.Solo.{at_first, is_read, post, tick};
-ghost use Rattle.fp_ask.specs.Tied.{IsOfFrame, LinkFollows, Tells};
+ghost use Rattle.fp_ask.specs.Tied.{IsOfFrame};
+ghost use Rattle.fp_ask.specs.proof_only.Serving.{LinkFollows, Tells};
+ghost use Rattle.fp_tids.specs.Identifiers.{base_of};
 
 use crate::{SentFrame, Session};
 use fp_digits::Moment;
 use fp_entry::Prepared;
+use fp_tids::LocalIds;
 use std::alloc::{AllocError, Global};
 use std::marker::Model;
 
@@ -35,12 +38,13 @@ impl Model for Link {
 }
 
 impl Link {
-    /// A link to which nothing came yet.
-    pub(crate) fn new(alloc: Global) -> Result<Link, AllocError>
-        ensures { IfOk result (Tells at_first) }
+    /// A link to which nothing came yet, in a run with this tag.
+    pub(crate) fn new(alloc: Global, tag: u16) -> Result<Link, AllocError>
+        requires { tag ≤ LocalIds.LAST_TAG }
+        ensures { IfOk result (Tells (at_first (base_of 0 tag))) }
     {
         Ok(Link {
-            session: Some(Session::new(alloc)?),
+            session: Some(Session::new(alloc, tag)?),
         })
     }
 

@@ -3,7 +3,7 @@
 ghost use Rattle.std.specs.Prelude.{◌≡◌, ◌≢◌, IfErr, IfOk, MatchResult, OnErr, OnOk, string_bytes};
 ghost use Rattle.std.specs.Io.KnownBytes.{Appends};
 ghost use Rattle.fp_streams.specs.Write.{AppendsFront};
-ghost use Rattle.fp_ask.specs.Answering.{WriterFailed};
+ghost use Rattle.fp_ask.specs.proof_only.Answering.{WriterFailed};
 ghost use Rattle.fp_ask.specs.declared.refusal.Refusal.TheVariants.{BadLine};
 ghost use Rattle.fp_ask.specs.Line.{line_for, text_of};
 

@@ -1,7 +1,7 @@
 //! Why a line isn't answered.
 
 ghost use Rattle.std.specs.Prelude.{◌≡◌};
-ghost use Rattle.fp_ask.specs.Asked.{asked_of};
+ghost use Rattle.fp_ask.specs.proof_only.Answering.{asked_of};
 ghost use Rattle.fp_ask.specs.declared.refusal.Refusal.TheVariants.{Memory};
 
 use crate::AskFault;

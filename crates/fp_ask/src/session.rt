@@ -1,15 +1,18 @@
 //! Messages and moments, one after another.
 
-ghost use Rattle.std.specs.Prelude.{◌≡◌, ◌<◌, [], true, vec_capacity, IfOk, OnOk};
+ghost use Rattle.std.specs.Prelude.{◌≡◌, ◌<◌, ◌≤◌, [], true, vec_capacity, IfOk, OnOk};
 ghost use Rattle.fp_book.specs.Shelf.{Sound};
 ghost use Rattle.fp_ask.specs.Solo.{Outcome, at_first, is_read, post, tick};
-ghost use Rattle.fp_ask.specs.Tied.{Came, Fit, Follows, GoesOn, IsOfFrame, Matches, Rest};
+ghost use Rattle.fp_ask.specs.Tied.{Follows, GoesOn, IsOfFrame, Matches, Rest};
+ghost use Rattle.fp_ask.specs.proof_only.Serving.{Came, Fit};
+ghost use Rattle.fp_tids.specs.Identifiers.{base_of};
 
 use crate::SentFrame;
 use crate::engine::{send_waiting, serve_waiting};
 use fp_book::{Book, Line};
 use fp_digits::Moment;
 use fp_entry::Prepared;
+use fp_tids::LocalIds;
 use std::alloc::{AllocError, Global};
 use std::marker::Model;
 
@@ -67,13 +70,14 @@ impl Session {
     /// The number of log lines that are drained at a time.
     const LINES: usize = 64;
 
-    /// A session to which nothing came yet.
-    pub fn new(alloc: Global) -> Result<Session, AllocError>
+    /// A session to which nothing came yet, in a run with this tag, 0 to 4,094; 0 is none.
+    pub fn new(alloc: Global, tag: u16) -> Result<Session, AllocError>
+        requires { tag ≤ LocalIds.LAST_TAG }
         ensures rest { IfOk result Rest }
-        ensures matches { IfOk result (Matches at_first) }
+        ensures matches { IfOk result (Matches (at_first (base_of 0 tag))) }
     {
         Ok(Session {
-            book: Book::new(alloc, 0)?,
+            book: Book::with_tag(alloc, 0, tag)?,
             lines: Vec::with_capacity(alloc, Self::LINES)?,
         })
     }

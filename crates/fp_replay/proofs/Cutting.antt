@@ -1,14 +1,14 @@
 -- Where a text is cut at its first octet of a kind, and which texts have none.
 use Rattle.std.proofs.Common.{◌≡◌, ◌≢◌, ◌^◌, decimal, inl, inr, ℕ, ◌+◌, ◌-◌, ◌<◌, ◌/◌, ◌%◌, List, [], ◌∷◌, ◌++◌, length, get_or, slice_index, take, drop, Some, refl, sym, ap, ◌∙◌, arith}
 use Rattle.std.proofs.lemmas.Bool.{cases_lt}
-use Rattle.std.proofs.lemmas.Fmt.{decimal_is_IsNumeral}
+use Rattle.std.proofs.lemmas.Fmt.{decimal_injective, decimal_is_IsNumeral}
 use Rattle.std.proofs.lemmas.List.{take_all, drop_more, take-append-drop, length-drop, get_or_past}
 use Rattle.std.proofs.lemmas.List.Elements.{All-cons, All-from_get_or, All-head, All-nil, All-tail}
 use Rattle.std.proofs.lemmas.Str.Parse.{digit_at}
 use Rattle.std.specs.List.{All, join_with_byte}
 use Rattle.hex.specs.Hex.{encode_upper, encode_with, hex_digit_value, upper_digits}
 use Rattle.hex.proofs.HexLemmas.{IsDigits-upper_digits}
-use Rattle.fp_replay.specs.Fields.{IsField}
+use Rattle.fp_replay.specs.proof_only.Fields.{IsField}
 
 -- this octet isn't in a text
 abbrev pub Without : ℕ → List ℕ → Type 0
@@ -72,6 +72,12 @@ decimal_is_field n fits = decimal_without 32 (omega arith) (omega arith) n fits
 -- nor have octets
 pub octets_are_field : (octets : List ℕ) → IsField (encode_upper octets)
 octets_are_field octets = octets_without 32 (omega arith) (omega arith) octets
+
+-- a number, and what comes after it
+pub one_number : (m n : ℕ) (a b : List ℕ) → m < 2 ^ 64 → n < 2 ^ 64 → decimal m ++ 32 ∷ a ≡ decimal n ++ 32 ∷ b → (m ≡ n) × (a ≡ b)
+one_number m n a b p q e =
+    let parts = one_cut 32 (decimal m) a (decimal n) b (decimal_is_field m p) (decimal_is_field n q) e in
+    (decimal_injective m n p q parts.0, parts.1)
 
 -- three fields that are told are those of the text
 pub three_joined : (fields a b c x y z : List ℕ) → fields ≡ 32 ∷ join_with_byte 32 (a ∷ b ∷ c ∷ [])

@@ -2,7 +2,7 @@
 use Rattle.std.proofs.Common.{Err, Ok, Result, ◌≡◌, ℕ, ◌≤◌, List, ◌++◌, length, take, refl, sym, ap, ◌∙◌, arith, length-take}
 use Rattle.std.specs.Prelude.{OnErr}
 use Rattle.std.proofs.lemmas.List.{take_all, take_at, take-take}
-use Rattle.fp_replay.specs.Writing.{KeepsFront}
+use Rattle.fp_replay.specs.proof_only.Writing.{KeepsFront}
 
 -- where nothing is put
 pub kept_self : (old : List ℕ) → KeepsFront old old

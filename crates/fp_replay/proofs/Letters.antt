@@ -8,9 +8,9 @@ use Rattle.fp_book.specs.declared.line.LoggedStep.{LoggedStep}
 use Rattle.fp_book.specs.declared.line.LoggedStep.TheVariants as steps
 use Rattle.fp_digits.specs.declared.moment.TheConstants.Moment.{END}
 use Rattle.fp_records.specs.declared.table.TheConstants.Table.{LAST_INDEX}
-use Rattle.fp_replay.specs.Fields.{IsField}
+use Rattle.fp_replay.specs.proof_only.Fields.{IsField}
 use Rattle.fp_replay.specs.Format.{IsCounted, IsPosting, IsStep, given_text, posted_text}
-use Rattle.fp_replay.specs.Reading.{parcel_fields, step_text, turn_fields}
+use Rattle.fp_replay.specs.proof_only.Reading.{parcel_fields, step_text, turn_fields}
 use Rattle.fp_replay.proofs.Cutting.{decimal_is_field, octets_are_field}
 
 -- the first octet of a text

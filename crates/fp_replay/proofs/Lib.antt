@@ -1,4 +1,5 @@
 pub mod Cutting
+pub mod Heads
 pub mod Hexadecimal
 pub mod Keeping
 pub mod Letters

@@ -1,5 +1,5 @@
 -- The text of a line is one line, and no longer than a line may be.
-use Rattle.std.proofs.Common.{◌≡◌, ◌≢◌, ℕ, ◌+◌, ◌^◌, ◌<◌, ◌≤◌, List, [], ◌∷◌, length, arith, codes, decimal, length-append}
+use Rattle.std.proofs.Common.{◌≡◌, ◌≢◌, ℕ, Bool, true, false, cond, eqb, ◌+◌, ◌^◌, ◌<◌, ◌≤◌, List, [], ◌∷◌, length, arith, codes, decimal, length-append}
 use Rattle.std.specs.List.{AllByRecursion, join_with_byte}
 use Rattle.std.specs.Int.{w32, to_be_bytes}
 use Rattle.std.proofs.lemmas.Fmt.{length-decimal-le}
@@ -16,7 +16,7 @@ use Rattle.fp_book.specs.declared.line.LoggedStep.{LoggedStep}
 use Rattle.fp_book.specs.declared.line.LoggedStep.TheVariants.{Down, Gap, Give, Lost, Pick, Post, PutBack, Sent, Take, Tick, Unsent}
 use Rattle.fp_q773.specs.ProviderAbort.{cause_code}
 use Rattle.fp_streams.specs.Line.{IsOneLine}
-use Rattle.fp_replay.specs.Format.{IsCounted, IsLine, IsInRange, IsPosting, IsStep, fields_of, given_text, identifier_text, posted_text, text_of}
+use Rattle.fp_replay.specs.Format.{IsCounted, IsLine, IsInRange, IsPosting, IsStep, fields_of, given_text, head_fields, identifier_text, posted_text, text_of}
 use Rattle.fp_replay.proofs.Cutting.{decimal_without, octets_without}
 use Rattle.fp_replay.proofs.Lines.{small_cause}
 
@@ -87,10 +87,15 @@ name_plain : IsOneLine (codes "fplog")
 name_plain =
     All-from_recursion (λ octet. octet ≡ 10 → ⊥) (codes "fplog") (λ e. omega arith, (λ e. omega arith, (λ e. omega arith, (λ e. omega arith, (λ e. omega arith, tt)))))
 
+head_plain : (b : Bool) (links tag : ℕ) → IsLine (Head links tag)
+    → AllByRecursion IsOneLine (cond b (codes "4" ∷ decimal links ∷ []) (codes "5" ∷ decimal links ∷ decimal tag ∷ []))
+head_plain true links tag is = (letter 52 (omega arith), (decimal_plain links (omega (arith, is.1)), tt))
+head_plain false links tag is =
+    (letter 53 (omega arith), (decimal_plain links (omega (arith, is.1)), (decimal_plain tag (omega (arith, is.2)), tt)))
+
 -- the text of a line has no line feed
 pub text_one_line : (line : Line) → IsLine line → IsOneLine (text_of line)
-text_one_line (Head links) is =
-    joined_plain (codes "fplog" ∷ codes "4" ∷ decimal links ∷ []) (name_plain, (letter 52 (omega arith), (decimal_plain links (omega (arith, is.1)), tt)))
+text_one_line (Head links tag) is = joined_plain (codes "fplog" ∷ head_fields links tag) (name_plain, head_plain (eqb tag 0) links tag is)
 text_one_line (Step link step) is = joined_plain (decimal link ∷ fields_of step) (decimal_plain link (omega (arith, is.0)), fields_plain step is.1)
 
 -- HOW LONG IT IS
@@ -147,10 +152,15 @@ fields_short (Unsent birth) is = omega (arith, decimal_short birth is)
 fields_short Down is = omega arith
 fields_short (Gap lost) is = omega (arith, decimal_short lost is)
 
+head_short : (b : Bool) (links tag : ℕ) → IsLine (Head links tag)
+    → room (cond b (codes "4" ∷ decimal links ∷ []) (codes "5" ∷ decimal links ∷ decimal tag ∷ [])) ≤ 44
+unfolding room
+head_short true links tag is = omega (arith, decimal_short links (omega (arith, is.1)))
+head_short false links tag is = omega (arith, decimal_short links (omega (arith, is.1)), decimal_short tag (omega (arith, is.2)))
+
 -- the text of a line is no longer than a line may be
 pub text_short : (line : Line) → IsLine line → length (text_of line) ≤ 8300
 unfolding room
-text_short (Head links) is =
-    omega (arith, joined_short (codes "fplog" ∷ codes "4" ∷ decimal links ∷ []), decimal_short links (omega (arith, is.1)))
+text_short (Head links tag) is = omega (arith, joined_short (codes "fplog" ∷ head_fields links tag), head_short (eqb tag 0) links tag is)
 text_short (Step link step) is =
     omega (arith, joined_short (decimal link ∷ fields_of step), decimal_short link (omega (arith, is.0)), fields_short step is.1)

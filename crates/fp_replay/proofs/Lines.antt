@@ -1,5 +1,5 @@
 -- No two lines have one text.
-use Rattle.std.proofs.Common.{◌≡◌, ℕ, ◌+◌, ◌^◌, ◌<◌, List, ◌∷◌, ◌++◌, codes, decimal, drop, length, refl, sym, ap, ◌∙◌, arith}
+use Rattle.std.proofs.Common.{◌≡◌, ℕ, ◌+◌, ◌^◌, ◌<◌, ◌≤◌, zero, suc, List, [], ◌∷◌, ◌++◌, codes, decimal, drop, length, refl, sym, ap, ◌∙◌, arith}
 use Rattle.std.specs.Int.{w32, from_be_bytes, to_be_bytes}
 use Rattle.std.proofs.lemmas.Fmt.{decimal_digit, decimal_injective}
 use Rattle.std.proofs.lemmas.Nat.{from_be_bytes-to_be_bytes_4}
@@ -17,10 +17,12 @@ use Rattle.fp_book.specs.declared.line.Line.{Line}
 use Rattle.fp_book.specs.declared.line.Line.TheVariants.{Head, Step}
 use Rattle.fp_book.specs.declared.line.LoggedStep.{LoggedStep}
 use Rattle.fp_book.specs.declared.line.LoggedStep.TheVariants as steps
-use Rattle.fp_replay.specs.Fields.{IsField}
+use Rattle.fp_tids.specs.Identifiers.{last_tag}
+use Rattle.fp_replay.specs.proof_only.Fields.{IsField}
 use Rattle.fp_replay.specs.Format.{IsCounted, IsLine, IsInRange, IsPosting, IsStep, given_text, identifier_text, posted_text, text_of}
-use Rattle.fp_replay.specs.Reading.{step_text}
-use Rattle.fp_replay.proofs.Cutting.{decimal_is_field, octets_are_field, one_cut}
+use Rattle.fp_replay.specs.proof_only.Reading.{step_text}
+use Rattle.fp_replay.proofs.Cutting.{decimal_is_field, octets_are_field, one_cut, one_number}
+use Rattle.fp_replay.proofs.Heads.{head_line, one_head, tagged_text}
 use Rattle.fp_replay.proofs.Hexadecimal.{identifier_octets}
 use Rattle.fp_replay.proofs.Letters.{first}
 
@@ -35,12 +37,6 @@ one_identifier : (a b : ℕ) → a < 2 ^ 32 → b < 2 ^ 32 → identifier_text a
 one_identifier a b p q e =
     let octets = one_message (to_be_bytes w32 a) (to_be_bytes w32 b) (identifier_octets a) (identifier_octets b) e in
     sym (from_be_bytes-to_be_bytes_4 a p) ∙ ap (from_be_bytes w32) octets ∙ from_be_bytes-to_be_bytes_4 b q
-
--- a number, and what comes after it
-one_number : (m n : ℕ) (a b : List ℕ) → m < 2 ^ 64 → n < 2 ^ 64 → decimal m ++ 32 ∷ a ≡ decimal n ++ 32 ∷ b → (m ≡ n) × (a ≡ b)
-one_number m n a b p q e =
-    let parts = one_cut 32 (decimal m) a (decimal n) b (decimal_is_field m p) (decimal_is_field n q) e in
-    (decimal_injective m n p q parts.0, parts.1)
 
 -- the value of a cause is small, and no two causes have one
 pub small_cause : (cause : AbortCause) → cause_code cause < 2 ^ 64
@@ -125,7 +121,7 @@ pub step_line : (link : ℕ) (step : LoggedStep) → text_of (Step link step) �
 step_line link steps.Down = refl
 step_line link _ = refl
 
--- so with a digit, and not with the letter that a head begins with
+-- and so with a digit, and not with the letter that a head begins with
 no_name : (link : ℕ) (step : LoggedStep) → link < 8 → 102 ≡ first (text_of (Step link step)) → ⊥
 no_name link step small e =
     let line = step_line link step in
@@ -133,39 +129,50 @@ no_name link step small e =
     let begins : first (text_of (Step link step)) ≡ 48 + link = rw (line, digit) refl in
     omega (arith, e, begins)
 
+begins : (links tag : ℕ) → 102 ≡ first (text_of (Head links tag))
+begins links tag = sym (ap first (head_line links tag))
+
 -- no two lines have one text
 pub one_line : (a b : Line) → IsLine a → IsLine b → text_of a ≡ text_of b → a ≡ b
-one_line (Head m) (Head n) p q e = ap Head (decimal_injective m n (omega arith) (omega arith) (ap (drop 8) e))
-one_line (Head m) (Step link step) p q e = absurd (no_name link step q.0 (ap first e))
-one_line (Step link step) (Head n) p q e = absurd (no_name link step p.0 (sym (ap first e)))
+one_line (Head m a) (Head n b) p q e = one_head m n a b p q e
+one_line (Head m a) (Step link step) p q e = absurd (no_name link step q.0 (begins m a ∙ ap first e))
+one_line (Step link step) (Head n b) p q e = absurd (no_name link step p.0 (begins n b ∙ sym (ap first e)))
 one_line (Step l a) (Step m b) p q e =
     let parts = one_number l m (step_text a) (step_text b) (omega (arith, p.0)) (omega (arith, q.0)) (sym (step_line l a) ∙ e ∙ step_line m b) in
     cc (parts.0, one_step a b p.1 q.1 parts.1)
-
--- after the name of the format and a blank comes the rest of a head
-pub head_told : (text : List ℕ) (line : Line) → IsLine line → codes "fplog " ++ text ≡ text_of line
-    → (links : ℕ) × (line ≡ Head links) × (text ≡ 52 ∷ 32 ∷ decimal links)
-head_told text (Head links) fits e = (links, refl, ap (drop 6) e)
-head_told text (Step link step) fits e = absurd (no_name link step fits.0 (ap first e))
 
 -- the name of the format is a field, and so is the version
 name_is_field : IsField (codes "fplog")
 name_is_field =
     All-from_recursion (λ octet. octet ≡ 32 → ⊥) (codes "fplog") (λ e. omega arith, (λ e. omega arith, (λ e. omega arith, (λ e. omega arith, (λ e. omega arith, tt)))))
 
-pub version_is_field : IsField (codes "4")
-version_is_field = All-from_recursion (λ octet. octet ≡ 32 → ⊥) (codes "4") (λ e. omega arith, tt)
+version_is_field : (version : ℕ) → 32 < version → IsField (version ∷ [])
+version_is_field version above = All-from_recursion (λ octet. octet ≡ 32 → ⊥) (version ∷ []) (λ e. omega (arith, e, above), tt)
+
+-- after the name of the format and a blank, by what is known of a version and of what comes after that
+module _ (text : List ℕ) (T : Line → Type 0) where
+  pub head_only : {P : List ℕ → List ℕ → Type 0}
+      → ((a b : List ℕ) → IsField a → text ≡ a ++ 32 ∷ b → P a b)
+      → ((links : ℕ) → 1 ≤ links → links ≤ 8 → P (codes "4") (decimal links) → T (Head links 0))
+      → ((links tag : ℕ) → 1 ≤ links → links ≤ 8 → 1 ≤ tag → tag ≤ last_tag → P (codes "5") (decimal links ++ 32 ∷ decimal tag) → T (Head links tag))
+      → (line : Line) → IsLine line → codes "fplog " ++ text ≡ text_of line → T line
+  head_only cut untagged tagged (Head links zero) fits e =
+      untagged links fits.0 fits.1 (cut (codes "4") (decimal links) (version_is_field 52 (omega arith)) (ap (drop 6) e))
+  head_only cut untagged tagged (Head links (suc tag)) fits e =
+      tagged links (suc tag) fits.0 fits.1 (omega arith) fits.2
+      (cut (codes "5") (decimal links ++ 32 ∷ decimal (suc tag)) (version_is_field 53 (omega arith)) (ap (drop 6) (e ∙ tagged_text links (suc tag) (omega arith))))
+  head_only cut untagged tagged (Step link step) fits e = absurd (no_name link step fits.0 (ap first e))
 
 -- a line has a blank
 pub line_is_cut : (line : Line) → IsLine line → (a : List ℕ) × (b : List ℕ) × IsField a × (text_of line ≡ a ++ 32 ∷ b)
-line_is_cut (Head links) fits = (codes "fplog", _, name_is_field, refl)
+line_is_cut (Head links tag) fits = (codes "fplog", _, name_is_field, head_line links tag)
 line_is_cut (Step link step) fits = (decimal link, step_text step, decimal_is_field link (omega (arith, fits.0)), step_line link step)
 
 -- before the first blank stands the name of the format, or the link of a step
 pub line_told : (text front behind : List ℕ) (line : Line) → IsLine line → text ≡ text_of line
     → ((a b : List ℕ) → IsField a → text ≡ a ++ 32 ∷ b → (front ≡ a) × (behind ≡ b)) → (front ≡ codes "fplog" → ⊥)
     → (link : ℕ) × (step : LoggedStep) × (line ≡ Step link step) × (front ≡ decimal link) × (behind ≡ step_text step)
-line_told text front behind (Head links) fits e cut other = absurd (other (cut (codes "fplog") _ name_is_field e).0)
+line_told text front behind (Head links tag) fits e cut other = absurd (other (cut (codes "fplog") _ name_is_field (e ∙ head_line links tag)).0)
 line_told text front behind (Step link step) fits e cut other =
     let parts = cut (decimal link) (step_text step) (decimal_is_field link (omega (arith, fits.0))) (e ∙ step_line link step) in
     (link, step, refl, parts.0, parts.1)

@@ -24,35 +24,40 @@ use Rattle.fp_steps.specs.declared.output.Output.{Output}
 use Rattle.fp_steps.specs.declared.output.Output.TheVariants as outputs
 use Rattle.fp_steps.specs.declared.step.Step.{Step as MadeStep}
 use Rattle.fp_steps.specs.declared.step.Step.TheVariants as made
+use Rattle.fp_tids.specs.Identifiers.{base_of}
 use Rattle.fp_replay.specs.Format.{IsLine, text_of}
 use Rattle.fp_replay.specs.OfRuns.{LogsOfRunsAreReplayed, file_of}
-use Rattle.fp_replay.specs.Replayed.{AllFit, HasTable, IsInPlace, links_in, log_text, report_line, report_of, steps_of, totals_along, totals_after}
+use Rattle.fp_replay.specs.Replayed.{AllFit, HasTable, IsInPlace, links_in, log_text, report_line, report_of, steps_of, tag_in, totals_along, totals_after}
 use Rattle.fp_replay.proofs.OneLog.{same_report}
 
 -- the lines of a run, the newest first: its steps, and after them the head
-abbrev newest_first : ℕ → List LoggedStep → List Line
-newest_first link steps = map (Step link) steps ++ Head (link + 1) ∷ []
+abbrev newest_first : ℕ → ℕ → List LoggedStep → List Line
+newest_first link tag steps = map (Step link) steps ++ Head (link + 1) tag ∷ []
 
-links_are : (link : ℕ) (steps : List LoggedStep) → links_in (newest_first link steps) ≡ link + 1
-links_are link [] = refl
-links_are link (step ∷ steps) = links_are link steps
+links_are : (link tag : ℕ) (steps : List LoggedStep) → links_in (newest_first link tag steps) ≡ link + 1
+links_are link tag [] = refl
+links_are link tag (step ∷ steps) = links_are link tag steps
+
+tag_is : (link tag : ℕ) (steps : List LoggedStep) → tag_in (newest_first link tag steps) ≡ tag
+tag_is link tag [] = refl
+tag_is link tag (step ∷ steps) = tag_is link tag steps
 
 -- steps of the link itself, and of another
-steps_are : (other link : ℕ) (steps : List LoggedStep) (b : Bool) → eqb link other ≡ b → steps_of other (newest_first link steps) ≡ cond b steps []
-steps_are other link [] true is = refl
-steps_are other link [] false is = refl
-steps_are other link (step ∷ steps) true is = rw is (ap (λ l. step ∷ l) (steps_are other link steps true is))
-steps_are other link (step ∷ steps) false is = rw is (steps_are other link steps false is)
+steps_are : (other link tag : ℕ) (steps : List LoggedStep) (b : Bool) → eqb link other ≡ b → steps_of other (newest_first link tag steps) ≡ cond b steps []
+steps_are other link tag [] true is = refl
+steps_are other link tag [] false is = refl
+steps_are other link tag (step ∷ steps) true is = rw is (ap (λ l. step ∷ l) (steps_are other link tag steps true is))
+steps_are other link tag (step ∷ steps) false is = rw is (steps_are other link tag steps false is)
 
 module _ (tables : List Contents) where
   -- each is in its place
-  placed : (link : ℕ) (steps : List LoggedStep) (step : LoggedStep) → HasTable tables step → IsInPlace tables (newest_first link steps) (Step link step)
-  placed link [] step has = (omega arith, has)
-  placed link (last ∷ steps) step has = let n = links_are link steps in (omega (arith, n), has)
+  placed : (link tag : ℕ) (steps : List LoggedStep) (step : LoggedStep) → HasTable tables step → IsInPlace tables (newest_first link tag steps) (Step link step)
+  placed link tag [] step has = (omega arith, has)
+  placed link tag (last ∷ steps) step has = let n = links_are link tag steps in (omega (arith, n), has)
 
-  all_fit : (link : ℕ) (steps : List LoggedStep) → AllByRecursion (HasTable tables) steps → AllByRecursion IsLine (map (Step link) steps) → IsLine (Head (link + 1)) → AllFit tables (newest_first link steps)
-  all_fit link [] have are head = ((head, tt), tt)
-  all_fit link (step ∷ steps) have are head = ((are.0, placed link steps step have.0), all_fit link steps have.1 are.1 head)
+  all_fit : (link tag : ℕ) (steps : List LoggedStep) → AllByRecursion (HasTable tables) steps → AllByRecursion IsLine (map (Step link) steps) → IsLine (Head (link + 1) tag) → AllFit tables (newest_first link tag steps)
+  all_fit link tag [] have are head = ((head, tt), tt)
+  all_fit link tag (step ∷ steps) have are head = ((are.0, placed link tag steps step have.0), all_fit link tag steps have.1 are.1 head)
 
 -- THE TABLES
 
@@ -86,13 +91,13 @@ module _ (tables : List Contents) (contexts : List (List ℕ)) where
   over_has of None have = tt
   over_has of (Some x) have = have x
 
-  message_has : (link : ℕ) (h : List Event) (step : MadeStep) (came : Option Prepared) (answer : Posted) (components : ℕ) → IsCame tables contexts step came
-      → IsAnswer link h step came (outputs.Posted answer components) → IfSome (told_message step answer) (HasTable tables)
-  message_has link h (made.Post table octets moment) None answer components is so = absurd (cc)
-  message_has link h (made.Post table octets moment) (Some came) answer components is so =
+  message_has : (base : ℕ) (h : List Event) (step : MadeStep) (came : Option Prepared) (answer : Posted) (components : ℕ) → IsCame tables contexts step came
+      → IsAnswer base h step came (outputs.Posted answer components) → IfSome (told_message step answer) (HasTable tables)
+  message_has base h (made.Post table octets moment) None answer components is so = absurd (cc)
+  message_has base h (made.Post table octets moment) (Some came) answer components is so =
       one_has (nat_le table LAST_INDEX) (logged.Post table moment octets answer) (table_there table octets moment came is)
-  message_has link h (made.Lost octets moment) came answer components is so = tt
-  message_has link h step came answer components is so = tt
+  message_has base h (made.Lost octets moment) came answer components is so = tt
+  message_has base h step came answer components is so = tt
 
   tick_has : (step : MadeStep) (added wanting : ℕ) → IfSome (told_tick step added wanting) (HasTable tables)
   tick_has (made.Tick moment) added wanting = tt
@@ -102,16 +107,16 @@ module _ (tables : List Contents) (contexts : List (List ℕ)) where
   back_has h (made.PutBack local) = over_has _ (named h local) (λ d. tt)
   back_has h step = tt
 
-  told_has : (link : ℕ) (h : List Event) (step : MadeStep) (came : Option Prepared) (output : Output) → IsCame tables contexts step came → IsAnswer link h step came output
+  told_has : (base : ℕ) (h : List Event) (step : MadeStep) (came : Option Prepared) (output : Output) → IsCame tables contexts step came → IsAnswer base h step came output
       → IfSome (told h step output) (HasTable tables)
-  told_has link h step came (outputs.Posted answer components) is so = message_has link h step came answer components is so
-  told_has link h step came (outputs.Ticked added wanting) is so = tick_has step added wanting
-  told_has link h step came (outputs.Took local position count) is so = over_has _ (named h local) (λ d. tt)
-  told_has link h step came (outputs.Gave local position served given) is so = over_has _ (named h local) (λ d. tt)
-  told_has link h step came outputs.WentBack is so = back_has h step
-  told_has link h step came outputs.Sent is so = over_has (λ d. logged.Sent d) (birth_out h) (λ d. tt)
-  told_has link h step came outputs.Unsent is so = over_has (λ d. logged.Unsent d) (birth_out h) (λ d. tt)
-  told_has link h step came output is so = tt
+  told_has base h step came (outputs.Posted answer components) is so = message_has base h step came answer components is so
+  told_has base h step came (outputs.Ticked added wanting) is so = tick_has step added wanting
+  told_has base h step came (outputs.Took local position count) is so = over_has _ (named h local) (λ d. tt)
+  told_has base h step came (outputs.Gave local position served given) is so = over_has _ (named h local) (λ d. tt)
+  told_has base h step came outputs.WentBack is so = back_has h step
+  told_has base h step came outputs.Sent is so = over_has (λ d. logged.Sent d) (birth_out h) (λ d. tt)
+  told_has base h step came outputs.Unsent is so = over_has (λ d. logged.Unsent d) (birth_out h) (λ d. tt)
+  told_has base h step came output is so = tt
 
   listed : (b : Bool) (line : LoggedStep) → HasTable tables line → AllByRecursion (HasTable tables) (option_to_list (if b then Some line else None))
   listed true line has = (has, tt)
@@ -126,11 +131,11 @@ module _ (tables : List Contents) (contexts : List (List ℕ)) where
   written_has (Some line) has = listed (is_written line) line has
 
   -- so are the lines of a run
-  lines_have : (link : ℕ) (h : List Event) → AllByRecursion (λ (e : Event). IsCame tables contexts e.step e.came) h → AllAnswered link h → AllByRecursion (HasTable tables) (lines_told h)
-  lines_have link [] messages answers = tt
-  lines_have link (e ∷ h) messages answers =
+  lines_have : (base : ℕ) (h : List Event) → AllByRecursion (λ (e : Event). IsCame tables contexts e.step e.came) h → AllAnswered base h → AllByRecursion (HasTable tables) (lines_told h)
+  lines_have base [] messages answers = tt
+  lines_have base (e ∷ h) messages answers =
       both (option_to_list (written (told h e.step e.output))) (lines_told h)
-      (written_has (told h e.step e.output) (told_has link h e.step e.came e.output messages.0 answers.0)) (lines_have link h messages.1 answers.1)
+      (written_has (told h e.step e.output) (told_has base h e.step e.came e.output messages.0 answers.0)) (lines_have base h messages.1 answers.1)
 
 -- THE TEXT
 
@@ -150,10 +155,10 @@ map_reverse f [] = refl
 map_reverse f (x ∷ xs) = map_push f x xs ∙ ap (λ l. l ++ f x ∷ []) (map_reverse f xs) ∙ sym (reverse_onto (map f xs) (f x) [])
 
 -- the log of a run is those lines in order
-log_is : (link : ℕ) (h : List Event) → log_of link h ≡ reverse (newest_first link (lines_told h))
-log_is link h =
-    ap (λ l. Head (link + 1) ∷ l) (map_reverse (Step link) (lines_told h))
-    ∙ sym (reverse-append (map (Step link) (lines_told h)) (Head (link + 1) ∷ []))
+log_is : (link tag : ℕ) (h : List Event) → log_of link tag h ≡ reverse (newest_first link tag (lines_told h))
+log_is link tag h =
+    ap (λ l. Head (link + 1) tag ∷ l) (map_reverse (Step link) (lines_told h))
+    ∙ sym (reverse-append (map (Step link) (lines_told h)) (Head (link + 1) tag ∷ []))
 
 all_split : (a : List Line) (x : Line) → AllByRecursion IsLine (a ++ x ∷ []) → AllByRecursion IsLine a × IsLine x
 all_split [] x are = (tt, are.0)
@@ -171,18 +176,17 @@ all_back link (step ∷ steps) are =
 abbrev only : ℕ → List Event → ℕ → List Event
 only link h other = cond (eqb link other) h []
 
-retells_only : (tables : List Contents) (contexts : List (List ℕ)) (link other : ℕ) (steps : List LoggedStep) (h : List Event) (b : Bool) → eqb link other ≡ b
-    → Retells tables contexts link steps h → Retells tables contexts other (cond b steps []) (cond b h [])
-retells_only tables contexts link other steps h true is retells = subst (λ k. Retells tables contexts k steps h) (eqb-true link other is) retells
-retells_only tables contexts link other steps h false is retells = tt
+retells_only : (tables : List Contents) (contexts : List (List ℕ)) (link other tag : ℕ) (steps : List LoggedStep) (h : List Event) (b : Bool) → eqb link other ≡ b
+    → Retells tables contexts (base_of link tag) steps h → Retells tables contexts (base_of other tag) (cond b steps []) (cond b h [])
+retells_only tables contexts link other tag steps h true is retells = subst (λ k. Retells tables contexts (base_of k tag) steps h) (eqb-true link other is) retells
+retells_only tables contexts link other tag steps h false is retells = tt
 
 pub logs_replayed : LogsOfRunsAreReplayed
-logs_replayed tables contexts link steps outputs log run is_log =
+logs_replayed tables contexts link tag steps outputs log (run, retold) is_log =
     let h = run.history in
-    let retold = run.retold in
-    let lines = newest_first link (lines_told h) in
-    let log_so : log ≡ log_of link h = is_log.lines_are tables contexts h run.tells run.answers in
-    let are : AllByRecursion IsLine (log_of link h) = subst (AllByRecursion IsLine) log_so is_log.in_range in
+    let lines = newest_first link tag (lines_told h) in
+    let log_so : log ≡ log_of link tag h = is_log.lines_are tables contexts h run.tells run.answers in
+    let are : AllByRecursion IsLine (log_of link tag h) = subst (AllByRecursion IsLine) log_so is_log.in_range in
     let totals : ℕ → Totals = totals_along (only link retold.history) in
     let before : report_of link (λ before. totals_of []) ≡ report_of link totals =
     same_report link (λ before. totals_of []) totals (λ other below. sym (ap (λ b. totals_after (cond b retold.history [])) (ne_eqb link other (λ e. omega (arith, e, below))))) in
@@ -190,14 +194,15 @@ logs_replayed tables contexts link steps outputs log run is_log =
     ap totals_of (sym run.tells.outputs_are) ∙ sym retold.totals ∙ sym (ap (λ b. totals_after (cond b retold.history [])) (eq-eqb link link refl)) in
     record {
       lines = lines;
-      begun = omega (arith, length-append (map (Step link) (lines_told h)) (Head (link + 1) ∷ []));
-      text = ap file_of (log_so ∙ log_is link h) ∙ same_text lines;
+      begun = omega (arith, length-append (map (Step link) (lines_told h)) (Head (link + 1) tag ∷ []));
+      text = ap file_of (log_so ∙ log_is link tag h) ∙ same_text lines;
       good = record {
-        fit = all_fit tables link (lines_told h) (lines_have tables contexts link h run.tells.messages run.answers) (all_back link (lines_told h) are.1) are.0;
+        fit = all_fit tables link tag (lines_told h) (lines_have tables contexts (base_of link tag) h run.tells.messages run.answers) (all_back link (lines_told h) are.1) are.0;
         history = only link retold.history;
         retells = λ other below.
-            subst (λ l. Retells tables contexts other l (only link retold.history other)) (sym (steps_are other link (lines_told h) (eqb link other) refl))
-            (retells_only tables contexts link other (lines_told h) retold.history (eqb link other) refl retold.retells);
+            subst (λ t. Retells tables contexts (base_of other t) (steps_of other lines) (only link retold.history other)) (sym (tag_is link tag (lines_told h)))
+            (subst (λ l. Retells tables contexts (base_of other tag) l (only link retold.history other)) (sym (steps_are other link tag (lines_told h) (eqb link other) refl))
+            (retells_only tables contexts link other tag (lines_told h) retold.history (eqb link other) refl retold.retells));
       };
-      report_is = (λ i. before i ++ report_line link (own i)) ∙ sym (ap (λ n. report_of n totals) (links_are link (lines_told h) ∙ add-one link));
+      report_is = (λ i. before i ++ report_line link (own i)) ∙ sym (ap (λ n. report_of n totals) (links_are link tag (lines_told h) ∙ add-one link));
     }

@@ -11,12 +11,13 @@ use Rattle.fp_records.specs.Table.{Contents}
 use Rattle.fp_steps.specs.Answers.{IsAnswer}
 use Rattle.fp_steps.specs.History.{Event}
 use Rattle.fp_steps.specs.declared.step.Step.{Step as MadeStep}
+use Rattle.fp_tids.specs.Identifiers.{base_of}
 use Rattle.fp_replay.specs.Format.{IsLine, text_of}
 use Rattle.fp_replay.specs.Laws.{TextIsOfOneLine}
-use Rattle.fp_replay.specs.Making.{AreAfter, AreNew, IsKept, IsRunOf, Taking, TakingText}
+use Rattle.fp_replay.specs.proof_only.Making.{AreAfter, AreNew, IsKept, IsRunOf, Taking, TakingText}
 use Rattle.fp_replay.specs.declared.replay_fault.Refusal.{Refusal}
 use Rattle.fp_replay.specs.declared.replay_fault.Refusal.TheVariants.{BadLine, Memory}
-use Rattle.fp_replay.specs.Replayed.{AllFit, HasTable, IsInPlace, links_in, report_line, report_of, steps_of}
+use Rattle.fp_replay.specs.Replayed.{AllFit, HasTable, IsInPlace, links_in, report_line, report_of, steps_of, tag_in}
 use Rattle.fp_steps.specs.After.{Follows, IsAfter}
 use Rattle.fp_replay.specs.Stopped.{Differs, DiffersBy, HasOtherLine, is_gap}
 use Rattle.fp_steps.specs.Retold.{Retells, RetellsOne, step_of}
@@ -52,7 +53,7 @@ read_at old index link run at within is =
 -- where a line stands there is a link
 links_some : (tables : List Contents) (lines : List Line) → AllFit tables lines → 0 < length lines → 0 < links_in lines
 links_some tables [] fit some = absurd (omega arith)
-links_some tables (Head links ∷ before) fit some = omega (arith, fit.0.0.0)
+links_some tables (Head links tag ∷ before) fit some = omega (arith, fit.0.0.0)
 links_some tables (Step link step ∷ []) fit some = absurd fit.0.1
 links_some tables (Step link step ∷ (last ∷ before)) fit some = let n = fit.0.1.0 in omega (arith, n)
 
@@ -64,14 +65,14 @@ place_of tables (last ∷ lines) link step place = place
 -- RUNS BEGIN
 
 -- one new run more
-pub new_more : (link : ℕ) (runs more : List LinkRun) (run : LinkRun) → AreNew link runs
-    → ((tables : List Contents) (contexts : List (List ℕ)) → IsRunOf tables contexts link [] run) → more ≡ runs ++ run ∷ [] → AreNew (link + 1) more
-new_more link runs more run news new is = record {
+pub new_more : (link tag : ℕ) (runs more : List LinkRun) (run : LinkRun) → AreNew link tag runs
+    → ((tables : List Contents) (contexts : List (List ℕ)) → IsRunOf tables contexts link tag [] run) → more ≡ runs ++ run ∷ [] → AreNew (link + 1) tag more
+new_more link tag runs more run news new is = record {
   length_is = ap length is ∙ length-append runs (run ∷ []) ∙ ap (λ n. n + 1) news.length_is;
   each = λ tables contexts at r found.
       ⊎_elim
       (λ there. news.each tables contexts at r there)
-      (λ last. subst (λ k. IsRunOf tables contexts k [] r) (sym (last.0 ∙ news.length_is)) (subst (IsRunOf tables contexts link []) last.1 (new tables contexts)))
+      (λ last. subst (λ k. IsRunOf tables contexts k tag [] r) (sym (last.0 ∙ news.length_is)) (subst (IsRunOf tables contexts link tag []) last.1 (new tables contexts)))
       (get_push runs run at r (ap (λ l. slice_get l at) (sym is) ∙ found));
 }
 
@@ -102,9 +103,9 @@ module _ (tables : List Contents) (contexts : List (List ℕ)) where
   }
 
   -- the head, and its links
-  pub kept_head : (lines : List Line) (links : ℕ) (old new : List LinkRun) → IsKept tables contexts lines old → length old ≡ 0 → IsLine (Head links) → AreNew links new
-      → IsInPlace tables lines (Head links) × IsKept tables contexts (Head links ∷ lines) new
-  kept_head [] links old new kept none is news = (
+  pub kept_head : (lines : List Line) (links tag : ℕ) (old new : List LinkRun) → IsKept tables contexts lines old → length old ≡ 0 → IsLine (Head links tag) → AreNew links tag new
+      → IsInPlace tables lines (Head links tag) × IsKept tables contexts (Head links tag ∷ lines) new
+  kept_head [] links tag old new kept none is news = (
     tt,
     record {
       good = record { fit = ((is, tt), tt); history = λ link. []; retells = λ link within. tt };
@@ -112,22 +113,22 @@ module _ (tables : List Contents) (contexts : List (List ℕ)) where
       each = news.each tables contexts;
     },
   )
-  kept_head (line ∷ lines) links old new kept none is news = absurd (let some = no_lines (line ∷ lines) old kept none in (cc))
+  kept_head (line ∷ lines) links tag old new kept none is news = absurd (let some = no_lines (line ∷ lines) old kept none in (cc))
 
   -- A STEP
 
   -- one line more of this link, or none of another
-  retells_if : (b : Bool) (link : ℕ) (line : LoggedStep) (lines : List LoggedStep) (e : Event) (h : List Event)
-      → (b ≡ true → RetellsOne tables contexts link line h e) → Retells tables contexts link lines h
-      → Retells tables contexts link (cond b (line ∷ lines) lines) (cond b (e ∷ h) h)
-  retells_if true link line lines e h one before = (one refl, before)
-  retells_if false link line lines e h one before = before
+  retells_if : (b : Bool) (base : ℕ) (line : LoggedStep) (lines : List LoggedStep) (e : Event) (h : List Event)
+      → (b ≡ true → RetellsOne tables contexts base line h e) → Retells tables contexts base lines h
+      → Retells tables contexts base (cond b (line ∷ lines) lines) (cond b (e ∷ h) h)
+  retells_if true base line lines e h one before = (one refl, before)
+  retells_if false base line lines e h one before = before
 
   -- the run of this link went on, and that of another didn't
-  of_if : (b : Bool) (link : ℕ) (e : Event) (h : List Event) (run : LinkRun)
-      → (b ≡ true → IsRunOf tables contexts link (e ∷ h) run) → (b ≡ false → IsRunOf tables contexts link h run) → IsRunOf tables contexts link (cond b (e ∷ h) h) run
-  of_if true link e h run here other = here refl
-  of_if false link e h run here other = other refl
+  of_if : (b : Bool) (link tag : ℕ) (e : Event) (h : List Event) (run : LinkRun)
+      → (b ≡ true → IsRunOf tables contexts link tag (e ∷ h) run) → (b ≡ false → IsRunOf tables contexts link tag h run) → IsRunOf tables contexts link tag (cond b (e ∷ h) h) run
+  of_if true link tag e h run here other = here refl
+  of_if false link tag e h run here other = other refl
 
   -- on the run of its link
   module _ (lines : List Line) (link index : ℕ) (line : LoggedStep) (old : List LinkRun) (run : LinkRun)
@@ -137,23 +138,23 @@ module _ (tables : List Contents) (contexts : List (List ℕ)) where
     placed = step_place lines link line old kept (omega (arith, at, within)) table
 
     -- the run was one of the link
-    of : IsRunOf tables contexts link (kept.good.history link) run
+    of : IsRunOf tables contexts link (tag_in lines) (kept.good.history link) run
     of = kept.each link run (read_at old index link run at within read)
 
     -- it is of a turn that isn't out
     pub no_turn : ((h : List Event) → IsAfter tables contexts h run → None ≡ step_of h line) → is_gap line ≡ false
-        → IsInPlace tables lines (Step link line) × ((is_gap line ≡ false) × Differs tables contexts link (kept.good.history link) line)
-    no_turn none gap = (placed, (gap, subst (DiffersBy tables contexts link (kept.good.history link) line) (none (kept.good.history link) of.after) tt))
+        → IsInPlace tables lines (Step link line) × ((is_gap line ≡ false) × Differs tables contexts (base_of link (tag_in lines)) (kept.good.history link) line)
+    no_turn none gap = (placed, (gap, subst (DiffersBy tables contexts (base_of link (tag_in lines)) (kept.good.history link) line) (none (kept.good.history link) of.after) tt))
 
   -- and was made there
   module _ (lines : List Line) (link index : ℕ) (line : LoggedStep) (step : MadeStep) (made : Stepped) (old : List LinkRun) (run new : LinkRun)
-      (kept : IsKept tables contexts lines old) (at : index ≡ link) (within : index < length old) (table : HasTable tables line) (read : run ≡ get_or old index run) (same : new.link ≡ run.link)
+      (kept : IsKept tables contexts lines old) (at : index ≡ link) (within : index < length old) (table : HasTable tables line) (read : run ≡ get_or old index run) (same_link : new.link ≡ run.link) (same_tag : new.tag ≡ run.tag)
       (step_all : (h : List Event) → IsAfter tables contexts h run → Some step ≡ step_of h line)
       (follows_all : (h : List Event) → IsAfter tables contexts h run → Follows tables contexts h step made new) where
     here : IsInPlace tables lines (Step link line)
     here = placed lines link index line old run kept at within table read
 
-    was : IsRunOf tables contexts link (kept.good.history link) run
+    was : IsRunOf tables contexts link (tag_in lines) (kept.good.history link) run
     was = of lines link index line old run kept at within table read
 
     step_is : Some step ≡ step_of (kept.good.history link) line
@@ -162,33 +163,40 @@ module _ (tables : List Contents) (contexts : List (List ℕ)) where
     follows : Follows tables contexts (kept.good.history link) step made new
     follows = follows_all (kept.good.history link) was.after
 
-    answered : IsAnswer link (kept.good.history link) step follows.came made.output
-    answered = subst (λ l. IsAnswer l (kept.good.history link) step follows.came made.output) (same ∙ was.link_is) follows.answer
+    link_is : new.link ≡ link
+    link_is = same_link ∙ was.link_is
+
+    tag_is : new.tag ≡ tag_in lines
+    tag_is = same_tag ∙ was.tag_is
+
+    answered : IsAnswer (base_of link (tag_in lines)) (kept.good.history link) step follows.came made.output
+    answered =
+        subst (λ base. IsAnswer base (kept.good.history link) step follows.came made.output) (λ i. base_of (link_is i) (tag_is i)) follows.answer
 
     -- it was told as the line tells it: the lines with one more are retold, and the runs are those of their links
     pub made_again : IsLine (Step link line) → made.line ≡ Some line → IsInPlace tables lines (Step link line) × IsKept tables contexts (Step link line ∷ lines) (set old index new)
     made_again is told_is =
         let h = kept.good.history link in
         let e : Event = record { step = step; came = follows.came; output = made.output } in
-        let one : RetellsOne tables contexts link line h e = record { step = sym step_is; came = follows.is_came; answer = answered; tells = sym follows.line ∙ told_is } in
-        let gone : IsRunOf tables contexts link (e ∷ h) new = record { link_is = same ∙ was.link_is; after = follows.after } in (
+        let one : RetellsOne tables contexts (base_of link (tag_in lines)) line h e = record { step = sym step_is; came = follows.is_came; answer = answered; tells = sym follows.line ∙ told_is } in
+        let gone : IsRunOf tables contexts link (tag_in lines) (e ∷ h) new = record { link_is = link_is; tag_is = tag_is; after = follows.after } in (
           here,
           record {
             good = record {
               fit = ((is, here), kept.good.fit);
               history = λ k. cond (eqb link k) (e ∷ kept.good.history k) (kept.good.history k);
               retells = λ k below.
-                  retells_if (eqb link k) k line (steps_of k lines) e (kept.good.history k)
-                  (λ here. subst (λ n. RetellsOne tables contexts n line (kept.good.history n) e) (eqb-true link k here) one)
+                  retells_if (eqb link k) (base_of k (tag_in lines)) line (steps_of k lines) e (kept.good.history k)
+                  (λ here. subst (λ n. RetellsOne tables contexts (base_of n (tag_in lines)) line (kept.good.history n) e) (eqb-true link k here) one)
                   (kept.good.retells k below);
             };
             many = length-set old index new ∙ kept.many;
             each = λ k r there.
                 ⊎_elim
-                (λ now. of_if (eqb link k) k e (kept.good.history k) r
-                (λ here. subst (λ n. IsRunOf tables contexts n (e ∷ kept.good.history n) r) (eqb-true link k here) (subst (IsRunOf tables contexts link (e ∷ h)) now.1 gone))
+                (λ now. of_if (eqb link k) k (tag_in lines) e (kept.good.history k) r
+                (λ here. subst (λ n. IsRunOf tables contexts n (tag_in lines) (e ∷ kept.good.history n) r) (eqb-true link k here) (subst (IsRunOf tables contexts link (tag_in lines) (e ∷ h)) now.1 gone))
                 (λ other. absurd (eqb-false link k other (sym (now.0 ∙ at)))))
-                (λ before. of_if (eqb link k) k e (kept.good.history k) r
+                (λ before. of_if (eqb link k) k (tag_in lines) e (kept.good.history k) r
                 (λ here. absurd (before.0 (sym (at ∙ eqb-true link k here))))
                 (λ other. kept.each k r before.1))
                 (get_set old index new k r there);
@@ -197,17 +205,17 @@ module _ (tables : List Contents) (contexts : List (List ℕ)) where
 
     -- it was told otherwise
     pub disagreed : (made.line ≡ Some line → ⊥) → is_gap line ≡ false
-        → IsInPlace tables lines (Step link line) × ((is_gap line ≡ false) × Differs tables contexts link (kept.good.history link) line)
+        → IsInPlace tables lines (Step link line) × ((is_gap line ≡ false) × Differs tables contexts (base_of link (tag_in lines)) (kept.good.history link) line)
     disagreed other none =
         let h = kept.good.history link in
-        let otherwise : HasOtherLine tables contexts link h line step = record {
+        let otherwise : HasOtherLine tables contexts (base_of link (tag_in lines)) h line step = record {
           came = follows.came;
           came_is = follows.is_came;
           output = made.output;
           answer = answered;
           differs = λ is. other (follows.line ∙ is);
         } in
-        (here, (none, subst (DiffersBy tables contexts link h line) step_is otherwise))
+        (here, (none, subst (DiffersBy tables contexts (base_of link (tag_in lines)) h line) step_is otherwise))
 
   -- A TEXT
 
@@ -220,9 +228,9 @@ module _ (tables : List Contents) (contexts : List (List ℕ)) where
   taken_text old line text _ new one is text_is taking lines kept = let t = taking lines kept is in (line, (is, t.0), text_is, t.1)
 
   -- a run that was read is one of its link
-  pub run_at : (history : ℕ → List Event) (same runs : List LinkRun) (link : ℕ) (run : LinkRun)
-      → AreAfter tables contexts history runs → same ≡ runs → link < length same → run ≡ get_or same link run → IsAfter tables contexts (history link) run
-  run_at history same runs link run after is within at =
+  pub run_at : (tag : ℕ) (history : ℕ → List Event) (same runs : List LinkRun) (link : ℕ) (run : LinkRun)
+      → AreAfter tables contexts tag history runs → same ≡ runs → link < length same → run ≡ get_or same link run → IsAfter tables contexts (history link) run
+  run_at tag history same runs link run after is within at =
       (after link run (ap (λ l. slice_get l link) (sym is) ∙ read_at same link link run refl within at)).after
 
 -- THE REPORT

@@ -15,10 +15,10 @@ use Rattle.fp_streams.specs.declared.fault.LinesFault.{LinesFault}
 use Rattle.fp_streams.specs.declared.fault.LinesFault.TheVariants.{Refused, TooLong}
 use Rattle.fp_streams.specs.declared.fault.LinesFault.TheVariants as reading
 use Rattle.fp_replay.specs.Format.{text_of}
-use Rattle.fp_replay.specs.Making.{IsKept, IsReport, IsUnreported, TakingEnded, TakingText, TakesText, fault_at, fault_of}
-use Rattle.fp_replay.specs.Replayed.{Fits, IsReplayed, log_text, report_of, totals_along}
+use Rattle.fp_replay.specs.proof_only.Making.{IsKept, IsReport, IsUnreported, TakingEnded, TakingText, TakesText, fault_at, fault_of}
+use Rattle.fp_replay.specs.Replayed.{Fits, IsReplayed, log_text, report_of, tag_in, totals_along}
 use Rattle.fp_replay.specs.Stopped.{BadAt, DisagreesAt, GapAt, Halts, Reaches, ReachesEnd, StepAt}
-use Rattle.fp_replay.specs.Taking.{refuses, takes}
+use Rattle.fp_replay.specs.proof_only.Taking.{refuses, takes}
 use Rattle.fp_replay.specs.declared.replay_fault.Refusal.{Refusal}
 use Rattle.fp_replay.specs.declared.replay_fault.Refusal.TheVariants.{BadLine, Gap, Disagrees, Memory}
 use Rattle.fp_replay.specs.declared.replay_fault.ReplayFault.{ReplayFault}
@@ -183,8 +183,8 @@ module _ (tables : List Contents) (contexts : List (List ℕ)) where
       refused_fed Disagrees r (Step link step, fits, text_is, other) =
           consumed_then had left octets (DisagreesAt tables contexts number) consumed (λ more is. (step_then r link step fits text_is more, other.0, other.1))
       refused_fed Memory r done = tt
-      refused_fed Gap r (Head links, fits, text_is, never) = absurd never
-      refused_fed Disagrees r (Head links, fits, text_is, never) = absurd never
+      refused_fed Gap r (Head links tag, fits, text_is, never) = absurd never
+      refused_fed Disagrees r (Head links tag, fits, text_is, never) = absurd never
 
       -- it is refused
       refused_by : (has_line_feed : Bool) (refusal : Refusal) → Reached octets texts (line ++ following.after_line has_line_feed tail) at
@@ -254,7 +254,7 @@ module _ (tables : List Contents) (contexts : List (List ℕ)) where
           begun = lines_some w.lines w.kept;
           text = w.text;
           good = w.kept.good;
-          report_is = is tables contexts w.kept.good.history w.kept.each ∙ ap (λ n. report_of n (totals_along w.kept.good.history)) w.kept.many;
+          report_is = is tables contexts (tag_in w.lines) w.kept.good.history w.kept.each ∙ ap (λ n. report_of n (totals_along w.kept.good.history)) w.kept.many;
         })
       where
         lines_some : (lines : List Line) → IsKept tables contexts lines runs → 0 < length lines

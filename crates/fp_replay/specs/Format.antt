@@ -1,6 +1,6 @@
 -- The text of the lines of a log (own): fields with single blanks between them. Numbers are decimal, without leading
 -- zeros; octets are two hexadecimal digits each, in upper case. What a line may hold is said by IsLine of fp_steps.
-use Rattle.std.specs.Prelude.{ℕ, List, [], ◌∷◌, ◌++◌, codes, decimal}
+use Rattle.std.specs.Prelude.{ℕ, ◌==◌, List, [], ◌∷◌, ◌++◌, codes, decimal, if◌then◌else◌}
 use Rattle.std.specs.Int.{w32, to_be_bytes}
 use Rattle.std.specs.List.{join_with_byte}
 use Rattle.hex.specs.Hex.{encode_upper}
@@ -48,8 +48,13 @@ fields_of (Unsent birth) = codes "U" ∷ decimal birth ∷ []
 fields_of Down = codes "N" ∷ []
 fields_of (Gap lost) = codes "Z" ∷ decimal lost ∷ []
 
--- the text of a line, without its line feed: the head names the format and its version, and says how many links there
--- are, and a step begins with its link
+-- the fields of a head after the name of the format: its version, how many links there are, and the tag of the run; a
+-- run without one has an older version
+abbrev pub head_fields : ℕ → ℕ → List (List ℕ)
+head_fields links tag =
+    if tag == 0 then codes "4" ∷ decimal links ∷ [] else codes "5" ∷ decimal links ∷ decimal tag ∷ []
+
+-- the text of a line, without its line feed: the head names the format, and a step begins with its link
 abbrev pub text_of : Line → List ℕ
-text_of (Head links) = join_with_byte 32 (codes "fplog" ∷ codes "4" ∷ decimal links ∷ [])
+text_of (Head links tag) = join_with_byte 32 (codes "fplog" ∷ head_fields links tag)
 text_of (Step link step) = join_with_byte 32 (decimal link ∷ fields_of step)

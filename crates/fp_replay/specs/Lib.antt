@@ -1,11 +1,7 @@
-pub mod Fields
 pub mod Format
 pub mod Laws
 pub mod OfRuns
 pub mod Once
-pub mod Making
-pub mod Reading
 pub mod Replayed
 pub mod Stopped
-pub mod Taking
-pub mod Writing
+pub mod proof_only

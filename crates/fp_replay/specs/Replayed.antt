@@ -10,6 +10,7 @@ use Rattle.fp_records.specs.Table.{Contents}
 use Rattle.fp_steps.specs.History.{Event, outputs_of}
 use Rattle.fp_steps.specs.Retold.{Retells}
 use Rattle.fp_steps.specs.Totals.{totals_of}
+use Rattle.fp_tids.specs.Identifiers.{base_of}
 use Rattle.fp_replay.specs.Format.{IsLine, text_of}
 
 -- the text of lines: each ends with a line feed
@@ -20,8 +21,14 @@ log_text (line ∷ before) = log_text before ++ (text_of line ++ 10 ∷ [])
 -- how many links the head has; none if there is no head
 abbrev pub links_in : List Line → ℕ
 links_in [] = 0
-links_in (Head links ∷ before) = links
+links_in (Head links tag ∷ before) = links
 links_in (Step link step ∷ before) = links_in before
+
+-- the tag that the head has, and 0 if there is no head
+abbrev pub tag_in : List Line → ℕ
+tag_in [] = 0
+tag_in (Head links tag ∷ before) = tag
+tag_in (Step link step ∷ before) = tag_in before
 
 -- the table by which a message was read is among those handed in
 abbrev pub HasTable : List Contents → LoggedStep → Type 0
@@ -31,10 +38,9 @@ HasTable tables _ = ⊤
 -- the head comes before all others, and each other line is a step of a link that the head has, by a table that was
 -- handed in
 abbrev pub IsInPlace : List Contents → List Line → Line → Type 0
-IsInPlace tables [] (Head links) = ⊤
-IsInPlace tables [] (Step link step) = ⊥
-IsInPlace tables (last ∷ before) (Head links) = ⊥
+IsInPlace tables [] (Head links tag) = ⊤
 IsInPlace tables (last ∷ before) (Step link step) = (link < links_in (last ∷ before)) × HasTable tables step
+IsInPlace tables _ _ = ⊥
 
 -- a line of the format, in its place after these
 abbrev pub Fits : List Contents → List Line → Line → Type 0
@@ -47,7 +53,7 @@ AllFit tables (line ∷ before) = Fits tables before line × AllFit tables befor
 -- the steps of a link among these lines
 abbrev pub steps_of : ℕ → List Line → List LoggedStep
 steps_of link [] = []
-steps_of link (Head links ∷ before) = steps_of link before
+steps_of link (Head links tag ∷ before) = steps_of link before
 steps_of link (Step other step ∷ before) = if other == link then step ∷ steps_of link before else steps_of link before
 
 -- All lines are of the format and in their places, and each link has a history in which its steps, replayed one after
@@ -55,7 +61,7 @@ steps_of link (Step other step ∷ before) = if other == link then step ∷ step
 pub record IsRetold (tables : List Contents) (contexts : List (List ℕ)) (lines : List Line) : Type 0 where
   pub fit : AllFit tables lines
   pub history : ℕ → List Event
-  pub retells : (link : ℕ) → link < links_in lines → Retells tables contexts link (steps_of link lines) (history link)
+  pub retells : (link : ℕ) → link < links_in lines → Retells tables contexts (base_of link (tag_in lines)) (steps_of link lines) (history link)
 
 -- the totals of a history
 abbrev pub totals_after : List Event → Totals

@@ -16,8 +16,9 @@ use Rattle.fp_steps.specs.declared.step.Step.{Step as MadeStep}
 use Rattle.fp_streams.specs.Ends.{Cause, limit_reached, maybe_at_end, reader_failed, writer_failed_at_end}
 use Rattle.fp_streams.specs.Line.{IsOneLine}
 use Rattle.fp_streams.specs.Write.{AppendsFront}
+use Rattle.fp_tids.specs.Identifiers.{base_of}
 use Rattle.fp_replay.specs.Format.{text_of}
-use Rattle.fp_replay.specs.Replayed.{Fits, IsReplayed, IsRetold, log_text}
+use Rattle.fp_replay.specs.Replayed.{Fits, IsReplayed, IsRetold, log_text, tag_in}
 use Rattle.fp_replay.specs.declared.replay_fault.ReplayFault.{ReplayFault}
 use Rattle.fp_replay.specs.declared.replay_fault.ReplayFault.TheVariants.{BadLine, Gap, Disagrees, ReadFault, WriteFault, TurnLimit, Memory}
 
@@ -40,21 +41,21 @@ is_gap (logged.Tick moment added wanting) = nat_lt 0 wanting
 is_gap _ = false
 
 -- a step is answered after this history of its link, and has another log line
-pub record HasOtherLine (tables : List Contents) (contexts : List (List ℕ)) (link : ℕ) (h : List Event) (line : LoggedStep) (step : MadeStep) : Type 0 where
+pub record HasOtherLine (tables : List Contents) (contexts : List (List ℕ)) (base : ℕ) (h : List Event) (line : LoggedStep) (step : MadeStep) : Type 0 where
   pub came : Option Prepared
   pub came_is : IsCame tables contexts step came
   pub output : Output
-  pub answer : IsAnswer link h step came output
+  pub answer : IsAnswer base h step came output
   pub differs : told h step output ≢ Some line
 
 -- so the step of a line; or it has none, since by it a turn comes back that isn't out
 abbrev pub DiffersBy : List Contents → List (List ℕ) → ℕ → List Event → LoggedStep → Option MadeStep → Type 0
-DiffersBy tables contexts link h line None = ⊤
-DiffersBy tables contexts link h line (Some step) = HasOtherLine tables contexts link h line step
+DiffersBy tables contexts base h line None = ⊤
+DiffersBy tables contexts base h line (Some step) = HasOtherLine tables contexts base h line step
 
 -- after this history of its link a line disagrees
 abbrev pub Differs : List Contents → List (List ℕ) → ℕ → List Event → LoggedStep → Type 0
-Differs tables contexts link h line = DiffersBy tables contexts link h line (step_of h line)
+Differs tables contexts base h line = DiffersBy tables contexts base h line (step_of h line)
 
 -- the line of this number is bad, and those before it are good
 pub record BadAt (tables : List Contents) (contexts : List (List ℕ)) (number : ℕ) (input : List ℕ) : Type 0 where
@@ -80,7 +81,11 @@ GapAt tables contexts number input = (at : StepAt tables contexts number input) 
 abbrev pub DisagreesAt : List Contents → List (List ℕ) → ℕ → List ℕ → Type 0
 DisagreesAt tables contexts number input =
     (at : StepAt tables contexts number input) × (is_gap at.step ≡ false)
-    × Differs tables contexts at.link (at.reaches.good.history at.link) at.step
+    × Differs tables contexts (base_of at.link (tag_in at.before)) (at.reaches.good.history at.link) at.step
+
+-- how many octets a line may have, its line feed not counted
+abbrev pub most_line : ℕ
+most_line = 8300
 
 -- this much of the input was read, and each line of it that a line feed ended is good; the line that was begun after
 -- them is at most as long as a line may be
@@ -91,7 +96,7 @@ pub record ReachesEnd (tables : List Contents) (contexts : List (List ℕ)) (lef
   pub begun : List ℕ
   pub text : read ≡ log_text lines ++ begun
   pub one_line : IsOneLine begun
-  pub short : length begun ≤ 8300
+  pub short : length begun ≤ most_line
   pub good : IsRetold tables contexts lines
 
 -- the whole log is replayed, and a front of its report was written

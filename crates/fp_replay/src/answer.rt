@@ -6,7 +6,7 @@ ghost use Rattle.fp_book.specs.declared.answers.Posted.{Posted};
 ghost use Rattle.fp_q773.specs.ProviderAbort.{cause_code};
 ghost use Rattle.fp_q773.specs.declared.provider_abort.AbortCause.{AbortCause};
 ghost use Rattle.fp_replay.specs.Format.{IsCounted, IsInRange, given_text, posted_text};
-ghost use Rattle.fp_replay.specs.Writing.{KeepsFront};
+ghost use Rattle.fp_replay.specs.proof_only.Writing.{KeepsFront};
 
 use crate::number::{number_in, short_number_in, write_number};
 use crate::octets::{identifier_in, write_identifier};

@@ -1,8 +1,15 @@
-//! The fields after a letter, each after a blank.
+//! Fields: where they end, and what they are.
 
-ghost use Rattle.std.specs.Prelude.{◌≡◌, ◌++◌, [], ◌∷◌, List, ℕ, IfSome, IsSomeAnd};
+ghost use Rattle.std.specs.Prelude.{◌≡◌, ◌↔◌, ◌++◌, [], ◌∷◌, List, ℕ, IfSome, IsSomeAnd, IsTrue};
 ghost use Rattle.std.specs.List.{join_with_byte};
-ghost use Rattle.fp_replay.specs.Fields.{IsField};
+ghost use Rattle.fp_replay.specs.proof_only.Fields.{IsField};
+
+/// Whether a field has this text.
+pub(crate) fn is_text(field: &[u8], text: &[u8]) -> bool
+    ensures { IsTrue result ↔ (field.now ≡ text.now) }
+{
+    field == text
+}
 
 /// What precedes the first blank and what follows it, or `None` if there is no blank.
 pub(crate) fn cut(text: &[u8]) -> Option<(&[u8], &[u8])>

@@ -1,9 +1,10 @@
 //! The log as text: its lines are written, and read again; and its replay.
 //!
-//! A log begins with a head, `fplog 4 LINKS`. Each other line is a step of a link: the link, a letter and its fields,
-//! with single blanks between them. The layer is handed lines as `fp_book` has them and returns their text, or is
-//! handed the text of a line and returns the line. For a replay it is handed the tables of records, the names of
-//! application contexts, a reader and a writer. It knows no file, and asks the system for nothing but memory.
+//! A log begins with a head: `fplog 5 LINKS TAG` for a run with a tag, 1 to 4,094, and `fplog 4 LINKS` for one without.
+//! Each other line is a step of a link: the link, a letter and its fields, with single blanks between them. The layer
+//! is handed lines as `fp_book` has them and returns their text, or is handed the text of a line and returns the line.
+//! For a replay it is handed the tables of records, the names of application contexts, a reader and a writer. It knows
+//! no file, and asks the system for nothing but memory.
 //!
 //! * [`write_line`] appends a line and a line feed to a text.
 //! * [`read_line`] returns the line that was written so.
@@ -14,6 +15,7 @@
 //! | File | What it writes and reads |
 //! |---|---|
 //! | `line.rt` | a line: the head, or a link and its step |
+//! | `head.rt` | the head: its version, the number of links, and the tag of the run |
 //! | `step.rt` | the letter of a step |
 //! | `posting.rt`, `tick.rt`, `turn.rt`, `parcel.rt` | the fields after the letters |
 //! | `number.rt`, `octets.rt`, `answer.rt` | the fields themselves |
@@ -29,18 +31,19 @@
 //! The layer above may rely on this: `text_of` is the one definition of the format, and `IsLine` says which lines there
 //! are (`specs/Format.antt`). What is read has the text that was read, and each line is read from its text, unless
 //! memory runs out; [`texts_are_of_one_line`] says that there is no other. So a number with a leading zero, a digit in
-//! lower case, a second blank or a carriage return makes a bad line.
+//! lower case, a second blank, a carriage return, or the tag 0 in a head makes a bad line.
 //!
 //! A log is replayed if its lines are of the format and in their places, its messages are read by tables that were
 //! handed in, and each link has a history whose events retell its lines: each output is the answer that the history
-//! before determines, and a log has just that line of it (`specs/Replayed.antt`). Else the first line at which that
-//! fails is reported, and why (`specs/Stopped.antt`). By [`logs_have_one_report`] a log has one report or one fault at
-//! most, and a report counts the lines of its log.
+//! before determines, with the tag of the head, and a log has just that line of it (`specs/Replayed.antt`). Else the
+//! first line at which that fails is reported, and why (`specs/Stopped.antt`). By [`logs_have_one_report`] a log has
+//! one report or one fault at most, and a report counts the lines of its log.
 #![tactic(auto)]
 
 mod answer;
 mod fault;
 mod fields;
+mod head;
 mod laws;
 mod line;
 mod links;

@@ -1,13 +1,14 @@
 //! A line of a log, written and read.
 
-ghost use Rattle.std.specs.Prelude.{◌≡◌, ◌↔◌, [], ◌∷◌, ◌++◌, codes, IfOk, IsTrue, MatchResult, OnErr, OnOk};
+ghost use Rattle.std.specs.Prelude.{◌≡◌, [], ◌∷◌, ◌++◌, IfOk, MatchResult, OnErr, OnOk};
 ghost use Rattle.fp_book.specs.declared.line.Line.{Line};
 ghost use Rattle.fp_replay.specs.Format.{IsLine, text_of};
-ghost use Rattle.fp_replay.specs.Writing.{KeepsFront};
+ghost use Rattle.fp_replay.specs.proof_only.Writing.{KeepsFront};
 ghost use Rattle.fp_replay.specs.declared.fault.LineFault.TheVariants.{Memory};
 
 use crate::LineFault;
-use crate::fields::cut;
+use crate::fields::{cut, is_text};
+use crate::head::{head_in, write_head};
 use crate::number::{number_in, write_number};
 use crate::step::{step_in, write_step};
 use fp_book::Line;
@@ -19,10 +20,7 @@ fn write_text(line: &Line, text: &mut Vec<u8>) -> Result<(), AllocError>
     ensures front { OnErr result (KeepsFront text.old.items text.new.items) }
 {
     match line {
-        Line::Head { links } => {
-            text.extend_from_slice(b"fplog 4 ")?;
-            write_number(u64::from(*links), text)
-        }
+        Line::Head { links, tag } => write_head(*links, *tag, text),
         Line::Step { link, step } => {
             write_number(u64::from(*link), text)?;
             text.push(b' ')?;
@@ -42,7 +40,8 @@ fn write_ended(line: &Line, text: &mut Vec<u8>) -> Result<(), AllocError>
 
 /// Adds a line to a text: its own text, and a line feed. If memory runs out, the text is unchanged.
 ///
-/// A line that no log has is written, too, as a head of nine links or a step of link 8; it isn't read again.
+/// A line that no log has is written, too, as a head of nine links, one with the tag 4,095 or a step of link 8; it
+/// isn't read again.
 pub fn write_line(line: &Line, text: &mut Vec<u8>) -> Result<(), AllocError>
     ensures written { OnOk result (text.new.items ≡ text.old.items ++ text_of line.now ++ 10 ∷ []) }
     ensures unchanged { OnErr result (text.new.items ≡ text.old.items) }
@@ -53,33 +52,6 @@ pub fn write_line(line: &Line, text: &mut Vec<u8>) -> Result<(), AllocError>
         text.truncate(before);
     }
     written
-}
-
-/// Whether a field has this text.
-fn is_text(field: &[u8], text: &[u8]) -> bool
-    ensures { IsTrue result ↔ (field.now ≡ text.now) }
-{
-    field == text
-}
-
-/// The head of a log, by what follows the name of the format and a blank.
-fn head_in(text: &[u8]) -> Result<Line, LineFault>
-    ensures found { IfOk result (λ line. IsLine line × (codes "fplog " ++ text.now ≡ text_of line)) }
-    ensures only { (line : Line) → IsLine line → codes "fplog " ++ text.now ≡ text_of line → result ≡ Ok line }
-{
-    let Some((version, field)) = cut(text) else {
-        return Err(LineFault::BadLine);
-    };
-    if !is_text(version, b"4") {
-        return Err(LineFault::BadLine);
-    }
-    let Some(links) = number_in(field, 8) else {
-        return Err(LineFault::BadLine);
-    };
-    if links == 0 {
-        return Err(LineFault::BadLine);
-    }
-    Ok(Line::Head { links: links as u8 })
 }
 
 /// The line of this text, which has no line feed: a head of 1 to 8 links, or a step of a link below 8.

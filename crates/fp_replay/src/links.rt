@@ -3,7 +3,7 @@
 ghost use Rattle.std.specs.Prelude.{◌≡◌, ◌<◌, ◌≤◌, ℕ, [], IfErr, IfOk, List, OnOk, length, string_bytes};
 ghost use Rattle.fp_book.specs.declared.line.Line.TheVariants as lines;
 ghost use Rattle.fp_records.specs.Table.{Contents};
-ghost use Rattle.fp_replay.specs.Making.{AreNew, IsReport, IsUnreported, Taking, TakingText};
+ghost use Rattle.fp_replay.specs.proof_only.Making.{AreNew, IsReport, IsUnreported, Taking, TakingText};
 
 use crate::line::line_in;
 use crate::logged::{has_table, is_gap, step_of};
@@ -15,6 +15,7 @@ use fp_apdu::Name;
 use fp_book::{Line, LoggedStep};
 use fp_records::Table;
 use fp_steps::LinkRun;
+use fp_tids::LocalIds;
 use std::alloc::{AllocError, Global};
 
 /// The run of each link that the head of a log has, in their order. It must be spent.
@@ -49,21 +50,22 @@ impl Links {
             Err(LineFault::Memory) => return Err(Refusal::Memory),
         };
         match line {
-            Line::Head { links } => self.begin(alloc, links),
+            Line::Head { links, tag } => self.begin(alloc, links, tag),
             Line::Step { link, step } => self.make_again(alloc, tables, contexts, link, &step),
         }
     }
 
-    /// The head was read: this number of links begin, 1 to 8.
-    fn begin(&mut self, alloc: Global, links: u8) -> Result<(), Refusal>
-        requires { links ≤ 8 }
+    /// The head was read: this number of links begin, 1 to 8, in a run with this tag.
+    fn begin(&mut self, alloc: Global, links: u8, tag: u16) -> Result<(), Refusal>
+        requires most { links ≤ LocalIds.LINKS }
+        requires tags { tag ≤ LocalIds.LAST_TAG }
         ensures { (tables : List Contents) (contexts : List (List ℕ))
-            → Taking tables contexts self.old.runs.items (lines.Head links) result self.new.runs.items }
+            → Taking tables contexts self.old.runs.items (lines.Head links tag) result self.new.runs.items }
     {
         if !self.runs.is_empty() {
             return Err(Refusal::BadLine);
         }
-        begin_all(alloc, links, &mut self.runs)?;
+        begin_all(alloc, links, tag, &mut self.runs)?;
         Ok(())
     }
 
@@ -134,14 +136,15 @@ impl Links {
     }
 }
 
-/// Puts runs of this number of links, at most 8, on which nothing came yet, into an empty list.
-fn begin_all(alloc: Global, links: u8, runs: &mut Vec<LinkRun>) -> Result<(), AllocError>
-    requires most { links ≤ 8 }
+/// Puts runs of this number of links, at most 8, with this tag, on which nothing came yet, into an empty list.
+fn begin_all(alloc: Global, links: u8, tag: u16, runs: &mut Vec<LinkRun>) -> Result<(), AllocError>
+    requires most { links ≤ LocalIds.LINKS }
+    requires tags { tag ≤ LocalIds.LAST_TAG }
     requires none { runs.old.items ≡ [] }
-    ensures { OnOk result (AreNew links runs.new.items) }
+    ensures { OnOk result (AreNew links tag runs.new.items) }
 {
     for link in 0..links {
-        let run = LinkRun::new(alloc, link)?;
+        let run = LinkRun::new(alloc, link, tag)?;
         if let Err(failed) = runs.push(run) {
             failed.value.abandon();
             return Err(AllocError);

@@ -3,7 +3,7 @@
 ghost use Rattle.std.specs.Prelude.{◌≡◌, ◌∷◌, ◌++◌, ◌<◌, ◌≤◌, ◌^◌, ℕ, decimal, IfSome, OnErr, OnOk};
 ghost use Rattle.fp_digits.specs.declared.moment.TheConstants.Moment.{END};
 ghost use Rattle.fp_records.specs.declared.table.TheConstants.Table.{LAST_INDEX};
-ghost use Rattle.fp_replay.specs.Writing.{KeepsFront};
+ghost use Rattle.fp_replay.specs.proof_only.Writing.{KeepsFront};
 
 use fp_digits::Moment;
 use fp_records::Table;
@@ -39,6 +39,20 @@ pub(crate) fn number_in(field: &[u8], most: u64) -> Option<u64>
         return None;
     };
     if number > most || Buffer::new().format(number) != digits {
+        return None;
+    }
+    Some(number)
+}
+
+/// The number of a field, if it is 1 to `most`.
+pub(crate) fn positive_number_in(field: &[u8], most: u64) -> Option<u64>
+    ensures found { IfSome result (λ number. (1 ≤ number) × (number ≤ most) × (field.now ≡ decimal number)) }
+    ensures only { (number : ℕ) → 1 ≤ number → number ≤ most → field.now ≡ decimal number → result ≡ Some number }
+{
+    let Some(number) = number_in(field, most) else {
+        return None;
+    };
+    if number == 0 {
         return None;
     }
     Some(number)

@@ -5,7 +5,7 @@ ghost use Rattle.fp_frames.specs.Frame.{IsMessageLength};
 ghost use Rattle.hex.specs.Hex.{IsBytes, encode_upper};
 ghost use Rattle.hex.specs.declared.error.FromHexError.TheVariants.{OutOfMemory};
 ghost use Rattle.fp_replay.specs.Format.{identifier_text};
-ghost use Rattle.fp_replay.specs.Writing.{KeepsFront};
+ghost use Rattle.fp_replay.specs.proof_only.Writing.{KeepsFront};
 ghost use Rattle.fp_replay.specs.declared.fault.LineFault.TheVariants.{Memory};
 
 use crate::LineFault;

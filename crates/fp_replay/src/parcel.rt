@@ -1,8 +1,8 @@
 //! Parcels: picked, sent and not sent.
 
 ghost use Rattle.std.specs.Prelude.{◌≡◌, ◌++◌, ◌∷◌, ◌<◌, ◌^◌, ℕ, IfSome, OnErr, OnOk};
-ghost use Rattle.fp_replay.specs.Reading.{ReadsStep, parcel_fields};
-ghost use Rattle.fp_replay.specs.Writing.{KeepsFront};
+ghost use Rattle.fp_replay.specs.proof_only.Reading.{ReadsStep, parcel_fields};
+ghost use Rattle.fp_replay.specs.proof_only.Writing.{KeepsFront};
 
 use crate::LineFault;
 use crate::fields::one_field;

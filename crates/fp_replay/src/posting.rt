@@ -4,8 +4,8 @@ ghost use Rattle.std.specs.Prelude.{◌≡◌, ◌++◌, ◌∷◌, ℕ, List, d
 ghost use Rattle.hex.specs.Hex.{encode_upper};
 ghost use Rattle.fp_book.specs.declared.answers.Posted.{Posted};
 ghost use Rattle.fp_replay.specs.Format.{IsPosting, posted_text};
-ghost use Rattle.fp_replay.specs.Reading.{ReadsStep, lost_fields, post_fields};
-ghost use Rattle.fp_replay.specs.Writing.{KeepsFront};
+ghost use Rattle.fp_replay.specs.proof_only.Reading.{ReadsStep, lost_fields, post_fields};
+ghost use Rattle.fp_replay.specs.proof_only.Writing.{KeepsFront};
 ghost use Rattle.fp_replay.specs.declared.fault.LineFault.TheVariants.{Memory};
 
 use crate::LineFault;

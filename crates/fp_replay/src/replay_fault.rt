@@ -3,7 +3,7 @@
 ghost use Rattle.std.specs.Prelude.{◌≡◌};
 ghost use Rattle.fp_replay.specs.declared.replay_fault.Refusal.TheVariants as refusals;
 ghost use Rattle.fp_replay.specs.declared.replay_fault.ReplayFault.TheVariants.{Memory};
-ghost use Rattle.fp_replay.specs.Making.{fault_at, fault_of};
+ghost use Rattle.fp_replay.specs.proof_only.Making.{fault_at, fault_of};
 
 use fp_streams::LinesFault;
 use std::alloc::AllocError;
@@ -19,7 +19,8 @@ pub enum ReplayFault {
     /// The line of this number says that lines were lost, or that memory ran out for a Clock.
     #[error("line {0}: gap")]
     Gap(u128),
-    /// The step of the line of this number, when replayed, gives another line, or a turn comes back by it that isn't out.
+    /// The step of the line of this number, when replayed, gives another line, or a turn comes back by it that isn't
+    /// out.
     #[error("line {0}: disagrees")]
     Disagrees(u128),
     /// The device that is read from failed.

@@ -4,7 +4,7 @@ ghost use Rattle.std.specs.Prelude.{◌≡◌, [], IfErr, IfOk, IfSome, OnOk, st
 ghost use Rattle.std.specs.Io.KnownBytes.{IsAtEnd};
 ghost use Rattle.fp_replay.specs.Replayed.{IsReplayed};
 ghost use Rattle.fp_replay.specs.Stopped.{Halts, IsUnwritten, Replays, Stops, cause_of};
-ghost use Rattle.fp_replay.specs.Taking.{refuses, takes};
+ghost use Rattle.fp_replay.specs.proof_only.Taking.{refuses, takes};
 ghost use Rattle.fp_streams.specs.Ends.{CountsReads, CountsWrites, Reads};
 
 use crate::ReplayFault;
@@ -24,13 +24,15 @@ const MOST_OCTETS: usize = 8300;
 ///
 /// The first line is the head, and each other one a step of a link that the head has, with its answer, as
 /// [`write_line`](crate::write_line) writes them: at most 8,300 octets and a line feed. A step is replayed on the run
-/// of its link, and the line that a log has of it then is compared with this one. The tables and the names are those
-/// by which the log was written: a message is read by the table in the place that its line has. At most `most_reads`
-/// reads are made, of up to 4,096 octets each, and (no clause says so) one line is held at a time.
+/// of its link, and the line that a log has of it then is compared with this one. The local transaction identifiers of
+/// these runs have the tag of the head, 0 if it has none. The tables and the names are those by which the log was
+/// written: a message is read by the table in the place that its line has. At most `most_reads` reads are made, of up
+/// to 4,096 octets each, and (no clause says so) one line is held at a time.
 ///
-/// A line is first tried for a bad one (that of a table that wasn't handed in is one), then for a gap, then for one that
-/// disagrees (one by which a turn comes back that isn't out is one), and the first fault ends the replay. The report is written after the
-/// last line: after [`ReplayFault::WriteFault`] a prefix of it was written, after any other fault nothing.
+/// A line is first tried for a bad one (that of a table that wasn't handed in is one), then for a gap, then for one
+/// that disagrees (one by which a turn comes back that isn't out is one), and the first fault ends the replay. The
+/// report is written after the last line: after [`ReplayFault::WriteFault`] a prefix of it was written, after any other
+/// fault nothing.
 pub fn replay<R: LinkRead, W: LinkWrite>(
     alloc: Global,
     tables: &[Table],

@@ -1,8 +1,8 @@
 //! A step of a link: its letter and its fields.
 
 ghost use Rattle.std.specs.Prelude.{◌≡◌, ◌++◌, OnErr, OnOk};
-ghost use Rattle.fp_replay.specs.Reading.{ReadsStep, step_text};
-ghost use Rattle.fp_replay.specs.Writing.{KeepsFront};
+ghost use Rattle.fp_replay.specs.proof_only.Reading.{ReadsStep, step_text};
+ghost use Rattle.fp_replay.specs.proof_only.Writing.{KeepsFront};
 
 use crate::LineFault;
 use crate::parcel::{pick_in, sent_in, unsent_in, write_parcel};

@@ -1,8 +1,8 @@
 //! A tick, and a gap.
 
 ghost use Rattle.std.specs.Prelude.{◌≡◌, ◌++◌, ◌∷◌, OnErr, OnOk};
-ghost use Rattle.fp_replay.specs.Reading.{ReadsStep, gap_fields, tick_fields};
-ghost use Rattle.fp_replay.specs.Writing.{KeepsFront};
+ghost use Rattle.fp_replay.specs.proof_only.Reading.{ReadsStep, gap_fields, tick_fields};
+ghost use Rattle.fp_replay.specs.proof_only.Writing.{KeepsFront};
 
 use crate::LineFault;
 use crate::fields::{one_field, three_fields};

@@ -1,8 +1,8 @@
 //! Turns: taken, given and put back.
 
 ghost use Rattle.std.specs.Prelude.{◌≡◌, ◌++◌, ◌∷◌, ◌<◌, ◌^◌, ℕ, IfSome, IsSomeAnd, OnErr, OnOk};
-ghost use Rattle.fp_replay.specs.Reading.{ReadsStep, entries_fields, give_fields, turn_fields};
-ghost use Rattle.fp_replay.specs.Writing.{KeepsFront};
+ghost use Rattle.fp_replay.specs.proof_only.Reading.{ReadsStep, entries_fields, give_fields, turn_fields};
+ghost use Rattle.fp_replay.specs.proof_only.Writing.{KeepsFront};
 
 use crate::LineFault;
 use crate::answer::{given_in, write_given};

@@ -14,6 +14,7 @@ loop-parcel-preserved c =
       keeps = record {
         lives = λ k. one.keeps.lives k ∙ was.keeps.lives k;
         counts = record {
+          bases = one.keeps.counts.bases ∙ was.keeps.counts.bases;
           births = one.keeps.counts.births ∙ was.keeps.counts.births;
           entries = one.keeps.counts.entries ∙ was.keeps.counts.entries;
         };

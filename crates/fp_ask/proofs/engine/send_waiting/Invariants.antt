@@ -1,5 +1,5 @@
 use Rattle.std.proofs.Common.{◌≡◌, ◌++◌, length}
-use Rattle.fp_ask.specs.Tied.{IsServed, KeepsDialogues, frames_in}
+use Rattle.fp_ask.specs.proof_only.Serving.{IsServed, KeepsDialogues, frames_in}
 use Rattle.fp_ask.proofs.engine.send_waiting.Given as goal
 
 abbrev pub invariant-loop-parcel : goal.invariant-loop-parcel

@@ -2,7 +2,7 @@ use Rattle.std.proofs.Common.{refl, sym, ◌∙◌, ap, subst}
 use Rattle.std.proofs.lemmas.Bool.{false≢true}
 use Rattle.fp_book.specs.Calls.{TakesTurn}
 use Rattle.fp_row.specs.declared.turn.Turn.{Turn}
-use Rattle.fp_ask.specs.Tied.{Fit, KeepsEnd, SameCounts}
+use Rattle.fp_ask.specs.proof_only.Serving.{Fit, KeepsEnd, SameCounts}
 use Rattle.fp_ask.proofs.OneTurn.{OneServed, has_room, known_done, taken_and_given}
 use Rattle.fp_ask.proofs.engine.serve_waiting.Goals as goal
 
@@ -10,7 +10,7 @@ pub loop-turn-init : goal.loop-turn-init
 loop-turn-init c = record {
   fit = c.requires.fit;
   ends = λ served m. m;
-  counts = record { births = refl; entries = refl };
+  counts = record { bases = refl; births = refl; entries = refl };
 }
 
 served : (c : goal.In_default) → OneServed c.loop-turn.book c.give.new.self
@@ -33,6 +33,7 @@ loop-turn-preserved c =
       fit = one.fit;
       ends = λ end m. one.ends end (c.loop-turn.invariant.ends end m);
       counts = record {
+        bases = one.counts.bases ∙ c.loop-turn.invariant.counts.bases;
         births = one.counts.births ∙ c.loop-turn.invariant.counts.births;
         entries = one.counts.entries ∙ c.loop-turn.invariant.counts.entries;
       };

@@ -1,4 +1,4 @@
-use Rattle.fp_ask.specs.Tied.{Fit, KeepsEnd, SameCounts, jobs_of}
+use Rattle.fp_ask.specs.proof_only.Serving.{Fit, KeepsEnd, SameCounts, jobs_of}
 use Rattle.std.proofs.Common.{length}
 use Rattle.fp_ask.proofs.engine.serve_waiting.Given as goal
 

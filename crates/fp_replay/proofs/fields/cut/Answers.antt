@@ -1,6 +1,6 @@
 use Rattle.std.proofs.Common.{refl, sym, ◌∙◌, subst}
 use Rattle.std.proofs.lemmas.List.{take_all}
-use Rattle.fp_replay.specs.Fields.{IsField}
+use Rattle.fp_replay.specs.proof_only.Fields.{IsField}
 use Rattle.fp_replay.proofs.Cutting.{cut_at, no_field, one_cut}
 use Rattle.fp_replay.proofs.fields.cut.Goals as goal
 

@@ -3,6 +3,6 @@ use Rattle.fp_replay.proofs.links.begin_all.Goals as goal
 
 pub loop-link-preserved : goal.loop-link-preserved
 loop-link-preserved c =
-    new_more _ _ _ c.in_ok-run.run' c.loop-link.invariant
-    (λ tables contexts. record { link_is = c.in_ok-run.ensures.link; after = c.in_ok-run.ensures.after tables contexts })
+    new_more _ _ _ _ c.in_ok-run.run' c.loop-link.invariant
+    (λ tables contexts. record { link_is = c.in_ok-run.ensures.link; tag_is = c.in_ok-run.ensures.tag; after = c.in_ok-run.ensures.after tables contexts })
     c.in_default.ensures.items

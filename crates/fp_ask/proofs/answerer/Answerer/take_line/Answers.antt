@@ -1,6 +1,6 @@
 use Rattle.std.proofs.Common.{Some, refl, sym, ap, ◌∙◌}
 use Rattle.std.specs.Prelude.{option_map}
-use Rattle.fp_ask.specs.Line.{input_of}
+use Rattle.fp_ask.specs.proof_only.Answering.{input_of}
 use Rattle.fp_ask.proofs.Lines.{in_time, taken_message, taken_wait}
 use Rattle.fp_ask.proofs.answerer.Answerer.take_line.Goals as goal
 

@@ -1,4 +1,4 @@
-use Rattle.fp_ask.specs.Answering.{seen}
+use Rattle.fp_ask.specs.proof_only.Answering.{seen}
 use Rattle.fp_ask.proofs.Asking.{answered_is, stopped_is, writer_is}
 use Rattle.fp_ask.proofs.answering.Answering.answer_lines.Goals as goal
 

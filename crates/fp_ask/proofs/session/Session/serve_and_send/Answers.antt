@@ -1,5 +1,6 @@
 use Rattle.std.proofs.Common.{sym, subst}
-use Rattle.fp_ask.specs.Tied.{Came, GoesOn}
+use Rattle.fp_ask.specs.Tied.{GoesOn}
+use Rattle.fp_ask.specs.proof_only.Serving.{Came}
 use Rattle.fp_ask.proofs.Arriving.{finished}
 use Rattle.fp_ask.proofs.session.Session.serve_and_send.Goals as goal
 

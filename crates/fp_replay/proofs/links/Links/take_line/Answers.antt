@@ -6,7 +6,7 @@ use Rattle.fp_replay.proofs.links.Links.take_line.Goals as goal
 
 pub returns-in-Head : goal.returns-in-Head
 returns-in-Head c =
-    taken_text _ _ _ (Head c.in-Head.links) _ _ _ c.texts_are_of_one_line.ensures (subst IsLine c.in-Head.is c.in-Ok.ensures.found.0)
+    taken_text _ _ _ (Head c.in-Head.links c.in-Head.tag) _ _ _ c.texts_are_of_one_line.ensures (subst IsLine c.in-Head.is c.in-Ok.ensures.found.0)
     (c.in-Ok.ensures.found.1 ∙ ap text_of c.in-Head.is) (c.begin.ensures c.args.tables.now c.args.contexts.now)
 
 pub returns-in-Step : goal.returns-in-Step

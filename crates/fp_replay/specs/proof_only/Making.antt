@@ -13,8 +13,9 @@ use Rattle.fp_replay.specs.declared.replay_fault.ReplayFault.{ReplayFault}
 use Rattle.fp_replay.specs.declared.replay_fault.ReplayFault.TheVariants as faults
 use Rattle.fp_replay.specs.Format.{IsLine, text_of}
 use Rattle.fp_steps.specs.After.{IsAfter}
-use Rattle.fp_replay.specs.Replayed.{Fits, IsInPlace, IsRetold, links_in, report_of, totals_along}
+use Rattle.fp_replay.specs.Replayed.{Fits, IsInPlace, IsRetold, links_in, report_of, tag_in, totals_along}
 use Rattle.fp_replay.specs.Stopped.{Differs, is_gap}
+use Rattle.fp_tids.specs.Identifiers.{base_of}
 
 -- the fault of a log whose line of this number is refused
 abbrev pub fault_at : Refusal → ℕ → ReplayFault
@@ -31,29 +32,30 @@ fault_of reading.ReadFault = faults.ReadFault
 fault_of reading.TurnLimit = faults.TurnLimit
 fault_of reading.Memory = faults.Memory
 
--- a run is one of this link, after this history
-pub record IsRunOf (tables : List Contents) (contexts : List (List ℕ)) (link : ℕ) (h : List Event) (run : LinkRun) : Type 0 where
+-- a run is one of this link and tag, after this history
+pub record IsRunOf (tables : List Contents) (contexts : List (List ℕ)) (link tag : ℕ) (h : List Event) (run : LinkRun) : Type 0 where
   pub link_is : run.link ≡ link
+  pub tag_is : run.tag ≡ tag
   pub after : IsAfter tables contexts h run
 
--- each run is one of its link, after its history
-abbrev pub AreAfter : List Contents → List (List ℕ) → (ℕ → List Event) → List LinkRun → Type 0
-AreAfter tables contexts history runs = (link : ℕ) (run : LinkRun) → slice_get runs link ≡ Some run → IsRunOf tables contexts link (history link) run
+-- each run is one of its link and this tag, after its history
+abbrev pub AreAfter : List Contents → List (List ℕ) → ℕ → (ℕ → List Event) → List LinkRun → Type 0
+AreAfter tables contexts tag history runs = (link : ℕ) (run : LinkRun) → slice_get runs link ≡ Some run → IsRunOf tables contexts link tag (history link) run
 
 -- the lines are retold, and the runs are those of their links
 pub record IsKept (tables : List Contents) (contexts : List (List ℕ)) (lines : List Line) (runs : List LinkRun) : Type 0 where
   pub good : IsRetold tables contexts lines
   pub many : length runs ≡ links_in lines
-  pub each : AreAfter tables contexts good.history runs
+  pub each : AreAfter tables contexts (tag_in lines) good.history runs
 
 -- a step disagrees after the history of its link
 abbrev pub DiffersIn : (tables : List Contents) (contexts : List (List ℕ)) (lines : List Line) → IsRetold tables contexts lines → Line → Type 0
-DiffersIn tables contexts lines good (Head links) = ⊥
-DiffersIn tables contexts lines good (Step link step) = (is_gap step ≡ false) × Differs tables contexts link (good.history link) step
+DiffersIn tables contexts lines good (Head links tag) = ⊥
+DiffersIn tables contexts lines good (Step link step) = (is_gap step ≡ false) × Differs tables contexts (base_of link (tag_in lines)) (good.history link) step
 
 -- a line is a gap
 abbrev pub IsGapLine : Line → Type 0
-IsGapLine (Head links) = ⊥
+IsGapLine (Head links tag) = ⊥
 IsGapLine (Step link step) = is_gap step ≡ true
 
 -- what comes of a line of the format after these
@@ -90,7 +92,7 @@ TakingEnded tables contexts old false text result new = result ≡ Err BadLine
 -- this is the report of the runs of all links
 abbrev pub IsReport : List LinkRun → List ℕ → Type 0
 IsReport runs report =
-    (tables : List Contents) (contexts : List (List ℕ)) (history : ℕ → List Event) → AreAfter tables contexts history runs
+    (tables : List Contents) (contexts : List (List ℕ)) (tag : ℕ) (history : ℕ → List Event) → AreAfter tables contexts tag history runs
     → report ≡ report_of (length runs) (totals_along history)
 
 -- there is none: there was no head, or memory ran out
@@ -99,7 +101,7 @@ IsUnreported runs (faults.BadLine number) = (number ≡ 1) × (runs ≡ [])
 IsUnreported runs faults.Memory = ⊤
 IsUnreported runs _ = ⊥
 
--- these are runs of the links 0, 1 and so on, on each of which nothing came yet
-pub record AreNew (many : ℕ) (runs : List LinkRun) : Type 0 where
+-- these are runs of the links 0, 1 and so on, with this tag, on each of which nothing came yet
+pub record AreNew (many tag : ℕ) (runs : List LinkRun) : Type 0 where
   pub length_is : length runs ≡ many
-  pub each : (tables : List Contents) (contexts : List (List ℕ)) (link : ℕ) (run : LinkRun) → slice_get runs link ≡ Some run → IsRunOf tables contexts link [] run
+  pub each : (tables : List Contents) (contexts : List (List ℕ)) (link : ℕ) (run : LinkRun) → slice_get runs link ≡ Some run → IsRunOf tables contexts link tag [] run

@@ -1,15 +1,26 @@
 -- What one line makes of a link and its moment, and of what is written.
-use Rattle.std.specs.Prelude.{◌≡◌, ◌≢◌, ◌⊎◌, ℕ, List, Option, Some, None}
+use Rattle.std.specs.Prelude.{◌≡◌, ◌≢◌, ◌⊎◌, ℕ, List, Option, Some, None, Result, Ok, Err}
 use Rattle.std.specs.Io.KnownBytes.{Appends}
 use Rattle.fp_records.specs.Table.{Contents}
 use Rattle.fp_streams.specs.Write.{AppendsFront}
+use Rattle.fp_streams.specs.declared.fault.LinesFault.{LinesFault}
+use Rattle.fp_streams.specs.declared.fault.LinesFault.TheVariants as faults
 use Rattle.fp_ask.specs.declared.answerer.Answerer.{Answerer}
 use Rattle.fp_ask.specs.declared.answering.Answering.{Answering}
 use Rattle.fp_ask.specs.declared.refusal.Refusal.{Refusal}
 use Rattle.fp_ask.specs.declared.refusal.Refusal.TheVariants.{BadLine, WriteFault, Memory}
-use Rattle.fp_ask.specs.Line.{line_in, text_of}
+use Rattle.fp_ask.specs.declared.fault.AskFault.{AskFault}
+use Rattle.fp_ask.specs.declared.fault.AskFault.TheVariants as ask
+use Rattle.fp_ask.specs.declared.line.Line.{Line}
+use Rattle.fp_ask.specs.declared.line.Line.TheVariants.{Message, Wait}
+use Rattle.fp_ask.specs.Line.{Input, line_in, message, text_of, wait}
 use Rattle.fp_ask.specs.Lines.{IsBad, State, Takes, Written}
-use Rattle.fp_ask.specs.Tied.{Tells}
+use Rattle.fp_ask.specs.proof_only.Serving.{Tells}
+
+-- what a line that was read says
+abbrev pub input_of : Line → Input
+input_of (Message frame) = message frame
+input_of (Wait milliseconds) = wait milliseconds
 
 -- the moment and the dialogues are these
 pub record IsAt (state : State) (a : Answerer) : Type 0 where
@@ -83,3 +94,17 @@ pub record RefusesOne (old : Taker) (line : List ℕ) (refusal : Refusal) (new :
   pub writer : new.writer ≡ old.writer
   pub why : Refuses old line refusal new
   pub failures : WriterFailed refusal old.failures new.failures
+
+-- the result of `ask`, from that of `follow_lines`
+abbrev pub fault_of : LinesFault Refusal → AskFault
+fault_of (faults.TooLong number) = ask.BadLine number
+fault_of (faults.Refused number BadLine) = ask.BadLine number
+fault_of (faults.Refused number WriteFault) = ask.WriteFault
+fault_of (faults.Refused number Memory) = ask.Memory
+fault_of faults.ReadFault = ask.ReadFault
+fault_of faults.TurnLimit = ask.TurnLimit
+fault_of faults.Memory = ask.Memory
+
+abbrev pub asked_of : {A : Type 0} → Result A (LinesFault Refusal) → Result A AskFault
+asked_of (Ok done) = Ok done
+asked_of (Err fault) = Err (fault_of fault)

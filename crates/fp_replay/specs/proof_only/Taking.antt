@@ -1,6 +1,6 @@
 -- What taking a line makes of a replay.
 use Rattle.std.specs.Prelude.{◌≡◌, ℕ, Bool, List, Ok, Err}
-use Rattle.fp_replay.specs.Making.{TakingEnded}
+use Rattle.fp_replay.specs.proof_only.Making.{TakingEnded}
 use Rattle.fp_replay.specs.declared.replay_fault.Refusal.{Refusal}
 use Rattle.fp_replay.specs.declared.replaying.Replaying.{Replaying}
 

@@ -1,0 +1,89 @@
+//! The head of a log, written and read.
+
+ghost use Rattle.std.specs.Prelude.{◌≡◌, ◌∷◌, ◌++◌, ◌≤◌, ℕ, codes, decimal, IfOk, IfSome, OnErr, OnOk};
+ghost use Rattle.fp_book.specs.declared.line.Line.{Line};
+ghost use Rattle.fp_book.specs.declared.line.Line.TheVariants as lines;
+ghost use Rattle.fp_replay.specs.Format.{IsLine, text_of};
+ghost use Rattle.fp_replay.specs.proof_only.Writing.{KeepsFront};
+ghost use Rattle.fp_tids.specs.Identifiers.{last_tag};
+
+use crate::LineFault;
+use crate::fields::{cut, is_text};
+use crate::number::{positive_number_in, write_field, write_number};
+use fp_book::Line;
+use fp_tids::LocalIds;
+use std::alloc::AllocError;
+
+/// Adds the head of a log to a text: how many links there are, and the tag of the run, if it has one.
+pub(crate) fn write_head(links: u8, tag: u16, text: &mut Vec<u8>) -> Result<(), AllocError>
+    ensures written { OnOk result (text.new.items ≡ text.old.items ++ text_of (lines.Head links tag)) }
+    ensures front { OnErr result (KeepsFront text.old.items text.new.items) }
+{
+    if tag == 0 {
+        text.extend_from_slice(b"fplog 4 ")?;
+        return write_number(u64::from(links), text);
+    }
+    text.extend_from_slice(b"fplog 5 ")?;
+    write_number(u64::from(links), text)?;
+    write_field(u64::from(tag), text)
+}
+
+/// How many links there are, 1 to 8, by a field.
+fn link_count_in(field: &[u8]) -> Option<u8>
+    ensures found { IfSome result (λ links. (1 ≤ links) × (links ≤ 8) × (field.now ≡ decimal links)) }
+    ensures only { (links : ℕ) → 1 ≤ links → links ≤ 8 → field.now ≡ decimal links → result ≡ Some links }
+{
+    let Some(links) = positive_number_in(field, u64::from(LocalIds::LINKS)) else {
+        return None;
+    };
+    Some(links as u8)
+}
+
+/// The head of the log of a run without a tag, by the field after its version.
+fn untagged_head_in(field: &[u8]) -> Result<Line, LineFault>
+    ensures found { IfOk result (λ line. IsLine line × (codes "fplog 4 " ++ field.now ≡ text_of line)) }
+    ensures only { (links : ℕ) → 1 ≤ links → links ≤ 8 → field.now ≡ decimal links → result ≡ Ok (lines.Head links 0) }
+{
+    let Some(links) = link_count_in(field) else {
+        return Err(LineFault::BadLine);
+    };
+    Ok(Line::Head { links, tag: 0 })
+}
+
+/// The head of the log of a run with a tag, by the fields after its version.
+fn tagged_head_in(fields: &[u8]) -> Result<Line, LineFault>
+    ensures found { IfOk result (λ line. IsLine line × (codes "fplog 5 " ++ fields.now ≡ text_of line)) }
+    ensures only { (links tag : ℕ) → 1 ≤ links → links ≤ 8 → 1 ≤ tag → tag ≤ last_tag
+        → fields.now ≡ decimal links ++ 32 ∷ decimal tag → result ≡ Ok (lines.Head links tag) }
+{
+    let Some((first, second)) = cut(fields) else {
+        return Err(LineFault::BadLine);
+    };
+    let Some(links) = link_count_in(first) else {
+        return Err(LineFault::BadLine);
+    };
+    let Some(tag) = positive_number_in(second, u64::from(LocalIds::LAST_TAG)) else {
+        return Err(LineFault::BadLine);
+    };
+    Ok(Line::Head {
+        links,
+        tag: tag as u16,
+    })
+}
+
+/// The head of a log, by what follows the name of the format and a blank.
+pub(crate) fn head_in(text: &[u8]) -> Result<Line, LineFault>
+    ensures found { IfOk result (λ line. IsLine line × (codes "fplog " ++ text.now ≡ text_of line)) }
+    ensures only { (line : Line) → IsLine line → codes "fplog " ++ text.now ≡ text_of line → result ≡ Ok line }
+{
+    let Some((version, fields)) = cut(text) else {
+        return Err(LineFault::BadLine);
+    };
+    if is_text(version, b"4") {
+        return untagged_head_in(fields);
+    }
+    if is_text(version, b"5") {
+        return tagged_head_in(fields);
+    }
+    Err(LineFault::BadLine)
+}
