@@ -43,17 +43,21 @@ abbrev pub is_aborted : Posted → Bool
 is_aborted (posted.Aborted cause) = true
 is_aborted answer = false
 
--- messages at the front of a list were posted, at most 64, and counted; the others are left
+-- how many messages are posted in one hold
+abbrev pub most_posts : ℕ
+most_posts = 64
+
+-- messages at the front of a list were posted, as many as may be at most, and counted; the others are left
 pub record CountsPosts (came left : List Prepared) (before after : Shares) : Type 0 where
   pub steps : List PostStep
   pub front : came ≡ map (λ (step : PostStep). step.0) steps ++ left
-  pub few : length steps ≤ 64
+  pub few : length steps ≤ most_posts
   pub grows : Chain CountsPost before steps after
 
--- no more were posted since none is left, since there were 64, or since the next one is held back
+-- no more were posted since none is left, since there were as many as may be, or since the next one is held back
 abbrev pub StopsPosting : Shelf → ℕ → List Prepared → Type 0
 StopsPosting s count [] = ⊤
-StopsPosting s count (next ∷ later) = (count ≡ 64) ⊎ (holds_back s next ≡ true)
+StopsPosting s count (next ∷ later) = (count ≡ most_posts) ⊎ (holds_back s next ≡ true)
 
 -- they were posted in their order
 pub record PostsFront (old new : Shelf) (came left : List Prepared) (before after : Shares) (aborted : Bool) : Type 0 where

@@ -33,11 +33,15 @@ joined s other = record {
   sent = s.sent + other.sent;
 }
 
--- each of the ledgers is cut into 64 parts
+-- into how many parts each of the ledgers is cut
+abbrev pub all_parts : ℕ
+all_parts = 64
+
+-- so they are
 pub record Whole (accepted served sent : ℕ) : Type 0 where
-  pub accepted_parts : accepted ≡ 64
-  pub served_parts : served ≡ 64
-  pub sent_parts : sent ≡ 64
+  pub accepted_parts : accepted ≡ all_parts
+  pub served_parts : served ≡ all_parts
+  pub sent_parts : sent ≡ all_parts
 
 -- a blank opens the ledger of this name and this number of parts
 pub record Opens (blank : Blank) (name parts : ℕ) : Type 0 where

@@ -1,6 +1,6 @@
 //! The hub of a link.
 
-ghost use Rattle.std.specs.Prelude.{◌≡◌, ◌<◌, IfErr, IfOk, vec_capacity};
+ghost use Rattle.std.specs.Prelude.{◌≡◌, ◌<◌, ◌≤◌, IfErr, IfOk, vec_capacity};
 ghost use Rattle.fp_hub.specs.Lines.{KeepsFront};
 ghost use Rattle.fp_hub.specs.Shares.{AreBlanks, after_give, after_post, after_sent, blank};
 
@@ -58,7 +58,7 @@ fn take_mark(mark: &AtomicBool) -> bool {
 
 impl<A: Ledger, B: Ledger, C: Ledger> Hub<A, B, C> {
     /// The hub of a link, 0 to 7, which is up, and its first seat, which has all parts. Its threads sleep at once if
-    /// they find nothing to do. If memory runs out, the blanks are spent.
+    /// they find nothing to do. If memory runs out, the blanks are spent. The run has no tag.
     pub fn new(
         alloc: Global,
         link: u8,
@@ -82,8 +82,25 @@ impl<A: Ledger, B: Ledger, C: Ledger> Hub<A, B, C> {
         requires blanks { AreBlanks blanks A.name A.parts B.name B.parts C.name C.parts }
         ensures { IfOk result (λ made. made.1 ≡ blank 64) }
     {
+        Self::with_tag(alloc, link, 0, looks, blanks)
+    }
+
+    /// The hub of a link, as [`Hub::with_looks`], in a run with this tag, 0 to 4,094, which its book has, as by
+    /// [`Kept::new`].
+    pub fn with_tag(
+        alloc: Global,
+        link: u8,
+        tag: u16,
+        looks: Looks,
+        blanks: (Blank, Blank, Blank),
+    ) -> Result<(Hub<A, B, C>, Seat<A, B, C>), AllocError>
+        requires link { link < LocalIds.LINKS }
+        requires tags { tag ≤ LocalIds.LAST_TAG }
+        requires blanks { AreBlanks blanks A.name A.parts B.name B.parts C.name C.parts }
+        ensures { IfOk result (λ made. made.1 ≡ blank 64) }
+    {
         let hints = HintChannel::new(alloc, looks)?;
-        let (kept, seat) = Kept::new(alloc, link, blanks)?;
+        let (kept, seat) = Kept::new(alloc, link, tag, blanks)?;
         let hub = Hub {
             kept: Mutex::new(kept),
             looking: CachePadded::new(Looking::new(looks)),

@@ -1,6 +1,6 @@
 //! What the lock of a link keeps.
 
-ghost use Rattle.std.specs.Prelude.{◌≡◌, ◌↔◌, ◌<◌, ◌-◌, false, Some, IfErr, IfOk, IsOk, IsTrue, OnOk, length, vec_capacity, vec_len};
+ghost use Rattle.std.specs.Prelude.{◌≡◌, ◌↔◌, ◌<◌, ◌≤◌, ◌-◌, false, Some, IfErr, IfOk, IsOk, IsTrue, OnOk, length, vec_capacity, vec_len};
 ghost use Rattle.std.specs.FinMap as map;
 ghost use Rattle.std.specs.FinMap.{get};
 ghost use Rattle.fp_book.specs.declared.line.LoggedStep.TheVariants as line;
@@ -59,19 +59,22 @@ impl<A: Ledger, B: Ledger, C: Ledger> Model for Kept<A, B, C> {
 }
 
 impl<A: Ledger, B: Ledger, C: Ledger> Kept<A, B, C> {
-    /// The book of a link, 0 to 7, and its first seat, which has all parts. If memory runs out, the blanks are spent.
+    /// The book of a link, 0 to 7, in a run with this tag, 0 to 4,094, and its first seat, which has all parts. If memory
+    /// runs out, the blanks are spent.
     pub fn new(
         alloc: Global,
         link: u8,
+        tag: u16,
         blanks: (Blank, Blank, Blank),
     ) -> Result<(Kept<A, B, C>, Seat<A, B, C>), AllocError>
         requires link { link < LocalIds.LINKS }
+        requires tags { tag ≤ LocalIds.LAST_TAG }
         requires blanks { AreBlanks blanks A.name A.parts B.name B.parts C.name C.parts }
-        ensures empty { IfOk result (λ made. made.0 ≡ empty_shelf link) }
+        ensures empty { IfOk result (λ made. made.0 ≡ empty_shelf link tag) }
         ensures sound { IfOk result (λ made. Sound made.0) }
         ensures seat { IfOk result (λ made. made.1 ≡ blank 64) }
     {
-        let book = Book::new(alloc, link)?;
+        let book = Book::with_tag(alloc, link, tag)?;
         let (for_accepted, for_served, for_sent) = blanks;
         let (accepted, all_accepted) = for_accepted.open::<A>();
         let (served, all_served) = for_served.open::<B>();

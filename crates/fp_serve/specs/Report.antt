@@ -1,10 +1,11 @@
 -- What a run writes: the address at which its links were awaited, the answers to commands, and in the end what each link
--- counted.
-use Rattle.std.specs.Prelude.{◌≡◌, ℕ, ◌+◌, ◌≤◌, ◌⊎◌, Bool, true, List, [], ◌∷◌, ◌++◌, Option, codes, decimal, if◌then◌else◌, length}
+-- counted. Its links have numbers from one on, the first link; those below belong to no link of it.
+use Rattle.std.specs.Prelude.{◌≡◌, ℕ, ◌+◌, ◌≤◌, ◌⊎◌, Bool, true, List, [], ◌∷◌, ◌++◌, Option, codes, decimal, if◌then◌else◌, length, replicate}
 use Rattle.std.specs.Io.KnownBytes.{Appends}
 use Rattle.std.specs.List.{All, concat}
 use Rattle.std.specs.Net.Text.{socket_text}
 use Rattle.std.specs.declared.net.socket_addr.SocketAddr.{SocketAddr}
+use Rattle.fp_book.specs.Shelf.{no_totals}
 use Rattle.fp_book.specs.declared.totals.Totals.{Totals}
 use Rattle.fp_replay.specs.Replayed.{report_line}
 use Rattle.fp_serve.specs.declared.progress.LinkStatus.{LinkStatus}
@@ -41,32 +42,37 @@ status_line link known = beginning link known.status.is_down known.peer ++ count
 abbrev pub links_line : ℕ → List ℕ
 links_line count = codes "links " ++ (decimal count ++ 10 ∷ [])
 
--- the status lines of these links, and their number
-abbrev pub links_answer : List LinkStatus → List ℕ
-links_answer links = lines_by status_line 0 links ++ links_line (length links)
+-- the status lines of these links, whose numbers begin with this one, and how many they are
+abbrev pub links_answer : ℕ → List LinkStatus → List ℕ
+links_answer first_link links =
+    lines_by (λ place. status_line (first_link + place)) 0 links ++ links_line (length links)
 
 -- a table replaced another, and has one of the indexes that a log can name
 abbrev pub IsReloaded : List ℕ → Type 0
 IsReloaded text = (index : ℕ) × (1 ≤ index) × (index ≤ 999) × (text ≡ reloaded_line index)
 
 -- the answer to `links`
-abbrev pub TellsOfLinks : List ℕ → Type 0
-TellsOfLinks text = (links : List LinkStatus) × (text ≡ links_answer links)
+abbrev pub TellsOfLinks : ℕ → List ℕ → Type 0
+TellsOfLinks first_link text = (links : List LinkStatus) × (text ≡ links_answer first_link links)
 
 -- the answer to a command: the second only if more commands are known
-abbrev pub IsAnswer : Bool → List ℕ → Type 0
-IsAnswer has_commands text = IsReloaded text ⊎ ((has_commands ≡ true) × TellsOfLinks text)
+abbrev pub IsAnswer : ℕ → Bool → List ℕ → Type 0
+IsAnswer first_link has_commands text = IsReloaded text ⊎ ((has_commands ≡ true) × TellsOfLinks first_link text)
 
 -- the answers to commands were written, and nothing else
-abbrev pub TellsAnswers : Bool → Option (List ℕ) → Option (List ℕ) → Type 0
-TellsAnswers has_commands old new = (answers : List (List ℕ)) × All (IsAnswer has_commands) answers × Appends old new (concat answers)
+abbrev pub TellsAnswers : ℕ → Bool → Option (List ℕ) → Option (List ℕ) → Type 0
+TellsAnswers first_link has_commands old new = (answers : List (List ℕ)) × All (IsAnswer first_link has_commands) answers × Appends old new (concat answers)
 
--- an address was written, then the answers to commands, and in the end what each of this number of links counted, in
--- their order, and nothing else
-pub record TellsLinks (links : ℕ) (has_commands : Bool) (old new : Option (List ℕ)) : Type 0 where
+-- what each link counted, from the number 0 on: below the first link nothing
+abbrev pub with_links_below : ℕ → List Totals → List Totals
+with_links_below first_link totals = replicate first_link no_totals ++ totals
+
+-- An address was written, then the answers to commands, and in the end what each of this number of links counted, in
+-- their order, and nothing else. Before the first link each number below it has a line, as a replay of the log writes it.
+pub record TellsLinks (first_link links : ℕ) (has_commands : Bool) (old new : Option (List ℕ)) : Type 0 where
   pub address : SocketAddr
   pub answers : List (List ℕ)
-  pub allowed : All (IsAnswer has_commands) answers
+  pub allowed : All (IsAnswer first_link has_commands) answers
   pub totals : List Totals
   pub each : length totals ≡ links
-  pub wrote : Appends old new (listening_line address ++ (concat answers ++ lines_by report_line 0 totals))
+  pub wrote : Appends old new (listening_line address ++ (concat answers ++ lines_by report_line 0 (with_links_below first_link totals)))

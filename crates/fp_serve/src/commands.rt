@@ -173,6 +173,8 @@ where
 #[derive(Clone, Copy)]
 pub(crate) struct Run<'x> {
     pub(crate) alloc: Global,
+    // The number of the first link.
+    pub(crate) first_link: u8,
     // Whether the commands `links` and `quit` are known, and the run ends with its links.
     pub(crate) has_commands: bool,
     pub(crate) tables: &'x Tables,
@@ -188,7 +190,8 @@ fn obey<R: Wait + Clock, O: Operator, W: LinkWrite>(
     operator: &mut O,
     output: &mut W,
 ) -> Result<(), ServeFault>
-    ensures { OnOk result (TellsAnswers run.entry.has_commands (W.contents output.old) (W.contents output.new)) }
+    ensures { OnOk result (TellsAnswers run.entry.first_link run.entry.has_commands
+        (W.contents output.old) (W.contents output.new)) }
 {
     match command {
         None => Ok(()),
@@ -198,7 +201,7 @@ fn obey<R: Wait + Clock, O: Operator, W: LinkWrite>(
         },
         Some(Command::Links) if run.has_commands => {
             let links = run.progress.links(rt, run.alloc)?;
-            write_links(run.alloc, links.as_slice(), output)
+            write_links(run.alloc, run.first_link, links.as_slice(), output)
         }
         Some(Command::Quit) if run.has_commands => {
             run.stop.quit(rt);
@@ -221,7 +224,8 @@ pub(crate) fn follow<R: Wait + Clock, O: Operator, W: LinkWrite>(
     operator: &mut O,
     output: &mut W,
 ) -> Result<(), ServeFault>
-    ensures { OnOk result (TellsAnswers run.entry.has_commands (W.contents output.old) (W.contents output.new)) }
+    ensures { OnOk result (TellsAnswers run.entry.first_link run.entry.has_commands
+        (W.contents output.old) (W.contents output.new)) }
 {
     let Run {
         tables,

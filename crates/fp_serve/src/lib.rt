@@ -8,9 +8,9 @@
 //!   ends with its links, no more commands come.
 //! * [`serve_through`] is the same with a gate that each thread passes before it serves a turn; tests wait there.
 //!   [`Service`] is what the messages are answered from.
-//! * [`Settings`] says how many links there are, how many workers each has, how many entries its dialogues may keep,
-//!   how many turns its receiver serves, what is done when the log can't be written ([`WhenLogFails`]), and which
-//!   commands are known.
+//! * [`Settings`] says how many links there are and which numbers they have, the tag of the run, how many workers each
+//!   link has, how many entries its dialogues may keep, how many turns its receiver serves, what is done when the log
+//!   can't be written ([`WhenLogFails`]), and which commands are known.
 //! * [`Commands`] are what is asked of the run while it lasts: to read its records again, which an [`Operator`] does; to
 //!   print the status of its links ([`LinkStatus`]); and to end.
 //! * [`ServeFault`] says why a run failed.
@@ -48,13 +48,13 @@
 //! | `commands.rt` | the commands, the thread that reads them, and how they are followed |
 //! | `progress.rt` | the status of the links, for the commands |
 //! | `connections.rt`, `keep_alive.rt` | how connections are awaited, and how the system watches them |
-//! | `service.rt`, `settings.rt` | what messages are answered from; how many links, workers and entries there are |
+//! | `service.rt`, `settings.rt` | what messages are answered from; which links and which tag a run has, how many workers and entries |
 //! | `link.rt`, `ending.rt` | a link: what its threads share, its end and the reason of it, and what it counted |
 //! | `threads.rt` | the threads of a link: their start and their end |
 //! | `arrivals.rt` | the receiving thread, and how it helps |
 //! | `departures.rt` | the sending thread, and what waits to be sent, which the receiving thread sends too |
 //! | `traced_stream.rt` | the connection of a link, and how the last call of these threads ended |
-//! | `ticking.rt`, `moment.rt` | the clock of a link, which takes it down if its dialogues keep too many entries |
+//! | `ticking.rt`, `moment.rt` | the clock of a link, which takes it down if its dialogues keep too many entries; the time of day |
 //! | `turns.rt` | a worker, and its part in moving lines |
 //! | `log.rt` | what the links and the run share with the thread that writes the log, and how long each waits for it |
 //! | `link_log.rt`, `log_writer.rt` | the lines of a link that wait, and the thread that writes them |
@@ -62,8 +62,12 @@
 //! | `stop.rt` | why all links are to go down, or to end |
 //! | `report.rt` | the lines of the address, of the commands' answers and of the report |
 //!
+//! The links of a run have the numbers from its first link on. Inside, a link is known by its place among them, from 0;
+//! its number is in its book, in the report, in events and in the answers to commands.
+//!
 //! The layer above may rely on this: if [`serve`] returns without a fault it wrote the address, what commands give, and
-//! a line for each link, and nothing else (`specs/Report.antt`). What a link's book, seats and hub
+//! a line for each link, after one with zeros for each number below the first link, and nothing else
+//! (`specs/Report.antt`). What a link's book, seats and hub
 //! keep is said in `fp_hub`; what of a stream is handed on and what of the parcels is written in `fp_linkio`. No
 //! contract says what the sockets and the log hold, that the threads get on, or that each does what the picture says:
 //! the tests of `tests_serve`, over loopback, show it.

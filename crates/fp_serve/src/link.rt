@@ -1,6 +1,6 @@
 //! A link: what its threads share, and what it counted in the end.
 
-ghost use Rattle.std.specs.Prelude.{◌<◌};
+ghost use Rattle.std.specs.Prelude.{◌<◌, ◌≤◌};
 ghost use Rattle.fp_hub.specs.Shares.{AreBlanks};
 
 use crate::departures::Outgoing;
@@ -44,8 +44,8 @@ pub(crate) struct Link<'x, R, A: Ledger, B: Ledger, C: Ledger> {
     pub(crate) progress: &'x Progress,
     // What goes out to its socket.
     pub(crate) outgoing: &'x Mutex<Outgoing>,
-    // Its number.
-    pub(crate) number: u8,
+    // Its place among the links of the run, from 0.
+    pub(crate) place: u8,
     // How many entries its dialogues may keep.
     pub(crate) most_entries: u64,
     // How many turns its receiving thread serves at once at most.
@@ -78,7 +78,7 @@ impl<'x, R: Wait + Clock, A: Ledger, B: Ledger, C: Ledger> Link<'x, R, A, B, C> 
     /// Notes its status.
     pub(crate) fn note_status(&self) {
         let status = self.hub.status(self.rt);
-        self.progress.note(self.rt, self.number, status);
+        self.progress.note(self.rt, self.place, status);
     }
 
     /// Waits until nothing is left to be served or sent and all was handed on to the socket, or the link is down; at
@@ -141,11 +141,14 @@ impl<'x, R: Wait + Clock, A: Ledger, B: Ledger, C: Ledger> Link<'x, R, A, B, C> 
     }
 }
 
-/// Which link it is, the address of its client, how many workers it has, how many entries its dialogues may keep, how
-/// many turns its receiving thread serves at once, and how its threads wait.
+/// Which link it is, by its place among those of the run, from 0, and by its number; the tag of the run, the address of
+/// its client, how many workers it has, how many entries its dialogues may keep, how many turns its receiving thread
+/// serves at once, and how its threads wait.
 #[derive(Clone, Copy)]
 pub(crate) struct Plan {
+    pub(crate) place: u8,
     pub(crate) link: u8,
+    pub(crate) tag: u16,
     pub(crate) peer: SocketAddr,
     pub(crate) workers: u8,
     pub(crate) most_entries: u64,
@@ -173,12 +176,13 @@ fn run_over<
     log: &Log,
 ) -> Option<Totals>
     requires link { plan.link < LocalIds.LINKS }
+    requires tags { plan.tag ≤ LocalIds.LAST_TAG }
     requires blanks { AreBlanks blanks A.name A.parts B.name B.parts C.name C.parts }
 {
     let alloc = service.alloc;
     let (Some(lines), Ok((hub, seat)), Ok(outgoing)) = (
-        log.lines_of(usize::from(plan.link)),
-        Hub::<A, B, C>::with_looks(alloc, plan.link, plan.looks, blanks),
+        log.lines_of(usize::from(plan.place)),
+        Hub::<A, B, C>::with_tag(alloc, plan.link, plan.tag, plan.looks, blanks),
         Outgoing::new(alloc),
     ) else {
         log.stop.ask_for(rt, ServeFault::Memory);
@@ -195,7 +199,7 @@ fn run_over<
         log,
         progress,
         outgoing: &*outgoing,
-        number: plan.link,
+        place: plan.place,
         most_entries: plan.most_entries,
         most_helped: plan.most_helped,
     };
@@ -227,7 +231,8 @@ pub(crate) fn run_link<R: Threads + Wait + Clock + Sync, G: Gate + Sync>(
     events: &Events,
     log: &Log,
 ) -> Option<Totals>
-    requires { plan.link < LocalIds.LINKS }
+    requires link { plan.link < LocalIds.LINKS }
+    requires tags { plan.tag ≤ LocalIds.LAST_TAG }
 {
     let blanks = (Blank::new(PARTS), Blank::new(PARTS), Blank::new(PARTS));
     run_over::<R, G, Brand, Brand, Brand>(

@@ -87,9 +87,9 @@ impl Log {
         Ok(Arc::new(alloc, log)?)
     }
 
-    /// Where the lines of a link wait. `None`: the run has no such link.
-    pub(crate) fn lines_of(&self, link: usize) -> Option<&LinkLog> {
-        self.links.get(link)
+    /// Where the lines of the link in this place wait. `None`: the run has no such link.
+    pub(crate) fn lines_of(&self, place: usize) -> Option<&LinkLog> {
+        self.links.get(place)
     }
 
     /// Reports an event.

@@ -3,8 +3,9 @@
 //! It belongs to no scope, so that the run can end while the thread waits for a device that hangs. No other thread
 //! waits for the device.
 
-ghost use Rattle.std.specs.Prelude.{◌≡◌, ◌≢◌, ◌<◌, ◌≤◌, length, take};
+ghost use Rattle.std.specs.Prelude.{◌≡◌, ◌≢◌, ◌+◌, ◌<◌, ◌≤◌, length, take};
 ghost use Rattle.std.specs.Io.KnownBytes.{Appends};
+ghost use Rattle.fp_book.specs.declared.line.Line.TheVariants.{Head};
 
 use crate::events::{Event, Events};
 use crate::link_log::LogText;
@@ -111,6 +112,17 @@ impl<L: LinkWrite + Drop> Output<L> {
     }
 }
 
+/// The head of the log of a run with these settings: one link more than the number of its last one, so that a replay
+/// reports those below the first link too, and the tag.
+fn head_of(settings: Settings) -> Line
+    ensures { result ≡ Head (settings.first_link + settings.links) settings.tag }
+{
+    Line::Head {
+        links: settings.first_link + settings.links,
+        tag: settings.tag,
+    }
+}
+
 /// What the thread that writes the log has.
 #[derive(Drop)]
 struct LogWriter<L: LinkWrite + Drop> {
@@ -119,18 +131,15 @@ struct LogWriter<L: LinkWrite + Drop> {
 }
 
 impl<L: LinkWrite + Drop> LogWriter<L> {
-    /// A writer of this log, whose head, with the number of links, is still to be written.
+    /// A writer of this log, whose head is still to be written.
     fn new(
         alloc: Global,
         log: Arc<Log>,
         settings: Settings,
         device: L,
     ) -> Result<LogWriter<L>, AllocError> {
-        let head = Line::Head {
-            links: settings.links,
-        };
         let mut text = LogText::new(alloc)?;
-        text.add(&head)?;
+        text.add(&head_of(settings))?;
         let output = Output {
             device,
             text,
@@ -142,8 +151,8 @@ impl<L: LinkWrite + Drop> LogWriter<L> {
 
     /// Writes the lines that wait, those of each link in their order. `false`: nothing more is to be written.
     fn write_waiting<R: Wait + Clock>(&mut self, rt: &R) -> bool {
-        for link in 0..usize::from(Settings::MOST) {
-            let Some(waiting) = self.log.lines_of(link) else {
+        for place in 0..usize::from(Settings::MOST) {
+            let Some(waiting) = self.log.lines_of(place) else {
                 break;
             };
             waiting.take(rt, &mut self.output.text);

@@ -1,11 +1,21 @@
 //! The time of day.
 
-ghost use Rattle.std.specs.Prelude.{◌≡◌, ◌-◌, ◌/◌, min};
+ghost use Rattle.std.specs.Prelude.{◌≡◌, ◌≤◌, ◌-◌, ◌/◌, min};
 ghost use Rattle.std.specs.Duration.{as_nanos};
+ghost use Rattle.fp_serve.specs.Tag.{tag_by};
 
 use fp_digits::Moment;
+use fp_tids::LocalIds;
 use std::rt::Clock;
+use std::sync::Wait;
+use std::thread;
 use std::time::{Duration, SystemTime, UNIX_EPOCH};
+
+/// How many milliseconds a second has.
+const MILLISECONDS_OF_A_SECOND: u64 = 1_000;
+
+/// How often the next second is awaited at most: it takes more than one wait if the clock runs slowly or was set back.
+const MOST_WAITS: u32 = 3;
 
 /// The present moment. Before 1970, or if the clock gives no time, it is the first that there is, and from the year
 /// 2100 on the last.
@@ -26,5 +36,27 @@ fn moment_after(since: Duration) -> Moment
     match Moment::new(milliseconds) {
         Some(moment) => moment,
         None => unreachable!(),
+    }
+}
+
+/// The tag of the second of a moment: 1 to 4,094.
+pub(crate) fn tag_of(moment: Moment) -> u16
+    ensures value { result ≡ tag_by moment }
+    ensures known { result ≤ LocalIds.LAST_TAG }
+{
+    let second = moment.milliseconds() / MILLISECONDS_OF_A_SECOND;
+    (second % u64::from(LocalIds::LAST_TAG)) as u16 + 1
+}
+
+/// Waits until the second of this moment is over: a second at most, or three, if the clock is set back meanwhile.
+pub(crate) fn await_next_second<R: Wait + Clock>(rt: &R, moment: Moment) {
+    let second = moment.milliseconds() / MILLISECONDS_OF_A_SECOND;
+    for _ in 0..MOST_WAITS {
+        let milliseconds = now(rt).milliseconds();
+        if milliseconds / MILLISECONDS_OF_A_SECOND > second {
+            return;
+        }
+        let left = MILLISECONDS_OF_A_SECOND - milliseconds % MILLISECONDS_OF_A_SECOND;
+        thread::sleep(rt, Duration::from_millis(left));
     }
 }

@@ -74,9 +74,9 @@ impl Progress {
         let _ = self.links.lock(rt).push(LinkStatus { peer, status });
     }
 
-    /// Notes the status of a link that was accepted.
-    pub(crate) fn note<R: Wait>(&self, rt: &R, link: u8, status: Status) {
-        if let Some(known) = self.links.lock(rt).get_mut(usize::from(link)) {
+    /// Notes the status of the link in this place, which was accepted.
+    pub(crate) fn note<R: Wait>(&self, rt: &R, place: u8, status: Status) {
+        if let Some(known) = self.links.lock(rt).get_mut(usize::from(place)) {
             known.status = status;
         }
     }

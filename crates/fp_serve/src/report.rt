@@ -1,10 +1,10 @@
 //! The lines that a run writes: its address, the answers to its commands, and the report on its links.
 
-ghost use Rattle.std.specs.Prelude.{◌≡◌, IfOk, OnOk, string_bytes};
+ghost use Rattle.std.specs.Prelude.{◌≡◌, ◌≤◌, ◌+◌, IfOk, OnOk, string_bytes};
 ghost use Rattle.std.specs.Io.KnownBytes.{Appends};
 ghost use Rattle.std.specs.Net.Text.{socket_text};
 ghost use Rattle.fp_replay.specs.Replayed.{report_line};
-ghost use Rattle.fp_serve.specs.Report.{beginning, counts, lines_by, links_answer, links_line, listening_line, reloaded_line, status_line};
+ghost use Rattle.fp_serve.specs.Report.{beginning, counts, lines_by, links_answer, links_line, listening_line, reloaded_line, status_line, with_links_below};
 
 use crate::{LinkStatus, ServeFault};
 use fp_book::Totals;
@@ -37,27 +37,32 @@ pub(crate) fn write_reloaded<W: LinkWrite>(
     write_flushed(text.as_str(), output)
 }
 
-/// Writes a line for each link, in their order, and flushes the output.
+/// Writes a line for each number below the first link, and one for each link, in their order, and flushes the output.
 pub(crate) fn write_report<W: LinkWrite>(
     alloc: Global,
+    first_link: u8,
     totals: &[Totals],
     output: &mut W,
 ) -> Result<(), ServeFault>
-    ensures { OnOk result (Appends (W.contents output.old) (W.contents output.new) (lines_by report_line 0 totals.now)) }
+    ensures { OnOk result (Appends (W.contents output.old) (W.contents output.new)
+        (lines_by report_line 0 (with_links_below first_link totals.now))) }
 {
-    let text = report(alloc, totals)?;
+    let all = with_links_below(alloc, first_link, totals)?;
+    let text = report(alloc, all.as_slice())?;
     write_flushed(text.as_str(), output)
 }
 
-/// Writes the status of each of these links, in their order, and the number of links, and flushes the output.
+/// Writes the status of each of these links, in their order, whose numbers begin with this one, and how many they are,
+/// and flushes the output.
 pub(crate) fn write_links<W: LinkWrite>(
     alloc: Global,
+    first_link: u8,
     links: &[LinkStatus],
     output: &mut W,
 ) -> Result<(), ServeFault>
-    ensures { OnOk result (Appends (W.contents output.old) (W.contents output.new) (links_answer links.now)) }
+    ensures { OnOk result (Appends (W.contents output.old) (W.contents output.new) (links_answer first_link links.now)) }
 {
-    let text = answer_of(alloc, links)?;
+    let text = answer_of(alloc, first_link, links)?;
     write_flushed(text.as_str(), output)
 }
 
@@ -73,6 +78,27 @@ fn reloaded(alloc: Global, index: u32) -> Result<String, AllocError>
     ensures { IfOk result (λ text. string_bytes text ≡ reloaded_line index) }
 {
     format!(in alloc; "reloaded {index}\n")
+}
+
+/// What a link counted that never came, or that the run doesn't have.
+pub(crate) const NOTHING: Totals = Totals {
+    accepted: 0,
+    served: 0,
+    sent: 0,
+};
+
+/// What each link counted, from the number 0 on: below the first link nothing.
+fn with_links_below(
+    alloc: Global,
+    first_link: u8,
+    totals: &[Totals],
+) -> Result<Vec<Totals>, AllocError>
+    ensures { IfOk result (λ all. all.items ≡ with_links_below first_link totals.now) }
+{
+    let mut all = Vec::new(alloc);
+    all.resize(usize::from(first_link), NOTHING)?;
+    all.extend_from_slice(totals)?;
+    Ok(all)
 }
 
 /// A line for each link, in their order.
@@ -133,23 +159,23 @@ fn links_line(alloc: Global, count: usize) -> Result<String, AllocError>
     format!(in alloc; "links {count}\n")
 }
 
-/// The status line of each of these links, in their order.
-fn status_lines(alloc: Global, links: &[LinkStatus]) -> Result<String, AllocError>
-    ensures { IfOk result (λ text. string_bytes text ≡ lines_by status_line 0 links.now) }
+/// The status line of each of these links, in their order, whose numbers begin with this one.
+fn status_lines(alloc: Global, first_link: u8, links: &[LinkStatus]) -> Result<String, AllocError>
+    ensures { IfOk result (λ text. string_bytes text ≡ lines_by (λ place. status_line (first_link + place)) 0 links.now) }
 {
     let mut text = String::new(alloc);
-    for (link, known) in links.iter().enumerate() {
-        let line = status_line(alloc, link, *known)?;
+    for (place, known) in links.iter().enumerate() {
+        let line = status_line(alloc, usize::from(first_link) + place, *known)?;
         text.push_str(line.as_str())?;
     }
     Ok(text)
 }
 
 /// The answer to `links`: the status lines, and the number of links.
-fn answer_of(alloc: Global, links: &[LinkStatus]) -> Result<String, AllocError>
-    ensures { IfOk result (λ text. string_bytes text ≡ links_answer links.now) }
+fn answer_of(alloc: Global, first_link: u8, links: &[LinkStatus]) -> Result<String, AllocError>
+    ensures { IfOk result (λ text. string_bytes text ≡ links_answer first_link links.now) }
 {
-    let mut text = status_lines(alloc, links)?;
+    let mut text = status_lines(alloc, first_link, links)?;
     let line = links_line(alloc, links.len())?;
     text.push_str(line.as_str())?;
     Ok(text)

@@ -1,6 +1,6 @@
 //! A run: its connections, a thread for each link, and the report.
 
-ghost use Rattle.std.specs.Prelude.{◌≡◌, ◌≤◌, ◌<◌, OnOk};
+ghost use Rattle.std.specs.Prelude.{◌≡◌, ◌≤◌, ◌<◌, ◌+◌, OnOk};
 ghost use Rattle.fp_serve.specs.Report.{TellsAnswers, TellsLinks};
 
 use crate::commands::{Commands, MOST_WAITING, Notice, Operator, Run, follow, start_reading};
@@ -8,8 +8,9 @@ use crate::connections::connection;
 use crate::link::{Plan, run_link};
 use crate::log::Log;
 use crate::log_writer::start_log;
+use crate::moment::{await_next_second, now, tag_of};
 use crate::progress::Progress;
-use crate::report::{write_address, write_report};
+use crate::report::{NOTHING, write_address, write_report};
 use crate::{Events, ServeFault, Service, Settings};
 use crossbeam_channel::{Receiver, Sender, bounded};
 use fp_book::Totals;
@@ -27,13 +28,6 @@ use std::thread::Threads;
 /// How many threads of a link have work to do, beside its workers: the receiving thread and the sending one.
 const OTHER_THREADS: usize = 2;
 
-/// What a link counted that never came.
-const NOTHING: Totals = Totals {
-    accepted: 0,
-    served: 0,
-    sent: 0,
-};
-
 /// How the run's threads wait, given their number and the number of processors.
 fn looks<R: Threads>(rt: &R, settings: Settings) -> Looks {
     let processors = match thread::available_parallelism(rt) {
@@ -45,10 +39,15 @@ fn looks<R: Threads>(rt: &R, settings: Settings) -> Looks {
 }
 
 /// Serves links until all of them are down and no more commands come: writes `listening A` to `output`, with the
-/// address of the listener; accepts one connection for each link, which are numbered from 0 in the order in which they
-/// came; answers on each the messages that come, from the newest records and with the names of application contexts
-/// that are accepted; and writes in the end `link L accepted A served S sent T` for each link, in order, up to the
-/// first of which that isn't known.
+/// address of the listener; accepts one connection for each link, which are numbered from the settings' first link on,
+/// 0 as a rule, in the order in which they came; answers on each the messages that come, from the newest records and
+/// with the names of application contexts that are accepted; and writes in the end `link L accepted A served S sent T`
+/// for each number below the first link, with zeros, and then for each link, in order, up to the first of which that
+/// isn't known.
+///
+/// The local identifiers of the dialogues have the tag of the settings. If the settings say that it is that of the
+/// second in which the run begins ([`Settings::with_tag_of_start`]), the first connection is accepted once this second is
+/// over.
 ///
 /// Each line of the commands' input is a command. `reload`: the operator reads the records again, and `reloaded N` is
 /// written once they replace the newest, N their index: each message that is prepared from then on is answered from
@@ -63,7 +62,7 @@ fn looks<R: Threads>(rt: &R, settings: Settings) -> Looks {
 /// `quit` ends all links: nothing more is accepted, what was is served and sent, two seconds after the command at most,
 /// and then each link goes down. A link that never came has counted nothing.
 ///
-/// The log begins with its head, and gets the lines of each link about once a second, and more often under load: whole
+/// The log begins with its head, which has the number of the last link and one, and the tag; and gets the lines of each link about once a second, and more often under load: whole
 /// lines, after which the writer is flushed. A thread of its own writes it, and nobody else waits for the writer,
 /// except the run itself: a second at most before it accepts the first connection, and, once all links are down, as
 /// long as lines are written within five seconds, a minute at most. If the log isn't written by then it can't be
@@ -96,7 +95,8 @@ where
     O: Operator + Drop,
     L: LinkWrite + Send + Drop + 'static,
     W: LinkWrite,
-    ensures { OnOk result (TellsLinks settings.links settings.has_commands (W.contents output.old) (W.contents output.new)) }
+    ensures { OnOk result (TellsLinks settings.first_link settings.links settings.has_commands
+        (W.contents output.old) (W.contents output.new)) }
 {
     serve_through(
         rt, service, settings, &OpenGate, listener, commands, log, events, output,
@@ -126,7 +126,51 @@ where
     O: Operator + Drop,
     L: LinkWrite + Send + Drop + 'static,
     W: LinkWrite,
-    ensures { OnOk result (TellsLinks settings.links settings.has_commands (W.contents output.old) (W.contents output.new)) }
+    ensures { OnOk result (TellsLinks settings.first_link settings.links settings.has_commands
+        (W.contents output.old) (W.contents output.new)) }
+{
+    let tagged = with_tag_of_run(rt, settings);
+    serve_tagged(
+        rt, service, tagged, gate, listener, commands, log, events, output,
+    )
+}
+
+/// The settings with the tag of the run. If that is the tag of the second in which the run begins, returns once this
+/// second is over, so that the first connection is accepted in a later one.
+fn with_tag_of_run<R: Wait + Clock>(rt: &R, settings: Settings) -> Settings
+    ensures first { result.first_link ≡ settings.first_link }
+    ensures links { result.links ≡ settings.links }
+    ensures has_commands { result.has_commands ≡ settings.has_commands }
+{
+    if !settings.has_tag_of_start {
+        return settings;
+    }
+    let start = now(rt);
+    await_next_second(rt, start);
+    settings.with_tag(tag_of(start))
+}
+
+/// Serves links as [`serve_through`] does, in a run whose settings have its tag.
+fn serve_tagged<R, G, I, O, L, W>(
+    rt: &R,
+    service: Service<'_>,
+    settings: Settings,
+    gate: &G,
+    listener: TcpListener,
+    commands: Commands<I, O>,
+    log: L,
+    events: &Events,
+    output: &mut W,
+) -> Result<(), ServeFault>
+where
+    R: Threads + Wait + Clock + Copy + Send + Sync + 'static,
+    G: Gate + Sync,
+    I: Read + Send + Drop + 'static,
+    O: Operator + Drop,
+    L: LinkWrite + Send + Drop + 'static,
+    W: LinkWrite,
+    ensures { OnOk result (TellsLinks settings.first_link settings.links settings.has_commands
+        (W.contents output.old) (W.contents output.new)) }
 {
     let Ok(address) = listener.local_addr() else {
         return Err(ServeFault::NoConnection);
@@ -166,7 +210,12 @@ where
         Ok(()) => {}
         Err(fault) => return Err(log.stop.fault(rt).unwrap_or(fault)),
     }
-    let reported = write_report(service.alloc, counted.as_slice(), output);
+    let reported = write_report(
+        service.alloc,
+        settings.first_link,
+        counted.as_slice(),
+        output,
+    );
     if let Some(first) = log.stop.fault(rt) {
         return Err(first);
     }
@@ -204,11 +253,13 @@ where
     G: Gate + Sync,
     O: Operator,
     W: LinkWrite,
-    ensures { OnOk result.followed (TellsAnswers settings.has_commands (W.contents output.old) (W.contents output.new)) }
+    ensures { OnOk result.followed (TellsAnswers settings.first_link settings.has_commands
+        (W.contents output.old) (W.contents output.new)) }
 {
     let mut listener = Some(listener);
     let commanded = Run {
         alloc: service.alloc,
+        first_link: settings.first_link,
         has_commands: settings.has_commands,
         tables: service.tables,
         progress,
@@ -253,6 +304,8 @@ fn run_links<'x, R: Threads + Wait + Clock + Sync, G: Gate + Sync>(
 ) -> Result<Vec<Totals>, AllocError> {
     let Settings {
         links,
+        first_link,
+        tag,
         workers,
         most_entries,
         most_helped,
@@ -263,14 +316,15 @@ fn run_links<'x, R: Threads + Wait + Clock + Sync, G: Gate + Sync>(
         thread::scope_env(),
         rt,
         move |scope| -> Result<Vec<Totals>, AllocError>
-            requires { links ≤ 8 }
+            requires links { first_link + links ≤ 8 }
+            requires tags { tag ≤ LocalIds.LAST_TAG }
         {
             let mut handles = Vec::new(service.alloc);
             let mut counted = Vec::new(service.alloc);
             // So there is room for all that is put in below.
             handles.reserve(usize::from(links))?;
             counted.reserve(usize::from(links))?;
-            for link in 0..links {
+            for place in 0..links {
                 let Some(listener) = &listener else {
                     break;
                 };
@@ -279,7 +333,9 @@ fn run_links<'x, R: Threads + Wait + Clock + Sync, G: Gate + Sync>(
                 };
                 progress.add(rt, peer);
                 let plan = Plan {
-                    link,
+                    place,
+                    link: first_link + place,
+                    tag,
                     peer,
                     workers,
                     most_entries,
@@ -287,7 +343,8 @@ fn run_links<'x, R: Threads + Wait + Clock + Sync, G: Gate + Sync>(
                     looks,
                 };
                 let run = move || -> Option<Totals>
-                    requires { plan.link < LocalIds.LINKS }
+                    requires link { plan.link < LocalIds.LINKS }
+                    requires tags { plan.tag ≤ LocalIds.LAST_TAG }
                 { run_link(rt, service, plan, gate, &stream, progress, events, log) };
                 match scope.spawn(run) {
                     Ok(handle) => {

@@ -4,11 +4,15 @@ ghost use Rattle.std.specs.Prelude.{◌≡◌};
 ghost use Rattle.jiff.specs.Words.{parse_timestamp};
 ghost use Rattle.scp.specs.Instant.{moment_in};
 
+mod serving;
+
+use crate::tag::Tag;
 use clap::error::ErrorKind;
-use clap::{Arg, ArgAction, ArgMatches, Command, Error, value_parser};
+use clap::{Arg, Command, Error, value_parser};
 use fp_digits::Moment;
 use fp_serve::{Settings, Wanted};
 use jiff::Timestamp;
+use serving::{SERVE, serve_asked, serve_command};
 use std::alloc::{AllocError, Global};
 
 /// What the words of a command line ask for.
@@ -30,6 +34,8 @@ pub enum Asked<'a> {
         records: &'a str,
         /// The text of the moment, which has not been read.
         moment: &'a str,
+        /// The tag of the run.
+        tag: Tag,
         /// The text of the list of application contexts, which has not been read, if there is one.
         contexts: Option<&'a str>,
     },
@@ -50,7 +56,7 @@ pub enum Asked<'a> {
         records: &'a str,
         /// The text of the address where connections are awaited, which has not been read.
         listen: &'a str,
-        /// How many links there are, 1 to 8, and how many workers each has, 1 to 8.
+        /// How many links there are, 1 to 8, from which number on, with which tag, and how many workers each has, 1 to 8.
         settings: Settings,
         /// The path of the log that is written.
         log: &'a str,
@@ -79,9 +85,6 @@ const MIGRATE: &str = "migrate";
 
 /// The name of the subcommand that replays a log.
 const REPLAY: &str = "replay";
-
-/// The name of the subcommand that serves links.
-const SERVE: &str = "serve";
 
 /// What the words ask for. The first of them names the program.
 pub fn asked_by<'a>(alloc: Global, words: &'a [String]) -> Result<Asked<'a>, AllocError> {
@@ -115,57 +118,17 @@ pub fn asked_by<'a>(alloc: Global, words: &'a [String]) -> Result<Asked<'a>, All
         });
     }
     if name == SERVE {
-        return Ok(serve_asked(alloc, records, contexts, &chosen));
+        return serve_asked(alloc, records, contexts, &chosen);
     }
-    let moment = chosen.get_str("MOMENT").unwrap_or("");
+    let Some(tag) = Tag::new(chosen.get_one::<u16>("tag").unwrap_or(0)) else {
+        return Ok(Asked::Refused(String::new(alloc)));
+    };
     Ok(Asked::Ask {
         records,
-        moment,
+        moment: chosen.get_str("MOMENT").unwrap_or(""),
+        tag,
         contexts,
     })
-}
-
-/// What the words of `serve` ask for.
-fn serve_asked<'a>(
-    alloc: Global,
-    records: &'a str,
-    contexts: Option<&'a str>,
-    chosen: &ArgMatches<'a>,
-) -> Asked<'a> {
-    let links = chosen.get_one::<u8>("links").unwrap_or(1);
-    let workers = chosen.get_one::<u8>("workers").unwrap_or(2);
-    let Some(settings) = Settings::new(links, workers) else {
-        return Asked::Refused(String::new(alloc));
-    };
-    let has_log_gaps = chosen.get_flag("log-gaps");
-    let settings = if has_log_gaps {
-        settings.with_log_gaps()
-    } else {
-        settings
-    };
-    Asked::Serve {
-        records,
-        listen: chosen.get_str("listen").unwrap_or(""),
-        settings: if chosen.get_flag("commands") {
-            settings.with_commands()
-        } else {
-            settings
-        },
-        log: chosen.get_str("log").unwrap_or(""),
-        events: wanted_events(chosen.get_flag("events"), has_log_gaps),
-        contexts,
-    }
-}
-
-/// Which events are written: all if they are asked for; if the log may have gaps, at least when it can't be written.
-fn wanted_events(events: bool, log_gaps: bool) -> Option<Wanted> {
-    if events {
-        Some(Wanted::All)
-    } else if log_gaps {
-        Some(Wanted::LogFaults)
-    } else {
-        None
-    }
 }
 
 /// The text of what clap answers in place of matches.
@@ -209,15 +172,6 @@ const REPLAY_EXAMPLE: &str = "Example:
 Replays each step of the log, and prints for each link how many components it accepted, how many
 entries it served and how many frames it sent. The first line that can't be replayed is reported.
 A message with the table 0 is read by RECORDS, one with 1 by the first of LATER, and so on.";
-
-const SERVE_EXAMPLE: &str = "Example:
-  scp serve examples/freephone.csv --listen 127.0.0.1:14700 --log run.log
-
-Prints the address where it listens, answers each connection as one link, and prints what each link did
-once all of them are down and standard input has ended. Each line of that is a command: reload reads
-RECORDS again. With --commands, links prints the status of each link, quit ends the run once what was
-accepted is served and sent, and the run ends with its links. Each message follows its length, which
-has four octets. FILE is emptied first, and gets each step of the links: scp replay replays them.";
 
 const EXAMPLES: &str = "Examples:
   scp check examples/freephone.csv
@@ -264,12 +218,21 @@ fn ask_command<'a>(alloc: Global) -> Result<Command<'a>, AllocError> {
     let moment = Arg::new(alloc, "MOMENT")
         .required(true)
         .help("The instant of the first line, as 2024-05-06T12:00:00Z");
+    let tag = Arg::new(alloc, "tag")
+        .long("tag")
+        .value_name("N")
+        .value_parser(value_parser!(u16).range(0..=4094))
+        .default_value("0")
+        .help(
+            "The tag of the run, 0 to 4094, by which its identifiers differ from those of others",
+        );
     Command::new(alloc, "ask")
         .about("Answers the TCAP messages of standard input, one line of hexadecimal text each")
         .after_help(ASK_EXAMPLE)
         .arg(records(alloc))?
         .arg(moment)?
-        .arg(contexts(alloc))
+        .arg(contexts(alloc))?
+        .arg(tag)
 }
 
 /// The subcommand that replays a log.
@@ -287,72 +250,6 @@ fn replay_command<'a>(alloc: Global) -> Result<Command<'a>, AllocError> {
         .arg(log)?
         .arg(later)?
         .arg(contexts(alloc))
-}
-
-/// An option that takes a number from 1 to 8.
-fn up_to_eight<'a>(alloc: Global, name: &'a str, default: &'a str, help: &'a str) -> Arg<'a> {
-    Arg::new(alloc, name)
-        .long(name)
-        .value_name("N")
-        .value_parser(value_parser!(u8).range(1..=8))
-        .default_value(default)
-        .help(help)
-}
-
-/// An option that is given or not.
-fn flag<'a>(alloc: Global, name: &'a str, help: &'a str) -> Arg<'a> {
-    Arg::new(alloc, name)
-        .long(name)
-        .action(ArgAction::SetTrue)
-        .help(help)
-}
-
-/// The subcommand that serves links.
-fn serve_command<'a>(alloc: Global) -> Result<Command<'a>, AllocError> {
-    let listen = Arg::new(alloc, "listen")
-        .long("listen")
-        .value_name("ADDRESS")
-        .required(true)
-        .help("The IP address and the port where connections are awaited, as 127.0.0.1:14700");
-    let log = Arg::new(alloc, "log")
-        .long("log")
-        .value_name("FILE")
-        .required(true)
-        .help("The file that the log is written to, which is emptied first");
-    Command::new(alloc, SERVE)
-        .about("Awaits connections, and answers the TCAP messages of each as one link")
-        .after_help(SERVE_EXAMPLE)
-        .arg(records(alloc))?
-        .arg(listen)?
-        .arg(log)?
-        .arg(up_to_eight(
-            alloc,
-            "workers",
-            "2",
-            "How many workers each link has, 1 to 8",
-        ))?
-        .arg(up_to_eight(
-            alloc,
-            "links",
-            "1",
-            "How many connections are accepted, 1 to 8",
-        ))?
-        .arg(contexts(alloc))?
-        .arg(flag(
-            alloc,
-            "events",
-            "Write a line on standard error for the records, each link that comes or goes, and a log that fails",
-        ))?
-        .arg(flag(
-            alloc,
-            "commands",
-            "Know the commands links and quit too, and end with the links, whatever standard input does",
-        ))?
-        .arg(flag(
-            alloc,
-            "log-gaps",
-            "Go on if the log can't be written, leave a gap in it, and report that on standard error",
-        ))
 }
 
 /// The command line that there is.

@@ -15,17 +15,17 @@
 //!
 //! * [`program`] takes one run from the words to the status, over any files, reader and writers; and
 //!   [`program_with_links`] one that may serve links.
-//! * [`ask`] answers the lines of an input, and [`serve`] the connections to a listener. They are those of `fp_ask` and
-//!   `fp_serve`, with their contracts.
-//! * `command` reads the words of the command line, and the moment among them; `contexts` the list of names; `console`
-//!   the records again, while links are served from them.
+//! * [`ask`] answers the lines of an input, [`ask_with_tag`] in a run with a tag, and [`serve`] the connections to a
+//!   listener. They are those of `fp_ask` and `fp_serve`, with their contracts.
+//! * `command` reads the words of the command line, and the moment among them, `tag` has the tag of a run; `contexts`
+//!   reads the list of names; `console` the records again, while links are served from them.
 //! * `check` prints what the records hold, and `migrate` the records themselves.
 //! * `output` writes a text or octets.
 //! * `fault` has the faults of a run and their texts.
 //!
 //! Proved here: that no status is above 2; the moment that a text names, and the names that a list has, both ways; the
 //! counts and the records that are written; and that a run over readers and writers whose octets are known answers its
-//! input as [`ask`] does. No proof says what a file, standard input or standard output gives or takes.
+//! input as [`ask_with_tag`] does. No proof says what a file, standard input or standard output gives or takes.
 #![tactic(auto)]
 
 mod check;
@@ -36,9 +36,10 @@ mod fault;
 mod migrate;
 mod output;
 mod run;
+mod tag;
 mod with_links;
 
-pub use fp_ask::{AskFault, ask};
+pub use fp_ask::{AskFault, ask, ask_with_tag};
 pub use fp_serve::{Events, ServeFault, Settings, serve};
 pub use run::{program, refuse_words};
 pub use with_links::program_with_links;

@@ -5,7 +5,9 @@ ghost use Rattle.std.specs.Io.KnownBytes.{IsAtEnd};
 ghost use Rattle.fp_replay.specs.Stopped as stopped;
 ghost use Rattle.fp_replay.specs.Stopped.{IsUnwritten, Replays};
 ghost use Rattle.fp_ask.specs.Asked.{AnswersAll, Stops, cause_of};
+ghost use Rattle.fp_ask.specs.Lines.{at_start};
 ghost use Rattle.fp_streams.specs.Ends.{CountsReads, CountsWrites, Reads};
+ghost use Rattle.fp_tids.specs.Identifiers.{base_of};
 
 use crate::check::check;
 use crate::command::{Asked, asked_by, moment_of};
@@ -13,8 +15,9 @@ use crate::contexts::contexts_in;
 use crate::fault::RunFault;
 use crate::migrate::migrate;
 use crate::output::write_text;
+use crate::tag::Tag;
 use fp_apdu::Name;
-use fp_ask::{AskFault, ask};
+use fp_ask::{AskFault, ask_with_tag};
 use fp_digits::Moment;
 use fp_records::{RecordsFault, Table};
 use fp_replay::{ReplayFault, replay};
@@ -71,9 +74,10 @@ where
             Asked::Ask {
                 records,
                 moment,
+                tag,
                 contexts,
             },
-        ) => answer_file(rt, records, moment, contexts, input, output),
+        ) => answer_file(rt, records, moment, tag, contexts, input, output),
         Ok(
             Asked::Replay {
                 records,
@@ -145,11 +149,12 @@ fn migrate_file<H: Files + AllocGlobal, W: Write>(
     migrate(rt.alloc(), text.as_slice(), output)
 }
 
-/// Answers the lines of the input from the records of a file.
+/// Answers the lines of the input from the records of a file, in a run with this tag.
 fn answer_file<H, R, W>(
     rt: &H,
     records: &str,
     moment: &str,
+    tag: Tag,
     contexts: Option<&str>,
     input: R,
     output: &mut W,
@@ -172,6 +177,7 @@ where
         rt.alloc(),
         &table,
         contexts.as_slice(),
+        tag,
         moment,
         &mut reader,
         &mut writer,
@@ -279,19 +285,21 @@ pub(crate) fn records_in<H: Files + AllocGlobal>(rt: &H, path: &str) -> Result<V
     }
 }
 
-/// Answers the lines of the input, and says of readers and writers whose octets are known what [`ask`] says.
+/// Answers the lines of the input, and says of readers and writers whose octets are known what [`ask_with_tag`] says.
 fn answer_lines<R: Read, W: Write>(
     alloc: Global,
     table: &Table,
     contexts: &[Name],
+    tag: Tag,
     moment: Moment,
     reader: &mut Counted<R>,
     writer: &mut Counted<W>,
 ) -> Result<(), AskFault>
     ensures end { OnOk result (IsAtEnd (R.remaining reader.new.device)) }
     ensures answered { OnOk result (IfSome (R.remaining reader.old.device)
-        (AnswersAll table.now contexts.now moment (W.contents writer.old.device) (W.contents writer.new.device))) }
-    ensures stopped { IfErr result (Stops table.now contexts.now moment
+        (AnswersAll table.now contexts.now (at_start (base_of 0 tag.number) moment)
+        (W.contents writer.old.device) (W.contents writer.new.device))) }
+    ensures stopped { IfErr result (Stops table.now contexts.now (at_start (base_of 0 tag.number) moment)
         (R.remaining reader.old.device) (R.remaining reader.new.device)
         (W.contents writer.old.device) (W.contents writer.new.device)) }
     ensures within { Reads cause_of TURNS
@@ -299,7 +307,9 @@ fn answer_lines<R: Read, W: Write>(
     ensures reads { CountsReads cause_of result reader.old.failed reader.new.failed }
     ensures writes { CountsWrites cause_of result writer.old.failed writer.new.failed }
 {
-    ask(alloc, table, contexts, moment, TURNS, reader, writer)
+    ask_with_tag(
+        alloc, table, contexts, tag.number, moment, TURNS, reader, writer,
+    )
 }
 
 /// Replays a log, and says of readers and writers whose octets are known what [`replay`] says.

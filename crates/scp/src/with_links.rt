@@ -292,7 +292,8 @@ where
     I: Read + Send + Drop + 'static,
     O: Operator + Drop,
     W: Write,
-    ensures { OnOk result (TellsLinks settings.links settings.has_commands (W.contents output.old.device) (W.contents output.new.device)) }
+    ensures { OnOk result (TellsLinks settings.first_link settings.links settings.has_commands
+        (W.contents output.old.device) (W.contents output.new.device)) }
 {
     serve(
         rt, service, settings, listener, commands, log, events, output,

@@ -1,10 +1,15 @@
-use Rattle.std.proofs.Common.{ap, ◌++◌, ◌∙◌, string_bytes}
+use Rattle.std.proofs.Common.{ap, subst, ℕ, List, ◌≡◌, ◌+◌, ◌++◌, ◌∙◌, string_bytes}
 use Rattle.fp_serve.specs.Report.{status_line}
+use Rattle.fp_serve.specs.declared.progress.LinkStatus.{LinkStatus}
 use Rattle.fp_serve.proofs.Lines.{more}
 use Rattle.fp_serve.proofs.report.status_lines.Goals as goal
 
-pub loop-link-preserved : goal.loop-link-preserved
-loop-link-preserved c =
-    more status_line c.loop-link.link c.args.links.now _ _ _ _ c.loop-link-test.true
-    (c.in_ok-push_str.ensures.bytes ∙ ap (λ l. string_bytes c.loop-link.text ++ l) c.as_str.ensures.value)
-    c.in_ok-line.ensures c.loop-link.invariant
+-- the line of a link under the sum that was meant
+line_at : (first place n : ℕ) (known : LinkStatus) (line : List ℕ) → n ≡ first → line ≡ status_line (n + place) known → line ≡ status_line (first + place) known
+line_at first place n known line same is = subst (λ m. line ≡ status_line (m + place) known) same is
+
+pub loop-place-preserved : goal.loop-place-preserved
+loop-place-preserved c =
+    more (λ place. status_line (c.args.first_link + place)) c.loop-place.place c.args.links.now _ _ _ _ c.loop-place-test.true
+    (c.in_ok-push_str.ensures.bytes ∙ ap (λ l. string_bytes c.loop-place.text ++ l) c.as_str.ensures.value)
+    (line_at _ _ _ _ _ c.from.ensures c.in_ok-line.ensures) c.loop-place.invariant

@@ -1,0 +1,190 @@
+//! The words of `serve`.
+
+use super::{Asked, contexts, records};
+use crate::tag::Tag;
+use clap::{Arg, ArgAction, ArgMatches, Command, value_parser};
+use fp_serve::{Settings, Wanted};
+use fp_tids::LocalIds;
+use std::alloc::{AllocError, Global};
+
+/// The name of the subcommand that serves links.
+pub(super) const SERVE: &str = "serve";
+
+/// The word for the tag of the second in which a run begins.
+const AUTO: &str = "auto";
+
+/// The end of the text of a value that is refused.
+const MORE: &str = "\n\nFor more information, try '--help'.\n";
+
+/// What the words of `serve` ask for.
+pub(super) fn serve_asked<'a>(
+    alloc: Global,
+    records: &'a str,
+    contexts: Option<&'a str>,
+    chosen: &ArgMatches<'a>,
+) -> Result<Asked<'a>, AllocError> {
+    let links = chosen.get_one::<u8>("links").unwrap_or(1);
+    let workers = chosen.get_one::<u8>("workers").unwrap_or(2);
+    let Some(settings) = Settings::new(links, workers) else {
+        return Ok(Asked::Refused(String::new(alloc)));
+    };
+    let first_link = chosen.get_one::<u8>("first-link").unwrap_or(0);
+    let Some(settings) = settings.with_first_link(first_link) else {
+        return refused_first_link(alloc, first_link, settings);
+    };
+    let tag = chosen.get_str("tag").unwrap_or("0");
+    let Some(settings) = with_tag(settings, tag) else {
+        return refused_tag(alloc, tag);
+    };
+    let has_log_gaps = chosen.get_flag("log-gaps");
+    let settings = if has_log_gaps {
+        settings.with_log_gaps()
+    } else {
+        settings
+    };
+    Ok(Asked::Serve {
+        records,
+        listen: chosen.get_str("listen").unwrap_or(""),
+        settings: if chosen.get_flag("commands") {
+            settings.with_commands()
+        } else {
+            settings
+        },
+        log: chosen.get_str("log").unwrap_or(""),
+        events: wanted_events(chosen.get_flag("events"), has_log_gaps),
+        contexts,
+    })
+}
+
+/// The settings with the tag that a text names: a number up to 4,094, or `auto`. `None`: it names none.
+fn with_tag(settings: Settings, text: &str) -> Option<Settings> {
+    if text == AUTO {
+        return Some(settings.with_tag_of_start());
+    }
+    let tag = Tag::new(text.parse().ok()?)?;
+    Some(settings.with_tag(tag.number))
+}
+
+/// The text of a tag that is none, in the form of clap's.
+fn refused_tag<'a>(alloc: Global, text: &str) -> Result<Asked<'a>, AllocError> {
+    let last = LocalIds::LAST_TAG;
+    let text = format!(in alloc;
+        "error: invalid value '{text}' for '--tag <N|auto>': {text} is neither in 0..={last} nor {AUTO}{MORE}"
+    )?;
+    Ok(Asked::Refused(text))
+}
+
+/// The text of a first link with which the number of the last one were above 7, in the form of clap's.
+fn refused_first_link<'a>(
+    alloc: Global,
+    first_link: u8,
+    settings: Settings,
+) -> Result<Asked<'a>, AllocError> {
+    let most = Settings::MOST - settings.links;
+    let text = format!(in alloc;
+        "error: invalid value '{first_link}' for '--first-link <N>': {first_link} is not in 0..={most}{MORE}"
+    )?;
+    Ok(Asked::Refused(text))
+}
+
+/// Which events are written: all if they are asked for; if the log may have gaps, at least when it can't be written.
+fn wanted_events(events: bool, log_gaps: bool) -> Option<Wanted> {
+    if events {
+        Some(Wanted::All)
+    } else if log_gaps {
+        Some(Wanted::LogFaults)
+    } else {
+        None
+    }
+}
+
+/// What to type, after the help of `serve`.
+const SERVE_EXAMPLE: &str = "Example:
+  scp serve examples/freephone.csv --listen 127.0.0.1:14700 --log run.log
+
+Prints the address where it listens, answers each connection as one link, and prints what each link did
+once all of them are down and standard input has ended. Each line of that is a command: reload reads
+RECORDS again. With --commands, links prints the status of each link, quit ends the run once what was
+accepted is served and sent, and the run ends with its links. Each message follows its length, which
+has four octets. FILE is emptied first, and gets each step of the links: scp replay replays them.";
+
+/// An option that takes a number from 1 to 8.
+fn up_to_eight<'a>(alloc: Global, name: &'a str, default: &'a str, help: &'a str) -> Arg<'a> {
+    Arg::new(alloc, name)
+        .long(name)
+        .value_name("N")
+        .value_parser(value_parser!(u8).range(1..=8))
+        .default_value(default)
+        .help(help)
+}
+
+/// An option that is given or not.
+fn flag<'a>(alloc: Global, name: &'a str, help: &'a str) -> Arg<'a> {
+    Arg::new(alloc, name)
+        .long(name)
+        .action(ArgAction::SetTrue)
+        .help(help)
+}
+
+/// The subcommand that serves links.
+pub(super) fn serve_command<'a>(alloc: Global) -> Result<Command<'a>, AllocError> {
+    let listen = Arg::new(alloc, "listen")
+        .long("listen")
+        .value_name("ADDRESS")
+        .required(true)
+        .help("The IP address and the port where connections are awaited, as 127.0.0.1:14700");
+    let log = Arg::new(alloc, "log")
+        .long("log")
+        .value_name("FILE")
+        .required(true)
+        .help("The file that the log is written to, which is emptied first");
+    let first_link = Arg::new(alloc, "first-link")
+        .long("first-link")
+        .value_name("N")
+        .value_parser(value_parser!(u8).range(0..=7))
+        .default_value("0")
+        .help("The number of the first link, 0 to 7; the others have the next ones, up to 7");
+    let tag = Arg::new(alloc, "tag")
+        .long("tag")
+        .value_name("N|auto")
+        .default_value("0")
+        .help(
+            "The tag of the run, 0 to 4094, by which its identifiers differ from those of others; auto: by the time",
+        );
+    Command::new(alloc, SERVE)
+        .about("Awaits connections, and answers the TCAP messages of each as one link")
+        .after_help(SERVE_EXAMPLE)
+        .arg(records(alloc))?
+        .arg(listen)?
+        .arg(log)?
+        .arg(up_to_eight(
+            alloc,
+            "workers",
+            "2",
+            "How many workers each link has, 1 to 8",
+        ))?
+        .arg(up_to_eight(
+            alloc,
+            "links",
+            "1",
+            "How many connections are accepted, 1 to 8",
+        ))?
+        .arg(first_link)?
+        .arg(tag)?
+        .arg(contexts(alloc))?
+        .arg(flag(
+            alloc,
+            "events",
+            "Write a line on standard error for the records, each link that comes or goes, and a log that fails",
+        ))?
+        .arg(flag(
+            alloc,
+            "commands",
+            "Know the commands links and quit too, and end with the links, whatever standard input does",
+        ))?
+        .arg(flag(
+            alloc,
+            "log-gaps",
+            "Go on if the log can't be written, leave a gap in it, and report that on standard error",
+        ))
+}
