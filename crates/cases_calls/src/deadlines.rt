@@ -6,6 +6,8 @@
 //! | `local-ids LINK DONE, ..` | the same, done to the identifiers of a link, 0 to 7, of which none was given yet |
 //! | `turns LINK COUNT` | so many identifiers of a link are given, each once the one before came back: the last of them, and the next |
 //!
+//! In place of LINK there may be `LINK/TAG`: the run has this tag, 0 to 4,094, and else none, which is the tag 0.
+//!
 //! | Done to deadlines | What it gives |
 //! |---|---|
 //! | `set ID MS` | nothing: the identifier has this deadline, in milliseconds since 1970 |
@@ -24,8 +26,8 @@
 //! | `pass COUNT` | nothing: this number of identifiers is given |
 //! | `link ID` | the link of an identifier |
 
-ghost use Rattle.std.specs.Prelude.{◌<◌, IfOk};
-ghost use Rattle.fp_tids.specs.Identifiers.{AreSerials};
+ghost use Rattle.std.specs.Prelude.{◌≡◌, ◌<◌, ◌≤◌, IfOk};
+ghost use Rattle.fp_tids.specs.Identifiers.{AreSerials, all_serials};
 
 use crate::values::local_of;
 use anyhow::bail;
@@ -257,17 +259,41 @@ fn link_in(text: &str) -> anyhow::Result<u8>
     Ok(link)
 }
 
+/// The tag of this number.
+fn tag_in(text: &str) -> anyhow::Result<u16>
+    ensures { IfOk result (λ tag. tag ≤ LocalIds.LAST_TAG) }
+{
+    let tag: u16 = text.parse()?;
+    if tag > LocalIds::LAST_TAG {
+        bail!("no tag");
+    }
+    Ok(tag)
+}
+
+/// The identifiers of a link and a tag, `LINK/TAG`, or of a link without a tag. None of them was given yet.
+fn ids_of(alloc: Global, text: &str) -> anyhow::Result<LocalIds>
+    ensures { IfOk result (λ ids. ids.queue ≡ all_serials) }
+{
+    let (link, tag) = match text.split_once('/') {
+        Some(parts) => parts,
+        None => (text, "0"),
+    };
+    let link = link_in(link)?;
+    let tag = tag_in(tag)?;
+    Ok(LocalIds::with_tag(alloc, link, tag)?)
+}
+
 /// Does to the identifiers of a link what a text says. None of them was given yet.
 fn of_local_ids(alloc: Global, text: &str, out: &mut String) -> anyhow::Result<()> {
     let (link, rest) = first_word(text);
-    let mut ids = LocalIds::new(alloc, link_in(link)?)?;
+    let mut ids = ids_of(alloc, link)?;
     use_all(&mut ids, rest, out)
 }
 
 /// Gives identifiers of a link, each once the one before came back, and writes the last of them and the next.
 fn of_turns(alloc: Global, text: &str, out: &mut String) -> anyhow::Result<()> {
     let (link, count) = first_word(text);
-    let mut ids = LocalIds::new(alloc, link_in(link)?)?;
+    let mut ids = ids_of(alloc, link)?;
     let count: u32 = count.parse()?;
     serials_are_distinct();
     let mut last = None;

@@ -12,6 +12,7 @@
 //! | Step | What it answers |
 //! |---|---|
 //! | `book LINK` | one more book, of this link; the steps after it are about it: `link LINK` |
+//! | `book LINK/TAG` | the same in a run with this tag: `link LINK/TAG` |
 //! | `to N` | the steps after it are about the N-th book, from 1: the same number |
 //! | `at MS` | from now on it is MS milliseconds after noon: the same number |
 //! | `post HEX` | a message is posted: `O`, `A`, `X`, `E` or `D` |
@@ -49,6 +50,7 @@ mod turns;
 
 use crate::held::{Named, abandon, abandon_all, serve, show};
 use crate::messages::{frame_of, prepared};
+use crate::numbering::{LAST_TAG, LINKS, Numbering, numbering_of};
 use crate::script::{Steps, play};
 use crate::texts::{moment_after, push_text};
 use anyhow::bail;
@@ -59,9 +61,6 @@ use fp_records::Table;
 use std::alloc::Global;
 use std::fmt::Write;
 use texts::{push_posted, push_totals};
-
-/// The number of links.
-const LINKS: u8 = 8;
 
 /// The books of a case, and its turns and parcels that are out. It must be spent.
 #[must_use]
@@ -162,21 +161,21 @@ fn own_step(
 }
 
 impl Case<'_> {
-    /// One more book, of this link. The steps after it are about it.
-    fn open(&mut self, link: u8) -> anyhow::Result<()> {
-        if link >= LINKS {
-            bail!("no link");
+    /// One more book, which is numbered so. The steps after it are about it.
+    fn open(&mut self, numbering: Numbering) -> anyhow::Result<()> {
+        let Numbering { link, tag } = numbering;
+        if link >= LINKS || tag > LAST_TAG {
+            bail!("no link, or no tag");
         }
         self.place = self.books.len();
-        self.books.push(Book::new(self.alloc, link)?)?;
+        self.books.push(Book::with_tag(self.alloc, link, tag)?)?;
         Ok(())
     }
 
-    /// One more book, of the link of a text.
-    fn open_of(&mut self, link: &str, out: &mut String) -> anyhow::Result<()> {
-        let link: u8 = link.parse()?;
-        self.open(link)?;
-        write!(out, "link {link}")?;
+    /// One more book, of the link and the tag of a text.
+    fn open_of(&mut self, text: &str, out: &mut String) -> anyhow::Result<()> {
+        self.open(numbering_of(text)?)?;
+        write!(out, "link {text}")?;
         Ok(())
     }
 
@@ -298,7 +297,7 @@ pub(crate) fn answer(
         turns: Vec::new(alloc),
         parcels: Vec::new(alloc),
     };
-    let answered = match case.open(0) {
+    let answered = match case.open(Numbering { link: 0, tag: 0 }) {
         Ok(()) => play(&mut case, script, out),
         Err(error) => Err(error),
     };

@@ -43,7 +43,7 @@ fn push_line(out: &mut String, line: Option<&Line>) -> anyhow::Result<()> {
 fn is_of(line: &Line, wanted: u8) -> bool {
     match line {
         Line::Step { link, step: _ } => *link == wanted,
-        Line::Head { links: _ } => false,
+        Line::Head { links: _, tag: _ } => false,
     }
 }
 

@@ -5,19 +5,22 @@
 //! | `logged-run LINK: STEP; STEP; ..` | the log of these steps on this link, and the report of its replay |
 //! | `long-run COUNT LINK: STEP; STEP; ..` | how many lines the log has, the last COUNT of them, and the report |
 //!
+//! In place of LINK there may be `LINK/TAG`: the run has this tag, which its log has in its head.
+//!
 //! After the report come the answers of those steps that a log has no line for: `nothing`, `busy`, `no room`, and
 //! `tick`, where no dialogue was due. The steps are those of `runs`. That the report has the totals of the run is
 //! tested, too.
 
+use crate::numbering::{LAST_TAG, LINKS, Numbering, numbering_of};
 use crate::replays::{SOUND, push_replay};
-use crate::runs::{LINKS, outputs_of, steps_of};
+use crate::runs::{outputs_of, steps_of};
 use crate::texts::push_barred;
 use anyhow::{bail, ensure};
 use cases::first_word;
 use fp_book::{Line, Totals};
 use fp_records::Table;
 use fp_replay::{report_line, write_line};
-use fp_steps::{Output, Step, lines_of, totals};
+use fp_steps::{Output, Step, lines_with_tag, totals};
 use std::alloc::Global;
 use std::fmt::Write;
 
@@ -141,31 +144,32 @@ fn push_log(
     push_report(alloc, tables, link, totals, log.as_slice(), out)
 }
 
-/// The log of a run on a link.
+/// The log of a run.
 pub(crate) fn log_of(
     alloc: Global,
-    link: u8,
+    numbering: Numbering,
     steps: &[Step],
     outputs: &[Output],
 ) -> anyhow::Result<Vec<Line>> {
-    if link >= LINKS {
-        bail!("no link");
+    let Numbering { link, tag } = numbering;
+    if link >= LINKS || tag > LAST_TAG {
+        bail!("no link, or no tag");
     }
-    Ok(lines_of(alloc, link, steps, outputs)?)
+    Ok(lines_with_tag(alloc, link, tag, steps, outputs)?)
 }
 
 /// Writes what a run gives that answered so, with so many of the last lines of its log, or all.
 fn push_outputs(
     alloc: Global,
     tables: &[Table],
-    link: u8,
+    numbering: Numbering,
     steps: &[Step],
     outputs: &[Output],
     last: Option<usize>,
     out: &mut String,
 ) -> anyhow::Result<()> {
-    let lines = log_of(alloc, link, steps, outputs)?;
-    let totals = totals(outputs);
+    let lines = log_of(alloc, numbering, steps, outputs)?;
+    let (link, totals) = (numbering.link, totals(outputs));
     push_log(alloc, tables, link, totals, lines.as_slice(), last, out)?;
     push_unlogged(outputs, out)
 }
@@ -174,13 +178,21 @@ fn push_outputs(
 fn push_run(
     alloc: Global,
     tables: &[Table],
-    link: u8,
+    numbering: Numbering,
     steps: &[Step],
     last: Option<usize>,
     out: &mut String,
 ) -> anyhow::Result<()> {
-    let outputs = outputs_of(alloc, tables, link, steps)?;
-    push_outputs(alloc, tables, link, steps, outputs.as_slice(), last, out)
+    let outputs = outputs_of(alloc, tables, numbering, steps)?;
+    push_outputs(
+        alloc,
+        tables,
+        numbering,
+        steps,
+        outputs.as_slice(),
+        last,
+        out,
+    )
 }
 
 /// Writes what the run of a text gives, with so many of the last lines of its log, or all.
@@ -191,12 +203,12 @@ fn push_case(
     last: Option<usize>,
     out: &mut String,
 ) -> anyhow::Result<()> {
-    let Some((link, script)) = text.split_once(": ") else {
+    let Some((numbering, script)) = text.split_once(": ") else {
         bail!("no link");
     };
-    let link: u8 = link.parse()?;
-    let steps = steps_of(alloc, link, script)?;
-    push_run(alloc, tables, link, steps.as_slice(), last, out)
+    let numbering = numbering_of(numbering)?;
+    let steps = steps_of(alloc, numbering, script)?;
+    push_run(alloc, tables, numbering, steps.as_slice(), last, out)
 }
 
 /// What a run of many steps gives.

@@ -22,7 +22,7 @@
 //! at noon, 2024-05-06T12:00:00Z. In a log and in a report `|` stands for a line feed.
 //!
 //! `devices` has readers and writers that do what a case says, `memory` an inbox and an outlet that keep what goes
-//! through them, and `texts` words of steps and of answers.
+//! through them, `numbering` the link and the tag of a run, and `texts` words of steps and of answers.
 #![tactic(auto)]
 
 mod book;
@@ -33,6 +33,7 @@ mod log;
 mod logged_runs;
 mod memory;
 mod messages;
+mod numbering;
 mod outbox;
 mod ready;
 mod receiving;

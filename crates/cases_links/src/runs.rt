@@ -1,6 +1,7 @@
 //! Whole runs of a link: what each of its steps answers.
 //!
-//! A case `run LINK: STEP; STEP; ..` makes its steps one after another on this link, and begins at noon. A step about a
+//! A case `run LINK: STEP; STEP; ..` makes its steps one after another on this link, and begins at noon. In a case
+//! `run LINK/TAG: STEP; STEP; ..` the run has this tag, from 1 to 4094, and else none, which is the tag 0. A step about a
 //! turn names its dialogue, by the local identifier in eight hexadecimal digits; one about a parcel is about the one
 //! that is out. A step that is impossible answers `nothing`.
 //!
@@ -49,6 +50,9 @@
 //!
 //! A case `random-after CALLS SEED RUNS STEPS` does so after CALLS calls in each run, none of which is open any more: of
 //! these steps it answers nothing, and no log is replayed. So local identifiers come again.
+//!
+//! In both cases a tag may follow STEPS: each run has it then. Some messages are aimed at the same serial of another tag,
+//! or of none.
 
 mod drawn;
 mod draws;
@@ -62,6 +66,7 @@ mod templates;
 mod texts;
 mod watch;
 
+use crate::numbering::{LAST_TAG, LINKS, Numbering, numbering_of};
 use anyhow::bail;
 use fp_records::Table;
 use fp_steps::{Output, Step};
@@ -69,25 +74,27 @@ use making::Making;
 pub(crate) use random::{answer as answer_random, answer_after as answer_random_after};
 use std::alloc::Global;
 
-/// The number of links.
-pub(crate) const LINKS: u8 = 8;
-
-/// The outputs of these steps on a link.
+/// The outputs of these steps of a run.
 pub(crate) fn outputs_of(
     alloc: Global,
     tables: &[Table],
-    link: u8,
+    numbering: Numbering,
     steps: &[Step],
 ) -> anyhow::Result<Vec<Output>> {
-    if link >= LINKS {
-        bail!("no link");
+    let Numbering { link, tag } = numbering;
+    if link >= LINKS || tag > LAST_TAG {
+        bail!("no link, or no tag");
     }
-    Ok(fp_steps::run(alloc, tables, &[], link, steps)?)
+    Ok(fp_steps::run_with_tag(alloc, tables, &[], link, tag, steps)?)
 }
 
 /// The steps of a script.
-pub(crate) fn steps_of(alloc: Global, link: u8, script: &str) -> anyhow::Result<Vec<Step>> {
-    let mut making = Making::new(alloc, link);
+pub(crate) fn steps_of(
+    alloc: Global,
+    numbering: Numbering,
+    script: &str,
+) -> anyhow::Result<Vec<Step>> {
+    let mut making = Making::new(alloc, numbering);
     making.add_script(script)?;
     Ok(making.steps)
 }
@@ -99,12 +106,12 @@ pub(crate) fn answer(
     case: &str,
     out: &mut String,
 ) -> anyhow::Result<()> {
-    let Some((link, script)) = case.split_once(": ") else {
+    let Some((numbering, script)) = case.split_once(": ") else {
         bail!("no link");
     };
-    let link: u8 = link.parse()?;
-    let mut making = Making::new(alloc, link);
+    let numbering = numbering_of(numbering)?;
+    let mut making = Making::new(alloc, numbering);
     making.add_script(script)?;
-    let outputs = outputs_of(alloc, tables, link, making.steps.as_slice())?;
+    let outputs = outputs_of(alloc, tables, numbering, making.steps.as_slice())?;
     texts::push_answers(out, making.parts.as_slice(), outputs.as_slice())
 }

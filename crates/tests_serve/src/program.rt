@@ -8,7 +8,7 @@ mod runs;
 use crate::client::Client;
 use crate::memory::{Shared, awaited_address};
 use crate::talk::begin;
-use calls::make_calls;
+use calls::{Call, make_calls};
 use runs::{Ended, enter_folder, old_log, run, run_with_events, want, words_of};
 use std::alloc::Global;
 use std::fs::File;
@@ -64,14 +64,13 @@ serve good.csv --listen x --log old.log --links 9
 serve good.csv --listen x
 ";
 
-/// A run of links, a call on each of them, and the replay of its log.
+/// A run of links, a call on each of them, the head of its log and the replay of that.
 #[derive(Clone, Copy)]
 struct Plan<'a> {
     serve: &'a str,
     replay: &'a str,
-    // Whether a call names an application context.
-    names_context: bool,
-    links: u32,
+    calls: &'a [Call],
+    head: &'a str,
     told: &'a str,
 }
 
@@ -79,8 +78,8 @@ struct Plan<'a> {
 const TWO_LINKS: Plan<'static> = Plan {
     serve: "serve good.csv --listen 127.0.0.1:0 --log old.log --links 2 --workers 1 --contexts 2A0304",
     replay: "replay good.csv old.log --contexts 2A0304",
-    names_context: true,
-    links: 2,
+    calls: &[Call::WithContext, Call::WithContext],
+    head: "fplog 4 2",
     told: "link 0 accepted 1 served 2 sent 1\nlink 1 accepted 1 served 2 sent 1\n",
 };
 
@@ -88,9 +87,23 @@ const TWO_LINKS: Plan<'static> = Plan {
 const ONE_LINK: Plan<'static> = Plan {
     serve: "serve good.csv --listen 127.0.0.1:0 --log old.log",
     replay: "replay good.csv old.log",
-    names_context: false,
-    links: 1,
+    calls: &[Call::Short],
+    head: "fplog 4 1",
     told: "link 0 accepted 1 served 2 sent 1\n",
+};
+
+/// The links 3 and 4 of a run with the tag 5: 5 times 2^17 is A0000. Those below have counted nothing.
+const TAGGED_LINKS: Plan<'static> = Plan {
+    serve: "serve good.csv --listen 127.0.0.1:0 --log old.log --links 2 --first-link 3 --tag 5",
+    replay: "replay good.csv old.log",
+    calls: &[Call::Open("600A0001"), Call::Open("800A0001")],
+    head: "fplog 5 5 5",
+    told: "link 0 accepted 0 served 0 sent 0
+link 1 accepted 0 served 0 sent 0
+link 2 accepted 0 served 0 sent 0
+link 3 accepted 1 served 2 sent 1
+link 4 accepted 1 served 2 sent 1
+",
 };
 
 /// Each fault is reported, and none that comes after it; the log of an earlier run is left alone.
@@ -106,19 +119,19 @@ fn faults_come_in_their_order(rt: HostRuntime) -> Result<(), Fail> {
     Ok(())
 }
 
-/// The number of links that the words ask for is served and reported; the log of an earlier run gives way to theirs,
-/// whose replay reports the same.
+/// The links that the words ask for are served and reported, under the identifiers of their numbers and their tag; the
+/// log of an earlier run gives way to theirs, whose replay reports the same.
 #[test]
 fn links_are_served(rt: HostRuntime) -> Result<(), Fail> {
     let alloc = rt.alloc();
     let folder = enter_folder(&rt, process::id(rt.process()))?;
-    for plan in [TWO_LINKS, ONE_LINK] {
+    for plan in [TWO_LINKS, ONE_LINK, TAGGED_LINKS] {
         let words = words_of(alloc, plan.serve, "")?;
         let shown = Mutex::new(Vec::new(alloc));
         let (ended, address) = thread::join(
             &rt,
             || run(&rt, words.as_slice(), &mut Shared::new(&rt, alloc, &shown)),
-            || make_calls(&rt, alloc, &shown, plan.names_context, plan.links),
+            || make_calls(&rt, alloc, &shown, plan.calls),
         );
         let output = shown.into_inner();
         want_served(&rt, &plan, ended, output.as_slice(), address)?;
@@ -392,7 +405,7 @@ where
     let (head, _) = str::from_utf8(log.as_slice())?
         .split_once('\n')
         .ok_or("no log")?;
-    want(head, format!(in alloc; "fplog 4 {}", plan.links)?.as_str())?;
+    want(head, plan.head)?;
     let again = ran(rt, plan.replay, "")?;
     want(again.as_str(), format!(in alloc; "0, {told}, ")?.as_str())
 }

@@ -206,11 +206,17 @@ pub(crate) fn all_kinds<R: Net<Stream = TcpStream>>(
     }
 }
 
-/// Opens the first dialogue of link 0, for a number that leads to two places. `None`: it isn't led to the first.
-pub(crate) fn opens(alloc: Global, client: &mut Client) -> Option<()> {
+/// Opens the first dialogue of a link, for a number that leads to two places. `None`: it isn't led to the first, or has
+/// another local identifier than this.
+pub(crate) fn opens_under(alloc: Global, client: &mut Client, local: &str) -> Option<()> {
     client.write_text(alloc, begin_for(alloc, 0x101, "07").ok()?.as_str())?;
-    let first = connection(alloc, "00000001", "01", "02", "4304").ok()?;
+    let first = connection(alloc, local, "01", "02", "4304").ok()?;
     client.expect(alloc, first.as_str())
+}
+
+/// Opens the first dialogue of link 0, in a run without a tag.
+pub(crate) fn opens(alloc: Global, client: &mut Client) -> Option<()> {
+    opens_under(alloc, client, "00000001")
 }
 
 /// The first place of that dialogue is busy. `None`: it isn't led to the second.

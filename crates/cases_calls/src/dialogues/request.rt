@@ -8,13 +8,17 @@
 //! | `abort abrt` | an Abort with an ABRT |
 //! | `abort aare name-not-supported NAME`, `abort aare no-common-version NAME` | an Abort with an AARE that refuses the dialogue |
 //!
-//! After a Continue or an End come up to two components, each after a comma:
+//! After a Continue or an End come up to two components, each after a comma. The second one isn't an Invoke of
+//! RequestReportBCSMEvent.
 //!
 //! | Component | What it is |
 //! |---|---|
 //! | `invoke ID Connect DIGITS`, `invoke ID ReleaseCall CAUSE`, `invoke ID RequestReportBCSMEvent`, `invoke ID Continue`, `invoke ID ActivityTest` | an Invoke |
 //! | `error ID ERROR` | a ReturnError |
 //! | `reject ID PROBLEM`, `reject ? PROBLEM` | a Reject |
+
+ghost use Rattle.std.specs.Prelude.{◌≡◌};
+ghost use Rattle.fp_service.specs.Components.{requests_report};
 
 use crate::kinds::identifier_of;
 use crate::records::{only_rule, routed_to};
@@ -107,7 +111,7 @@ fn components_of(alloc: Global, text: &str) -> anyhow::Result<Components> {
             read_component(alloc, part, &mut first)?;
         }
     }
-    Ok(built(&first, &second))
+    built(&first, &second)
 }
 
 /// Puts the component of a text in a place.
@@ -120,11 +124,31 @@ fn read_component(alloc: Global, text: &str, place: &mut Option<Component>) -> a
 }
 
 /// The components that were read.
-fn built(first: &Option<Component>, second: &Option<Component>) -> Components {
+fn built(first: &Option<Component>, second: &Option<Component>) -> anyhow::Result<Components> {
     match (first, second) {
-        (Some(first), Some(second)) => Components::two(*first, *second),
-        (Some(only), None) => Components::one(*only),
-        _ => Components::none(),
+        (Some(first), Some(second)) => both(first, second),
+        (Some(only), None) => Ok(Components::one(*only)),
+        _ => Ok(Components::none()),
+    }
+}
+
+/// Two components.
+fn both(first: &Component, second: &Component) -> anyhow::Result<Components> {
+    if requests_report(second) {
+        bail!("RequestReportBCSMEvent comes second");
+    }
+    Ok(Components::two(*first, *second))
+}
+
+/// Whether a component is an Invoke of RequestReportBCSMEvent.
+fn requests_report(component: &Component) -> bool
+    ensures { result ≡ requests_report component.now }
+{
+    match component {
+        Component::Invoke { instruction, .. } => {
+            matches!(instruction, Instruction::RequestReportBcsmEvent)
+        }
+        Component::ReturnError { .. } | Component::Reject { .. } => false,
     }
 }
 

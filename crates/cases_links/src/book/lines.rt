@@ -80,13 +80,20 @@ fn push_step(out: &mut String, step: &LoggedStep) -> anyhow::Result<()> {
     Ok(())
 }
 
+/// Writes the head of a log.
+fn push_head(out: &mut String, links: u8, tag: u16) -> anyhow::Result<()> {
+    if tag == 0 {
+        write!(out, "fplog 4 {links}")?;
+    } else {
+        write!(out, "fplog 5 {links} {tag}")?;
+    }
+    Ok(())
+}
+
 /// Writes a line.
 fn push_line(out: &mut String, line: &Line) -> anyhow::Result<()> {
     match line {
-        Line::Head { links } => {
-            write!(out, "fplog 4 {links}")?;
-            Ok(())
-        }
+        Line::Head { links, tag } => push_head(out, *links, *tag),
         Line::Step { link, step } => {
             write!(out, "{link} ")?;
             push_step(out, step)

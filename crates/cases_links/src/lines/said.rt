@@ -132,13 +132,20 @@ fn push_step(out: &mut String, step: &LoggedStep) -> anyhow::Result<()> {
     }
 }
 
+/// Writes the head of a log. A tag of 0 isn't named.
+fn push_head(out: &mut String, links: u8, tag: u16) -> anyhow::Result<()> {
+    push_number(out, "log of ", u64::from(links))?;
+    out.push_str(" links")?;
+    if tag > 0 {
+        push_number(out, ", tag ", u64::from(tag))?;
+    }
+    Ok(())
+}
+
 /// Writes a line.
 pub(crate) fn push_line(out: &mut String, line: &Line) -> anyhow::Result<()> {
     match line {
-        Line::Head { links } => {
-            push_number(out, "log of ", u64::from(*links))?;
-            Ok(out.push_str(" links")?)
-        }
+        Line::Head { links, tag } => push_head(out, *links, *tag),
         Line::Step { link, step } => {
             push_number(out, "link ", u64::from(*link))?;
             out.push_str(": ")?;

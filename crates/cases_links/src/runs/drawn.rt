@@ -2,15 +2,16 @@
 //!
 //! Begins come from different peers, and every other message is aimed at one of the first five dialogues of the link,
 //! or of those after calls that come before all else and are over, now and then at one of another link, or at a serial
-//! that is far off. The components of a run that a dialogue may
-//! reject have rising invoke identifiers, from 32 on, which no invocation of a dialogue reaches. Beside single steps a
-//! turn is drawn, which is a take and a give for each of the first five dialogues, and five parcels, each picked and
-//! sent: so dialogues get on, and several frames of one wait.
+//! that is far off; and in a run with a tag at the same serial of another tag, or of none. The components of a run that a
+//! dialogue may reject have rising invoke identifiers, from 32 on, which no invocation of a dialogue reaches. Beside
+//! single steps a turn is drawn, which is a take and a give for each of the first five dialogues, and five parcels, each
+//! picked and sent: so dialogues get on, and several frames of one wait.
 
 use super::draws::Draws;
-use super::making::{first_of, serial_after};
+use super::making::serial_after;
 use super::templates::{Aimed, Known, NOTHING, push_bad, push_begin, push_continue, push_ending};
 use crate::messages::frame_of;
+use crate::numbering::Numbering;
 use crate::texts::moment_after;
 use fp_steps::Step;
 use std::alloc::Global;
@@ -25,8 +26,7 @@ pub(super) struct Drawn {
     /// How many steps the calls before all else have.
     pub(super) lead: usize,
     alloc: Global,
-    // The local identifier of the link that would have the serial 0.
-    first: u32,
+    numbering: Numbering,
     // How many calls come before all else.
     calls: u32,
     // The time, in milliseconds after noon.
@@ -52,11 +52,15 @@ fn digit_of(draw: u32) -> u32 {
     }
 }
 
-/// What a message is aimed at: mostly this dialogue, else one of another link, or one with a serial that is far off.
-fn aim_of(draw: u32, local: u32) -> u32 {
+/// What a message is aimed at: mostly this dialogue, else one of another link, or one with a serial that is far off; if
+/// there is a tag, also one with the same serial of another tag, or of none.
+fn aim_of(draw: u32, local: u32, tag: u16) -> u32 {
     match draw {
         0 => local ^ 0x2000_0000,
         1 => local ^ 0x0001_0000,
+        _ if tag == 0 => local,
+        2 => local ^ 0x0002_0000,
+        3 => local & 0xE001_FFFF,
         _ => local,
     }
 }
@@ -80,7 +84,7 @@ impl Drawn {
     /// The local identifier of the dialogue this number of places after the first one after the calls before.
     fn local_after(&self, places: u32) -> u32 {
         let serial = serial_after(1, self.calls.saturating_add(places));
-        self.first.saturating_add(serial)
+        self.numbering.base().saturating_add(serial)
     }
 
     /// The local identifier of one of the first five dialogues, of as many as there were Begins.
@@ -92,7 +96,7 @@ impl Drawn {
     fn push_aimed(&mut self, draws: &mut Draws, text: &mut String) -> anyhow::Result<Known> {
         let peer = self.messages.saturating_add(0x7700);
         let local = self.local(draws);
-        let aim = aim_of(draws.below(32), local);
+        let aim = aim_of(draws.below(32), local, self.numbering.tag);
         let number = self.number;
         let aimed = Aimed { peer, aim, number };
         let known = match draws.below(32) {
@@ -149,7 +153,7 @@ impl Drawn {
         self.post(text.as_str(), NOTHING)?;
         self.add_plain(Step::Take)?;
         let serial = serial_after(1, number);
-        self.add_plain(Step::Give(self.first.saturating_add(serial)))?;
+        self.add_plain(Step::Give(self.numbering.base().saturating_add(serial)))?;
         self.add_plain(Step::Pick)?;
         self.add_plain(Step::Sent)
     }
@@ -241,11 +245,11 @@ impl Drawn {
     }
 }
 
-/// Steps on a link: those of `calls` calls, and then `count` that are drawn, or a few more.
+/// Steps of a run that is numbered so: those of `calls` calls, and then `count` that are drawn, or a few more.
 pub(super) fn draw_steps(
     alloc: Global,
     draws: &mut Draws,
-    link: u8,
+    numbering: Numbering,
     calls: u32,
     count: u32,
 ) -> anyhow::Result<Drawn> {
@@ -254,7 +258,7 @@ pub(super) fn draw_steps(
         known: Vec::new(alloc),
         lead: 0,
         alloc,
-        first: first_of(link),
+        numbering,
         calls,
         now: 0,
         messages: 0,

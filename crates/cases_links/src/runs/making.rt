@@ -1,6 +1,7 @@
 //! The steps of a case, from its text.
 
 use crate::messages::frame_of;
+use crate::numbering::Numbering;
 use crate::texts::{local_of, moment_after};
 use anyhow::bail;
 use cases::first_word;
@@ -41,13 +42,8 @@ pub(super) struct Making {
     alloc: Global,
     // The time, in milliseconds after noon.
     now: u32,
-    // The local identifier of the link that would have the serial 0.
-    first: u32,
-}
-
-/// The local identifier of a link that would have the serial 0.
-pub(super) fn first_of(link: u8) -> u32 {
-    u32::from(link % 8) * 0x2000_0000
+    // The number that serials are added to.
+    base: u32,
 }
 
 /// The serial this number of places after another one, where 1 comes after the last.
@@ -71,14 +67,14 @@ fn plain_step(verb: &str, rest: &str) -> anyhow::Result<Step> {
 }
 
 impl Making {
-    /// A script without steps, on this link.
-    pub(super) fn new(alloc: Global, link: u8) -> Making {
+    /// A script without steps, of a run that is numbered so.
+    pub(super) fn new(alloc: Global, numbering: Numbering) -> Making {
         Making {
             steps: Vec::new(alloc),
             parts: Vec::new(alloc),
             alloc,
             now: 0,
-            first: first_of(link),
+            base: numbering.base(),
         }
     }
 
@@ -180,7 +176,7 @@ impl Making {
         let serial: u32 = serial.parse()?;
         for index in 0..count {
             let serial = serial_after(serial, index);
-            self.call(self.first.saturating_add(serial), message)?;
+            self.call(self.base.saturating_add(serial), message)?;
         }
         Ok(Asked::Last(STEPS_OF_A_CALL))
     }

@@ -4,11 +4,11 @@ use super::drawn::{Drawn, draw_steps};
 use super::draws::Draws;
 use super::kinds::Tally;
 use super::log::check_births;
-use super::making::first_of;
 use super::outputs_of;
 use super::texts::{push_output, totals_of};
 use super::watch::Watch;
 use crate::logged_runs::{log_of, push_report, text_of};
+use crate::numbering::Numbering;
 use anyhow::bail;
 use cases::first_word;
 use fp_book::Line;
@@ -47,16 +47,16 @@ fn check_each(
     Ok(())
 }
 
-/// Checks the outputs of a run after this number of calls.
+/// Checks the outputs of a run after this number of calls, with serials that are added to `base`.
 fn check(
     alloc: Global,
     tally: &mut Tally,
-    link: u8,
+    base: u32,
     calls: u32,
     drawn: &Drawn,
     outputs: &[Output],
 ) -> anyhow::Result<()> {
-    let mut watch = Watch::new(alloc, first_of(link), calls);
+    let mut watch = Watch::new(alloc, base, calls);
     check_each(alloc, &mut watch, tally, drawn, outputs)?;
     tally.add_compared(watch.compared());
     if outputs.len() != drawn.steps.len() {
@@ -95,22 +95,23 @@ fn replay_log(
 fn check_log(
     alloc: Global,
     tables: &[Table],
-    link: u8,
+    numbering: Numbering,
     drawn: &Drawn,
     outputs: &[Output],
 ) -> anyhow::Result<()> {
     let steps = drawn.steps.as_slice();
-    let lines = log_of(alloc, link, steps, outputs)?;
+    let lines = log_of(alloc, numbering, steps, outputs)?;
     check_births(alloc, steps, outputs, lines.as_slice())?;
     if drawn.lead > 0 {
         return Ok(());
     }
-    replay_log(alloc, tables, link, outputs, lines.as_slice())
+    replay_log(alloc, tables, numbering.link, outputs, lines.as_slice())
 }
 
-/// How many calls a run has before all else, and how many steps are drawn after them.
+/// The tag of a run, how many calls it has before all else, and how many steps are drawn after them.
 #[derive(Clone, Copy)]
-struct Size {
+struct Kind {
+    tag: u16,
     calls: u32,
     steps: u32,
 }
@@ -122,13 +123,15 @@ fn one(
     draws: &mut Draws,
     tally: &mut Tally,
     link: u8,
-    size: Size,
+    kind: Kind,
 ) -> anyhow::Result<()> {
-    let Size { calls, steps } = size;
-    let drawn = draw_steps(alloc, draws, link, calls, steps)?;
-    let outputs = outputs_of(alloc, tables, link, drawn.steps.as_slice())?;
-    check(alloc, tally, link, calls, &drawn, outputs.as_slice())?;
-    check_log(alloc, tables, link, &drawn, outputs.as_slice())
+    let Kind { tag, calls, steps } = kind;
+    let numbering = Numbering { link, tag };
+    let base = numbering.base();
+    let drawn = draw_steps(alloc, draws, numbering, calls, steps)?;
+    let outputs = outputs_of(alloc, tables, numbering, drawn.steps.as_slice())?;
+    check(alloc, tally, base, calls, &drawn, outputs.as_slice())?;
+    check_log(alloc, tables, numbering, &drawn, outputs.as_slice())
 }
 
 /// The link of a run.
@@ -143,14 +146,22 @@ fn each(
     draws: &mut Draws,
     tally: &mut Tally,
     runs: u32,
-    size: Size,
+    kind: Kind,
 ) -> anyhow::Result<()> {
     for run in 0..runs {
-        if let Err(error) = one(alloc, tables, draws, tally, link_of(run), size) {
+        if let Err(error) = one(alloc, tables, draws, tally, link_of(run), kind) {
             bail!("run {run}: {error}");
         }
     }
     Ok(())
+}
+
+/// How many steps are drawn, and the tag, which is 0 where the text has none.
+fn kind_of(calls: u32, text: &str) -> anyhow::Result<Kind> {
+    let (steps, tag) = first_word(text);
+    let steps = steps.parse()?;
+    let tag = if tag.is_empty() { 0 } else { tag.parse()? };
+    Ok(Kind { tag, calls, steps })
 }
 
 /// Makes runs that are drawn, each after this number of calls, checks them, and writes how many steps and outputs there
@@ -163,13 +174,12 @@ fn answer_with(
     out: &mut String,
 ) -> anyhow::Result<()> {
     let (seed, rest) = first_word(numbers);
-    let (runs, steps) = first_word(rest);
+    let (runs, rest) = first_word(rest);
     let mut draws = Draws::new(seed.parse()?);
     let runs: u32 = runs.parse()?;
     let mut tally = Tally::new();
-    let steps = steps.parse()?;
-    let size = Size { calls, steps };
-    each(alloc, tables, &mut draws, &mut tally, runs, size)?;
+    let kind = kind_of(calls, rest)?;
+    each(alloc, tables, &mut draws, &mut tally, runs, kind)?;
     write!(out, "{runs} runs; ")?;
     tally.push_to(out)
 }

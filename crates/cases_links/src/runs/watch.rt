@@ -35,8 +35,8 @@ struct Refusal {
 /// What was seen of a run.
 #[derive(Drop)]
 pub(super) struct Watch {
-    // The local identifier of the link that would have the serial 0.
-    first: u32,
+    // The number that serials are added to.
+    base: u32,
     // How many calls came before what was seen. They are over.
     calls: u32,
     dialogues: Vec<Seen>,
@@ -52,10 +52,10 @@ pub(super) struct Watch {
 }
 
 impl Watch {
-    /// A run that begins after some calls, on the link where this local identifier would have the serial 0.
-    pub(super) fn new(alloc: Global, first: u32, calls: u32) -> Watch {
+    /// A run that begins after some calls, with serials that are added to this number.
+    pub(super) fn new(alloc: Global, base: u32, calls: u32) -> Watch {
         Watch {
-            first,
+            base,
             calls,
             dialogues: Vec::new(alloc),
             refusals: Vec::new(alloc),
@@ -113,7 +113,7 @@ impl Watch {
     fn open(&mut self, known: Known, local: u32, components: u32) -> anyhow::Result<bool> {
         let count = u32::try_from(self.dialogues.len())?;
         let serial = serial_after(1, self.calls.saturating_add(count));
-        let is_next = local == self.first.saturating_add(serial);
+        let is_next = local == self.base.saturating_add(serial);
         let is_new = self.seen(local).is_none();
         self.dialogues
             .push(Seen::opened(local, known.peer, self.moment))?;
