@@ -458,11 +458,29 @@ class Worker:
         return now, "N"
 
 
+def some_tag(chance):
+    """The tag of a run, mostly none."""
+    return chance.choice([0, 0, 0, 1, chance.randrange(model.LAST_TAG), model.LAST_TAG])
+
+
+def some_links(chance):
+    """The numbers of the links of a run, mostly from 0."""
+    count = chance.choice([1, 1, 2, 3])
+    first = chance.choice([0, 0, 0, 1, 8 - count])
+    return range(first, first + count)
+
+
+def head_of(links, tag):
+    """The head of the log of a run with a tag, or without one. Links below its first one count, too."""
+    return b"fplog 5 %d %d" % (links, tag) if tag else b"fplog 4 %d" % links
+
+
 def a_log(chance, tables, contexts, seeds):
     """The log of a run with several links and workers, and what it replays to."""
-    links = [model.Link(tables[0], contexts, number) for number in range(chance.choice([1, 1, 2, 3]))]
-    workers = [Worker(chance, link, seeds) for link in links]
-    lines, now = [b"fplog 4 %d" % len(links)], chance.choice([NOON, 0, model.END_OF_TIME - 100_000_000])
+    numbers, tag = some_links(chance), some_tag(chance)
+    before = [model.Link(tables[0], number=number) for number in range(numbers[0])]
+    workers = [Worker(chance, model.Link(tables[0], contexts, number, tag), seeds) for number in numbers]
+    lines, now = [head_of(numbers.stop, tag)], chance.choice([NOON, 0, model.END_OF_TIME - 100_000_000])
     for _ in range(chance.choice([1, 10, 50, 200, 500])):
         working = [worker for worker in workers if worker.link.is_up or worker.turns or chance.random() < 0.02]
         if not working:
@@ -470,18 +488,20 @@ def a_log(chance, tables, contexts, seeds):
         worker = chance.choice(working)
         now, line = worker.step(now, tables)
         lines += [f"{worker.link.number} {line}".encode()] if line else []
-    return lines, "".join(worker.link.report() for worker in workers).encode()
+    return lines, "".join(link.report() for link in before + [worker.link for worker in workers]).encode()
 
 
 # In each kind of line the fields that follow from all that is before them.
 FOLLOWS = {b"P": [5], b"L": [4], b"K": [3], b"T": [2, 3, 4], b"G": [4, 5], b"Q": [2], b"Y": [2]}
 FATES = b"O00000001 O00000002 A0 A1 A2 X0 X1 X2 X4 E D Q0 Q1 Q2 D1 S".split()
 LINES = [b"", b"0", b"\0", b"0 N", b"7 N", b"0 Z 1", b"0 Z 0", b"0 K 1714996800000 0 1", b"0 K 4102444799999 0 0",
-         b"0 B 1 0", b"0 U 1", b"0 U 0", b"0 Q 0", b"fplog 4 1", b"fplog 3 1", b"0 T 1 0 4294967296",
+         b"0 B 1 0", b"0 U 1", b"0 U 0", b"0 Q 0", b"fplog 4 1", b"fplog 3 1", b"fplog 5 1", b"fplog 5 1 1",
+         b"fplog 5 1 0", b"fplog 4 1 1", b"fplog 5 8 4094", b"fplog 5 1 4095", b"0 T 1 0 4294967296",
          b"0 N" + b" " * 9_000, b"0 P 0 0 " + b"62" * 4_096 + b" D",
          b"0 P 0 0 " + b"62" * 4_097 + b" D"]
 # Fields of each kind at a limit or beyond it.
-EDGES = {"moment": [b"0", b"4102444799999", b"4102444800000"], "table": [b"0", b"1", b"2", b"3", b"999", b"1000"],
+EDGES = {"moment": [b"0", b"4102444799999", b"4102444800000"],
+         "table": [b"0", b"1", b"2", b"3", b"999", b"1000", b"65535", b"65536"],
          "32": [b"4294967295", b"4294967296"], "64": [b"18446744073709551615", b"18446744073709551616"],
          "fate": [b"O0000000g", b"O000000001", b"X5", b"A4294967295", b"A4294967296", b"S"],
          "became": [b"Q4294967296", b"E", b"A1"], "message": [b"6", b"6g", b""]}
@@ -494,9 +514,26 @@ def other_field(chance, field):
     return b"%d" % chance.choice([0, int(field) + 1, max(0, int(field) - 1), 2**32 - 1])
 
 
+def faulty_head(chance, lines):
+    """The lines of a good log with a head that no log has, or with that of another tag, which the first dialogue that is
+    opened doesn't have; and what that gets."""
+    links = int(lines[0].split(b" ")[2])
+    if chance.random() < 0.5:
+        head = chance.choice([b"fplog 5 %d 0", b"fplog 5 %d 4095", b"fplog 5 %d 01", b"fplog 5 %d", b"fplog 5 %d 1 1",
+                              b"fplog 4 %d 1", b"fplog 3 %d", b"fplog 6 %d 1"]) % links
+        return [head, *lines[1:]], "line 1: bad line\n"
+    head = lines[0]
+    while head == lines[0]:
+        head = head_of(links, some_tag(chance))
+    opens = next((at for at, line in enumerate(lines, 1) if line.rsplit(b" ", 1)[-1].startswith(b"O")), None)
+    return [head, *lines[1:]], f"line {opens}: disagrees\n" if opens else None
+
+
 def faulty_log(chance, lines, tables):
     """The lines of a good log, of which one says what doesn't follow, or has a field beyond its limit; and what that
     gets. Nothing if none was found."""
+    if chance.random() < 0.1:
+        return faulty_head(chance, lines)
     at = chance.randrange(len(lines))
     fields = lines[at].split(b" ")
     kinds, is_beyond = model.FIELDS.get(fields[1], []), chance.random() < 0.5
@@ -533,7 +570,8 @@ def changed_log(chance, lines):
             lines[at:at + 2] = [b"".join(lines[at:at + 2])]
         else:
             kinds = model.FIELDS.get(fields[1] if fields[1:] else b"", [])
-            limits = EDGES[kinds[field - 2]] if field > 1 and kinds[field - 2:] else [b"7", b"8", b"A", b"n"]
+            limits = EDGES[kinds[field - 2]] if field > 1 and kinds[field - 2:] else [
+                b"0", b"7", b"8", b"4094", b"4095", b"A", b"n"]
             odd = [text % fields[field] for text in (b"0%s", b"+%s", b"-%s", b"%s\r", b"%s\t", b"%s ")]
             odd += [b"", fields[field].lower()]
             another = [other_field(chance, fields[field])]

@@ -509,11 +509,17 @@ class Dialogue:
 
 # The link
 
+# The tag of a run, 0 to this, is a part of its local identifiers. 0 is that of a run without one.
+LAST_TAG = 4_094
+
+
 class Link:
     """The dialogues of a link, what waits to be served, and what waits to be sent."""
 
-    def __init__(self, records, contexts=(), number=0):
+    def __init__(self, records, contexts=(), number=0, tag=0):
         self.records, self.contexts, self.number, self.is_up = records, contexts, number, True
+        # A local identifier is this and a serial.
+        self.base = number * 2**29 + tag * 2**17
         self.births = self.accepted = self.served = self.count_sent = 0
         self.freed, self.held = collections.deque(), {}
         self.ready, self.aborts, self.frames = collections.deque(), collections.deque(), collections.deque()
@@ -571,7 +577,7 @@ class Link:
         name, is_first = proposal or (None, True)
         refusal = aare(name, False, 0xA2, 2) if not is_first else aare(
             name, False, 0xA1, 2) if proposal and name not in self.contexts else None
-        local = self.number << 29 | serial
+        local = self.base + serial
         self.held[local] = Dialogue(self.births, local, origin, name)
         return self.held[local], refusal
 
@@ -605,7 +611,7 @@ class Link:
         """Its identifier comes back, if it is no longer held."""
         is_held = dialogue.is_admitted or dialogue.entries or dialogue.taken or dialogue.frames or dialogue.is_sending
         if not is_held and self.held.pop(dialogue.local, None):
-            self.freed.append(dialogue.local & 0x1FFFFFFF)
+            self.freed.append(dialogue.local - self.base)
 
     def tick(self, now):
         """The clock ticks. Gives how many dialogues were given its entry."""
@@ -713,13 +719,14 @@ def is_field(kind, text, tables):
 def log_fault(log, tables):
     """The first line of a log that is bad or a gap, and which of the two; nothing if there is none."""
     lines = re.findall(rb"[^\n]*\n|[^\n]+", log)
-    head = re.fullmatch(rb"fplog 4 ([1-8])\n", lines[0]) if lines else None
-    if not head:
+    head = re.fullmatch(rb"fplog (?:4 ([1-8])|5 ([1-8]) ([1-9][0-9]{0,3}))\n", lines[0]) if lines else None
+    if not head or head[3] and int(head[3]) > LAST_TAG:
         return 1, "bad line"
+    links, tables = head[1] or head[2], min(tables, 65_536 if head[3] else 1_000)
     for index, line in enumerate(lines[1:], 2):
         link, letter, *fields = line[:-1].split(b" ") if b" " in line else (b"", b"")
         kinds = FIELDS.get(letter, ["none"])
-        if line[-1:] != b"\n" or not re.fullmatch(rb"[0-7]", link) or link >= head[1] or letter not in FIELDS \
+        if line[-1:] != b"\n" or not re.fullmatch(rb"[0-7]", link) or link >= links or letter not in FIELDS \
                 or len(fields) != len(kinds) or not all(map(is_field, kinds, fields, [tables] * len(kinds))):
             return index, "bad line"
         if letter == b"Z" or letter == b"K" and fields[2] != b"0":

@@ -101,6 +101,11 @@ def name():
     return pathlib.Path(RUN, "name").read_text().strip()
 
 
+def tag_of(run, folder=LOGS):
+    """Gives the number of links and the tag in the head of the log of a run, once that is over."""
+    return sh(f"zcat -f {folder}/{run}-00000* | sed -n 's/^fplog 5 //p;q'")[1]
+
+
 def call(link):
     """Makes a call to 800123456, and gives its destination."""
     link.sendall(bytes.fromhex("0000002F622D48040000002A6C25A123020101020100301B800164820783100810325406"
@@ -260,6 +265,9 @@ def spare():
     note(max(took for _, took in figures) < 3000, "five drops with it, each at once after the last", range_of(figures))
     link, _, figures = drops(link, 3)
     note(not any(refused for refused, _ in figures), "five drops with it, of a link up for three seconds", range_of(figures))
+    heads = "for it in {}/run-*-00000*; do zcat -f $it | sed -n 's/^fplog 5 \\(.\\) .*/\\1/p;q'; done | sort -u"
+    links = [sh(heads.format(folder))[1] for folder in (LOGS, LOGS + "-14700")]
+    note(links == ["1", "2"], "the links of the spare have another number", links)
     units, both = ["scp", "scp@14700"], "scp 'scp@*.service'"
     records(more=30)
     is_done = wait_until(is_listening) and reload(both)
@@ -397,6 +405,59 @@ def full_disk():
     sh("systemctl stop scp; umount /var/log/scp; systemctl start scp")
 
 
+def tags():
+    """The counter that gives each run its tag."""
+    counter, found = pathlib.Path(LOGS, "tag"), []
+
+    def given():
+        """The tag that the run was given, and whether it answers a call."""
+        tag, link = pathlib.Path(RUN, "tag").read_text().strip(), linked()
+        return tag, bool(call(link)), link, name()
+
+    for _ in range(3):
+        tag, _, link, run = given()
+        over(link)
+        found.append((int(tag), tag_of(run)))
+    first = found[0][0]
+    wanted = [(tag, f"1 {tag}") for tag in ((first + step - 1) % 4094 + 1 for step in range(3))]
+    note(found == wanted, "three runs have tags that follow each other, which are in their logs", found)
+    before = int(pathlib.Path(RUN, "tag").read_text())
+    is_done = succeeds("systemctl restart scp; systemctl restart scp")
+    note(is_done and int(given()[0]) == (before + 1) % 4094 + 1, "two restarts at once, two tags", given()[0])
+    for what, text in (("the last tag", b"4094\n"), ("no number", b"x\n"), ("nothing", b""), ("zeros", bytes(10)),
+                       ("a large number", b"70000\n"), ("what isn't text", b"\xff" + os.urandom(100_000))):
+        counter.write_bytes(text)
+        is_done, lines = heard(lambda: succeeds("systemctl restart scp"), "no number")
+        tag, is_answered, link, run = given()
+        is_next = tag == "1" if what == "the last tag" else 1 <= int(tag) <= 4094
+        is_told = bool(lines) == (what != "the last tag")
+        note(is_done and is_answered and is_next and is_told, f"a counter with {what}", f"{tag}; {lines}")
+        over(link)
+        note(tag_of(run) == f"1 {tag}", "and its log", tag_of(run))
+    sh(f"rm {counter}; mkdir {counter}")
+    is_done, lines = heard(lambda: succeeds("systemctl restart scp"), "can't be written")
+    tag, is_answered, link, run = given()
+    over(link)
+    is_tag = re.fullmatch(r"1 [1-9]\d{0,3}", tag_of(run))
+    note(is_done and is_answered and tag == "auto" and is_tag and lines, "a counter that can't be written",
+         f"{tag}, in the log {tag_of(run)}; {lines}")
+    sh(f"rmdir {counter}; systemctl restart scp")
+    sh("systemctl stop scp; mount -t tmpfs -o size=100k,mode=755 tmpfs /var/log/scp; chown scp:scp /var/log/scp")
+    sh("dd if=/dev/zero of=/var/log/scp/fill bs=1k")
+    is_done, lines = heard(lambda: succeeds("systemctl start scp"), "can't be written")
+    tag, is_answered, link, _ = given()
+    note(is_done and is_answered and tag == "auto" and lines, "no counter, and a full disk", f"{tag}; {lines}")
+    sh("rm /var/log/scp/fill")
+    over(link)
+    sh("dd if=/dev/zero of=/var/log/scp/fill bs=1k")
+    tag, _, link, _ = given()
+    over(link)
+    next_tag, is_answered, link, _ = given()
+    is_next = int(next_tag) == int(tag) % 4094 + 1
+    note(is_answered and is_next, "a counter on a disk that is full: it goes on", f"{tag}, {next_tag}")
+    sh("systemctl stop scp; umount /var/log/scp; systemctl start scp")
+
+
 def empty_runs():
     for _ in range(2):
         over(linked())
@@ -455,7 +516,7 @@ def plain_file():
     call(link)
     over(link)
     seen = files(run + "*")
-    note(status == 0 and is_done and seen == [run + it for it in (".001.csv", ".csv", ".log")], "the log in one file", seen)
+    note(status == 0 and is_done and seen == [run + it for it in (".00001.csv", ".csv", ".log")], "the log in one file", seen)
     for _ in range(2):
         over(socket.create_connection(("127.0.0.1", 14700)))
     note(len(files("run-*.now")) == 1, "runs without a message leave nothing", files("run-*.now"))
@@ -512,7 +573,8 @@ def closed_day():
     over(link)
 
 
-TRIES = [install, a_call, spare, faulty, doubtful, full_disk, empty_runs, upgrade, starts, plain_file, template, closed_day]
+TRIES = [install, a_call, spare, faulty, doubtful, full_disk, tags, empty_runs, upgrade, starts, plain_file, template,
+         closed_day]
 for one in TRIES:
     if len(sys.argv) > 1 and one.__name__ not in sys.argv and one is not install:
         continue
