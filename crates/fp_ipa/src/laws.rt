@@ -1,0 +1,23 @@
+//! What holds of all streams and connections.
+
+ghost use Rattle.fp_ipa.specs.Laws.{ActiveWasNamed, BadIsNoMessage, BadStaysBad, MessagesGoOn, StreamsAreOne, UnitNamesAreOne};
+
+/// A stream has at most one list of messages and one rest, so it doesn't matter in what pieces it came; if it goes on,
+/// so do its messages; and a message that is too long stays so, and none is handed out from there on.
+#[tactic(auto, using(crate::proofs::Streams::stream_laws))]
+pub fn streams_have_one_list_of_messages()
+    ensures one { StreamsAreOne }
+    ensures go_on { MessagesGoOn }
+    ensures bad { BadStaysBad }
+    ensures no_message { BadIsNoMessage }
+{}
+
+/// An ID_RESP says at most one unit name.
+pub fn unit_names_are_one()
+    ensures { UnitNamesAreOne }
+{}
+
+/// A connection is active only if its peer named a unit, and acknowledged after that.
+pub fn active_connections_were_named()
+    ensures { ActiveWasNamed }
+{}

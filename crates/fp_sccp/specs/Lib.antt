@@ -1,0 +1,12 @@
+pub mod Address
+pub mod Fault
+pub mod Laws
+pub mod Management
+pub mod Message
+pub mod OptionalPart
+pub mod Parts
+pub mod ProtocolClass
+pub mod ReturnCause
+pub mod Value
+pub mod View
+pub mod Written
