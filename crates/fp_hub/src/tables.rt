@@ -1,9 +1,10 @@
 //! The records that all links of a run answer from, and that are replaced while they run.
 
-ghost use Rattle.std.specs.Prelude.{◌≡◌, ◌≤◌, IfSome, OnErr};
+ghost use Rattle.std.specs.Prelude.{◌≡◌, ◌≤◌, IfOk, IfSome, OnErr};
 
 use fp_records::Table;
 use std::alloc::{AllocError, Global};
+use std::marker::Model;
 use std::mem;
 use std::sync::atomic::{AtomicU16, Ordering};
 use std::sync::{Arc, Mutex, Wait};
@@ -18,7 +19,8 @@ struct Versions {
 }
 
 /// The records that all links of a run answer from: a table, which may be replaced. The first has index 0, and each
-/// that replaces one has the next index, so that a replay reads each message by the table by which it was answered.
+/// that replaces one has the next index, up to a last one, so that a replay reads each message by the table by which it
+/// was answered.
 ///
 /// A link keeps the table from which it answers, and needs the lock only to fetch another one.
 #[derive(Drop)]
@@ -26,12 +28,36 @@ pub struct Tables {
     versions: Mutex<Versions>,
     // The index of the newest.
     index: AtomicU16,
+    // The last index that a table may have.
+    last_index: u16,
     alloc: Global,
 }
 
+/// Seen as the last index that a table may have.
+impl Model for Tables {
+    ghost use Rattle.std.specs.Prelude.{ℕ};
+
+    ghost Value = { ℕ };
+
+    ghost view = { λ tables. tables.last_index };
+}
+
 impl Tables {
-    /// The first table, under index 0.
-    pub fn new(alloc: Global, table: Table) -> Result<Tables, AllocError> {
+    /// The first table, under index 0, of a run without a tag: the last index is 999.
+    pub fn new(alloc: Global, table: Table) -> Result<Tables, AllocError>
+        ensures { IfOk result (λ tables. tables ≡ 999) }
+    {
+        Self::with_last_index(alloc, table, Table::LAST_INDEX_WITHOUT_TAG)
+    }
+
+    /// The first table, under index 0, of a run whose tables have indexes up to this one.
+    pub fn with_last_index(
+        alloc: Global,
+        table: Table,
+        last_index: u16,
+    ) -> Result<Tables, AllocError>
+        ensures { IfOk result (λ tables. tables ≡ last_index) }
+    {
         let newest = Arc::new(alloc, table.numbered(0))?;
         Ok(Tables {
             versions: Mutex::new(Versions {
@@ -39,6 +65,7 @@ impl Tables {
                 replaced: Vec::new(alloc),
             }),
             index: AtomicU16::new(0),
+            last_index,
             alloc,
         })
     }
@@ -61,18 +88,19 @@ impl Tables {
         Ok(())
     }
 
-    /// Replaces the newest table by another one, and gives the index that this has. `None`: the newest has index 999,
-    /// the last, or memory ran out. Then nothing changes.
+    /// Replaces the newest table by another one, and gives the index that this has. `None`: the newest has the last
+    /// index, or memory ran out. Then nothing changes.
     ///
     /// The old one is kept until no link has it: then [`Tables::free_replaced`] frees it.
     pub fn reload<R: Wait>(&self, rt: &R, table: Table) -> Option<u32>
-        ensures { IfSome result (λ index. (1 ≤ index) × (index ≤ Table.LAST_INDEX)) }
+        ensures { IfSome result (λ index. (1 ≤ index) × (index ≤ self.now)) }
     {
         let mut versions = self.versions.lock(rt);
-        let index = versions.newest.index() + 1;
-        if index > Table::LAST_INDEX {
+        let newest = versions.newest.index();
+        if newest >= self.last_index {
             return None;
         }
+        let index = newest + 1;
         versions.replaced.reserve(1).ok()?;
         let newest = match Arc::new(self.alloc, table.numbered(index)) {
             Ok(newest) => newest,

@@ -29,7 +29,7 @@ pub struct Table {
 }
 
 impl Model for Table {
-    ghost use Rattle.std.specs.Prelude.{map, ◌≤◌};
+    ghost use Rattle.std.specs.Prelude.{map};
     ghost use Rattle.std.specs.Arc.{arc_value};
     ghost use Rattle.fp_records.specs.Table.{Contents, IsKept};
 
@@ -43,16 +43,18 @@ impl Model for Table {
       records = map (λ e. (e.0, arc_value e.1)) table.records.entries;
     } };
 
-    ghost invariant = { λ table. IsKept (map (λ e. (e.0, arc_value e.1)) table.records.entries)
-        × (table.index ≤ 999) };
+    ghost invariant = { λ table. IsKept (map (λ e. (e.0, arc_value e.1)) table.records.entries) };
 }
 
 impl Table {
     ghost use Rattle.fp_records.specs.File.{File, FirstFault, IsFile, records_of};
     ghost use Rattle.fp_records.specs.Table.{IsTable, Reads, record_at};
 
-    /// The last index among the tables of a run.
-    pub const LAST_INDEX: u16 = 999;
+    /// The last index among the tables of a run with a tag: 65,535.
+    pub const LAST_INDEX: u16 = u16::MAX;
+
+    /// The last index among the tables of a run without a tag.
+    pub const LAST_INDEX_WITHOUT_TAG: u16 = 999;
 
     /// Reads the text of a records file, as the first table of a run, whose index is 0.
     ///
@@ -106,15 +108,14 @@ impl Table {
         })
     }
 
-    /// The same records under this index among the tables of a run, 0 to 999. Takes no memory.
+    /// The same records under this index among the tables of a run. Takes no memory.
     pub fn numbered(self, index: u16) -> Table
-        requires { index ≤ Self.LAST_INDEX }
         ensures { result ≡ record self { index = index } }
     {
         Table { index, ..self }
     }
 
-    /// Its index among the tables of a run, 0 to 999. Takes no memory.
+    /// Its index among the tables of a run. Takes no memory.
     pub fn index(&self) -> u16
         ensures value { result ≡ self.now.index }
         ensures most { result ≤ Self.LAST_INDEX }

@@ -1,5 +1,5 @@
 -- What a book logs of a step is what its history tells of it.
-use Rattle.fp_steps.proofs.Names.{get_or_from_slice_get, is_some, slice_index_or, AreInPlace, LAST_INDEX, [], cases_Bool, nat_le, placed, slice_get, table_at, told, told_from, unwrap_or, ⊎_elim, ⊤, Arrival, Bool, Content, Contents, Event, IsArrival, IsCame, IsLost, IsRead, List, LoggedStep, MakesOf, None, Option, Output, Posted, Prepared, Shelf, Some, Sound, Step, Tied, ap, birth_out, cond, false, followed_log, length, log_with, logged, nat_eq, not, option_map, parcel_birth, posted_line, refl, subst, sym, told_message, true, written, ℕ, ◌+◌, ◌∙◌, ◌≡◌}
+use Rattle.fp_steps.proofs.Names.{get_or_from_slice_get, is_some, slice_index_or, AreInPlace, greatest_place, [], cases_Bool, nat_le, placed, slice_get, table_at, told, told_from, unwrap_or, ⊎_elim, ⊤, Arrival, Bool, Content, Contents, Event, IsArrival, IsCame, IsLost, IsRead, List, LoggedStep, MakesOf, None, Option, Output, Posted, Prepared, Shelf, Some, Sound, Step, Tied, ap, birth_out, cond, false, followed_log, length, log_with, logged, nat_eq, not, option_map, parcel_birth, posted_line, refl, subst, sym, told_message, true, written, ℕ, ◌+◌, ◌∙◌, ◌≡◌}
 use Rattle.fp_book.specs.Log as book
 use Rattle.fp_steps.proofs.Cases.{Cases, by_made, read_by}
 use Rattle.fp_steps.proofs.HeldDialogues.{by_option}
@@ -19,30 +19,30 @@ unread_line : (frame : List ℕ) (moment : ℕ) (p : Prepared) (answer : Posted)
 unread_line frame moment (Prepared.Lost arrival) answer is = λ i. LoggedStep.Lost (is.0.is_moment i) (is.0.is_frame i) answer
 unread_line frame moment p answer is = absurd is
 
--- its table was handed in, in a place of 0 to 999
+-- its table was handed in, in a place of 0 to 65,535
 pub record IsHandedIn (tables : List Contents) (table : ℕ) (contents : Contents) : Type 0 where
-  pub within : nat_le table LAST_INDEX ≡ true
+  pub within : nat_le table greatest_place ≡ true
   pub there : slice_get tables table ≡ Some contents
 
-handed_in : (tables : List Contents) (table : ℕ) (contents : Contents) → table_at tables table ≡ Some contents → IsHandedIn tables table contents
-handed_in tables table contents is = ⊎_elim
+pub in_place_of : (tables : List Contents) (table : ℕ) (contents : Contents) → table_at tables table ≡ Some contents → IsHandedIn tables table contents
+in_place_of tables table contents is = ⊎_elim
     (λ e. record { within = e; there = sym (ap (λ b. cond b (slice_get tables table) None) e) ∙ is })
     (λ ne. absurd (let clash : None ≡ Some contents = sym (ap (λ b. cond b (slice_get tables table) None) ne) ∙ is in cc))
-    (cases_Bool (nat_le table LAST_INDEX))
+    (cases_Bool (nat_le table greatest_place))
 
 -- the one that is found in its place
 pub table_there : (tables : List Contents) (table : ℕ) (contents : Contents) → is_some (table_at tables table) ≡ true → contents ≡ slice_index_or tables table contents → table_at tables table ≡ Some contents
 table_there tables table contents is value = by_option (λ o. is_some o ≡ true → table_at tables table ≡ o → table_at tables table ≡ Some contents) (table_at tables table) (λ none e found. absurd (cc))
     (λ other some e found.
-    let at : IsHandedIn tables table other = handed_in tables table other found in
+    let at : IsHandedIn tables table other = in_place_of tables table other found in
     found ∙ ap Some (sym (value ∙ get_or_from_slice_get tables table other contents at.there)))
     is refl
 
 message_line : (tables : List Contents) (contexts : List (List ℕ)) (step : Step) (log : List LoggedStep) (p : Prepared) (answer : Posted) → AreInPlace tables → IsCame tables contexts step (Some p)
-    → book.logged log (posted_line p answer) ≡ log_with log (written (told_message step answer))
+    → book.logged log (posted_line p answer) ≡ log_with log (written (told_message greatest_place step answer))
 message_line tables contexts (Step.Post table frame moment) log p answer in_place is =
     let r = read_by (table_at tables table) contexts frame moment p is in
-    let at : IsHandedIn tables table r.contents = handed_in tables table r.contents r.is in
+    let at : IsHandedIn tables table r.contents = in_place_of tables table r.contents r.is in
     ap (book.logged log) (read_line r.contents contexts frame moment p answer r.read ∙ ap (λ n. LoggedStep.Post n moment frame answer) (in_place table r.contents at.there))
     ∙ sym (ap (λ b. log_with log (written (cond b (Some (LoggedStep.Post table moment frame answer)) None))) at.within)
 message_line tables contexts (Step.Lost frame moment) log p answer in_place is = ap (book.logged log) (unread_line frame moment p answer is)
@@ -50,10 +50,10 @@ message_line tables contexts step log p answer in_place is = absurd is
 
 -- what a run tells of it, whatever place its table has
 message_told : (tables : List Contents) (contexts : List (List ℕ)) (step : Step) (p : Prepared) (answer : Posted) → IsCame tables contexts step (Some p)
-    → Some (placed step (posted_line p answer)) ≡ told_message step answer
+    → Some (placed step (posted_line p answer)) ≡ told_message greatest_place step answer
 message_told tables contexts (Step.Post table frame moment) p answer is =
     let r = read_by (table_at tables table) contexts frame moment p is in
-    let at : IsHandedIn tables table r.contents = handed_in tables table r.contents r.is in
+    let at : IsHandedIn tables table r.contents = in_place_of tables table r.contents r.is in
     let step : Step = Step.Post table frame moment in
     ap (λ line. Some (placed step line)) (read_line r.contents contexts frame moment p answer r.read)
     ∙ ap (λ b. Some (LoggedStep.Post (unwrap_or (cond b (Some table) None) r.contents.index) moment frame answer)) at.within

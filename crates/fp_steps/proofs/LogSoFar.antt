@@ -1,6 +1,8 @@
 -- The log of a run so far, and what is kept while it is told.
-use Rattle.fp_steps.proofs.Names.{AllAnswered, AllByRecursion, Bool, Contents, Event, Handed, HistoryTells as Tells, IsAnswer, IsLine, IsLog, IsLongestReady, Line, List, LoggedStep, Named, NamesThen, None, Option, Output, Prepared, Some, Step, [], ap, append-nil, arith, back_by, base_of, birth_out, birth_under, births, births_after, cases_Bool, cond, count_out, eqb, eqb-true, false, false≢true, for_one, get_or, is_one, last_tag, length, length-map, length-reverse, length_push, lines_told, log_of, logged, map-append, map_list, min, name_in, name_of, named, named_after, names_in, nat_lt, nat_tests, numbers_from, opened_in, option_and_then, option_map, option_to_list, others, others_if, out, out_after, outputs_of, place_if, place_in, positions, put_back, refl, reverse, reverse-append, reverse_onto, same_from_push, sending_after, subst, sym, take, take_all, take_more, told, told_back, told_where, true, turn_out, turns_after, written, ℕ, ⊎_elim, ◌++◌, ◌+◌, ◌<◌, ◌∙◌, ◌∷◌, ◌≡◌, ◌≤◌}
+use Rattle.fp_steps.proofs.Names.{AllAnswered, AllByRecursion, Bool, Contents, Event, Handed, HistoryTells as Tells, IsAnswer, IsCame, IsLineOf, IsLog, IsLongestReady, Line, List, LoggedStep, Named, NamesThen, None, Option, Output, Posted, Prepared, Some, Step, [], ap, append-nil, arith, back_by, base_of, birth_out, birth_under, births, births_after, cases_Bool, cond, count_out, eqb, eqb-true, false, false≢true, for_one, get_or, greatest_place, handed_in, is_one, last_place, last_tag, le-leb, length, length-map, length-reverse, length-take, length_push, lines_told, log_of, logged, map-append, map_list, min, name_in, name_of, named, named_after, names_in, nat_lt, nat_tests, numbers_from, opened_in, option_and_then, option_map, option_to_list, others, others_if, out, out_after, outputs_of, place_if, place_in, positions, put_back, refl, reverse, reverse-append, reverse_onto, same_from_push, sending_after, slice_get_within, subst, sym, table_at, take, take_all, take_more, told, told_back, told_message, told_where, true, turn_out, turns_after, written, ℕ, ⊎_elim, ◌++◌, ◌+◌, ◌<◌, ◌∙◌, ◌∷◌, ◌≡◌, ◌≤◌}
 use Rattle.fp_steps.specs.declared.log.TurnOut.{TurnOut}
+use Rattle.fp_steps.proofs.BookLog.{in_place_of}
+use Rattle.fp_steps.proofs.Cases.{read_by}
 use Rattle.fp_steps.proofs.HeldDialogues.{eqb_swap}
 use Rattle.fp_steps.proofs.OpenedDialogues.{took_is, turned_if}
 use Rattle.fp_steps.proofs.OutputTotals.{outputs_more}
@@ -116,10 +118,25 @@ back_told : (base : ℕ) (h : List Event) (turns : List TurnOut) (step : Step) (
 back_told base h turns (Step.PutBack lo) came k is = out_there h turns (named h lo) k is
 back_told base h turns step came k is = refl
 
-pub told_is : (base : ℕ) (h : List Event) (turns : List TurnOut) (step : Step) (came : Option Prepared) (output : Output) → AreOut h turns → IsAnswer base h step came output
-    → told_where (name_at h step output) turns (birth_out h) step output ≡ told h step output
-told_is base h turns step came Output.WentBack k is = back_told base h turns step came k is
-told_is base h turns step came output k is = refl
+-- a message comes by a table up to the last place
+message_within : (tables : List Contents) (contexts : List (List ℕ)) (tag base : ℕ) (h : List Event) (step : Step) (came : Option Prepared) (answer : Posted) (components : ℕ) → IsCame (handed_in tag tables) contexts step came
+    → IsAnswer base h step came (Output.Posted answer components) → told_message (last_place tag) step answer ≡ told_message greatest_place step answer
+message_within tables contexts tag base h (Step.Post table frame moment) None answer components c is = absurd (cc)
+message_within tables contexts tag base h (Step.Post table frame moment) (Some came) answer components c is =
+    let r = read_by (table_at (handed_in tag tables) table) contexts frame moment came c in
+    let at = in_place_of (handed_in tag tables) table r.contents r.is in
+    let size = length-take (last_place tag + 1) tables in
+    let low : table < length (handed_in tag tables) = slice_get_within (handed_in tag tables) table r.contents at.there in
+    let most : table ≤ last_place tag = omega (arith, size, low) in
+    ap (λ b. cond b (Some (LoggedStep.Post table moment frame answer)) None) (le-leb table (last_place tag) most ∙ sym at.within)
+message_within tables contexts tag base h (Step.Lost frame moment) came answer components c is = refl
+message_within tables contexts tag base h step came answer components c is = refl
+
+pub told_is : (tables : List Contents) (contexts : List (List ℕ)) (tag base : ℕ) (h : List Event) (turns : List TurnOut) (step : Step) (came : Option Prepared) (output : Output) → IsCame (handed_in tag tables) contexts step came
+    → AreOut h turns → IsAnswer base h step came output → told_where (last_place tag) (name_at h step output) turns (birth_out h) step output ≡ told h step output
+told_is tables contexts tag base h turns step came Output.WentBack c k is = back_told base h turns step came k is
+told_is tables contexts tag base h turns step came (Output.Posted answer components) c k is = message_within tables contexts tag base h step came answer components c is
+told_is tables contexts tag base h turns step came output c k is = refl
 
 -- what is out
 abbrev birth_of : Option Handed → Option ℕ
@@ -151,22 +168,22 @@ log_more link tag h e =
     ∙ ap (λ xs. Line.Head (link + 1) tag ∷ xs) (map-append (Line.Step link) (reverse (lines_told h)) one)
 
 -- what a step makes of a log and of what is kept, by the dialogue that its answer is of
-pub record StepTold (link : ℕ) (step : Step) (output : Output) (log : List Line) (names : Named) (turns : List TurnOut) (before : Option ℕ) (more : List Line) (names_then : Named) (then : List TurnOut) (after : Option ℕ) : Type 0 where
-  pub lines : more ≡ log ++ map_list (Line.Step link) (option_to_list (written (told_where (name_in names step output) turns before step output)))
-  pub ranges : AllByRecursion IsLine log → AllByRecursion IsLine more
+pub record StepTold (link tag : ℕ) (step : Step) (output : Output) (log : List Line) (names : Named) (turns : List TurnOut) (before : Option ℕ) (more : List Line) (names_then : Named) (then : List TurnOut) (after : Option ℕ) : Type 0 where
+  pub lines : more ≡ log ++ map_list (Line.Step link) (option_to_list (written (told_where (last_place tag) (name_in names step output) turns before step output)))
+  pub ranges : AllByRecursion (IsLineOf tag) log → AllByRecursion (IsLineOf tag) more
   pub named : NamesThen names (opened_in output) names_then
   pub turns_are : then ≡ turns_after (name_in names step output) output turns
   pub sending : after ≡ sending_after (name_in names step output) output before
 
 -- one step more
-telling_more : {link tag : ℕ} {h : List Event} (e : Event) {log : List Line} (more : List Line) {names : Named} (names_then : Named) {turns : List TurnOut} (then : List TurnOut) {before : Option ℕ} (after : Option ℕ) → IsAnswer (base_of link tag) h e.step e.came e.output
-    → Telling link tag h log names turns before → StepTold link e.step e.output log names turns before more names_then then after → Telling link tag (e ∷ h) more names_then then after
-telling_more {link} {tag} {h} e more {names} names_then {turns} then {before} after is k g =
+telling_more : (tables : List Contents) (contexts : List (List ℕ)) {link tag : ℕ} {h : List Event} (e : Event) {log : List Line} (more : List Line) {names : Named} (names_then : Named) {turns : List TurnOut} (then : List TurnOut) {before : Option ℕ} (after : Option ℕ) → IsCame (handed_in tag tables) contexts e.step e.came → IsAnswer (base_of link tag) h e.step e.came e.output
+    → Telling link tag h log names turns before → StepTold link tag e.step e.output log names turns before more names_then then after → Telling link tag (e ∷ h) more names_then then after
+telling_more tables contexts {link} {tag} {h} e more {names} names_then {turns} then {before} after c is k g =
     let name : name_in names e.step e.output ≡ name_at h e.step e.output = name_is e.step e.output k.names_are in
     record {
       lines_are =
-          let says : told_where (name_in names e.step e.output) turns before e.step e.output ≡ told h e.step e.output =
-          (λ i. told_where (name i) turns (k.sending_is i) e.step e.output) ∙ told_is (base_of link tag) h turns e.step e.came e.output k.turns_are is in
+          let says : told_where (last_place tag) (name_in names e.step e.output) turns before e.step e.output ≡ told h e.step e.output =
+          (λ i. told_where (last_place tag) (name i) turns (k.sending_is i) e.step e.output) ∙ told_is tables contexts tag (base_of link tag) h turns e.step e.came e.output c k.turns_are is in
           g.lines ∙ (λ i. k.lines_are i ++ map_list (Line.Step link) (option_to_list (written (says i)))) ∙ sym (log_more link tag h e);
       names_are = names_next e names_then k.names_are g.named;
       turns_are = subst (AreOut (e ∷ h)) (sym (g.turns_are ∙ ap (λ o. turns_after o e.output turns) name)) (moved (base_of link tag) h turns e.step e.came e.output is k.turns_are);
@@ -176,28 +193,28 @@ telling_more {link} {tag} {h} e more {names} names_then {turns} then {before} af
 -- whatever the history is of which these are the steps and outputs
 abbrev pub SoTold : ℕ → ℕ → List Step → List Output → List Line → Named → List TurnOut → Option ℕ → Type 0
 SoTold link tag steps outputs log names turns out_now =
-    (tables : List Contents) (contexts : List (List ℕ)) (h : List Event) → Tells tables contexts steps outputs h → AllAnswered (base_of link tag) h → Telling link tag h log names turns out_now
+    (tables : List Contents) (contexts : List (List ℕ)) (h : List Event) → Tells (handed_in tag tables) contexts steps outputs h → AllAnswered (base_of link tag) h → Telling link tag h log names turns out_now
 
 no_more_steps : (steps : List Step) (step : Step) → [] ≡ steps ++ step ∷ [] → ⊥
 no_more_steps [] step e = cc
 no_more_steps (s ∷ steps) step e = cc
 
 told_more : (link tag : ℕ) (steps : List Step) (outputs : List Output) (step : Step) (output : Output) (log more : List Line) (names names_then : Named) (turns then : List TurnOut) (before after : Option ℕ) → SoTold link tag steps outputs log names turns before
-    → StepTold link step output log names turns before more names_then then after → SoTold link tag (steps ++ step ∷ []) (outputs ++ output ∷ []) more names_then then after
+    → StepTold link tag step output log names turns before more names_then then after → SoTold link tag (steps ++ step ∷ []) (outputs ++ output ∷ []) more names_then then after
 told_more link tag steps outputs step output log more names names_then turns then before after k g tables contexts [] tells all = absurd (no_more_steps steps step tells.steps_are)
 told_more link tag steps outputs step output log more names names_then turns then before after k g tables contexts (e ∷ h) tells (is, all) =
     let s = same_from_push (reverse (map_list (λ (e : Event). e.step) h)) steps e.step step (sym (reverse_onto (map_list (λ (e : Event). e.step) h) e.step []) ∙ tells.steps_are) in
     let o = same_from_push (outputs_of h) outputs e.output output (sym (outputs_more h e) ∙ tells.outputs_are) in
-    let before_it : Tells tables contexts steps outputs h = record { steps_are = s.0; outputs_are = o.0; messages = tells.messages.1 } in
-    telling_more e more names_then then after is (k tables contexts h before_it all)
-    (subst (λ st. StepTold link st e.output log names turns before more names_then then after) (sym s.1) (subst (λ ou. StepTold link step ou log names turns before more names_then then after) (sym o.1) g))
+    let before_it : Tells (handed_in tag tables) contexts steps outputs h = record { steps_are = s.0; outputs_are = o.0; messages = tells.messages.1 } in
+    telling_more tables contexts e more names_then then after tells.messages.0 is (k tables contexts h before_it all)
+    (subst (λ st. StepTold link tag st e.output log names turns before more names_then then after) (sym s.1) (subst (λ ou. StepTold link tag step ou log names turns before more names_then then after) (sym o.1) g))
 
 -- THE LOOP
 
 -- the log so far
 pub record Logging (link tag : ℕ) (steps : List Step) (outputs : List Output) (log : List Line) (names : Named) (turns : List TurnOut) (out_now : Option ℕ) : Type 0 where
   pub told : SoTold link tag steps outputs log names turns out_now
-  pub in_range : AllByRecursion IsLine log
+  pub in_range : AllByRecursion (IsLineOf tag) log
   pub few : names.count ≤ length outputs
 
 told_none : (link tag : ℕ) (steps : List Step) (outputs : List Output) (log : List Line) (names : Named) (turns : List TurnOut) → log ≡ Line.Head (link + 1) tag ∷ [] → ((local : ℕ) → name_of names local ≡ None) → names.count ≡ 0 → turns ≡ []
@@ -215,7 +232,7 @@ pub logging_none : (link tag : ℕ) (steps : List Step) (outputs : List Output) 
     → Logging link tag (take 0 steps) (take 0 outputs) log names turns None
 logging_none link tag steps outputs log names turns low few log_is unnamed zero none = record {
   told = told_none link tag steps outputs log names turns log_is unnamed zero none;
-  in_range = subst (AllByRecursion IsLine) (sym log_is) ((omega (arith, low), omega (arith, low), few), tt);
+  in_range = subst (AllByRecursion (IsLineOf tag)) (sym log_is) ((omega (arith, low), omega (arith, low), few), tt);
   few = omega (arith, zero);
 }
 
@@ -225,7 +242,7 @@ few_more (Some l) n m k few is = omega (arith, few, is)
 
 pub logging_next : {link tag : ℕ} (steps : List Step) (outputs : List Output) (i : ℕ) (step : Step) (output : Output) {log : List Line} (more : List Line) {names : Named} (names_then : Named) {turns : List TurnOut} (then : List TurnOut) {before : Option ℕ} (after : Option ℕ) → Logging link tag (take i steps) (take i outputs) log names turns before
     → i < length steps → i < length outputs → step ≡ get_or steps i step → output ≡ get_or outputs i output
-    → StepTold link step output log names turns before more names_then then after → Logging link tag (take (i + 1) steps) (take (i + 1) outputs) more names_then then after
+    → StepTold link tag step output log names turns before more names_then then after → Logging link tag (take (i + 1) steps) (take (i + 1) outputs) more names_then then after
 logging_next {link} {tag} steps outputs i step output {log} more {names} names_then {turns} then {before} after k in_steps in_outputs step_is output_is g =
     subst (λ ss. Logging link tag ss (take (i + 1) outputs) more names_then then after) (sym (take_more steps i step in_steps ∙ ap (λ s. take i steps ++ s ∷ []) (sym step_is)))
     (subst (λ os. Logging link tag (take i steps ++ step ∷ []) os more names_then then after) (sym (take_more outputs i output in_outputs ∙ ap (λ o. take i outputs ++ o ∷ []) (sym output_is)))

@@ -1,5 +1,5 @@
 -- The totals of a history that retells lines are what can be counted in those.
-use Rattle.fp_steps.proofs.Names.{AllAnswered, Beginning, Bool, Contents, Event, Handed, IfSome, IsAnswer, IsCame, IsLost, IsNext, LAST_INDEX, List, LoggedStep, None, Option, Output, Posted, Prepared, QueuedFrame, Retells, RetoldLinesAreCounted, Some, Step, Totals, [], aborts_waiting, added_by, answer_to, ap, arith, began_with, beginning, birth_out, birth_under, components_in, cond, count_by, eq-eqb, eqb, false, false≢true, length, named, nat_le, nat_tests, not, option_map, option_map_or, out, out_after, plus, positions, refl, subst, sum_by, sum_by-cons, sym, told, told_back, told_message, told_tick, true, waiting, ℕ, ⊤, ◌+◌, ◌<◌, ◌∙◌, ◌∷◌, ◌≡◌}
+use Rattle.fp_steps.proofs.Names.{AllAnswered, Beginning, Bool, Contents, Event, Handed, IfSome, IsAnswer, IsCame, IsLost, IsNext, greatest_place, List, LoggedStep, None, Option, Output, Posted, Prepared, QueuedFrame, Retells, RetoldLinesAreCounted, Some, Step, Totals, [], aborts_waiting, added_by, answer_to, ap, arith, began_with, beginning, birth_out, birth_under, components_in, cond, count_by, eq-eqb, eqb, false, false≢true, length, named, nat_le, nat_tests, not, option_map, option_map_or, out, out_after, plus, positions, refl, subst, sum_by, sum_by-cons, sym, told, told_back, told_message, told_tick, true, waiting, ℕ, ⊤, ◌+◌, ◌<◌, ◌∙◌, ◌∷◌, ◌≡◌}
 use Rattle.fp_steps.specs.Counted.{accepted_by, accepted_by_line, entries_served, is_sent_frame, totals_in}
 use Rattle.fp_steps.proofs.OpenedDialogues.{local_named, picked_is}
 use Rattle.fp_steps.proofs.OutputTotals.{added, local_in, make, one_if, same, totals_next}
@@ -34,10 +34,10 @@ if_line P true line is = is
 if_line P false line is = tt
 
 message_counts : (tables : List Contents) (contexts : List (List ℕ)) (base : ℕ) (h : List Event) (step : Step) (came : Option Prepared) (answer : Posted) (components : ℕ) → IsCame tables contexts step came
-    → IsAnswer base h step came (Output.Posted answer components) → IfSome (told_message step answer) (Counts (out h) came (Output.Posted answer components))
+    → IsAnswer base h step came (Output.Posted answer components) → IfSome (told_message greatest_place step answer) (Counts (out h) came (Output.Posted answer components))
 message_counts tables contexts base h (Step.Post table frame moment) None answer components c is = absurd (cc)
 message_counts tables contexts base h (Step.Post table frame moment) (Some came) answer components c is =
-    if_line (Counts (out h) (Some came) (Output.Posted answer components)) (nat_le table LAST_INDEX) (LoggedStep.Post table moment frame answer)
+    if_line (Counts (out h) (Some came) (Output.Posted answer components)) (nat_le table greatest_place) (LoggedStep.Post table moment frame answer)
     (ap (λ n. make n 0 0) (answered base h came answer components is ∙ by_answer answer came))
 message_counts tables contexts base h (Step.Lost frame moment) None answer components c is = absurd c
 message_counts tables contexts base h (Step.Lost frame moment) (Some came) answer components c is = ap (λ n. make n 0 0) (answered base h came answer components is ∙ lost_none frame moment answer came c)

@@ -1,5 +1,5 @@
 -- What a book logs of a step, and what the history tells of it.
-use Rattle.fp_steps.proofs.Names.{LAST_INDEX, cond_some, nat_le, placed, ⊤, first_step, option_to_list, Bool, ClocksAt, Content, Due, Err, Event, FramesBorn, IfOk, IsOut, List, LoggedStep, MakesOf, None, Ok, Option, Output, PicksParcel, Posted, Prepared, PutsTurnBack, Result, Row, Sends, Shelf, Some, Sound, Step, Ticks, Tied, Turn, Waiting, [], ap, append-nil, arith, being_sent, birth_out, birth_picked, birth_under, cases_Bool, cond, eqb, eqb-true, false, filter, followed_log, get, handed, is_idle, is_written, known_turn, length, list_any, local_if_out, local_of, log_with, logged, map_list, named, nat_cmp-IsAntisymmetric, nat_eq, nat_lt, nat_tests, nil_from_length, not, option_map, option_map_or, parcel_birth, parcel_local, positions, posted_line, refl, same_Some, same_map, step_of, subst, sym, tick_in, told, told_back, told_from, told_message, told_tick, true, unsent_frames, written, ℕ, ⊎_elim, ◌++◌, ◌+◌, ◌∙◌, ◌∷◌, ◌≡◌}
+use Rattle.fp_steps.proofs.Names.{greatest_place, cond_some, nat_le, placed, ⊤, first_step, option_to_list, Bool, ClocksAt, Content, Due, Err, Event, FramesBorn, IfOk, IsOut, List, LoggedStep, MakesOf, None, Ok, Option, Output, PicksParcel, Posted, Prepared, PutsTurnBack, Result, Row, Sends, Shelf, Some, Sound, Step, Ticks, Tied, Turn, Waiting, [], ap, append-nil, arith, being_sent, birth_out, birth_picked, birth_under, cases_Bool, cond, eqb, eqb-true, false, filter, followed_log, get, handed, is_idle, is_written, known_turn, length, list_any, local_if_out, local_of, log_with, logged, map_list, named, nat_cmp-IsAntisymmetric, nat_eq, nat_lt, nat_tests, nil_from_length, not, option_map, option_map_or, parcel_birth, parcel_local, positions, posted_line, refl, same_Some, same_map, step_of, subst, sym, tick_in, told, told_back, told_from, told_message, told_tick, true, unsent_frames, written, ℕ, ⊎_elim, ◌++◌, ◌+◌, ◌∙◌, ◌∷◌, ◌≡◌}
 use Rattle.std.specs.Cmp.{nat_cmp_total}
 use Rattle.fp_book.specs.Log as book
 use Rattle.fp_steps.proofs.Cases.{Cases, by_made}
@@ -174,9 +174,9 @@ over_step : {X : Type 0} → (h : List Event) (o : Option X) (of : X → LoggedS
 over_step h None of other step e is = absurd (cc)
 over_step h (Some n) of other step e is = step_is h other (of n) step e (is n)
 
-message_step : (h : List Event) (step : Step) (answer : Posted) (other : LoggedStep) → told_message step answer ≡ Some other → step_of h other ≡ Some step
+message_step : (h : List Event) (step : Step) (answer : Posted) (other : LoggedStep) → told_message greatest_place step answer ≡ Some other → step_of h other ≡ Some step
 message_step h (Step.Post table frame moment) answer other e =
-    step_is h other (LoggedStep.Post table moment frame answer) (Step.Post table frame moment) (ap Some (cond_some (nat_le table LAST_INDEX) (LoggedStep.Post table moment frame answer) other e).1) refl
+    step_is h other (LoggedStep.Post table moment frame answer) (Step.Post table frame moment) (ap Some (cond_some (nat_le table greatest_place) (LoggedStep.Post table moment frame answer) other e).1) refl
 message_step h (Step.Lost frame moment) answer other e = step_is h other (LoggedStep.Lost moment frame answer) (Step.Lost frame moment) e refl
 message_step h step answer other e = absurd (cc)
 

@@ -3,10 +3,10 @@ pub use Rattle.std.proofs.Common.{All, AllPairs, Bool, List, None, Option, Some,
 pub use Rattle.std.proofs.lemmas.Bool.{and_left, and_parts, and_right, cases_Bool, cases_lt, cond_both, eq-eqb, eqb-false, eqb-true, false_from_ne_true, false≢true, le-leb, leb-true, lt-leb, ltb-false, ltb-true, ne_eqb, not-true, or_parts, true_from_ne_false, true≢false}
 pub use Rattle.std.proofs.lemmas.Bool.Decides.{nat_tests}
 pub use Rattle.std.proofs.lemmas.Grind.{reverse_onto}
-pub use Rattle.std.proofs.lemmas.List.{drop-take, drop_at, length-map, length-reverse, length-take-le, length_push, map-append, nil_from_length, reverse-append, reverse-reverse, same_from_push, take-append-drop, take_all, take_at, take_more}
+pub use Rattle.std.proofs.lemmas.List.{drop-take, drop_at, length-map, length-reverse, length-take, length-take-le, length_push, map-append, nil_from_length, reverse-append, reverse-reverse, same_from_push, take-append-drop, take_all, take_at, take_more}
 pub use Rattle.std.proofs.lemmas.List.Elements.{All-filter, All-from_recursion, All-map, All-push, filter-append, filter_agree, recursion_from_All}
 pub use Rattle.std.proofs.lemmas.List.Sums.{passes_at_first, split_at_first, sum_by-append, sum_by-cons, sum_by_push}
-pub use Rattle.std.proofs.lemmas.Option.{cond_some, get_or_from_slice_get, none-some, same_Some}
+pub use Rattle.std.proofs.lemmas.Option.{cond_some, get_or_from_slice_get, none-some, same_Some, slice_get_within}
 pub use Rattle.std.specs.FinMap.{FinMap, get, get-empty, insert, len, nat_cmp-IsAntisymmetric, remove, same_map}
 pub use Rattle.std.specs.List.{AllByRecursion, list_any, position, position_or_len, sum_by}
 pub use Rattle.std.specs.Option.{option_and_then, option_map_or}
@@ -47,7 +47,7 @@ pub use Rattle.fp_q773.specs.Tid.{Tid, octets_of}
 pub use Rattle.fp_q773.specs.declared.kind.Kind.{Kind}
 pub use Rattle.fp_q773.specs.declared.provider_abort.AbortCause.{AbortCause}
 pub use Rattle.fp_records.specs.Table.{Contents}
-pub use Rattle.fp_records.specs.declared.table.TheConstants.Table.{LAST_INDEX}
+pub use Rattle.fp_steps.specs.Places.{greatest_place, handed_in, last_place, table_at}
 pub use Rattle.fp_reply.specs.ProviderAbort.{AbortFrame, frame_octets}
 pub use Rattle.fp_reply.specs.Reply.{frame_of}
 pub use Rattle.fp_row.proofs.Keeping.{IsOut, known_turn}
@@ -72,13 +72,13 @@ pub use Rattle.fp_steps.specs.After.{Follows as FollowsHistory, IsAfter, LeadsTo
 pub use Rattle.fp_steps.specs.Answers.{AllAnswered, IsAnswer, IsLongestReady, IsNext, IsPicked, IsTaken, gave, given_for, if_out, posted, put_back, ticked}
 pub use Rattle.fp_steps.specs.Births.{Beginning, beginning, beginning_after, births, destination, for_one, how_many, is_one, local_of, named, opened_in, sender_of, sum_to}
 pub use Rattle.fp_steps.specs.Headline.{Headline, InOrder, Runs}
-pub use Rattle.fp_steps.specs.History.{AtEachMoment, Event, IsCame, IsNone, IsRead, IsReadBy, Tells as HistoryTells, outputs_of, table_at}
+pub use Rattle.fp_steps.specs.History.{AtEachMoment, Event, IsCame, IsNone, IsRead, IsReadBy, Tells as HistoryTells, outputs_of}
 pub use Rattle.fp_steps.specs.Idle.{IdleIsDone}
 pub use Rattle.fp_steps.specs.Laws.{AreInPlace, AnswersAreOne, AnswersExist, HeadlineHolds, IdentifiersComeBackLate, LinesAreRetoldOnce, RetoldLinesAreCounted, RunsAreOne, SentAlike, log_with}
 pub use Rattle.fp_steps.specs.Lined.{ByAge, Freed, Lined, Sorted, as_waiting}
 pub use Rattle.fp_steps.specs.Messages.{addressee, answer_by, answer_to, begun, components_in, facts_in, opened_with, refused, refused_by, taking}
 pub use Rattle.fp_steps.specs.proof_only.Log.{NamesThen, back_by, back_in, births_after, first_of as first_step, moves, name_in, name_of, named_after, names_in, others, others_if, place_if, place_in, place_of as table_place, place_or, placed, sending_after, step_in, tick_in, told_by, told_from, told_where, turns_after}
-pub use Rattle.fp_steps.specs.LogLines.{HasPlace, IsLine, IsLog}
+pub use Rattle.fp_steps.specs.LogLines.{HasPlace, IsLine, IsLineOf, IsLog}
 pub use Rattle.fp_steps.specs.Makes.{MakesOf, MakesStep, PostsTo}
 pub use Rattle.fp_steps.specs.Retold.{LogsRun, Retells, RetellsOne, step_of}
 pub use Rattle.fp_steps.specs.Serials.{IdentifiersHold, free, goes, gone_at, without_first}

@@ -1,15 +1,15 @@
 -- What a run tells: its steps, what their messages were prepared to, and what was answered. A history holds them, the
 -- newest first.
-use Rattle.std.specs.Prelude.{◌≡◌, ℕ, false, List, [], ◌∷◌, Option, Some, None, map, nat_le, reverse, slice_get, ⊤, if◌then◌else◌}
+use Rattle.std.specs.Prelude.{◌≡◌, ℕ, false, List, [], ◌∷◌, Option, Some, None, map, reverse, ⊤}
 use Rattle.std.specs.List.{AllByRecursion}
 use Rattle.fp_entry.specs.declared.prepared.Prepared.{Prepared}
 use Rattle.fp_entry.specs.Prepared.{IsLost, IsPrepared}
 use Rattle.fp_records.specs.Table.{Contents}
-use Rattle.fp_records.specs.declared.table.TheConstants.Table.{LAST_INDEX}
 use Rattle.fp_book.specs.Rules.{is_lost}
 use Rattle.fp_steps.specs.declared.output.Output.{Output}
 use Rattle.fp_steps.specs.declared.step.Step.{Step}
 use Rattle.fp_steps.specs.declared.step.Step.TheVariants.{Post, Lost}
+use Rattle.fp_steps.specs.Places.{table_at}
 
 -- a step, what its message was prepared to, where it posts one, and what was answered
 pub record Event : Type 0 where
@@ -31,10 +31,6 @@ abbrev pub IsRead : Contents → List (List ℕ) → List ℕ → ℕ → Option
 IsRead contents contexts octets moment None = ⊥
 IsRead contents contexts octets moment (Some came) =
     IsPrepared contents contexts octets moment came × (is_lost came ≡ false)
-
--- the records in a place, 0 to 999, of the tables that are handed in
-abbrev pub table_at : List Contents → ℕ → Option Contents
-table_at tables place = if nat_le place LAST_INDEX then slice_get tables place else None
 
 -- so by the records of its table; no message comes, if that wasn't handed in
 abbrev pub IsReadBy : Option Contents → List (List ℕ) → List ℕ → ℕ → Option Prepared → Type 0

@@ -1,5 +1,7 @@
 -- WHAT A RUN PROMISES
 
+-- the tables that it has
+pub mod Places
 -- its history, and what that tells of each dialogue
 pub mod History
 pub mod Births

@@ -6,7 +6,6 @@ use Rattle.fp_book.specs.declared.line.Line.{Line}
 use Rattle.fp_book.specs.declared.line.Line.TheVariants as lines
 use Rattle.fp_book.specs.declared.line.LoggedStep.{LoggedStep}
 use Rattle.fp_book.specs.declared.line.LoggedStep.TheVariants as line
-use Rattle.fp_records.specs.declared.table.TheConstants.Table.{LAST_INDEX}
 use Rattle.fp_steps.specs.declared.output.Output.{Output}
 use Rattle.fp_steps.specs.declared.output.Output.TheVariants as outputs
 use Rattle.fp_steps.specs.declared.step.Step.{Step}
@@ -14,13 +13,14 @@ use Rattle.fp_steps.specs.declared.step.Step.TheVariants as steps
 use Rattle.fp_steps.specs.Accepted.{positions}
 use Rattle.fp_steps.specs.Births.{named}
 use Rattle.fp_steps.specs.History.{Event}
+use Rattle.fp_steps.specs.Places.{greatest_place}
 use Rattle.fp_steps.specs.Sending.{Handed, out}
 
--- of a message the place of its table, its moment, its octets and its answer; nothing of a table after the last place
-abbrev pub told_message : Step → Posted → Option LoggedStep
-told_message (steps.Post table frame moment) answer = if nat_le table LAST_INDEX then Some (line.Post table moment frame answer) else None
-told_message (steps.Lost frame moment) answer = Some (line.Lost moment frame answer)
-told_message _ answer = None
+-- of a message the place of its table, its moment, its octets and its answer; nothing of a table after this place
+abbrev pub told_message : ℕ → Step → Posted → Option LoggedStep
+told_message last (steps.Post table frame moment) answer = if nat_le table last then Some (line.Post table moment frame answer) else None
+told_message last (steps.Lost frame moment) answer = Some (line.Lost moment frame answer)
+told_message last _ answer = None
 
 -- of a tick its moment, and how many dialogues were due and were left
 abbrev pub told_tick : Step → ℕ → ℕ → Option LoggedStep
@@ -46,7 +46,7 @@ birth_out h = option_map (λ (handed : Handed). birth_under handed.local handed.
 
 -- what is told of a step by its answer; nothing for the answers NoRoom, Busy and Nothing
 abbrev pub told : List Event → Step → Output → Option LoggedStep
-told h step (outputs.Posted answer components) = told_message step answer
+told h step (outputs.Posted answer components) = told_message greatest_place step answer
 told h step (outputs.Ticked added wanting) = told_tick step added wanting
 told h step (outputs.Took local position count) = option_map (λ d. line.Take d position count) (named h local)
 told h step (outputs.Gave local position served given) = option_map (λ d. line.Give d position served given) (named h local)

@@ -4,7 +4,7 @@ ghost use Rattle.std.specs.Prelude.{◌≡◌, ◌<◌, ◌≤◌, IfOk, Some, i
 ghost use Rattle.std.specs.FinMap.{get};
 ghost use Rattle.fp_book.specs.Calls.{PutsTurnBack, turn_of};
 ghost use Rattle.fp_book.specs.Shelf.{Sound, empty_shelf};
-ghost use Rattle.fp_steps.specs.History.{table_at};
+ghost use Rattle.fp_steps.specs.Places.{table_at};
 ghost use Rattle.fp_steps.specs.Makes.{GivesTo, MakesStep, PicksTo, PostsTo, PutsBackTo, SendsTo, TakesTo, TicksTo, UnsendsTo};
 ghost use Rattle.fp_steps.specs.proof_only.Tokens.{Holds};
 
@@ -38,7 +38,7 @@ fn give_up(book: &mut Book, turn: Turn)
     }
 }
 
-/// Whether there is a table in this place, 0 to 999.
+/// Whether there is a table in this place, 0 to 65,535.
 fn is_handed_in(tables: &[Table], place: usize) -> bool
     ensures { result ≡ is_some (table_at tables.now place) }
 {

@@ -36,6 +36,7 @@ mod link_run;
 mod log;
 mod output;
 mod parts;
+mod places;
 mod ranges;
 mod step;
 mod stepped;
@@ -50,6 +51,7 @@ pub use laws::{
 pub use link_run::LinkRun;
 pub use log::{lines_of, lines_with_tag};
 pub use output::Output;
+pub use places::{handed_in, last_place};
 pub use step::Step;
 pub use stepped::Stepped;
 pub use whole_run::{run, run_with_tag};

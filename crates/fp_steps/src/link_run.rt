@@ -100,12 +100,12 @@ fn tick_in(step: &Step, output: &Output) -> Option<LoggedStep>
     }
 }
 
-/// The place in which the table of a step is handed in, 0 to 999; this one, if it isn't.
+/// The place in which the table of a step is handed in, 0 to 65,535; this one, if it isn't.
 fn place_or(step: &Step, index: u16) -> u16
     ensures { result ≡ place_or step.now index }
 {
     match step {
-        Step::Post { table, .. } => place_of(*table).unwrap_or(index),
+        Step::Post { table, .. } => place_of(*table, Table::LAST_INDEX).unwrap_or(index),
         _ => index,
     }
 }
@@ -157,7 +157,8 @@ impl LinkRun {
     }
 
     /// Makes a step, by these tables and names of application contexts: its answer, and the line that the log of the
-    /// link has of it. If a step is impossible, the answer is `Nothing`. What a log has no line for changes nothing.
+    /// link has of it. The tables are those that the run has, by its tag ([`handed_in`](crate::handed_in)). If a step is
+    /// impossible, the answer is `Nothing`. What a log has no line for changes nothing.
     /// `Err`: memory ran out, and what the run is then isn't said: it is to be abandoned.
     pub fn step(
         &mut self,

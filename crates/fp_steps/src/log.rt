@@ -6,13 +6,14 @@ ghost use Rattle.std.specs.Option.{option_and_then};
 ghost use Rattle.fp_book.specs.declared.line.Line.TheVariants as line;
 ghost use Rattle.fp_steps.specs.Births.{opened_in};
 ghost use Rattle.fp_steps.specs.proof_only.Log.{NamesThen, back_by, back_in, moves, name_in, name_of, names_in, others, others_if, place_if, place_in, place_of, sending_after, taken_in, told_by, told_where, turns_after};
-ghost use Rattle.fp_steps.specs.LogLines.{HasPlace, IsLine, IsLog};
+ghost use Rattle.fp_steps.specs.LogLines.{HasPlace, IsLineOf, IsLog};
+ghost use Rattle.fp_steps.specs.Places.{last_place};
 ghost use Rattle.fp_steps.specs.Told.{birth_under, is_written, told_message, told_tick, written};
 
+use crate::places::last_place;
 use crate::ranges::step_is_in_range;
 use crate::{Output, Step};
 use fp_book::{Line, LoggedStep, Posted};
-use fp_records::Table;
 use fp_tids::LocalIds;
 use std::alloc::{AllocError, Global};
 use std::collections::BTreeMap;
@@ -185,20 +186,22 @@ impl Named {
     }
 }
 
-/// The place of a table, as a log has it: 0 to 999.
-pub(crate) fn place_of(table: usize) -> Option<u16>
-    ensures { result ≡ place_of table }
+/// The place of a table, as a log has it, up to this one.
+pub(crate) fn place_of(table: usize, last: u16) -> Option<u16>
+    ensures { result ≡ place_of last table }
 {
-    if table <= usize::from(Table::LAST_INDEX) {
+    if table <= usize::from(last) {
         Some(table as u16)
     } else {
         None
     }
 }
 
-/// What a log tells of a message, by its answer. `Err`: its octets have as many shares as can be counted.
-fn told_message(step: &Step, answer: Posted) -> Result<Option<LoggedStep>, AllocError>
-    ensures { IfOk result (λ told. told ≡ told_message step.now answer) }
+/// What a log tells of a message, by its answer: nothing, if its table is after this place. `Err`: its octets have as
+/// many shares as can be counted.
+fn told_message(step: &Step, answer: Posted, last: u16) -> Result<Option<LoggedStep>, AllocError>
+    ensures told { IfOk result (λ told. told ≡ told_message last step.now answer) }
+    ensures place { IfOk result (λ told. IfSome told (HasPlace last)) }
 {
     match step {
         Step::Post {
@@ -206,7 +209,7 @@ fn told_message(step: &Step, answer: Posted) -> Result<Option<LoggedStep>, Alloc
             frame,
             moment,
         } => {
-            let Some(table) = place_of(*table) else {
+            let Some(table) = place_of(*table, last) else {
                 return Ok(None);
             };
             Ok(Some(LoggedStep::Post {
@@ -268,18 +271,20 @@ fn sending_after(birth: Option<u64>, output: &Output, before: Option<u64>) -> Op
 }
 
 /// What a log tells of a step, where its answer is of this dialogue, whose turn has this place, and that is out to be
-/// sent. `Err`: a frame's reference count is at its maximum.
+/// sent. Its table has a place up to the last one. `Err`: a frame's reference count is at its maximum.
 fn told_by(
+    last: u16,
     birth: Option<u64>,
     place: Option<u64>,
     sending: Option<u64>,
     step: &Step,
     output: &Output,
 ) -> Result<Option<LoggedStep>, AllocError>
-    ensures { IfOk result (λ told. told ≡ told_by birth place sending step.now output.now) }
+    ensures told { IfOk result (λ told. told ≡ told_by last birth place sending step.now output.now) }
+    ensures place { IfOk result (λ told. IfSome told (HasPlace last)) }
 {
     Ok(match output {
-        Output::Posted { answer, .. } => told_message(step, *answer)?,
+        Output::Posted { answer, .. } => told_message(step, *answer, last)?,
         Output::Ticked { added, wanting } => told_tick(step, *added, *wanting),
         Output::Took {
             position,
@@ -330,12 +335,17 @@ fn written(told: Option<LoggedStep>) -> Option<LoggedStep>
     if is_written(&step) { Some(step) } else { None }
 }
 
-/// Puts a line after the others, if there is one. `Err`: memory ran out.
-fn add(lines: &mut Vec<Line>, link: u8, told: Option<LoggedStep>) -> Result<(), AllocError>
+/// Puts a line after the others, if there is one, in a run with this tag. `Err`: memory ran out.
+fn add(
+    lines: &mut Vec<Line>,
+    link: u8,
+    tag: u16,
+    told: Option<LoggedStep>,
+) -> Result<(), AllocError>
     requires link { link < LocalIds.LINKS }
-    requires place { IfSome told HasPlace }
+    requires place { IfSome told (HasPlace (last_place tag)) }
     ensures lines { IfOk result (λ _. lines.new.items ≡ lines.old.items ++ map (line.Step link) (option_to_list told)) }
-    ensures ranges { IfOk result (λ _. AllByRecursion IsLine lines.old.items → AllByRecursion IsLine lines.new.items) }
+    ensures ranges { IfOk result (λ _. AllByRecursion (IsLineOf tag) lines.old.items → AllByRecursion (IsLineOf tag) lines.new.items) }
 {
     let Some(step) = told else {
         return Ok(());
@@ -356,21 +366,21 @@ struct LogSoFar {
 }
 
 impl LogSoFar {
-    /// One more step of a link. `Err`: memory ran out.
-    fn tell(&mut self, link: u8, step: &Step, output: &Output) -> Result<(), AllocError>
+    /// One more step of a link, in a run with this tag. `Err`: memory ran out.
+    fn tell(&mut self, link: u8, tag: u16, step: &Step, output: &Output) -> Result<(), AllocError>
         requires link { link < LocalIds.LINKS }
         requires count { self.old.named.count + 1 < 2 ^ 64 }
         ensures lines { IfOk result (λ _. let birth = name_in self.old.named step.now output.now in self.new.lines.items ≡ self.old.lines.items
-            ++ map (line.Step link) (option_to_list (written (told_where birth self.old.turns.items self.old.sending step.now output.now)))) }
-        ensures ranges { IfOk result (λ _. AllByRecursion IsLine self.old.lines.items → AllByRecursion IsLine self.new.lines.items) }
+            ++ map (line.Step link) (option_to_list (written (told_where (last_place tag) birth self.old.turns.items self.old.sending step.now output.now)))) }
+        ensures ranges { IfOk result (λ _. AllByRecursion (IsLineOf tag) self.old.lines.items → AllByRecursion (IsLineOf tag) self.new.lines.items) }
         ensures named { IfOk result (λ _. NamesThen self.old.named (opened_in output.now) self.new.named) }
         ensures turns { IfOk result (λ _. self.new.turns.items ≡ turns_after (name_in self.old.named step.now output.now) output.now self.old.turns.items) }
         ensures sending { IfOk result (λ _. self.new.sending ≡ sending_after (name_in self.old.named step.now output.now) output.now self.old.sending) }
     {
         let birth = self.named.name_if(names_in(step, output));
         let place = place_if(&self.turns, birth);
-        let told = told_by(birth, place, self.sending, step, output)?;
-        add(&mut self.lines, link, written(told))?;
+        let told = told_by(last_place(tag), birth, place, self.sending, step, output)?;
+        add(&mut self.lines, link, tag, written(told))?;
         follow_turns(&mut self.turns, birth, output)?;
         self.sending = sending_after(birth, output, self.sending);
         self.named.follow(output)
@@ -379,7 +389,7 @@ impl LogSoFar {
 
 /// The log of a run on a link, 0 to 7, which made these steps and has these outputs: how many links there are up to
 /// that one, and then the line of each step that is logged, in their order. Each line is in the ranges of the log's
-/// format. Of steps and outputs that aren't those of a run no more is said. `Err`: memory ran out.
+/// format; a message by a table after the last place ([`last_place`]) has none. Of steps and outputs that aren't those of a run no more is said. `Err`: memory ran out.
 pub fn lines_of(
     alloc: Global,
     link: u8,
@@ -415,7 +425,7 @@ pub fn lines_with_tag(
         tag,
     })?;
     for (step, output) in steps.iter().zip(outputs) {
-        log.tell(link, step, output)?;
+        log.tell(link, tag, step, output)?;
     }
     Ok(log.lines)
 }

@@ -1,8 +1,9 @@
 //! What the types of a log's lines keep, as clauses. Each function takes a value apart and does nothing with it.
 
-ghost use Rattle.std.specs.Prelude.{◌<◌, ◌^◌, length};
+ghost use Rattle.std.specs.Prelude.{◌<◌, ◌≤◌, ◌^◌, length};
 ghost use Rattle.fp_frames.specs.Frame.{IsMessageLength};
-ghost use Rattle.fp_steps.specs.LogLines.{AreOctets, HasPlace, IsCounted, IsInRange, IsPosting, IsStep};
+ghost use Rattle.fp_steps.specs.LogLines.{AreOctets, IsCounted, IsInRange, IsPosting, IsStep};
+ghost use Rattle.fp_steps.specs.Places.{greatest_place};
 
 use fp_book::{Given, LoggedStep, Posted};
 use fp_digits::Moment;
@@ -77,18 +78,27 @@ fn is_long_number(number: u64)
     let _number = number;
 }
 
-/// A step of a log is in range, if its table has one of the places 0 to 999.
+/// The place of a table has at most 16 bits.
+fn is_place(place: u16)
+    ensures { place ≤ greatest_place }
+{
+    let _place = place;
+}
+
+/// A step of a log is in range.
 pub(crate) fn step_is_in_range(step: &LoggedStep)
-    requires { HasPlace step.now }
     ensures { IsStep step.now }
 {
     match step {
         LoggedStep::Post {
-            table: _,
+            table,
             moment,
             message,
             answer,
-        } => posting_is_in_range(*moment, message, *answer),
+        } => {
+            is_place(*table);
+            posting_is_in_range(*moment, message, *answer);
+        }
         LoggedStep::Lost {
             moment,
             message,

@@ -8,7 +8,7 @@ use fp_frames::Frame;
 pub enum Step {
     /// A message came at this moment.
     Post {
-        /// The place of the table by whose records it is read, 0 to 999, among those that are handed in. Without a table
+        /// The place of the table by whose records it is read, 0 to 65,535, among those that the run has. Without a table
         /// there the step is impossible.
         table: usize,
         /// The message, without its head.

@@ -4,10 +4,11 @@ ghost use Rattle.std.specs.Prelude.{◌≡◌, ◌<◌, ◌≤◌, [], IfOk};
 ghost use Rattle.fp_book.specs.Shelf.{base};
 ghost use Rattle.fp_steps.specs.After.{IsAfter};
 ghost use Rattle.fp_steps.specs.Headline.{Runs};
+ghost use Rattle.fp_steps.specs.Places.{handed_in};
 ghost use Rattle.fp_steps.specs.Retold.{LogsRun};
 ghost use Rattle.fp_tids.specs.Identifiers.{base_of};
 
-use crate::{LinkRun, Output, Step};
+use crate::{LinkRun, Output, Step, handed_in};
 use fp_apdu::Name;
 use fp_records::Table;
 use fp_tids::LocalIds;
@@ -59,7 +60,8 @@ fn make_all(
 ///
 /// What the log of the run has of its steps ([`lines_of`](crate::lines_of)) fits a history with the same totals.
 ///
-/// The run has no tag: an identifier is the sum of the link times 2^29 and a serial. [`run_with_tag`] has one.
+/// The run has no tag: an identifier is the sum of the link times 2^29 and a serial, and the run has the first 1,000 of
+/// these tables. [`run_with_tag`] has one.
 pub fn run(
     alloc: Global,
     tables: &[Table],
@@ -68,14 +70,15 @@ pub fn run(
     steps: &[Step],
 ) -> Result<Vec<Output>, AllocError>
     requires { link < LocalIds.LINKS }
-    ensures headline { IfOk result (λ outputs. Runs tables.now contexts.now (base_of link 0) steps.now outputs.items) }
-    ensures log { IfOk result (λ outputs. LogsRun tables.now contexts.now (base_of link 0) steps.now outputs.items) }
+    ensures headline { IfOk result (λ outputs. Runs (handed_in 0 tables.now) contexts.now (base_of link 0) steps.now outputs.items) }
+    ensures log { IfOk result (λ outputs. LogsRun (handed_in 0 tables.now) contexts.now (base_of link 0) steps.now outputs.items) }
 {
     run_with_tag(alloc, tables, contexts, link, 0, steps)
 }
 
 /// As [`run`], in a run with this tag, 0 to 4,094: to each identifier the tag times 2^17 is added, so that the
-/// identifiers of two tags never meet (`identifiers_are_distinct` of `fp_tids`).
+/// identifiers of two tags never meet (`identifiers_are_distinct` of `fp_tids`). If the tag isn't 0, the run has the
+/// first 65,536 tables.
 pub fn run_with_tag(
     alloc: Global,
     tables: &[Table],
@@ -86,10 +89,11 @@ pub fn run_with_tag(
 ) -> Result<Vec<Output>, AllocError>
     requires links { link < LocalIds.LINKS }
     requires tags { tag ≤ LocalIds.LAST_TAG }
-    ensures headline { IfOk result (λ outputs. Runs tables.now contexts.now (base_of link tag) steps.now outputs.items) }
-    ensures log { IfOk result (λ outputs. LogsRun tables.now contexts.now (base_of link tag) steps.now outputs.items) }
+    ensures headline { IfOk result (λ outputs. Runs (handed_in tag tables.now) contexts.now (base_of link tag) steps.now outputs.items) }
+    ensures log { IfOk result (λ outputs. LogsRun (handed_in tag tables.now) contexts.now (base_of link tag) steps.now outputs.items) }
 {
     let mut made = LinkRun::new(alloc, link, tag)?;
+    let tables = handed_in(tag, tables);
     let outputs = make_all(alloc, tables, contexts, &mut made, steps);
     made.abandon();
     outputs

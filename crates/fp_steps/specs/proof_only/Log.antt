@@ -8,7 +8,6 @@ use Rattle.fp_book.specs.declared.line.Line.{Line}
 use Rattle.fp_book.specs.declared.line.Line.TheVariants as lines
 use Rattle.fp_book.specs.declared.line.LoggedStep.{LoggedStep}
 use Rattle.fp_book.specs.declared.line.LoggedStep.TheVariants as line
-use Rattle.fp_records.specs.declared.table.TheConstants.Table.{LAST_INDEX}
 use Rattle.fp_steps.specs.declared.log.Named.{Named}
 use Rattle.fp_steps.specs.declared.log.TurnOut.{TurnOut}
 use Rattle.fp_steps.specs.declared.output.Output.{Output}
@@ -16,6 +15,7 @@ use Rattle.fp_steps.specs.declared.output.Output.TheVariants as outputs
 use Rattle.fp_steps.specs.declared.step.Step.{Step}
 use Rattle.fp_steps.specs.declared.step.Step.TheVariants as steps
 use Rattle.fp_steps.specs.Births.{is_one}
+use Rattle.fp_steps.specs.Places.{greatest_place}
 use Rattle.fp_steps.specs.Told.{birth_under, told_message, told_tick}
 
 -- one more, where a dialogue is opened
@@ -97,25 +97,25 @@ sending_after birth outputs.Sent before = None
 sending_after birth outputs.Unsent before = None
 sending_after birth _ before = before
 
--- what is told of a step by its answer, by the dialogue that it is of, the place of the turn of that, and the birth of
--- what is out to be sent
-abbrev pub told_by : Option ℕ → Option ℕ → Option ℕ → Step → Output → Option LoggedStep
-told_by birth place sending step (outputs.Posted answer components) = told_message step answer
-told_by birth place sending step (outputs.Ticked added wanting) = told_tick step added wanting
-told_by birth place sending step (outputs.Took local position count) = option_map (λ birth. line.Take birth position count) birth
-told_by birth place sending step outputs.NoRoom = None
-told_by birth place sending step (outputs.Gave local position served given) = option_map (λ birth. line.Give birth position served given) birth
-told_by birth place sending step outputs.WentBack = back_by birth place
-told_by birth place sending step (outputs.Picked local frame) = Some (line.Pick (birth_under local birth))
-told_by birth place sending step outputs.Busy = None
-told_by birth place sending step outputs.Sent = option_map (λ birth. line.Sent birth) sending
-told_by birth place sending step outputs.Unsent = option_map (λ birth. line.Unsent birth) sending
-told_by birth place sending step outputs.Down = Some line.Down
-told_by birth place sending step outputs.Nothing = None
+-- what is told of a step by its answer, by the last place of a table, the dialogue that the answer is of, the place of the
+-- turn of that, and the birth of what is out to be sent
+abbrev pub told_by : ℕ → Option ℕ → Option ℕ → Option ℕ → Step → Output → Option LoggedStep
+told_by last birth place sending step (outputs.Posted answer components) = told_message last step answer
+told_by last birth place sending step (outputs.Ticked added wanting) = told_tick step added wanting
+told_by last birth place sending step (outputs.Took local position count) = option_map (λ birth. line.Take birth position count) birth
+told_by last birth place sending step outputs.NoRoom = None
+told_by last birth place sending step (outputs.Gave local position served given) = option_map (λ birth. line.Give birth position served given) birth
+told_by last birth place sending step outputs.WentBack = back_by birth place
+told_by last birth place sending step (outputs.Picked local frame) = Some (line.Pick (birth_under local birth))
+told_by last birth place sending step outputs.Busy = None
+told_by last birth place sending step outputs.Sent = option_map (λ birth. line.Sent birth) sending
+told_by last birth place sending step outputs.Unsent = option_map (λ birth. line.Unsent birth) sending
+told_by last birth place sending step outputs.Down = Some line.Down
+told_by last birth place sending step outputs.Nothing = None
 
 -- so by the turns that are out
-abbrev pub told_where : Option ℕ → List TurnOut → Option ℕ → Step → Output → Option LoggedStep
-told_where birth turns sending step output = told_by birth (place_if birth turns) sending step output
+abbrev pub told_where : ℕ → Option ℕ → List TurnOut → Option ℕ → Step → Output → Option LoggedStep
+told_where last birth turns sending step output = told_by last birth (place_if birth turns) sending step output
 
 -- what is told of a tick at which no dialogue was due: a book has no line of it
 abbrev pub tick_in : Step → Output → Option LoggedStep
@@ -132,13 +132,13 @@ abbrev pub first_of : List LoggedStep → Option LoggedStep
 first_of [] = None
 first_of (step ∷ steps) = Some step
 
--- the place of a table, as a log has it: 0 to 999
-abbrev pub place_of : ℕ → Option ℕ
-place_of table = if nat_le table LAST_INDEX then Some table else None
+-- the place of a table, as a log has it, up to this one
+abbrev pub place_of : ℕ → ℕ → Option ℕ
+place_of last table = if nat_le table last then Some table else None
 
 -- the place in which the table of a step is handed in; this one, if it isn't
 abbrev pub place_or : Step → ℕ → ℕ
-place_or (steps.Post table frame moment) index = unwrap_or (place_of table) index
+place_or (steps.Post table frame moment) index = unwrap_or (place_of greatest_place table) index
 place_or _ index = index
 
 -- the line of a book has the place that the table has; what is told of a step has the one in which that is handed in

@@ -23,7 +23,7 @@ own_digits digits other some = by (is_decimal digits) some
 pub returns-in_default : goal.returns-in_default
 returns-in_default c =
     let none = not_decimal c.args.called.now.digits (rw c.as_slice.ensures.value at (sym c.from_digits.ensures ∙ c.in_default.is)) in
-    rw (← c.self.view_is) (sym (lookup-apart is_decimal c.args.called.now.digits (seen (λ found. arc_value found) c.self.inside.records.entries) c.self.invariant.0.decimal none))
+    rw (← c.self.view_is) (sym (lookup-apart is_decimal c.args.called.now.digits (seen (λ found. arc_value found) c.self.inside.records.entries) c.self.invariant.decimal none))
 
 pub returns : goal.returns
 returns c =
