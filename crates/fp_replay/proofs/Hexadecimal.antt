@@ -1,16 +1,15 @@
 -- Hexadecimal digits in upper case: what is read of them, and what is written.
-use Rattle.std.proofs.Common.{append_assoc, drop, ◌⊎◌, inl, inr, ◌++◌, ◌≡◌, ℕ, zero, suc, ◌+◌, ◌*◌, ◌/◌, ◌%◌, ◌<◌, ◌≤◌, ltb, true, List, [], ◌∷◌, length, slice_index, Option, Some, None, Result, Ok, Err, refl, sym, ap, ◌∙◌, arith}
+use Rattle.std.proofs.Common.{◌⊎◌, inl, inr, ◌≡◌, ℕ, zero, suc, ◌+◌, ◌*◌, ◌/◌, ◌%◌, ◌<◌, ◌≤◌, ltb, true, List, [], ◌∷◌, length, slice_index, Option, Some, None, Result, Ok, Err, refl, sym, ap, ◌∙◌, arith}
 use Rattle.std.specs.Prelude.{EachIndex}
 use Rattle.std.specs.Int.{w32, from_be_bytes, to_be_bytes}
 use Rattle.std.specs.Result.{result_unwrap_or}
 use Rattle.std.proofs.lemmas.Nat.{be_bytes_4}
 use Rattle.hex.specs.Hex.{IsBytes, decode_of, decode_pairs, decode_sized, digit_or_error, encode_upper, encode_with, hex_digit_value, pair_value, upper_digits, value_at, ◌>>=◌}
 use Rattle.hex.specs.declared.error.FromHexError.{FromHexError}
-use Rattle.std.proofs.lemmas.List.{append-nil, drop_all, get_or_past}
+use Rattle.std.proofs.lemmas.List.{get_or_past}
 use Rattle.std.proofs.lemmas.Bool.{cases_lt, ltb-true}
 use Rattle.std.proofs.lemmas.List.Elements.{All-get_or}
 use Rattle.std.proofs.lemmas.List.Sums.{AllPass-from_list_all}
-use Rattle.hex.proofs.Pairs.{encode_with-drop}
 use Rattle.hex.proofs.HexLemmas.{IsDigits-upper_digits, decode_of-encode_upper, decode_of-even, decode_of-ok, decode_sized-ok, decode_sized-twice, length-encode_with}
 use Rattle.fp_replay.specs.Format.{identifier_text}
 
@@ -118,23 +117,3 @@ pub identifier_read : (local : ℕ) → decode_sized (identifier_text local) 4 �
 identifier_read local =
     decode_sized-twice (identifier_text local) 4 (length-encode_with upper_digits (to_be_bytes w32 local))
     ∙ decode_of-encode_upper (to_be_bytes w32 local) (identifier_octets local)
-
--- one more octet comes after what was written, digit by digit
-pub octet_more : (octets text half new old : List ℕ) (i high low : ℕ) → i < length octets
-    → high ≡ slice_index octets i / 16 → low ≡ slice_index octets i % 16
-    → half ≡ text ++ slice_index upper_digits high ∷ [] → new ≡ half ++ slice_index upper_digits low ∷ []
-    → text ++ encode_upper (drop i octets) ≡ old ++ encode_upper octets
-    → new ++ encode_upper (drop (i + 1) octets) ≡ old ++ encode_upper octets
-octet_more octets text half new old i high low lt is_high is_low first second so_far =
-    let h = slice_index upper_digits (slice_index octets i / 16) in
-    let l = slice_index upper_digits (slice_index octets i % 16) in
-    let rest = encode_upper (drop (i + 1) octets) in
-    let one = encode_with-drop upper_digits octets i lt in
-    rw (second, first, is_high, is_low)
-    (append_assoc (text ++ h ∷ []) (l ∷ []) rest ∙ append_assoc text (h ∷ []) (l ∷ rest) ∙ sym (ap (λ (x : List ℕ). text ++ x) one) ∙ so_far)
-
--- all octets are written
-pub octets_end : (octets text old : List ℕ) (i : ℕ) → length octets ≤ i
-    → text ++ encode_upper (drop i octets) ≡ old ++ encode_upper octets → text ≡ old ++ encode_upper octets
-unfolding encode_with
-octets_end octets text old i past so_far = sym (append-nil text) ∙ rw (drop_all i octets past) at so_far

@@ -7,7 +7,7 @@ use Rattle.fp_book.specs.declared.answers.Posted.{Posted}
 use Rattle.fp_book.specs.declared.line.LoggedStep.{LoggedStep}
 use Rattle.fp_book.specs.declared.line.LoggedStep.TheVariants as steps
 use Rattle.fp_digits.specs.declared.moment.TheConstants.Moment.{END}
-use Rattle.fp_records.specs.declared.table.TheConstants.Table.{LAST_INDEX}
+use Rattle.fp_steps.specs.Places.{greatest_place}
 use Rattle.fp_replay.specs.proof_only.Fields.{IsField}
 use Rattle.fp_replay.specs.Format.{IsCounted, IsPosting, IsStep, given_text, posted_text}
 use Rattle.fp_replay.specs.proof_only.Reading.{parcel_fields, step_text, turn_fields}
@@ -21,7 +21,7 @@ module _ (fields : List ℕ) (T : LoggedStep → Type 0) where
   -- after `P`, by what is known of its four fields
   pub post_only : {P : List ℕ → List ℕ → List ℕ → List ℕ → Type 0}
       → ((a b c d : List ℕ) → IsField a → IsField b → IsField c → fields ≡ 32 ∷ join_with_byte 32 (a ∷ b ∷ c ∷ d ∷ []) → P a b c d)
-      → ((table moment : ℕ) (message : List ℕ) (answer : Posted) → table ≤ LAST_INDEX → IsPosting moment message answer
+      → ((table moment : ℕ) (message : List ℕ) (answer : Posted) → table ≤ greatest_place → IsPosting moment message answer
       → P (decimal moment) (decimal table) (encode_upper message) (posted_text answer) → T (steps.Post table moment message answer))
       → (step : LoggedStep) → IsStep step → 80 ∷ fields ≡ step_text step → T step
   post_only cut told (steps.Post table moment message answer) fits e =

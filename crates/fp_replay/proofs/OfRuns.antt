@@ -13,10 +13,11 @@ use Rattle.fp_book.specs.declared.line.LoggedStep.TheVariants as logged
 use Rattle.fp_book.specs.declared.totals.Totals.{Totals}
 use Rattle.fp_entry.specs.declared.prepared.Prepared.{Prepared}
 use Rattle.fp_records.specs.Table.{Contents}
-use Rattle.fp_records.specs.declared.table.TheConstants.Table.{LAST_INDEX}
 use Rattle.fp_steps.specs.Answers.{AllAnswered, IsAnswer}
 use Rattle.fp_steps.specs.Births.{named}
-use Rattle.fp_steps.specs.History.{Event, IsCame, IsReadBy, table_at}
+use Rattle.fp_steps.specs.History.{Event, IsCame, IsReadBy}
+use Rattle.fp_steps.specs.LogLines.{IsLineOf}
+use Rattle.fp_steps.specs.Places.{greatest_place, handed_in, table_at}
 use Rattle.fp_steps.specs.Retold.{Retells}
 use Rattle.fp_steps.specs.Told.{birth_out, is_written, lines_told, log_of, told, told_back, told_message, told_tick, written}
 use Rattle.fp_steps.specs.Totals.{totals_of}
@@ -51,11 +52,12 @@ steps_are other link tag (step ∷ steps) false is = rw is (steps_are other link
 
 module _ (tables : List Contents) where
   -- each is in its place
-  placed : (link tag : ℕ) (steps : List LoggedStep) (step : LoggedStep) → HasTable tables step → IsInPlace tables (newest_first link tag steps) (Step link step)
+  placed : (link tag : ℕ) (steps : List LoggedStep) (step : LoggedStep) → HasTable (handed_in tag tables) step → IsInPlace tables (newest_first link tag steps) (Step link step)
   placed link tag [] step has = (omega arith, has)
-  placed link tag (last ∷ steps) step has = let n = links_are link tag steps in (omega (arith, n), has)
+  placed link tag (last ∷ steps) step has =
+      let n = links_are link tag steps in (omega (arith, n), subst (λ t. HasTable (handed_in t tables) step) (sym (tag_is link tag steps)) has)
 
-  all_fit : (link tag : ℕ) (steps : List LoggedStep) → AllByRecursion (HasTable tables) steps → AllByRecursion IsLine (map (Step link) steps) → IsLine (Head (link + 1) tag) → AllFit tables (newest_first link tag steps)
+  all_fit : (link tag : ℕ) (steps : List LoggedStep) → AllByRecursion (HasTable (handed_in tag tables)) steps → AllByRecursion IsLine (map (Step link) steps) → IsLine (Head (link + 1) tag) → AllFit tables (newest_first link tag steps)
   all_fit link tag [] have are head = ((head, tt), tt)
   all_fit link tag (step ∷ steps) have are head = ((are.0, placed link tag steps step have.0), all_fit link tag steps have.1 are.1 head)
 
@@ -67,9 +69,9 @@ place_there [] place contents is = absurd (cc)
 place_there (first ∷ tables) zero contents is = omega arith
 place_there (first ∷ tables) (suc place) contents is = let n = place_there tables place contents is in omega (arith, n)
 
-handed_in : (tables : List Contents) (place : ℕ) (b : Bool) (contents : Contents) → (if b then slice_get tables place else None) ≡ Some contents → place < length tables
-handed_in tables place true contents is = place_there tables place contents is
-handed_in tables place false contents is = absurd (cc)
+if_there : (tables : List Contents) (place : ℕ) (b : Bool) (contents : Contents) → (if b then slice_get tables place else None) ≡ Some contents → place < length tables
+if_there tables place true contents is = place_there tables place contents is
+if_there tables place false contents is = absurd (cc)
 
 -- a message is read by one
 read_by_one : (table : Option Contents) (contexts : List (List ℕ)) (octets : List ℕ) (moment : ℕ) (came : Prepared) → IsReadBy table contexts octets moment (Some came) → (contents : Contents) × (table ≡ Some contents)
@@ -80,7 +82,7 @@ module _ (tables : List Contents) (contexts : List (List ℕ)) where
   table_there : (table : ℕ) (octets : List ℕ) (moment : ℕ) (came : Prepared) → IsCame tables contexts (made.Post table octets moment) (Some came) → table < length tables
   table_there table octets moment came is =
       let one = read_by_one (table_at tables table) contexts octets moment came is in
-      handed_in tables table (nat_le table LAST_INDEX) one.0 one.1
+      if_there tables table (nat_le table greatest_place) one.0 one.1
 
   -- what is told of a step is by a table that was handed in
   one_has : (b : Bool) (line : LoggedStep) → HasTable tables line → IfSome (if b then Some line else None) (HasTable tables)
@@ -92,10 +94,10 @@ module _ (tables : List Contents) (contexts : List (List ℕ)) where
   over_has of (Some x) have = have x
 
   message_has : (base : ℕ) (h : List Event) (step : MadeStep) (came : Option Prepared) (answer : Posted) (components : ℕ) → IsCame tables contexts step came
-      → IsAnswer base h step came (outputs.Posted answer components) → IfSome (told_message step answer) (HasTable tables)
+      → IsAnswer base h step came (outputs.Posted answer components) → IfSome (told_message greatest_place step answer) (HasTable tables)
   message_has base h (made.Post table octets moment) None answer components is so = absurd (cc)
   message_has base h (made.Post table octets moment) (Some came) answer components is so =
-      one_has (nat_le table LAST_INDEX) (logged.Post table moment octets answer) (table_there table octets moment came is)
+      one_has (nat_le table greatest_place) (logged.Post table moment octets answer) (table_there table octets moment came is)
   message_has base h (made.Lost octets moment) came answer components is so = tt
   message_has base h step came answer components is so = tt
 
@@ -170,6 +172,12 @@ all_back link (step ∷ steps) are =
     let parts = all_split (map (Step link) (reverse steps)) (Step link step) (subst (AllByRecursion IsLine) (map_push (Step link) step steps) are) in
     (parts.1, all_back link steps parts.0)
 
+-- the lines of the log of a run are lines of a log
+lines_in : (tag : ℕ) (lines : List Line) → AllByRecursion (IsLineOf tag) lines → AllByRecursion IsLine lines
+lines_in tag [] are = tt
+lines_in tag (Head links other ∷ lines) are = (are.0, lines_in tag lines are.1)
+lines_in tag (Step link step ∷ lines) are = (are.0.0, lines_in tag lines are.1)
+
 -- THE REPORT
 
 -- this history on this link, and none on others
@@ -186,7 +194,7 @@ logs_replayed tables contexts link tag steps outputs log (run, retold) is_log =
     let h = run.history in
     let lines = newest_first link tag (lines_told h) in
     let log_so : log ≡ log_of link tag h = is_log.lines_are tables contexts h run.tells run.answers in
-    let are : AllByRecursion IsLine (log_of link tag h) = subst (AllByRecursion IsLine) log_so is_log.in_range in
+    let are : AllByRecursion IsLine (log_of link tag h) = subst (AllByRecursion IsLine) log_so (lines_in tag log is_log.in_range) in
     let totals : ℕ → Totals = totals_along (only link retold.history) in
     let before : report_of link (λ before. totals_of []) ≡ report_of link totals =
     same_report link (λ before. totals_of []) totals (λ other below. sym (ap (λ b. totals_after (cond b retold.history [])) (ne_eqb link other (λ e. omega (arith, e, below))))) in
@@ -197,12 +205,12 @@ logs_replayed tables contexts link tag steps outputs log (run, retold) is_log =
       begun = omega (arith, length-append (map (Step link) (lines_told h)) (Head (link + 1) tag ∷ []));
       text = ap file_of (log_so ∙ log_is link tag h) ∙ same_text lines;
       good = record {
-        fit = all_fit tables link tag (lines_told h) (lines_have tables contexts (base_of link tag) h run.tells.messages run.answers) (all_back link (lines_told h) are.1) are.0;
+        fit = all_fit tables link tag (lines_told h) (lines_have (handed_in tag tables) contexts (base_of link tag) h run.tells.messages run.answers) (all_back link (lines_told h) are.1) are.0;
         history = only link retold.history;
         retells = λ other below.
-            subst (λ t. Retells tables contexts (base_of other t) (steps_of other lines) (only link retold.history other)) (sym (tag_is link tag (lines_told h)))
-            (subst (λ l. Retells tables contexts (base_of other tag) l (only link retold.history other)) (sym (steps_are other link tag (lines_told h) (eqb link other) refl))
-            (retells_only tables contexts link other tag (lines_told h) retold.history (eqb link other) refl retold.retells));
+            subst (λ t. Retells (handed_in t tables) contexts (base_of other t) (steps_of other lines) (only link retold.history other)) (sym (tag_is link tag (lines_told h)))
+            (subst (λ l. Retells (handed_in tag tables) contexts (base_of other tag) l (only link retold.history other)) (sym (steps_are other link tag (lines_told h) (eqb link other) refl))
+            (retells_only (handed_in tag tables) contexts link other tag (lines_told h) retold.history (eqb link other) refl retold.retells));
       };
       report_is = (λ i. before i ++ report_line link (own i)) ∙ sym (ap (λ n. report_of n totals) (links_are link tag (lines_told h) ∙ add-one link));
     }

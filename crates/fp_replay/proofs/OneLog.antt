@@ -21,7 +21,7 @@ use Rattle.fp_tids.specs.Identifiers.{base_of}
 use Rattle.fp_replay.specs.Format.{IsLine, text_of}
 use Rattle.fp_replay.specs.Laws.{TextIsOfOneLine}
 use Rattle.fp_replay.specs.Once.{FaultIsOne, IsFaultIn, ReplayedHasNoFault, ReportCountsLines, ReportIsOne, counted_along}
-use Rattle.fp_replay.specs.Replayed.{AllFit, Fits, IsReplayed, IsRetold, links_in, log_text, report_line, report_of, steps_of, tag_in, totals_along, totals_after}
+use Rattle.fp_replay.specs.Replayed.{AllFit, Fits, IsReplayed, IsRetold, links_in, log_text, report_line, report_of, steps_of, tables_for, tag_in, totals_along, totals_after}
 use Rattle.fp_replay.specs.Stopped.{BadAt, Differs, DiffersBy, HasOtherLine, Reaches, StepAt, is_gap}
 use Rattle.fp_replay.specs.declared.replay_fault.ReplayFault.{ReplayFault}
 use Rattle.fp_replay.specs.declared.replay_fault.ReplayFault.TheVariants.{BadLine, Gap, Disagrees}
@@ -65,15 +65,48 @@ same_report zero f g same = refl
 same_report (suc link) f g same =
     let before = same_report link f g (λ k below. same k (omega (arith, below))) in λ i. before i ++ report_line link (same link (omega arith) i)
 
-module _ (tables : List Contents) (contexts : List (List ℕ)) where
-  -- THE NEXT LINE
+-- BY THE TABLES THAT A RUN HAS
 
+module _ (tables : List Contents) (contexts : List (List ℕ)) where
   -- the history of a link behind one line less
   less_if : (b : Bool) (base : ℕ) (step : LoggedStep) (steps : List LoggedStep) (h : List Event)
       → Retells tables contexts base (cond b (step ∷ steps) steps) h → Retells tables contexts base steps (cond b (drop 1 h) h)
   less_if true base step steps [] retells = absurd retells
   less_if true base step steps (e ∷ h) retells = retells.1
   less_if false base step steps h retells = retells
+
+  -- a tick of a history left no dialogue without its Clock
+  none_wanting : (base : ℕ) (h : List Event) (st : MadeStep) (came : Option Prepared) (output : Output) (moment added wanting : ℕ)
+      → Some (steps.Tick moment) ≡ Some st → IsAnswer base h st came output → told h st output ≡ Some (logged.Tick moment added wanting) → 0 ≡ wanting
+  none_wanting base h st came output moment added wanting is answer tells =
+      let step_is : st ≡ steps.Tick moment = cc in
+      let output_is = subst (λ s. IsAnswer base h s came output) step_is answer in
+      let told_is = sym (ap (λ o. told h (steps.Tick moment) o) output_is) ∙ sym (ap (λ s. told h s output) step_is) ∙ tells in
+      cc told_is
+
+  -- a gap isn't retold
+  gap_untold : (base : ℕ) (step : LoggedStep) (h : List Event) (e : Event) → is_gap step ≡ true → RetellsOne tables contexts base step h e → ⊥
+  gap_untold base (logged.Tick moment added wanting) h e gap one =
+      let none = none_wanting base h e.step e.came e.output moment added wanting one.step one.answer one.tells in
+      let both : nat_lt 0 0 ≡ true = ap (λ w. nat_lt 0 w) none ∙ gap in (cc)
+  gap_untold base _ h e gap one = let none = one.step in (cc)
+
+  -- a step that is retold isn't told otherwise
+  differs_not : AnswersAreOne → (base : ℕ) (step : LoggedStep) (h : List Event) (e : Event) → RetellsOne tables contexts base step h e → Differs tables contexts base h step → ⊥
+  differs_not answers base step h e one d =
+      let other : HasOtherLine tables contexts base h step e.step = subst (DiffersBy tables contexts base h step) one.step d in
+      let output_is : e.output ≡ other.output = answers tables contexts base h e.step e.came other.came e.output other.output one.came other.came_is one.answer other.answer in
+      other.differs (sym (λ i. told h e.step (output_is i)) ∙ one.tells)
+
+  -- the newest line of a link is retold behind the one history of the others
+  newest : LinesAreRetoldOnce → (base : ℕ) (step : LoggedStep) (lines : List LoggedStep) (h g : List Event)
+      → Retells tables contexts base (step ∷ lines) h → Retells tables contexts base lines g → (e : Event) × RetellsOne tables contexts base step g e
+  newest once base step lines [] g retells others = absurd retells
+  newest once base step lines (e ∷ h) g retells others =
+      (e, subst (λ k. RetellsOne tables contexts base step k e) (once tables contexts base lines h g retells.1 others) retells.0)
+
+module _ (tables : List Contents) (contexts : List (List ℕ)) where
+  -- THE NEXT LINE
 
   -- so one line less is retold
   older : (line : Line) (lines : List Line) → IsRetold tables contexts (line ∷ lines) → IsRetold tables contexts lines
@@ -82,7 +115,7 @@ module _ (tables : List Contents) (contexts : List (List ℕ)) where
   older (Step other step) lines good = record {
     fit = good.fit.1;
     history = λ link. cond (eqb other link) (drop 1 (good.history link)) (good.history link);
-    retells = λ link below. less_if (eqb other link) (base_of link (tag_in lines)) step (steps_of link lines) (good.history link) (good.retells link below);
+    retells = λ link below. less_if (tables_for lines tables) contexts (eqb other link) (base_of link (tag_in lines)) step (steps_of link lines) (good.history link) (good.retells link below);
   }
 
   -- the line behind so many others of a log
@@ -144,38 +177,6 @@ module _ (tables : List Contents) (contexts : List (List ℕ)) where
   no_more one input b lines fit e less =
       let next = next_of one input b lines [] fit (e ∙ sym (append-nil (log_text lines))) less in nothing_there (text_of next.line) next.behind next.text
 
-  -- A STEP
-
-  -- a tick of a history left no dialogue without its Clock
-  none_wanting : (base : ℕ) (h : List Event) (st : MadeStep) (came : Option Prepared) (output : Output) (moment added wanting : ℕ)
-      → Some (steps.Tick moment) ≡ Some st → IsAnswer base h st came output → told h st output ≡ Some (logged.Tick moment added wanting) → 0 ≡ wanting
-  none_wanting base h st came output moment added wanting is answer tells =
-      let step_is : st ≡ steps.Tick moment = cc in
-      let output_is = subst (λ s. IsAnswer base h s came output) step_is answer in
-      let told_is = sym (ap (λ o. told h (steps.Tick moment) o) output_is) ∙ sym (ap (λ s. told h s output) step_is) ∙ tells in
-      cc told_is
-
-  -- a gap isn't retold
-  gap_untold : (base : ℕ) (step : LoggedStep) (h : List Event) (e : Event) → is_gap step ≡ true → RetellsOne tables contexts base step h e → ⊥
-  gap_untold base (logged.Tick moment added wanting) h e gap one =
-      let none = none_wanting base h e.step e.came e.output moment added wanting one.step one.answer one.tells in
-      let both : nat_lt 0 0 ≡ true = ap (λ w. nat_lt 0 w) none ∙ gap in (cc)
-  gap_untold base _ h e gap one = let none = one.step in (cc)
-
-  -- a step that is retold isn't told otherwise
-  differs_not : AnswersAreOne → (base : ℕ) (step : LoggedStep) (h : List Event) (e : Event) → RetellsOne tables contexts base step h e → Differs tables contexts base h step → ⊥
-  differs_not answers base step h e one d =
-      let other : HasOtherLine tables contexts base h step e.step = subst (DiffersBy tables contexts base h step) one.step d in
-      let output_is : e.output ≡ other.output = answers tables contexts base h e.step e.came other.came e.output other.output one.came other.came_is one.answer other.answer in
-      other.differs (sym (λ i. told h e.step (output_is i)) ∙ one.tells)
-
-  -- the newest line of a link is retold behind the one history of the others
-  newest : LinesAreRetoldOnce → (base : ℕ) (step : LoggedStep) (lines : List LoggedStep) (h g : List Event)
-      → Retells tables contexts base (step ∷ lines) h → Retells tables contexts base lines g → (e : Event) × RetellsOne tables contexts base step g e
-  newest once base step lines [] g retells others = absurd retells
-  newest once base step lines (e ∷ h) g retells others =
-      (e, subst (λ k. RetellsOne tables contexts base step k e) (once tables contexts base lines h g retells.1 others) retells.0)
-
   -- A FAULT
 
   -- the lines before it, which are good
@@ -195,7 +196,7 @@ module _ (tables : List Contents) (contexts : List (List ℕ)) where
   module _ (one : TextIsOfOneLine) (answers : AnswersAreOne) (once : LinesAreRetoldOnce) (input : List ℕ) where
     -- a step after fewer lines than are good is retold
     retold_step : (number : ℕ) (b : Begun input) (at : StepAt tables contexts number input) → length at.before < length b.lines
-        → (e : Event) × RetellsOne tables contexts (base_of at.link (tag_in at.before)) at.step (at.reaches.good.history at.link) e
+        → (e : Event) × RetellsOne (tables_for at.before tables) contexts (base_of at.link (tag_in at.before)) at.step (at.reaches.good.history at.link) e
     retold_step number b at less =
         let line = Step at.link at.step in
         let next = next_of one input b at.before (text_of line ++ 10 ∷ at.behind) at.reaches.good.fit at.reaches.text less in
@@ -203,7 +204,7 @@ module _ (tables : List Contents) (contexts : List (List ℕ)) where
         let good = subst (λ l. IsRetold tables contexts (l ∷ at.before)) same.0 next.good in
         let below = (place_of tables at.before at.link at.step at.fits.1).0 in
         let there = good.retells at.link below in
-        newest once (base_of at.link (tag_in at.before)) at.step (steps_of at.link at.before) (good.history at.link) (at.reaches.good.history at.link)
+        newest (tables_for at.before tables) contexts once (base_of at.link (tag_in at.before)) at.step (steps_of at.link at.before) (good.history at.link) (at.reaches.good.history at.link)
         (rw (eq-eqb at.link at.link refl) at there) (at.reaches.good.retells at.link below)
 
     -- it isn't among good lines
@@ -211,9 +212,9 @@ module _ (tables : List Contents) (contexts : List (List ℕ)) where
     not_among b (BadLine number) f less =
         let next = next_of one input b f.before f.rest f.reaches.good.fit f.reaches.text less in f.bad.none next.line next.behind next.good.fit.0 next.text
     not_among b (Gap number) (at, gap) less =
-        let retold = retold_step number b at less in gap_untold (base_of at.link (tag_in at.before)) at.step (at.reaches.good.history at.link) retold.0 gap retold.1
+        let retold = retold_step number b at less in gap_untold (tables_for at.before tables) contexts (base_of at.link (tag_in at.before)) at.step (at.reaches.good.history at.link) retold.0 gap retold.1
     not_among b (Disagrees number) (at, none, d) less =
-        let retold = retold_step number b at less in differs_not answers (base_of at.link (tag_in at.before)) at.step (at.reaches.good.history at.link) retold.0 retold.1 d
+        let retold = retold_step number b at less in differs_not (tables_for at.before tables) contexts answers (base_of at.link (tag_in at.before)) at.step (at.reaches.good.history at.link) retold.0 retold.1 d
     not_among b _ f less = absurd f
 
     -- something is there, or no line is
@@ -292,8 +293,8 @@ report_is_one one once tables contexts input x y a b =
     let links : links_in a.lines ≡ links_in b.lines = ap links_in lines in
     a.report_is
     ∙ same_report (links_in a.lines) (totals_along a.good.history) (totals_along b.good.history) (λ link below. ap totals_after
-    (once tables contexts (base_of link (tag_in b.lines)) (steps_of link b.lines) (a.good.history link) (b.good.history link)
-    (subst (λ l. Retells tables contexts (base_of link (tag_in l)) (steps_of link l) (a.good.history link)) lines (a.good.retells link below))
+    (once (tables_for b.lines tables) contexts (base_of link (tag_in b.lines)) (steps_of link b.lines) (a.good.history link) (b.good.history link)
+    (subst (λ l. Retells (tables_for l tables) contexts (base_of link (tag_in l)) (steps_of link l) (a.good.history link)) lines (a.good.retells link below))
     (b.good.retells link (omega (arith, links, below)))))
     ∙ ap (λ n. report_of n (totals_along b.good.history)) links
     ∙ sym b.report_is
@@ -303,4 +304,4 @@ pub report_counts : RetoldLinesAreCounted → ReportCountsLines
 report_counts counted tables contexts input report r =
     r.report_is
     ∙ same_report (links_in r.lines) (totals_along r.good.history) (counted_along r.lines r.good.history)
-    (λ link below. counted tables contexts (base_of link (tag_in r.lines)) (steps_of link r.lines) (r.good.history link) (r.good.retells link below))
+    (λ link below. counted (tables_for r.lines tables) contexts (base_of link (tag_in r.lines)) (steps_of link r.lines) (r.good.history link) (r.good.retells link below))

@@ -8,17 +8,17 @@ use Rattle.fp_book.specs.declared.line.Line.{Line}
 use Rattle.fp_book.specs.declared.line.Line.TheVariants.{Head, Step}
 use Rattle.fp_book.specs.declared.line.LoggedStep.{LoggedStep}
 use Rattle.fp_records.specs.Table.{Contents}
-use Rattle.fp_steps.specs.declared.link_run.LinkRun.{LinkRun}
 use Rattle.fp_streams.specs.Following as following
 use Rattle.fp_streams.specs.Line.{IsOneLine}
 use Rattle.fp_streams.specs.declared.fault.LinesFault.{LinesFault}
 use Rattle.fp_streams.specs.declared.fault.LinesFault.TheVariants.{Refused, TooLong}
 use Rattle.fp_streams.specs.declared.fault.LinesFault.TheVariants as reading
 use Rattle.fp_replay.specs.Format.{text_of}
-use Rattle.fp_replay.specs.proof_only.Making.{IsKept, IsReport, IsUnreported, TakingEnded, TakingText, TakesText, fault_at, fault_of}
+use Rattle.fp_replay.specs.proof_only.Making.{AreNone, IsKept, IsReport, IsUnreported, TakingEnded, TakingText, TakesText, fault_at, fault_of}
 use Rattle.fp_replay.specs.Replayed.{Fits, IsReplayed, log_text, report_of, tag_in, totals_along}
 use Rattle.fp_replay.specs.Stopped.{BadAt, DisagreesAt, GapAt, Halts, Reaches, ReachesEnd, StepAt}
 use Rattle.fp_replay.specs.proof_only.Taking.{refuses, takes}
+use Rattle.fp_replay.specs.declared.links.Links.{Links}
 use Rattle.fp_replay.specs.declared.replay_fault.Refusal.{Refusal}
 use Rattle.fp_replay.specs.declared.replay_fault.Refusal.TheVariants.{BadLine, Gap, Disagrees, Memory}
 use Rattle.fp_replay.specs.declared.replay_fault.ReplayFault.{ReplayFault}
@@ -30,7 +30,7 @@ use Rattle.fp_replay.proofs.Retelling.{kept_none, no_lines}
 
 -- what taking a text that ended with a line feed makes of the links it makes of a replay
 pub taken : (old new : Replaying) (has_line_feed : Bool) (text : List ℕ) (result : Result (Unit {0}) Refusal) → has_line_feed ≡ true → new.tables.now ≡ old.tables.now → new.contexts.now ≡ old.contexts.now
-    → TakingText old.tables.now old.contexts.now old.links.runs.items text result new.links.runs.items
+    → TakingText old.tables.now old.contexts.now old.links text result new.links
     → MatchResult result (λ _. takes old has_line_feed text new) (λ refusal. refuses old has_line_feed text refusal new)
 taken old new false text result is table names taking = absurd (cc)
 taken old new true text (Ok done) is table names taking = record { tables = table; contexts = names; taking = taking }
@@ -67,12 +67,12 @@ module _ (tables : List Contents) (contexts : List (List ℕ)) where
     pub names : replaying.contexts.now ≡ contexts
 
   -- what comes of a text by the tables and the names of a replay
-  by_these : (at : Replaying) (has_line_feed : Bool) (text : List ℕ) (result : Result (Unit {0}) Refusal) (new : List LinkRun)
-      → IsBy at → TakingEnded at.tables.now at.contexts.now at.links.runs.items has_line_feed text result new
-      → TakingEnded tables contexts at.links.runs.items has_line_feed text result new
+  by_these : (at : Replaying) (has_line_feed : Bool) (text : List ℕ) (result : Result (Unit {0}) Refusal) (new : Links)
+      → IsBy at → TakingEnded at.tables.now at.contexts.now at.links has_line_feed text result new
+      → TakingEnded tables contexts at.links has_line_feed text result new
   by_these at has_line_feed text result new by taking =
-      subst (λ c. TakingEnded c contexts at.links.runs.items has_line_feed text result new) by.tables_are
-      (subst (λ n. TakingEnded at.tables.now n at.links.runs.items has_line_feed text result new) by.names taking)
+      subst (λ c. TakingEnded c contexts at.links has_line_feed text result new) by.tables_are
+      (subst (λ n. TakingEnded at.tables.now n at.links has_line_feed text result new) by.names taking)
 
   -- texts were taken after these lines: they are lines of the log, too
   record Took (texts : List (List ℕ)) (before : List Line) (new : Replaying) : Type 0 where
@@ -80,19 +80,19 @@ module _ (tables : List Contents) (contexts : List (List ℕ)) where
     text : log_text lines ≡ log_text before ++ following.ended texts
     many : length lines ≡ length before + length texts
     by : IsBy new
-    kept : IsKept tables contexts lines new.links.runs.items
+    kept : IsKept tables contexts lines new.links
 
   took : (texts : List (List ℕ)) (before : List Line) (old new : Replaying)
-      → IsBy old → IsKept tables contexts before old.links.runs.items → following.Took takes old texts new → Took texts before new
+      → IsBy old → IsKept tables contexts before old.links → following.Took takes old texts new → Took texts before new
   took [] before old new by kept same = record {
     lines = before;
     text = sym (append-nil (log_text before));
     many = omega arith;
     by = subst IsBy (sym same) by;
-    kept = subst (λ (r : Replaying). IsKept tables contexts before r.links.runs.items) (sym same) kept;
+    kept = subst (λ (r : Replaying). IsKept tables contexts before r.links) (sym same) kept;
   }
   took (text ∷ texts) before old new by kept t =
-      let taken = by_these old true text (Ok tt) t.between.links.runs.items by t.first.taking before kept in
+      let taken = by_these old true text (Ok tt) t.between.links by t.first.taking before kept in
       let line = taken.0 in
       let later = took texts (line ∷ before) t.between new (record { tables_are = t.first.tables ∙ by.tables_are; names = t.first.contexts ∙ by.names }) taken.3 t.later in
       let n = later.many in
@@ -112,12 +112,12 @@ module _ (tables : List Contents) (contexts : List (List ℕ)) where
     text : octets ≡ log_text lines ++ rest
     many : length lines ≡ length texts
     by : IsBy new
-    kept : IsKept tables contexts lines new.links.runs.items
+    kept : IsKept tables contexts lines new.links
 
   reached : (old new : Replaying) (octets rest : List ℕ) (texts : List (List ℕ))
-      → IsBy old → old.links.runs.items ≡ [] → following.Reaches takes 8300 old new octets texts rest → Reached octets texts rest new
+      → IsBy old → AreNone old.links → following.Reaches takes 8300 old new octets texts rest → Reached octets texts rest new
   reached old new octets rest texts by none r =
-      let t = took texts [] old new by (kept_none tables contexts old.links.runs.items none) r.took in
+      let t = took texts [] old new by (kept_none tables contexts old.links none) r.took in
       let n = t.many in
       record { lines = t.lines; text = r.text ∙ ap (λ l. l ++ rest) (sym t.text); many = omega (arith, n); by = t.by; kept = t.kept }
 
@@ -144,7 +144,7 @@ module _ (tables : List Contents) (contexts : List (List ℕ)) where
         })
 
     -- it is too long
-    long : (old new : Replaying) → IsBy old → old.links.runs.items ≡ [] → following.GrowsLong takes 8300 old new octets texts → IfSome had (BadAt tables contexts number)
+    long : (old new : Replaying) → IsBy old → AreNone old.links → following.GrowsLong takes 8300 old new octets texts → IfSome had (BadAt tables contexts number)
     long old new by none g =
         let n = length-append g.begun g.rest in
         let m = g.long in
@@ -152,7 +152,7 @@ module _ (tables : List Contents) (contexts : List (List ℕ)) where
         inside g.begun (g.rest ++ more) (text_of line) after g.one_line (let n = text_short line fits.0 in omega (arith, n, m))
         (sym (append_assoc g.begun g.rest more) ∙ e))
 
-    module _ (line tail : List ℕ) (at : Replaying) (new : List LinkRun) (one : IsOneLine line) where
+    module _ (line tail : List ℕ) (at : Replaying) (new : Links) (one : IsOneLine line) where
       -- it is a step of a link
       abbrev step_then : (r : Reached octets texts (line ++ 10 ∷ tail) at) (link : ℕ) (step : LoggedStep) → Fits tables r.lines (Step link step) → line ≡ text_of (Step link step)
           → (more : List ℕ) → StepAt tables contexts number (octets ++ more)
@@ -189,7 +189,7 @@ module _ (tables : List Contents) (contexts : List (List ℕ)) where
       -- it is refused
       refused_by : (has_line_feed : Bool) (refusal : Refusal) → Reached octets texts (line ++ following.after_line has_line_feed tail) at
           → 0 < length (line ++ following.after_line has_line_feed tail) → (has_line_feed ≡ false → IsAtEnd left)
-          → TakingEnded tables contexts at.links.runs.items has_line_feed line (Err refusal) new → Halts tables contexts had left (fault_at refusal number)
+          → TakingEnded tables contexts at.links has_line_feed line (Err refusal) new → Halts tables contexts had left (fault_at refusal number)
       refused_by true refusal r some end taking = refused_fed refusal r (taking r.lines r.kept)
       refused_by false BadLine r some end taking =
           bad_then (line ++ []) at r some (λ more is other after fits e.
@@ -200,7 +200,7 @@ module _ (tables : List Contents) (contexts : List (List ℕ)) where
           inside line [] (text_of other) after one (omega (arith, size, n, m)) whole)
       refused_by false _ r some end taking = absurd (cc)
 
-  module _ (had left : Option (List ℕ)) (old new : Replaying) (octets : List ℕ) (by : IsBy old) (none : old.links.runs.items ≡ []) (consumed : Consumes had left octets) where
+  module _ (had left : Option (List ℕ)) (old new : Replaying) (octets : List ℕ) (by : IsBy old) (none : AreNone old.links) (consumed : Consumes had left octets) where
     -- not all of the input was read
     begun : following.Begins takes 8300 old new octets → IfSome had (ReachesEnd tables contexts left)
     begun b =
@@ -220,32 +220,32 @@ module _ (tables : List Contents) (contexts : List (List ℕ)) where
     halts (TooLong number) (texts, next, grows) = long number had left octets texts consumed next old new by none grows
     halts (Refused number refusal) (texts, next, (d, end)) =
         let r = reached old d.before_line octets (d.line ++ following.after_line d.has_line_feed d.rest) texts by none d.reaches in
-        refused_by number had left octets texts consumed next d.line d.rest d.before_line new.links.runs.items d.line_is.one_line d.has_line_feed refusal r d.something end
-        (by_these d.before_line d.has_line_feed d.line (Err refusal) new.links.runs.items r.by d.refused)
+        refused_by number had left octets texts consumed next d.line d.rest d.before_line new.links d.line_is.one_line d.has_line_feed refusal r d.something end
+        (by_these d.before_line d.has_line_feed d.line (Err refusal) new.links r.by d.refused)
     halts reading.Memory b = tt
     halts _ b = begun b
 
   -- ALL LINES
 
   -- the octets are those lines
-  pub record Whole (octets : List ℕ) (runs : List LinkRun) : Type 0 where
+  pub record Whole (octets : List ℕ) (links : Links) : Type 0 where
     pub lines : List Line
     pub text : octets ≡ log_text lines
-    pub kept : IsKept tables contexts lines runs
+    pub kept : IsKept tables contexts lines links
 
-  pub whole : (old new : Replaying) (octets : List ℕ) → IsBy old → old.links.runs.items ≡ [] → following.TakesAll takes 8300 old new octets → Whole octets new.links.runs.items
+  pub whole : (old new : Replaying) (octets : List ℕ) → IsBy old → AreNone old.links → following.TakesAll takes 8300 old new octets → Whole octets new.links
   whole old new octets by none t =
       let r = reached old t.before_last octets t.last t.lines by none t.reaches in
       let last = last_none t.last t.before_last new t.takes_last in
       record {
         lines = r.lines;
         text = r.text ∙ ap (λ l. log_text r.lines ++ l) last.0 ∙ append-nil (log_text r.lines);
-        kept = subst (λ (s : Replaying). IsKept tables contexts r.lines s.links.runs.items) (sym last.1) r.kept;
+        kept = subst (λ (s : Replaying). IsKept tables contexts r.lines s.links) (sym last.1) r.kept;
       }
 
-  module _ (had left : Option (List ℕ)) (octets : List ℕ) (runs : List LinkRun) (w : Whole octets runs) (consumed : Consumes had left octets) (end : IsAtEnd left) where
+  module _ (had left : Option (List ℕ)) (octets : List ℕ) (links : Links) (w : Whole octets links) (consumed : Consumes had left octets) (end : IsAtEnd left) where
     -- there is a report
-    pub reported : {A : Type 0} (bytes : A → List ℕ) (final : Result A ReplayFault) → OnOk final (0 < length runs) → IfOk final (λ report. IsReport runs (bytes report))
+    pub reported : {A : Type 0} (bytes : A → List ℕ) (final : Result A ReplayFault) → OnOk final (0 < length links.runs.items) → IfOk final (λ report. IsReport links.runs.items (bytes report))
         → IfOk final (λ report. IfSome had (λ input. IsReplayed tables contexts input (bytes report)))
     reported bytes (Err fault) some is = tt
     reported bytes (Ok report) some is =
@@ -257,14 +257,14 @@ module _ (tables : List Contents) (contexts : List (List ℕ)) where
           report_is = is tables contexts (tag_in w.lines) w.kept.good.history w.kept.each ∙ ap (λ n. report_of n (totals_along w.kept.good.history)) w.kept.many;
         })
       where
-        lines_some : (lines : List Line) → IsKept tables contexts lines runs → 0 < length lines
+        lines_some : (lines : List Line) → IsKept tables contexts lines links → 0 < length lines
         lines_some [] kept = absurd (let n = kept.many in omega (arith, n, some))
         lines_some (line ∷ lines) kept = omega arith
 
     -- there is none
-    unreported : (fault : ReplayFault) → IsUnreported runs fault → Halts tables contexts had left fault
+    unreported : (fault : ReplayFault) → IsUnreported links.runs.items fault → Halts tables contexts had left fault
     unreported (faults.BadLine number) (is, none) =
-        let n = ap length (no_lines tables contexts w.lines runs w.kept (ap length none)) in
+        let n = ap length (no_lines tables contexts w.lines links w.kept (ap length none)) in
         consumed_then had left octets (BadAt tables contexts number) consumed (λ rest more. record {
           before = w.lines;
           rest = rest;
@@ -278,6 +278,6 @@ module _ (tables : List Contents) (contexts : List (List ℕ)) where
     unreported faults.Memory done = tt
     unreported _ never = absurd never
 
-    pub unreported_if : {A : Type 0} (final : Result A ReplayFault) → IfErr final (IsUnreported runs) → IfErr final (Halts tables contexts had left)
+    pub unreported_if : {A : Type 0} (final : Result A ReplayFault) → IfErr final (IsUnreported links.runs.items) → IfErr final (Halts tables contexts had left)
     unreported_if (Ok report) is = tt
     unreported_if (Err fault) is = unreported fault is

@@ -4,6 +4,7 @@ use Rattle.std.specs.List.{flat_map}
 use Rattle.fp_book.specs.declared.line.Line.{Line}
 use Rattle.fp_records.specs.Table.{Contents}
 use Rattle.fp_steps.specs.LogLines.{IsLog}
+use Rattle.fp_steps.specs.Places.{handed_in}
 use Rattle.fp_steps.specs.Retold.{LogsRun}
 use Rattle.fp_steps.specs.Totals.{totals_of}
 use Rattle.fp_steps.specs.declared.output.Output.{Output}
@@ -24,5 +25,5 @@ report_of_run link outputs = report_of link (λ before. totals_of []) ++ report_
 abbrev pub LogsOfRunsAreReplayed : Type 0
 LogsOfRunsAreReplayed =
     (tables : List Contents) (contexts : List (List ℕ)) (link tag : ℕ) (steps : List Step) (outputs : List Output) (log : List Line)
-    → LogsRun tables contexts (base_of link tag) steps outputs → IsLog link tag steps outputs log
+    → LogsRun (handed_in tag tables) contexts (base_of link tag) steps outputs → IsLog link tag steps outputs log
     → IsReplayed tables contexts (file_of log) (report_of_run link outputs)

@@ -8,6 +8,7 @@ use Rattle.fp_book.specs.declared.line.LoggedStep.TheVariants.{Post}
 use Rattle.fp_book.specs.declared.totals.Totals.{Totals}
 use Rattle.fp_records.specs.Table.{Contents}
 use Rattle.fp_steps.specs.History.{Event, outputs_of}
+use Rattle.fp_steps.specs.Places.{handed_in}
 use Rattle.fp_steps.specs.Retold.{Retells}
 use Rattle.fp_steps.specs.Totals.{totals_of}
 use Rattle.fp_tids.specs.Identifiers.{base_of}
@@ -30,16 +31,20 @@ tag_in [] = 0
 tag_in (Head links tag ∷ before) = tag
 tag_in (Step link step ∷ before) = tag_in before
 
--- the table by which a message was read is among those handed in
+-- the tables that a run with the tag of these lines has, of those that are handed in
+abbrev pub tables_for : List Line → List Contents → List Contents
+tables_for lines tables = handed_in (tag_in lines) tables
+
+-- the table by which a message was read is among these
 abbrev pub HasTable : List Contents → LoggedStep → Type 0
 HasTable tables (Post table moment message answer) = table < length tables
 HasTable tables _ = ⊤
 
--- the head comes before all others, and each other line is a step of a link that the head has, by a table that was
--- handed in
+-- the head comes before all others, and each other line is a step of a link that the head has, by a table that the run
+-- has: one that was handed in, in a place up to the last one of the tag in the head
 abbrev pub IsInPlace : List Contents → List Line → Line → Type 0
 IsInPlace tables [] (Head links tag) = ⊤
-IsInPlace tables (last ∷ before) (Step link step) = (link < links_in (last ∷ before)) × HasTable tables step
+IsInPlace tables (last ∷ before) (Step link step) = (link < links_in (last ∷ before)) × HasTable (tables_for (last ∷ before) tables) step
 IsInPlace tables _ _ = ⊥
 
 -- a line of the format, in its place after these
@@ -61,7 +66,7 @@ steps_of link (Step other step ∷ before) = if other == link then step ∷ step
 pub record IsRetold (tables : List Contents) (contexts : List (List ℕ)) (lines : List Line) : Type 0 where
   pub fit : AllFit tables lines
   pub history : ℕ → List Event
-  pub retells : (link : ℕ) → link < links_in lines → Retells tables contexts (base_of link (tag_in lines)) (steps_of link lines) (history link)
+  pub retells : (link : ℕ) → link < links_in lines → Retells (tables_for lines tables) contexts (base_of link (tag_in lines)) (steps_of link lines) (history link)
 
 -- the totals of a history
 abbrev pub totals_after : List Event → Totals

@@ -18,7 +18,7 @@ use Rattle.fp_streams.specs.Line.{IsOneLine}
 use Rattle.fp_streams.specs.Write.{AppendsFront}
 use Rattle.fp_tids.specs.Identifiers.{base_of}
 use Rattle.fp_replay.specs.Format.{text_of}
-use Rattle.fp_replay.specs.Replayed.{Fits, IsReplayed, IsRetold, log_text, tag_in}
+use Rattle.fp_replay.specs.Replayed.{Fits, IsReplayed, IsRetold, log_text, tables_for, tag_in}
 use Rattle.fp_replay.specs.declared.replay_fault.ReplayFault.{ReplayFault}
 use Rattle.fp_replay.specs.declared.replay_fault.ReplayFault.TheVariants.{BadLine, Gap, Disagrees, ReadFault, WriteFault, TurnLimit, Memory}
 
@@ -81,7 +81,7 @@ GapAt tables contexts number input = (at : StepAt tables contexts number input) 
 abbrev pub DisagreesAt : List Contents → List (List ℕ) → ℕ → List ℕ → Type 0
 DisagreesAt tables contexts number input =
     (at : StepAt tables contexts number input) × (is_gap at.step ≡ false)
-    × Differs tables contexts (base_of at.link (tag_in at.before)) (at.reaches.good.history at.link) at.step
+    × Differs (tables_for at.before tables) contexts (base_of at.link (tag_in at.before)) (at.reaches.good.history at.link) at.step
 
 -- how many octets a line may have, its line feed not counted
 abbrev pub most_line : ℕ

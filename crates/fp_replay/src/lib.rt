@@ -34,10 +34,11 @@
 //! lower case, a second blank, a carriage return, or the tag 0 in a head makes a bad line.
 //!
 //! A log is replayed if its lines are of the format and in their places, its messages are read by tables that were
-//! handed in, and each link has a history whose events retell its lines: each output is the answer that the history
-//! before determines, with the tag of the head, and a log has just that line of it (`specs/Replayed.antt`). Else the
-//! first line at which that fails is reported, and why (`specs/Stopped.antt`). By [`logs_have_one_report`] a log has
-//! one report or one fault at most, and a report counts the lines of its log.
+//! handed in (the first 1,000 in a run without a tag, the first 65,536 in one with a tag), and each link has a
+//! history whose events retell its lines: each output is the answer that the history before determines, with the
+//! tag of the head, and a log has just that line of it (`specs/Replayed.antt`). Else the first line at which that
+//! fails is reported, and why (`specs/Stopped.antt`). By [`logs_have_one_report`] a log has one report or one fault
+//! at most, and a report counts the lines of its log.
 #![tactic(auto)]
 
 mod answer;

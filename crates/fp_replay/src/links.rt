@@ -3,7 +3,7 @@
 ghost use Rattle.std.specs.Prelude.{◌≡◌, ◌<◌, ◌≤◌, ℕ, [], IfErr, IfOk, List, OnOk, length, string_bytes};
 ghost use Rattle.fp_book.specs.declared.line.Line.TheVariants as lines;
 ghost use Rattle.fp_records.specs.Table.{Contents};
-ghost use Rattle.fp_replay.specs.proof_only.Making.{AreNew, IsReport, IsUnreported, Taking, TakingText};
+ghost use Rattle.fp_replay.specs.proof_only.Making.{AreNew, AreNone, IsReport, IsUnreported, Taking, TakingText};
 
 use crate::line::line_in;
 use crate::logged::{has_table, is_gap, step_of};
@@ -14,21 +14,24 @@ use crate::{LineFault, ReplayFault, texts_are_of_one_line};
 use fp_apdu::Name;
 use fp_book::{Line, LoggedStep};
 use fp_records::Table;
-use fp_steps::LinkRun;
+use fp_steps::{LinkRun, handed_in};
 use fp_tids::LocalIds;
 use std::alloc::{AllocError, Global};
 
 /// The run of each link that the head of a log has, in their order. It must be spent.
 pub(crate) struct Links {
+    // The tag of the head, 0 before it was read.
+    tag: u16,
     runs: Vec<LinkRun>,
 }
 
 impl Links {
     /// No links: the head wasn't read yet.
     pub(crate) fn new(alloc: Global) -> Links
-        ensures { result.runs.items ≡ [] }
+        ensures { AreNone result }
     {
         Links {
+            tag: 0,
             runs: Vec::new(alloc),
         }
     }
@@ -41,7 +44,7 @@ impl Links {
         contexts: &[Name],
         text: &[u8],
     ) -> Result<(), Refusal>
-        ensures { TakingText tables.now contexts.now self.old.runs.items text.now result self.new.runs.items }
+        ensures { TakingText tables.now contexts.now self.old text.now result self.new }
     {
         texts_are_of_one_line();
         let line = match line_in(alloc, text) {
@@ -60,17 +63,18 @@ impl Links {
         requires most { links ≤ LocalIds.LINKS }
         requires tags { tag ≤ LocalIds.LAST_TAG }
         ensures { (tables : List Contents) (contexts : List (List ℕ))
-            → Taking tables contexts self.old.runs.items (lines.Head links tag) result self.new.runs.items }
+            → Taking tables contexts self.old (lines.Head links tag) result self.new }
     {
         if !self.runs.is_empty() {
             return Err(Refusal::BadLine);
         }
         begin_all(alloc, links, tag, &mut self.runs)?;
+        self.tag = tag;
         Ok(())
     }
 
-    /// Replays the step of a line on its link, and compares the line that it gives. A line by which a turn comes back
-    /// that isn't out has no step, and disagrees.
+    /// Replays the step of a line on its link, by the tables that the run has of these, and compares the line that it
+    /// gives. A line by which a turn comes back that isn't out has no step, and disagrees.
     fn make_again(
         &mut self,
         alloc: Global,
@@ -79,12 +83,13 @@ impl Links {
         link: u8,
         line: &LoggedStep,
     ) -> Result<(), Refusal>
-        ensures { Taking tables.now contexts.now self.old.runs.items (lines.Step link line.now) result self.new.runs.items }
+        ensures { Taking tables.now contexts.now self.old (lines.Step link line.now) result self.new }
     {
         let index = usize::from(link);
         if index >= self.runs.len() {
             return Err(Refusal::BadLine);
         }
+        let tables = handed_in(self.tag, tables);
         if !has_table(tables, line) {
             return Err(Refusal::BadLine);
         }
@@ -128,7 +133,7 @@ impl Links {
 
     /// Spends the runs, and the tokens that are out in them.
     pub(crate) fn abandon(self) {
-        let Links { mut runs } = self;
+        let Links { tag: _, mut runs } = self;
         while let Some(run) = runs.pop() {
             run.abandon();
         }

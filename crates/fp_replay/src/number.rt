@@ -2,11 +2,10 @@
 
 ghost use Rattle.std.specs.Prelude.{◌≡◌, ◌∷◌, ◌++◌, ◌<◌, ◌≤◌, ◌^◌, ℕ, decimal, IfSome, OnErr, OnOk};
 ghost use Rattle.fp_digits.specs.declared.moment.TheConstants.Moment.{END};
-ghost use Rattle.fp_records.specs.declared.table.TheConstants.Table.{LAST_INDEX};
+ghost use Rattle.fp_steps.specs.Places.{greatest_place};
 ghost use Rattle.fp_replay.specs.proof_only.Writing.{KeepsFront};
 
 use fp_digits::Moment;
-use fp_records::Table;
 use itoa::Buffer;
 use std::alloc::AllocError;
 
@@ -15,6 +14,10 @@ pub(crate) fn write_number(number: u64, text: &mut Vec<u8>) -> Result<(), AllocE
     ensures written { OnOk result (text.new.items ≡ text.old.items ++ decimal number) }
     ensures front { OnErr result (KeepsFront text.old.items text.new.items) }
 {
+    if number < 10 {
+        text.push(b'0' + number as u8)?;
+        return Ok(());
+    }
     text.extend_from_slice(Buffer::new().format(number).as_bytes())
 }
 
@@ -79,10 +82,10 @@ pub(crate) fn short_number_in(field: &[u8]) -> Option<u32>
 
 /// The place of a table, among those handed in, of a field.
 pub(crate) fn table_in(field: &[u8]) -> Option<u16>
-    ensures found { IfSome result (λ table. (table ≤ LAST_INDEX) × (field.now ≡ decimal table)) }
-    ensures only { (table : ℕ) → table ≤ LAST_INDEX → field.now ≡ decimal table → result ≡ Some table }
+    ensures found { IfSome result (λ table. (table ≤ greatest_place) × (field.now ≡ decimal table)) }
+    ensures only { (table : ℕ) → table ≤ greatest_place → field.now ≡ decimal table → result ≡ Some table }
 {
-    let Some(number) = number_in(field, u64::from(Table::LAST_INDEX)) else {
+    let Some(number) = number_in(field, u64::from(u16::MAX)) else {
         return None;
     };
     Some(number as u16)

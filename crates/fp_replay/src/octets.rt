@@ -1,8 +1,8 @@
 //! Octets: two hexadecimal digits each, in upper case.
 
-ghost use Rattle.std.specs.Prelude.{◌≡◌, ◌↔◌, ◌<◌, ◌++◌, ℕ, length, slice_index, EachIndex, IfOk, IfSome, IsTrue, List, MatchResult, OnErr, OnOk, ◌^◌};
+ghost use Rattle.std.specs.Prelude.{◌≡◌, ◌↔◌, ◌<◌, ◌++◌, ℕ, length, slice_index, EachIndex, IfOk, IfSome, IsTrue, List, MatchResult, OnErr, OnOk, ◌^◌, ◌*◌};
 ghost use Rattle.fp_frames.specs.Frame.{IsMessageLength};
-ghost use Rattle.hex.specs.Hex.{IsBytes, encode_upper};
+ghost use Rattle.hex.specs.Hex.{IsBytes, encode_upper, upper_digits};
 ghost use Rattle.hex.specs.declared.error.FromHexError.TheVariants.{OutOfMemory};
 ghost use Rattle.fp_replay.specs.Format.{identifier_text};
 ghost use Rattle.fp_replay.specs.proof_only.Writing.{KeepsFront};
@@ -14,19 +14,36 @@ use fp_frames::Frame;
 use hex::{FromHex, FromHexError};
 use std::alloc::{AllocError, Global};
 
-/// The digits, by their value.
-const DIGITS: &[u8; 16] = b"0123456789ABCDEF";
+/// The digit of a value.
+fn digit(value: u8) -> u8
+    requires { value < 16 }
+    ensures { result ≡ slice_index upper_digits value }
+{
+    // Neither a branch nor a table, so that a loop over octets becomes one over sixteen at a time.
+    b'0' + value + 7 * u8::from(value > 9)
+}
+
+/// Writes the digits of octets over others.
+fn put_digits(octets: &[u8], digits: &mut [u8])
+    requires { length digits.old ≡ 2 * length octets.now }
+    ensures { digits.new ≡ encode_upper octets.now }
+{
+    for place in 0..octets.len() {
+        let octet = octets[place];
+        digits[2 * place] = digit(octet / 16);
+        digits[2 * place + 1] = digit(octet % 16);
+    }
+}
 
 /// Adds octets to a text.
 pub(crate) fn write_octets(octets: &[u8], text: &mut Vec<u8>) -> Result<(), AllocError>
     ensures written { OnOk result (text.new.items ≡ text.old.items ++ encode_upper octets.now) }
     ensures front { OnErr result (KeepsFront text.old.items text.new.items) }
 {
+    let before = text.len();
     text.reserve(2 * octets.len())?;
-    for octet in octets {
-        text.push_reserved(DIGITS[usize::from(*octet / 16)]);
-        text.push_reserved(DIGITS[usize::from(*octet % 16)]);
-    }
+    text.resize(before + 2 * octets.len(), 0)?;
+    put_digits(octets, text.slice_mut(before..));
     Ok(())
 }
 

@@ -13,7 +13,8 @@ use thiserror::Error;
 #[derive(Clone, Copy, Debug, PartialEq, Eq, Error)]
 pub enum ReplayFault {
     /// There is no line of this number, though a log has a head, or it isn't a line of the format in its place, ended
-    /// by a line feed; or its message was read by a table that wasn't handed in.
+    /// by a line feed; or its message was read by a table that wasn't handed in, or that has a place after the last one
+    /// of the run.
     #[error("line {0}: bad line")]
     BadLine(u128),
     /// The line of this number says that lines were lost, or that memory ran out for a Clock.
@@ -48,7 +49,7 @@ impl From<AllocError> for ReplayFault {
 /// Why a line isn't taken.
 #[derive(Clone, Copy, Debug, PartialEq, Eq)]
 pub(crate) enum Refusal {
-    /// It isn't a line of the format in its place, or its message was read by a table that wasn't handed in.
+    /// It isn't a line of the format in its place, or its message was read by a table that the run doesn't have.
     BadLine,
     /// It says that lines were lost, or that memory ran out for a Clock.
     Gap,

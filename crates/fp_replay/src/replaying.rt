@@ -1,9 +1,10 @@
 //! A log, replayed from its first line to its last.
 
-ghost use Rattle.std.specs.Prelude.{◌≡◌, [], IfErr, IfOk, IfSome, OnOk, string_bytes};
+ghost use Rattle.std.specs.Prelude.{IfErr, IfOk, IfSome, OnOk, string_bytes};
 ghost use Rattle.std.specs.Io.KnownBytes.{IsAtEnd};
 ghost use Rattle.fp_replay.specs.Replayed.{IsReplayed};
 ghost use Rattle.fp_replay.specs.Stopped.{Halts, IsUnwritten, Replays, Stops, cause_of};
+ghost use Rattle.fp_replay.specs.proof_only.Making.{AreNone};
 ghost use Rattle.fp_replay.specs.proof_only.Taking.{refuses, takes};
 ghost use Rattle.fp_streams.specs.Ends.{CountsReads, CountsWrites, Reads};
 
@@ -26,10 +27,11 @@ const MOST_OCTETS: usize = 8300;
 /// [`write_line`](crate::write_line) writes them: at most 8,300 octets and a line feed. A step is replayed on the run
 /// of its link, and the line that a log has of it then is compared with this one. The local transaction identifiers of
 /// these runs have the tag of the head, 0 if it has none. The tables and the names are those by which the log was
-/// written: a message is read by the table in the place that its line has. At most `most_reads` reads are made, of up
-/// to 4,096 octets each, and (no clause says so) one line is held at a time.
+/// written: a message is read by the table in the place that its line has, 0 to 65,535 if the head has a tag and else 0
+/// to 999. At most `most_reads` reads are made, of up to 4,096 octets each, and (no clause says so) one line is held at
+/// a time.
 ///
-/// A line is first tried for a bad one (that of a table that wasn't handed in is one), then for a gap, then for one
+/// A line is first tried for a bad one (that of a table that wasn't handed in is one, and that of a later place), then for a gap, then for one
 /// that disagrees (one by which a turn comes back that isn't out is one), and the first fault ends the replay. The
 /// report is written after the last line: after [`ReplayFault::WriteFault`] a prefix of it was written, after any other
 /// fault nothing.
@@ -104,7 +106,7 @@ impl Replaying<'_> {
         most_reads: u64,
         reader: &mut R,
     ) -> Result<String, ReplayFault>
-        requires none { self.old.links.runs.items ≡ [] }
+        requires none { AreNone self.old.links }
         ensures end { OnOk result (IsAtEnd (R.remaining reader.new)) }
         ensures replayed { IfOk result (λ report. IfSome (R.remaining reader.old)
             (λ input. IsReplayed self.old.tables.now self.old.contexts.now input (string_bytes report))) }
