@@ -7,29 +7,29 @@ use Rattle.std.specs.Io.KnownBytes.{Appends}
 use Rattle.fp_serve.specs.declared.progress.LinkStatus.{LinkStatus}
 use Rattle.fp_serve.specs.Report.{IsAnswer, TellsAnswers, links_answer, reloaded_line}
 
-module _ (first_link : ℕ) (has_commands : Bool) (a b : Option (List ℕ)) where
+module _ (last first_link : ℕ) (has_commands : Bool) (a b : Option (List ℕ)) where
   -- nothing was written
-  pub none : TellsAnswers first_link has_commands a a
-  none = ([], All-nil (IsAnswer first_link has_commands), Appends-nil a)
+  pub none : TellsAnswers last first_link has_commands a a
+  none = ([], All-nil (IsAnswer last first_link has_commands), Appends-nil a)
 
   -- one answer was
-  one : (text : List ℕ) → IsAnswer first_link has_commands text → Appends a b text → TellsAnswers first_link has_commands a b
+  one : (text : List ℕ) → IsAnswer last first_link has_commands text → Appends a b text → TellsAnswers last first_link has_commands a b
   one text is wrote = (
     text ∷ [],
-    All-cons (IsAnswer first_link has_commands) text [] is (All-nil (IsAnswer first_link has_commands)),
+    All-cons (IsAnswer last first_link has_commands) text [] is (All-nil (IsAnswer last first_link has_commands)),
     subst (Appends a b) (sym (append-nil text)) wrote,
   )
 
-  pub reloaded : (index : ℕ) → (1 ≤ index) × (index ≤ 999) → Appends a b (reloaded_line index) → TellsAnswers first_link has_commands a b
+  pub reloaded : (index : ℕ) → (1 ≤ index) × (index ≤ last) → Appends a b (reloaded_line index) → TellsAnswers last first_link has_commands a b
   reloaded index (least, most) = one (reloaded_line index) (inl (index, least, most, refl))
 
-  pub of_links : (links : List LinkStatus) → has_commands ≡ true → Appends a b (links_answer first_link links) → TellsAnswers first_link has_commands a b
+  pub of_links : (links : List LinkStatus) → has_commands ≡ true → Appends a b (links_answer first_link links) → TellsAnswers last first_link has_commands a b
   of_links links has = one (links_answer first_link links) (inr (has, (links, refl)))
 
   -- and then others were
-  pub more : (c : Option (List ℕ)) → TellsAnswers first_link has_commands a b → TellsAnswers first_link has_commands b c → TellsAnswers first_link has_commands a c
+  pub more : (c : Option (List ℕ)) → TellsAnswers last first_link has_commands a b → TellsAnswers last first_link has_commands b c → TellsAnswers last first_link has_commands a c
   more c (first, are_first, wrote) (then, are_then, wrote_then) = (
     first ++ then,
-    All-append (IsAnswer first_link has_commands) first then are_first are_then,
+    All-append (IsAnswer last first_link has_commands) first then are_first are_then,
     subst (Appends a c) (sym (concat-append first then)) (Appends-trans a b c _ _ wrote wrote_then),
   )

@@ -47,32 +47,32 @@ abbrev pub links_answer : ℕ → List LinkStatus → List ℕ
 links_answer first_link links =
     lines_by (λ place. status_line (first_link + place)) 0 links ++ links_line (length links)
 
--- a table replaced another, and has one of the indexes that a log can name
-abbrev pub IsReloaded : List ℕ → Type 0
-IsReloaded text = (index : ℕ) × (1 ≤ index) × (index ≤ 999) × (text ≡ reloaded_line index)
+-- a table replaced another, and has an index up to the last one that tables may have
+abbrev pub IsReloaded : ℕ → List ℕ → Type 0
+IsReloaded last text = (index : ℕ) × (1 ≤ index) × (index ≤ last) × (text ≡ reloaded_line index)
 
 -- the answer to `links`
 abbrev pub TellsOfLinks : ℕ → List ℕ → Type 0
 TellsOfLinks first_link text = (links : List LinkStatus) × (text ≡ links_answer first_link links)
 
 -- the answer to a command: the second only if more commands are known
-abbrev pub IsAnswer : ℕ → Bool → List ℕ → Type 0
-IsAnswer first_link has_commands text = IsReloaded text ⊎ ((has_commands ≡ true) × TellsOfLinks first_link text)
+abbrev pub IsAnswer : ℕ → ℕ → Bool → List ℕ → Type 0
+IsAnswer last first_link has_commands text = IsReloaded last text ⊎ ((has_commands ≡ true) × TellsOfLinks first_link text)
 
 -- the answers to commands were written, and nothing else
-abbrev pub TellsAnswers : ℕ → Bool → Option (List ℕ) → Option (List ℕ) → Type 0
-TellsAnswers first_link has_commands old new = (answers : List (List ℕ)) × All (IsAnswer first_link has_commands) answers × Appends old new (concat answers)
+abbrev pub TellsAnswers : ℕ → ℕ → Bool → Option (List ℕ) → Option (List ℕ) → Type 0
+TellsAnswers last first_link has_commands old new = (answers : List (List ℕ)) × All (IsAnswer last first_link has_commands) answers × Appends old new (concat answers)
 
 -- what each link counted, from the number 0 on: below the first link nothing
 abbrev pub with_links_below : ℕ → List Totals → List Totals
 with_links_below first_link totals = replicate first_link no_totals ++ totals
 
--- An address was written, then the answers to commands, and in the end what each of this number of links counted, in
+-- An address was written, then the answers to commands, of which a reload has an index up to the last one, and in the end what each of this number of links counted, in
 -- their order, and nothing else. Before the first link each number below it has a line, as a replay of the log writes it.
-pub record TellsLinks (first_link links : ℕ) (has_commands : Bool) (old new : Option (List ℕ)) : Type 0 where
+pub record TellsLinks (last first_link links : ℕ) (has_commands : Bool) (old new : Option (List ℕ)) : Type 0 where
   pub address : SocketAddr
   pub answers : List (List ℕ)
-  pub allowed : All (IsAnswer first_link has_commands) answers
+  pub allowed : All (IsAnswer last first_link has_commands) answers
   pub totals : List Totals
   pub each : length totals ≡ links
   pub wrote : Appends old new (listening_line address ++ (concat answers ++ lines_by report_line 0 (with_links_below first_link totals)))

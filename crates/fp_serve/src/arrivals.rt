@@ -1,7 +1,9 @@
 //! The frames of a link that came.
 
 use crate::departures::send_waiting;
+use crate::lingering::linger;
 use crate::link::Link;
+use crate::log_wait::LogWait;
 use crate::moment::now;
 use crate::stop::SECONDS_TO_END;
 use crate::turns::LineGate;
@@ -42,6 +44,8 @@ struct Arrivals<'x, R, G: Gate, A: Ledger, B: Ledger, C: Ledger> {
     work: VecDeque<Work>,
     // How many are prepared for one hold: few after one that was held back.
     portion: usize,
+    // How it waits for the log.
+    log_wait: LogWait,
 }
 
 impl<R: Wait + Clock, G: Gate, A: Ledger, B: Ledger, C: Ledger> Arrivals<'_, R, G, A, B, C> {
@@ -127,20 +131,9 @@ impl<R: Wait + Clock, G: Gate, A: Ledger, B: Ledger, C: Ledger> Arrivals<'_, R, 
             }
         }
     }
-}
 
-impl<R: Wait + Clock, G: Gate, A: Ledger, B: Ledger, C: Ledger> Inbox
-    for Arrivals<'_, R, G, A, B, C> {
-    fn frame(&mut self, frame: Frame) {
-        if self.frames.push_back(frame).is_err() {
-            self.link.end(Why::Memory);
-        }
-        if self.frames.len() >= MOST_FRAMES {
-            self.end_of_read();
-        }
-    }
-
-    fn end_of_read(&mut self) {
+    /// Posts the frames that were read, and helps to serve and to send what they bring, until none is left.
+    fn post_frames(&mut self) {
         let Link { rt, hub, .. } = self.link;
         let alloc = self.service.alloc;
         for _ in rt.forever() {
@@ -151,15 +144,32 @@ impl<R: Wait + Clock, G: Gate, A: Ledger, B: Ledger, C: Ledger> Inbox
             if self.help() || is_aborted {
                 self.send();
             }
-            self.link.await_log();
+            self.log_wait.await_places(self.link);
             self.await_room();
         }
     }
 }
 
-/// Receives until the link ends. At the end of the input, and if the links are to end as there, it stays up until what
-/// it accepted is served and sent, two seconds at most; in any other case it goes down at once. Returns the seat, with
-/// what was counted.
+impl<R: Wait + Clock, G: Gate, A: Ledger, B: Ledger, C: Ledger> Inbox
+    for Arrivals<'_, R, G, A, B, C> {
+    fn frame(&mut self, frame: Frame) {
+        if self.frames.push_back(frame).is_err() {
+            self.link.end(Why::Memory);
+        }
+        if self.frames.len() >= MOST_FRAMES {
+            self.post_frames();
+        }
+    }
+
+    fn end_of_read(&mut self) {
+        self.post_frames();
+        self.log_wait.renew(self.link.log);
+    }
+}
+
+/// Receives until the link ends. At the end of the input it stays up until what it accepted is served and sent, two
+/// seconds at most; if the links are to end, it ends as [`linger`] says; in any other case it goes down at once.
+/// Returns the seat, with what was counted.
 pub(crate) fn receive_all<'x, R: Wait + Clock, G: Gate, A: Ledger, B: Ledger, C: Ledger>(
     link: Link<'x, R, A, B, C>,
     service: Service<'x>,
@@ -185,21 +195,23 @@ pub(crate) fn receive_all<'x, R: Wait + Clock, G: Gate, A: Ledger, B: Ledger, C:
         came,
         work: VecDeque::new(alloc),
         portion: MOST_FRAMES,
+        log_wait: LogWait::new(link.log),
     };
     let mut reader = Counted::new(link.traced_stream());
     let ended = receive(alloc, &mut reader, MOST_READS, &mut arrivals);
-    let is_quitting = link.log.stop.is_quitting();
-    let why = if is_quitting {
-        Why::Quit
+    if link.log.stop.is_quitting() {
+        link.ending.note(link.rt, Why::Quit);
+        linger(link);
+        link.end(Why::Quit);
     } else {
-        reader.device.last.why(ended)
-    };
-    // What ends the link after this follows from it.
-    link.ending.note(link.rt, why);
-    if is_quitting || ended == Ended::EndOfInput {
-        link.await_quiet(Duration::from_secs(SECONDS_TO_END));
+        let why = reader.device.last.why(ended);
+        // What ends the link after this follows from it.
+        link.ending.note(link.rt, why);
+        if ended == Ended::EndOfInput {
+            link.await_quiet(Duration::from_secs(SECONDS_TO_END));
+        }
+        link.end(why);
     }
-    link.end(why);
     let Arrivals {
         link: _,
         service: _,
@@ -210,6 +222,7 @@ pub(crate) fn receive_all<'x, R: Wait + Clock, G: Gate, A: Ledger, B: Ledger, C:
         came: _,
         work,
         portion: _,
+        log_wait: _,
     } = arrivals;
     abandon_all(work);
     seat

@@ -1,21 +1,23 @@
 //! The commands of a run: lines of a reader, of which the run follows one after another until it is over.
 
-ghost use Rattle.std.specs.Prelude.{◌≤◌, IfSome, OnOk};
-ghost use Rattle.fp_serve.specs.Report.{TellsAnswers};
+ghost use Rattle.std.specs.Prelude.{◌≤◌, IfOk, IfSome, OnOk, string_bytes};
+ghost use Rattle.fp_serve.specs.Report.{TellsAnswers, TellsOfLinks};
 
 use crate::ServeFault;
+use crate::log::Log;
 use crate::progress::Progress;
-use crate::report::{write_links, write_reloaded};
+use crate::report::{answer_of, write_flushed, write_reloaded};
 use crate::stop::Stop;
+use crate::ticking::time_since;
 use crossbeam_channel::{Receiver, Sender};
 use fp_hub::Tables;
 use fp_streams::LinkWrite;
-use std::alloc::Global;
+use std::alloc::{AllocError, Global};
 use std::io::{ErrorKind, Read};
 use std::rt::Clock;
-use std::sync::Wait;
+use std::sync::{Arc, Wait};
 use std::thread::Threads;
-use std::time::Duration;
+use std::time::{Duration, Instant};
 use std::{str, thread};
 
 /// How many octets one read of the commands may give.
@@ -33,18 +35,24 @@ pub(crate) const MOST_WAITING: usize = 16;
 /// How many seconds go by between two looks whether tables that were replaced can be freed.
 const REST_SECONDS: u64 = 1;
 
-/// How many of these rests the thread of the links may take to run.
-const SECONDS_OF_THE_START: u64 = 10;
+/// How many milliseconds go by between two looks whether the thread of the links runs, until it does.
+const LOOK_MILLISECONDS: u64 = 200;
+
+/// How many seconds it may take to run.
+const SECONDS_AT_THE_START: u64 = 10;
 
 /// What reads the records of a run again, and says what is wrong with a command.
 pub trait Operator {
     /// Reads the records again, replaces the newest table by theirs, and gives its index. `None`: the newest stays, and
     /// it was said why.
     fn reload(&mut self, tables: &Tables) -> Option<u32>
-        ensures { IfSome result (λ index. (1 ≤ index) × (index ≤ 999)) };
+        ensures { IfSome result (λ index. (1 ≤ index) × (index ≤ tables.now)) };
 
     /// Says that a command isn't known.
     fn refuse(&mut self);
+
+    /// Says why a command that was followed got no answer.
+    fn fail(&mut self, fault: ServeFault);
 }
 
 /// The commands of a run, and who follows them.
@@ -119,8 +127,29 @@ impl Line {
     }
 }
 
-/// Sends a notice of each line that is read here, until no more come. The last one may have no line feed.
-fn read_commands<R: Wait, I: Read>(rt: &R, input: &mut I, notices: &Sender<Notice>) {
+/// Sends a notice of a line that was read, and ends the links of this log if it says so: that waits for no command
+/// before it. `false`: nobody takes notices any more.
+fn send_command<R: Wait + Clock>(
+    rt: &R,
+    line: &Line,
+    ended: Option<&Arc<Log>>,
+    notices: &Sender<Notice>,
+) -> bool {
+    let command = line.command();
+    if let (Command::Quit, Some(log)) = (command, ended) {
+        log.stop.quit(rt);
+    }
+    notices.send(rt, Notice::Command(command)).is_ok()
+}
+
+/// Sends a notice of each line that is read here, until no more come, and ends the links of this log if a line says so.
+/// The last one may have no line feed.
+fn read_commands<R: Wait + Clock, I: Read>(
+    rt: &R,
+    input: &mut I,
+    ended: Option<&Arc<Log>>,
+    notices: &Sender<Notice>,
+) {
     let mut room = [0; MOST_READ];
     let mut line = Line::new();
     for _ in 0..MOST_READS {
@@ -135,33 +164,40 @@ fn read_commands<R: Wait, I: Read>(rt: &R, input: &mut I, notices: &Sender<Notic
                 line.push(*octet);
                 continue;
             }
-            let command = Notice::Command(line.command());
-            if notices.send(rt, command).is_err() {
+            if !send_command(rt, &line, ended, notices) {
                 return;
             }
             line = Line::new();
         }
     }
     if line.count > 0 {
-        let _ = notices.send(rt, Notice::Command(line.command()));
+        let _ = send_command(rt, &line, ended, notices);
     }
     let _ = notices.send(rt, Notice::NoCommands);
 }
 
-/// Starts a thread that reads commands. It isn't joined: it may wait for its input when the run is over.
+/// Starts a thread that reads commands, of which `quit` ends the links of this log, if more commands are known. The
+/// thread isn't joined: it may wait for its input when the run is over.
 pub(crate) fn start_reading<R, I>(
     rt: &R,
     input: I,
+    log: &Arc<Log>,
+    has_commands: bool,
     notices: Sender<Notice>,
 ) -> Result<(), ServeFault>
 where
-    R: Threads + Wait + Copy + Send + 'static,
+    R: Threads + Wait + Clock + Copy + Send + 'static,
     I: Read + Send + Drop + 'static,
 {
     let own = *rt;
+    let ended = if has_commands {
+        Some(Arc::try_clone(log)?)
+    } else {
+        None
+    };
     let reading = thread::spawn(rt, move || {
         let mut input = input;
-        read_commands(&own, &mut input, &notices);
+        read_commands(&own, &mut input, ended.as_ref(), &notices);
     });
     match reading {
         Ok(_) => Ok(()),
@@ -182,7 +218,16 @@ pub(crate) struct Run<'x> {
     pub(crate) stop: &'x Stop,
 }
 
-/// Does what a command asks for, if one came, and writes its answer, if it has one.
+/// The answer to `links`.
+fn links_text<R: Wait>(rt: &R, run: Run<'_>) -> Result<String, AllocError>
+    ensures { IfOk result (λ text. TellsOfLinks run.entry.first_link (string_bytes text)) }
+{
+    let links = run.progress.links(rt, run.alloc)?;
+    answer_of(run.alloc, run.first_link, links.as_slice())
+}
+
+/// Does what a command asks for, if one came, and writes its answer, if it has one. If memory runs out for that of
+/// `links`, it is said, and nothing is written.
 fn obey<R: Wait + Clock, O: Operator, W: LinkWrite>(
     rt: &R,
     run: Run<'_>,
@@ -190,23 +235,26 @@ fn obey<R: Wait + Clock, O: Operator, W: LinkWrite>(
     operator: &mut O,
     output: &mut W,
 ) -> Result<(), ServeFault>
-    ensures { OnOk result (TellsAnswers run.entry.first_link run.entry.has_commands
+    ensures { OnOk result (TellsAnswers run.entry.tables.now run.entry.first_link run.entry.has_commands
         (W.contents output.old) (W.contents output.new)) }
 {
     match command {
         None => Ok(()),
-        Some(Command::Reload) => match operator.reload(run.tables) {
-            Some(index) => write_reloaded(run.alloc, index, output),
-            None => Ok(()),
+        Some(Command::Reload) => {
+            let Some(index) = operator.reload(run.tables) else {
+                return Ok(());
+            };
+            write_reloaded(index, output)
+        }
+        Some(Command::Links) if run.has_commands => match links_text(rt, run) {
+            Ok(text) => write_flushed(text.as_str(), output),
+            Err(_) => {
+                operator.fail(ServeFault::Memory);
+                Ok(())
+            }
         },
-        Some(Command::Links) if run.has_commands => {
-            let links = run.progress.links(rt, run.alloc)?;
-            write_links(run.alloc, run.first_link, links.as_slice(), output)
-        }
-        Some(Command::Quit) if run.has_commands => {
-            run.stop.quit(rt);
-            Ok(())
-        }
+        // The thread that read it has ended the links.
+        Some(Command::Quit) if run.has_commands => Ok(()),
         Some(Command::Links | Command::Quit | Command::Unknown) => {
             operator.refuse();
             Ok(())
@@ -214,17 +262,38 @@ fn obey<R: Wait + Clock, O: Operator, W: LinkWrite>(
     }
 }
 
+/// Whether the thread of the links can't have been started: it doesn't run, and the system has no thread now either, or
+/// too much time went by since this start.
+fn lacks_thread<R: Threads + Clock>(rt: &R, progress: &Progress, start: Option<Instant>) -> bool {
+    if progress.have_begun() {
+        return false;
+    }
+    let most = Duration::from_secs(SECONDS_AT_THE_START);
+    let is_late = time_since(rt, start).is_some_and(|since| since >= most);
+    is_late || thread::spawn(rt, || {}).is_err()
+}
+
+/// How long the next command is awaited: until it is known that the thread of the links runs, a fifth of a second.
+fn rest(progress: &Progress) -> Duration {
+    if progress.have_begun() {
+        Duration::from_secs(REST_SECONDS)
+    } else {
+        Duration::from_millis(LOOK_MILLISECONDS)
+    }
+}
+
 /// Follows the commands until all links are down, and, unless the run ends with its links, no more commands come or
-/// there was a fault. If what they give can't be written, or the thread of the links doesn't run within ten seconds, all
-/// links are to go down.
-pub(crate) fn follow<R: Wait + Clock, O: Operator, W: LinkWrite>(
+/// there was a fault. If what they give can't be written, all links are to go down; if the run ends with its links,
+/// that is said, and they go on, but the run has this fault in the end. If the thread of the links can't be started,
+/// or doesn't run within ten seconds, they are to go down too.
+pub(crate) fn follow<R: Threads + Wait + Clock, O: Operator, W: LinkWrite>(
     rt: &R,
     run: Run<'_>,
     notices: &Receiver<Notice>,
     operator: &mut O,
     output: &mut W,
 ) -> Result<(), ServeFault>
-    ensures { OnOk result (TellsAnswers run.entry.first_link run.entry.has_commands
+    ensures { OnOk result (TellsAnswers run.entry.tables.now run.entry.first_link run.entry.has_commands
         (W.contents output.old) (W.contents output.new)) }
 {
     let Run {
@@ -234,31 +303,36 @@ pub(crate) fn follow<R: Wait + Clock, O: Operator, W: LinkWrite>(
         ..
     } = run;
     let mut is_input_open = true;
-    let mut patience = SECONDS_OF_THE_START;
+    let start = Instant::now(rt).ok();
+    let mut outcome = Ok(());
     for _ in rt.forever() {
         let mut command = None;
-        match notices.recv_timeout(rt, Duration::from_secs(REST_SECONDS)) {
+        match notices.recv_timeout(rt, rest(progress)) {
             Ok(Notice::Command(came)) => command = Some(came),
             Ok(Notice::NoCommands) => is_input_open = false,
             Ok(Notice::LinksDown) => {}
-            Err(_) => patience = patience.saturating_sub(1),
+            Err(_) => {}
         }
         match obey(rt, run, command, operator, output) {
             Ok(()) => {}
+            Err(fault) if run.has_commands => {
+                operator.fail(fault);
+                outcome = Err(fault);
+            }
             Err(fault) => {
                 stop.ask_for(rt, fault);
                 return Err(fault);
             }
         }
         tables.free_replaced(rt);
-        if patience == 0 && !progress.have_begun() {
+        if lacks_thread(rt, progress, start) {
             stop.ask_for(rt, ServeFault::NoThread);
             return Err(ServeFault::NoThread);
         }
         let awaits_commands = is_input_open && !run.has_commands && stop.fault(rt).is_none();
         if progress.are_down() && !awaits_commands {
-            return Ok(());
+            return outcome;
         }
     }
-    Ok(())
+    outcome
 }

@@ -127,6 +127,9 @@ pub(crate) fn connection<R: Wait + Clock>(
                 // Each answer goes out at once, whether the client has acknowledged the one before or not. If the
                 // system refuses that, answers go out all the same.
                 let _ = stream.set_nodelay(true);
+                // So a thread that reads sees the command to end, although nothing comes.
+                let most = Duration::from_millis(LOOK_MILLISECONDS.unsigned_abs().into());
+                let _ = stream.set_read_timeout(Some(most));
                 watch_peer(&stream);
                 return Some((stream, peer));
             }

@@ -126,6 +126,13 @@ pub enum Event {
     LogFails,
     /// The log is written again.
     LogGoesOn,
+    /// Lines of a link found no place, and the log has a gap there.
+    LogGap {
+        /// The number of the link.
+        link: u8,
+        /// How many lines.
+        lines: u64,
+    },
     /// The run ended without having written this number of lines.
     LogLost {
         /// How many lines.
@@ -156,6 +163,8 @@ impl fmt::Display for Event {
             Event::Down { link, why } => write!(f, "link {link} down {why}"),
             Event::LogFails => f.write_str("log: cannot be written, lines are lost"),
             Event::LogGoesOn => f.write_str("log: written again"),
+            Event::LogGap { link, lines: 1 } => write!(f, "link {link} log: 1 line is lost"),
+            Event::LogGap { link, lines } => write!(f, "link {link} log: {lines} lines are lost"),
             Event::LogLost { lines: 1 } => f.write_str("log: 1 line is lost"),
             Event::LogLost { lines } => write!(f, "log: {lines} lines are lost"),
         }

@@ -37,7 +37,7 @@
 //! gathered first and then written at once, under a lock, by whichever thread sends.
 //!
 //! If lines wait in a book, the clock is woken, which makes their text; if many do the other threads move some of them
-//! out of the book too. Only the writing thread waits for the device of the log.
+//! out of the book too. Only the writing thread waits for the device of the log, and for a bounded time a receiver does.
 //!
 //! A thread of its own reads the commands, and the run follows them, while another thread accepts the connections and
 //! joins the threads of the links. All links share the tables, and each keeps the one from which it answers.
@@ -52,12 +52,14 @@
 //! | `link.rt`, `ending.rt` | a link: what its threads share, its end and the reason of it, and what it counted |
 //! | `threads.rt` | the threads of a link: their start and their end |
 //! | `arrivals.rt` | the receiving thread, and how it helps |
+//! | `lingering.rt` | the end of a link after the command `quit` |
 //! | `departures.rt` | the sending thread, and what waits to be sent, which the receiving thread sends too |
 //! | `traced_stream.rt` | the connection of a link, and how the last call of these threads ended |
 //! | `ticking.rt`, `moment.rt` | the clock of a link, which takes it down if its dialogues keep too many entries; the time of day |
 //! | `turns.rt` | a worker, and its part in moving lines |
 //! | `log.rt` | what the links and the run share with the thread that writes the log, and how long each waits for it |
 //! | `link_log.rt`, `log_writer.rt` | the lines of a link that wait, and the thread that writes them |
+//! | `log_wait.rt` | how the receiving thread of a link waits for places for lines |
 //! | `events.rt` | the events of a run, and the thread that writes them |
 //! | `stop.rt` | why all links are to go down, or to end |
 //! | `report.rt` | the lines of the address, of the commands' answers and of the report |
@@ -81,9 +83,11 @@ mod ending;
 mod events;
 mod fault;
 mod keep_alive;
+mod lingering;
 mod link;
 mod link_log;
 mod log;
+mod log_wait;
 mod log_writer;
 mod moment;
 mod progress;

@@ -5,7 +5,7 @@ ghost use Rattle.fp_hub.specs.Shares.{AreBlanks};
 
 use crate::departures::Outgoing;
 use crate::ending::Ending;
-use crate::link_log::{Left, LinkLog, Made};
+use crate::link_log::{Left, LinkLog};
 use crate::log::Log;
 use crate::progress::Progress;
 use crate::threads::run_threads;
@@ -25,11 +25,14 @@ use std::thread;
 use std::thread::Threads;
 use std::time::{Duration, Instant};
 
-/// How many milliseconds go by between two looks whether all was handed on to the socket, or lines of the log were.
+/// How many milliseconds go by between two looks whether all was handed on to the socket.
 const LOOK_MILLISECONDS: u64 = 1;
 
-/// How often a thread that waits for the log looks at most.
-const LOOKS_AT_THE_LOG: usize = 100;
+/// How many milliseconds go by between two tries to make the last text of a link, where there is no memory for it.
+const MILLISECONDS_WITHOUT_MEMORY: u64 = 10;
+
+/// How often that is tried at most: for a minute.
+const MOST_TRIES: u32 = 6_000;
 
 /// What the threads of a link share.
 #[derive_where(Clone, Copy)]
@@ -62,17 +65,24 @@ impl<'x, R: Wait + Clock, A: Ledger, B: Ledger, C: Ledger> Link<'x, R, A, B, C> 
     /// receiving thread ends, and a write of its sending thread; and its hub is closed, so that its workers end. A
     /// second time changes nothing but the log. It is reported with the first reason that came.
     pub(crate) fn end(&self, why: Why) {
+        self.end_through(why, Shutdown::Both);
+    }
+
+    /// Ends the link as [`Link::end`], but shuts only the writing side of its socket down: the receiving thread may
+    /// still read, so that the system hands over what was sent.
+    pub(crate) fn end_sending(&self, why: Why) {
+        self.end_through(why, Shutdown::Write);
+        self.note_status();
+    }
+
+    /// Ends the link, and shuts this much of its socket down.
+    fn end_through(&self, why: Why, how: Shutdown) {
         self.ending.report(self.rt, why);
         if !self.hub.is_down(self.rt) {
             self.hub.down(self.rt);
         }
-        let _ = self.stream.shutdown(Shutdown::Both);
+        let _ = self.stream.shutdown(how);
         self.hub.close(self.rt);
-    }
-
-    /// Ends its input: its receiving thread, if it waits for the socket, finds nothing more there.
-    pub(crate) fn end_input(&self) {
-        let _ = self.stream.shutdown(Shutdown::Read);
     }
 
     /// Notes its status.
@@ -95,49 +105,50 @@ impl<'x, R: Wait + Clock, A: Ledger, B: Ledger, C: Ledger> Link<'x, R, A, B, C> 
         }
     }
 
-    /// Memory ran out for lines of the log: all links are to go down.
-    fn stop_for_memory(&self) {
-        self.log.stop.ask_for(self.rt, ServeFault::Memory);
-    }
-
-    /// Lines got their text. If memory ran out, all links are to go down.
-    fn count(&self, made: Made) {
-        self.log.add(made.line_count);
-        if made.is_out_of_memory {
-            self.stop_for_memory();
-        }
+    /// Whether nothing is left to be served or sent, and all was handed on to the socket; or the link is down.
+    pub(crate) fn is_quiet(&self) -> bool {
+        self.hub.await_quiet(self.rt, Duration::ZERO) && self.outgoing.try_lock().is_some()
     }
 
     /// Makes the text of its lines, as [`LinkLog::make_text`], and says what is left.
     pub(crate) fn make_text(&self) -> Left {
         let made = self.lines.make_text(self.rt, self.hub);
-        self.count(made);
+        self.log.add(made.line_count);
         made.left
     }
 
     /// Moves lines out of its book if that has many, as [`LinkLog::move_lines_if_many`].
     pub(crate) fn move_lines_if_many(&self) {
-        if !self.lines.move_lines_if_many(self.rt, self.hub) {
-            self.stop_for_memory();
-        }
+        self.lines.move_lines_if_many(self.rt, self.hub);
     }
 
-    /// Does so, and waits while the log of its book is nearly full and text is being made, a tenth of a second at most:
-    /// a client that sends faster than lines get their text is read no faster. While the device of the log takes
-    /// nothing it doesn't wait, and lines may be lost in a gap.
-    pub(crate) fn await_log(&self) {
-        for _ in 0..LOOKS_AT_THE_LOG {
-            self.move_lines_if_many();
-            if !self.hub.is_log_nearly_full() || !self.lines.has_room_for_text() {
+    /// Whether there may soon be no place for its lines: its book is nearly full, or their list is filling up.
+    pub(crate) fn lacks_places(&self) -> bool {
+        self.hub.is_log_nearly_full() || self.lines.is_filling()
+    }
+
+    /// Whether no more messages are posted: it is down, or the links are to end.
+    pub(crate) fn is_ending(&self) -> bool {
+        self.log.stop.is_quitting() || self.hub.is_down(self.rt)
+    }
+
+    /// Makes the text of all of its lines, once the link is down and its other threads have ended. If memory runs out,
+    /// it is tried again, for a minute or until the run is to end: then lines are lost, and all links are to go down.
+    fn make_last_text(&self) {
+        let stop = &self.log.stop;
+        for _ in 0..MOST_TRIES {
+            let made = self.lines.make_last_text(self.rt, self.hub);
+            self.log.add(made.line_count);
+            if made.left != Left::NoMemory {
+                return;
+            }
+            if stop.refuses_connections(self.rt) {
                 break;
             }
-            thread::sleep(self.rt, Duration::from_millis(LOOK_MILLISECONDS));
+            let rest = Duration::from_millis(MILLISECONDS_WITHOUT_MEMORY);
+            thread::sleep(self.rt, rest);
         }
-    }
-
-    /// Makes the text of all of them, once the link is down and its other threads have ended.
-    fn make_last_text(&self) {
-        self.count(self.lines.make_last_text(self.rt, self.hub));
+        stop.ask_for(self.rt, ServeFault::Memory);
     }
 }
 

@@ -1,10 +1,12 @@
 //! The lines of a link that wait for the thread that writes the log.
 
+use crate::events::{Event, Events};
 use fp_book::{Line, LoggedStep};
 use fp_hub::Hub;
 use fp_replay::write_line;
 use std::alloc::{AllocError, Global};
 use std::mem;
+use std::rt::Clock;
 use std::sync::ledger::Ledger;
 use std::sync::{Mutex, Wait};
 
@@ -16,6 +18,12 @@ const MOST_LINES: usize = 32_768;
 
 /// From how many octets of messages that wait with their lines no more lines are moved.
 const MOST_OCTETS_OF_MESSAGES: usize = 4 << 20;
+
+/// From how many lines that wait for their text the list is filling up: three quarters of its places.
+const LINES_OF_A_FILLING_LIST: usize = MOST_LINES / 4 * 3;
+
+/// From how many octets of their messages it is.
+const OCTETS_OF_A_FILLING_LIST: usize = MOST_OCTETS_OF_MESSAGES / 4 * 3;
 
 /// How many times lines are moved in one turn at most: all that may wait.
 const MOST_MOVES: usize = MOST_LINES / LINES_AT_ONCE;
@@ -76,6 +84,8 @@ pub(crate) enum Left {
     Lines,
     /// Lines may wait, and there is no room for their text until the writing thread takes what there is.
     NoRoom,
+    /// Lines wait, and memory ran out for their text: it may be tried again.
+    NoMemory,
 }
 
 /// What came of making text.
@@ -85,8 +95,6 @@ pub(crate) struct Made {
     pub(crate) line_count: u64,
     /// What is left.
     pub(crate) left: Left,
-    /// Memory ran out, so that lines are lost.
-    pub(crate) is_out_of_memory: bool,
 }
 
 /// How many octets the message of a line has, if there is one.
@@ -100,10 +108,27 @@ fn message_len(line: &Line) -> usize {
     }
 }
 
+/// Reports a gap in the log of a link, if a line says that there is one.
+fn report_gap<R: Wait + Clock>(rt: &R, line: &Line, events: &Events) {
+    if let Line::Step {
+        link,
+        step: LoggedStep::Gap { lost },
+    } = line
+    {
+        events.report(
+            rt,
+            Event::LogGap {
+                link: *link,
+                lines: *lost,
+            },
+        );
+    }
+}
+
 /// Lines that were moved out of the book of a link and wait for their text.
 #[derive(Drop)]
 struct Waiting {
-    // What is moved at once.
+    // What is moved at once. Lines stay here if memory runs out.
     moved: Vec<Line>,
     lines: Vec<Line>,
     // How many octets their messages have, which take most of the memory.
@@ -125,22 +150,42 @@ impl Waiting {
         self.lines.len() <= MOST_LINES - LINES_AT_ONCE && self.octets < MOST_OCTETS_OF_MESSAGES
     }
 
-    /// Moves lines of the book here, `most` times at most, while there is room.
-    fn move_lines<R: Wait, A: Ledger, B: Ledger, C: Ledger>(
+    /// Whether it is filling up, so that a thread that brings messages had better wait.
+    fn is_filling(&self) -> bool {
+        self.lines.len() >= LINES_OF_A_FILLING_LIST || self.octets >= OCTETS_OF_A_FILLING_LIST
+    }
+
+    /// Moves the next lines of the book to those that are moved at once, and reports the gaps among them.
+    fn drain<R: Wait + Clock, A: Ledger, B: Ledger, C: Ledger>(
         &mut self,
         rt: &R,
         hub: &Hub<A, B, C>,
+        events: &Events,
+    ) {
+        hub.drain(rt, &mut self.moved);
+        for line in self.moved.iter() {
+            self.octets = self.octets.saturating_add(message_len(line));
+            report_gap(rt, line, events);
+        }
+    }
+
+    /// Moves lines of the book here, `most` times at most, while there is room. If memory runs out, they stay where
+    /// they are.
+    fn move_lines<R: Wait + Clock, A: Ledger, B: Ledger, C: Ledger>(
+        &mut self,
+        rt: &R,
+        hub: &Hub<A, B, C>,
+        events: &Events,
         most: usize,
     ) -> Result<(), AllocError> {
         for _ in 0..most {
             if !self.has_room() {
                 break;
             }
-            hub.drain(rt, &mut self.moved);
-            let leaves_none = self.moved.len() < LINES_AT_ONCE;
-            for line in self.moved.iter() {
-                self.octets = self.octets.saturating_add(message_len(line));
+            if self.moved.is_empty() {
+                self.drain(rt, hub, events);
             }
+            let leaves_none = self.moved.len() < LINES_AT_ONCE;
             self.lines.append(&mut self.moved)?;
             if leaves_none {
                 break;
@@ -170,7 +215,8 @@ impl Making {
         })
     }
 
-    /// Makes the text of lines, while it has fewer than `most` octets. Drops the lines once all have their text.
+    /// Makes the text of lines, while it has fewer than `most` octets. Drops the lines once all have their text. If
+    /// memory runs out, those without text stay.
     fn add_text(&mut self, most: usize) -> Result<(), AllocError> {
         for line in self.lines.iter().skip(self.made) {
             if self.text.octets.len() >= most {
@@ -189,34 +235,37 @@ impl Making {
 ///
 /// The clock of the link moves lines here and makes their text, so that the writing thread, the only one of the run,
 /// has nothing to do but to write; it takes all text at once. A thread that serves calls moves lines if the book is
-/// filling, and makes no text. No lock is held while the device of the log is written, and the one that lines are moved
-/// under not while text is made; the lock of the link is taken under both. If nothing is taken for long, lines stay
-/// here, and then in the book of the link, which counts those that find no place there in a gap.
+/// filling; of these only the receiving thread makes text, while the list of lines is filling up. No lock is held while
+/// the device of the log is written, and the one that lines are moved under not while text is made; the lock of the
+/// link is taken under both. If nothing is taken for long, or memory runs out, lines stay here, and then in the book of
+/// the link, which counts those that find no place there in a gap. Each gap is reported as an event.
 #[derive(Drop)]
 pub(crate) struct LinkLog {
     // Taken before the lock of the lines that wait.
     making: Mutex<Making>,
     waiting: Mutex<Waiting>,
+    events: Events,
 }
 
 impl LinkLog {
-    /// No line waits.
-    pub(crate) fn new(alloc: Global) -> Result<LinkLog, AllocError> {
+    /// No line waits. Gaps are reported here.
+    pub(crate) fn new(alloc: Global, events: Events) -> Result<LinkLog, AllocError> {
         Ok(LinkLog {
             making: Mutex::new(Making::new(alloc)?),
             waiting: Mutex::new(Waiting::new(alloc)?),
+            events,
         })
     }
 
     /// Exchanges the lines that wait, once all that the book has were moved, for these, of which there are none.
-    fn refill<R: Wait, A: Ledger, B: Ledger, C: Ledger>(
+    fn refill<R: Wait + Clock, A: Ledger, B: Ledger, C: Ledger>(
         &self,
         rt: &R,
         hub: &Hub<A, B, C>,
         lines: &mut Vec<Line>,
     ) -> Result<(), AllocError> {
         let mut waiting = self.waiting.lock(rt);
-        waiting.move_lines(rt, hub, MOST_MOVES)?;
+        waiting.move_lines(rt, hub, &self.events, MOST_MOVES)?;
         mem::swap(&mut waiting.lines, lines);
         waiting.octets = 0;
         Ok(())
@@ -224,7 +273,7 @@ impl LinkLog {
 
     /// Makes the text of lines, also of those that the book has, until there are `most` octets of it. `true`: no line
     /// is left.
-    fn add_text<R: Wait, A: Ledger, B: Ledger, C: Ledger>(
+    fn add_text<R: Wait + Clock, A: Ledger, B: Ledger, C: Ledger>(
         &self,
         rt: &R,
         hub: &Hub<A, B, C>,
@@ -247,7 +296,7 @@ impl LinkLog {
     }
 
     /// Does so, and says what came of it.
-    fn make<R: Wait, A: Ledger, B: Ledger, C: Ledger>(
+    fn make<R: Wait + Clock, A: Ledger, B: Ledger, C: Ledger>(
         &self,
         rt: &R,
         hub: &Hub<A, B, C>,
@@ -255,26 +304,20 @@ impl LinkLog {
         most: usize,
     ) -> Made {
         let before = making.text.line_count;
-        let (is_all, is_out_of_memory) = match self.add_text(rt, hub, making, most) {
-            Ok(is_all) => (is_all, false),
-            Err(_) => (true, true),
-        };
-        let left = if is_all {
-            Left::Nothing
-        } else if making.text.octets.len() < MOST_OCTETS {
-            Left::Lines
-        } else {
-            Left::NoRoom
+        let left = match self.add_text(rt, hub, making, most) {
+            Ok(true) => Left::Nothing,
+            Ok(false) if making.text.octets.len() < MOST_OCTETS => Left::Lines,
+            Ok(false) => Left::NoRoom,
+            Err(_) => Left::NoMemory,
         };
         Made {
             line_count: making.text.line_count.saturating_sub(before),
             left,
-            is_out_of_memory,
         }
     }
 
     /// Makes the text of lines in one turn, while there is room for it.
-    pub(crate) fn make_text<R: Wait, A: Ledger, B: Ledger, C: Ledger>(
+    pub(crate) fn make_text<R: Wait + Clock, A: Ledger, B: Ledger, C: Ledger>(
         &self,
         rt: &R,
         hub: &Hub<A, B, C>,
@@ -285,7 +328,7 @@ impl LinkLog {
     }
 
     /// Makes the text of all lines, once the link is down and no thread adds any.
-    pub(crate) fn make_last_text<R: Wait, A: Ledger, B: Ledger, C: Ledger>(
+    pub(crate) fn make_last_text<R: Wait + Clock, A: Ledger, B: Ledger, C: Ledger>(
         &self,
         rt: &R,
         hub: &Hub<A, B, C>,
@@ -298,30 +341,30 @@ impl LinkLog {
     /// some: it waits for that thread only if seven eighths are taken. So lines find no place in the book only if there
     /// is no room here either: between two such calls of each thread fewer lines come than the last eighth of the book
     /// has, 1,024. They are two for each of the 32 turns that a thread gives back and takes, at most nine threads do,
-    /// and one for each of 64 messages. `false`: memory ran out, so that lines are lost.
-    pub(crate) fn move_lines_if_many<R: Wait, A: Ledger, B: Ledger, C: Ledger>(
+    /// and one for each of 64 messages. If memory runs out, they stay where they are.
+    pub(crate) fn move_lines_if_many<R: Wait + Clock, A: Ledger, B: Ledger, C: Ledger>(
         &self,
         rt: &R,
         hub: &Hub<A, B, C>,
-    ) -> bool {
+    ) {
         if !hub.is_log_filling() {
-            return true;
+            return;
         }
-        let moved = match self.waiting.try_lock() {
-            Some(mut waiting) => waiting.move_lines(rt, hub, MOST_MOVES_ASIDE),
-            None if hub.is_log_nearly_full() => {
-                self.waiting.lock(rt).move_lines(rt, hub, MOST_MOVES_ASIDE)
-            }
-            None => Ok(()),
+        let waiting = match self.waiting.try_lock() {
+            Some(waiting) => Some(waiting),
+            None if hub.is_log_nearly_full() => Some(self.waiting.lock(rt)),
+            None => None,
         };
-        moved.is_ok()
+        if let Some(mut waiting) = waiting {
+            let _ = waiting.move_lines(rt, hub, &self.events, MOST_MOVES_ASIDE);
+        }
     }
 
-    /// Whether text is being made, or may be: there is room for it.
-    pub(crate) fn has_room_for_text(&self) -> bool {
-        match self.making.try_lock() {
-            Some(making) => making.text.octets.len() < MOST_OCTETS,
-            None => true,
+    /// Whether the list of lines that wait for their text is filling up. `false` too, if a thread moves lines now.
+    pub(crate) fn is_filling(&self) -> bool {
+        match self.waiting.try_lock() {
+            Some(waiting) => waiting.is_filling(),
+            None => false,
         }
     }
 

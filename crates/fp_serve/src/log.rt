@@ -6,12 +6,13 @@
 //! | the writing thread | lines, or that no more come | a thread of a link that made their text; the run | a second |
 //! | the writing thread | the device | the device | without a limit |
 //! | the writing thread, with gaps, after a write that failed | the next try | nobody | a second |
+//! | a receiving thread, for which there are no places | the device, while it gets on (`log_wait.rt`) | nobody | two seconds in a read, with gaps a tenth of one |
 //! | the run, at its end | the last line, written or failed | the writing thread | five idle seconds, a minute in all |
 
 use crate::events::{Event, Events};
 use crate::link_log::LinkLog;
 use crate::stop::Stop;
-use crate::{ServeFault, Settings};
+use crate::{ServeFault, Settings, WhenLogFails};
 use std::alloc::{AllocError, Global};
 use std::rt::Clock;
 use std::sync::atomic::{AtomicBool, AtomicU64, Ordering};
@@ -31,6 +32,20 @@ const SECONDS_WITHOUT_PROGRESS: u64 = 5;
 /// For how many seconds it waits for them in all.
 const SECONDS_FOR_THE_END: u64 = 60;
 
+/// How many milliseconds a receiving thread waits for the device in one read, if the log is to have no gaps.
+const MILLISECONDS_WITHOUT_GAPS: u64 = 2_000;
+
+/// How many it waits, if calls matter more.
+const MILLISECONDS_WITH_GAPS: u64 = 100;
+
+/// How many milliseconds a receiving thread of a run with these settings waits for the device in one read.
+fn patience_of(settings: Settings) -> u64 {
+    match settings.when_log_fails {
+        WhenLogFails::EndRun => MILLISECONDS_WITHOUT_GAPS,
+        WhenLogFails::LeaveGap => MILLISECONDS_WITH_GAPS,
+    }
+}
+
 /// How far the writing thread has come.
 #[derive(Clone, Copy, PartialEq, Eq)]
 enum Progress {
@@ -49,8 +64,13 @@ pub(crate) struct Log {
     links: Vec<LinkLog>,
     pub(crate) stop: Stop,
     events: Events,
-    // How many lines have their text, the head among them, and aren't written yet.
+    // How many lines have their text, the head among them, and aren't written yet. The number may be less for a moment,
+    // and wrap: lines are counted after they got their text. It is looked at only once all lines were.
     unwritten: AtomicU64,
+    // How many octets the device took.
+    written: AtomicU64,
+    // How long a receiving thread waits for the device at most before it reads on.
+    pub(crate) patience: Duration,
     // The writing thread rests here: lines got their text, or no more come.
     came: Parker,
     // No more lines come.
@@ -71,13 +91,15 @@ impl Log {
     ) -> Result<Arc<Log>, AllocError> {
         let mut links = Vec::with_capacity(alloc, usize::from(settings.links))?;
         for _ in 0..settings.links {
-            links.push(LinkLog::new(alloc)?)?;
+            links.push(LinkLog::new(alloc, events.share()?)?)?;
         }
         let log = Log {
             links,
             stop: Stop::new(),
             events,
             unwritten: AtomicU64::new(1),
+            written: AtomicU64::new(0),
+            patience: Duration::from_millis(patience_of(settings)),
             came: Parker::new(),
             is_over: AtomicBool::new(false),
             is_given_up: AtomicBool::new(false),
@@ -105,11 +127,18 @@ impl Log {
         }
     }
 
-    /// This number of lines was written.
-    pub(crate) fn take_off(&self, count: usize) {
-        // A number of lines in memory.
-        let count = u64::try_from(count).unwrap_or(u64::MAX);
-        self.unwritten.fetch_sub(count, Ordering::SeqCst);
+    /// The device took this number of octets, in which this number of lines end.
+    pub(crate) fn take_off(&self, octets: usize, lines: usize) {
+        // Numbers of what is in memory.
+        let lines = u64::try_from(lines).unwrap_or(u64::MAX);
+        self.unwritten.fetch_sub(lines, Ordering::SeqCst);
+        let octets = u64::try_from(octets).unwrap_or(u64::MAX);
+        self.written.fetch_add(octets, Ordering::SeqCst);
+    }
+
+    /// How many octets the device took.
+    pub(crate) fn written(&self) -> u64 {
+        self.written.load(Ordering::SeqCst)
     }
 
     /// The writing thread rests until lines got their text or no more come, a second at most.

@@ -1,10 +1,12 @@
 //! The thread that writes the log of a run.
 //!
-//! It belongs to no scope, so that the run can end while the thread waits for a device that hangs. No other thread
-//! waits for the device.
+//! It belongs to no scope, so that the run can end while the thread waits for a device that hangs. A receiving thread
+//! waits for it for a bounded time (`log_wait.rt`), and no other thread of a link does.
 
 ghost use Rattle.std.specs.Prelude.{◌≡◌, ◌≢◌, ◌+◌, ◌<◌, ◌≤◌, length, take};
 ghost use Rattle.std.specs.Io.KnownBytes.{Appends};
+ghost use Rattle.std.specs.List.{count_by};
+ghost use Rattle.memchr.specs.Find.{is_byte};
 ghost use Rattle.fp_book.specs.declared.line.Line.TheVariants.{Head};
 
 use crate::events::{Event, Events};
@@ -13,6 +15,7 @@ use crate::log::Log;
 use crate::{ServeFault, Settings, WhenLogFails};
 use fp_book::Line;
 use fp_streams::LinkWrite;
+use memchr::memchr_iter;
 use std::alloc::{AllocError, Global};
 use std::rt::Clock;
 use std::sync::{Arc, Wait};
@@ -54,16 +57,35 @@ fn write_front<L: LinkWrite>(device: &mut L, text: &[u8]) -> usize
     at
 }
 
+/// How many line feeds a text has.
+fn line_count(text: &[u8]) -> usize
+    ensures { result ≡ count_by (is_byte 10) text.now }
+{
+    let mut count = 0;
+    // Looks at sixteen octets at a time, which `count` of this iterator doesn't.
+    for _ in memchr_iter(b'\n', text) {
+        count += 1;
+    }
+    count
+}
+
+/// How many line feeds are among this number of octets of a text, the first ones.
+fn lines_taken(text: &[u8], count: usize) -> usize
+    requires { count ≤ length text.now }
+    ensures { result ≡ count_by (is_byte 10) (take count text.now) }
+{
+    line_count(&text[..count])
+}
+
 impl<L: LinkWrite + Drop> Output<L> {
     /// Writes what the device hasn't taken yet, or a part of it, and counts off the lines whose end it took. `false`: a
     /// write failed.
     fn write_part(&mut self, log: &Log) -> bool {
         let octets = &self.text.octets;
         let end = octets.len().min(self.taken.saturating_add(OCTETS_AT_ONCE));
-        let part = octets.get(self.taken..end).unwrap_or(&[]);
+        let part = octets.get(self.taken..end).unwrap_or_default();
         let count = write_front(&mut self.device, part);
-        let lines = part.iter().take(count).filter(|octet| **octet == b'\n');
-        log.take_off(lines.count());
+        log.take_off(count, lines_taken(part, count));
         let is_all = count == part.len();
         self.taken = self.taken.saturating_add(count);
         is_all

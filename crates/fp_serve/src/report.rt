@@ -10,6 +10,7 @@ use crate::{LinkStatus, ServeFault};
 use fp_book::Totals;
 use fp_replay::report_line;
 use fp_streams::{LinkWrite, write_all};
+use itoa::Buffer;
 use std::alloc::{AllocError, Global};
 use std::net::SocketAddr;
 
@@ -22,18 +23,6 @@ pub(crate) fn write_address<W: LinkWrite>(
     ensures { OnOk result (Appends (W.contents output.old) (W.contents output.new) (listening_line address)) }
 {
     let text = listening(alloc, address)?;
-    write_flushed(text.as_str(), output)
-}
-
-/// Writes `reloaded N` and a line feed, and flushes the output.
-pub(crate) fn write_reloaded<W: LinkWrite>(
-    alloc: Global,
-    index: u32,
-    output: &mut W,
-) -> Result<(), ServeFault>
-    ensures { OnOk result (Appends (W.contents output.old) (W.contents output.new) (reloaded_line index)) }
-{
-    let text = reloaded(alloc, index)?;
     write_flushed(text.as_str(), output)
 }
 
@@ -52,32 +41,11 @@ pub(crate) fn write_report<W: LinkWrite>(
     write_flushed(text.as_str(), output)
 }
 
-/// Writes the status of each of these links, in their order, whose numbers begin with this one, and how many they are,
-/// and flushes the output.
-pub(crate) fn write_links<W: LinkWrite>(
-    alloc: Global,
-    first_link: u8,
-    links: &[LinkStatus],
-    output: &mut W,
-) -> Result<(), ServeFault>
-    ensures { OnOk result (Appends (W.contents output.old) (W.contents output.new) (links_answer first_link links.now)) }
-{
-    let text = answer_of(alloc, first_link, links)?;
-    write_flushed(text.as_str(), output)
-}
-
 /// `listening A` and a line feed.
 fn listening(alloc: Global, address: SocketAddr) -> Result<String, AllocError>
     ensures { IfOk result (λ text. string_bytes text ≡ listening_line address) }
 {
     format!(in alloc; "listening {address}\n")
-}
-
-/// `reloaded N` and a line feed.
-fn reloaded(alloc: Global, index: u32) -> Result<String, AllocError>
-    ensures { IfOk result (λ text. string_bytes text ≡ reloaded_line index) }
-{
-    format!(in alloc; "reloaded {index}\n")
 }
 
 /// What a link counted that never came, or that the run doesn't have.
@@ -172,7 +140,11 @@ fn status_lines(alloc: Global, first_link: u8, links: &[LinkStatus]) -> Result<S
 }
 
 /// The answer to `links`: the status lines, and the number of links.
-fn answer_of(alloc: Global, first_link: u8, links: &[LinkStatus]) -> Result<String, AllocError>
+pub(crate) fn answer_of(
+    alloc: Global,
+    first_link: u8,
+    links: &[LinkStatus],
+) -> Result<String, AllocError>
     ensures { IfOk result (λ text. string_bytes text ≡ links_answer first_link links.now) }
 {
     let mut text = status_lines(alloc, first_link, links)?;
@@ -181,8 +153,28 @@ fn answer_of(alloc: Global, first_link: u8, links: &[LinkStatus]) -> Result<Stri
     Ok(text)
 }
 
+/// Writes a piece of a text.
+fn write_piece<W: LinkWrite>(text: &str, output: &mut W) -> Result<(), ServeFault>
+    ensures { OnOk result (Appends (W.contents output.old) (W.contents output.new) text.now) }
+{
+    match write_all(output, text.as_bytes()) {
+        Ok(()) => Ok(()),
+        Err(_) => Err(ServeFault::WriteFault),
+    }
+}
+
+/// Writes `reloaded N` and a line feed, and flushes the output. Takes no memory: the records are replaced already.
+pub(crate) fn write_reloaded<W: LinkWrite>(index: u32, output: &mut W) -> Result<(), ServeFault>
+    ensures { OnOk result (Appends (W.contents output.old) (W.contents output.new) (reloaded_line index)) }
+{
+    let mut digits = Buffer::new();
+    write_piece("reloaded ", output)?;
+    write_piece(digits.format(index), output)?;
+    write_flushed("\n", output)
+}
+
 /// Writes a text, and flushes the output.
-fn write_flushed<W: LinkWrite>(text: &str, output: &mut W) -> Result<(), ServeFault>
+pub(crate) fn write_flushed<W: LinkWrite>(text: &str, output: &mut W) -> Result<(), ServeFault>
     ensures { OnOk result (Appends (W.contents output.old) (W.contents output.new) text.now) }
 {
     if write_all(output, text.as_bytes()).is_err() || output.flush().is_err() {

@@ -62,11 +62,13 @@ fn looks<R: Threads>(rt: &R, settings: Settings) -> Looks {
 /// `quit` ends all links: nothing more is accepted, what was is served and sent, two seconds after the command at most,
 /// and then each link goes down. A link that never came has counted nothing.
 ///
-/// The log begins with its head, which has the number of the last link and one, and the tag; and gets the lines of each link about once a second, and more often under load: whole
-/// lines, after which the writer is flushed. A thread of its own writes it, and nobody else waits for the writer,
-/// except the run itself: a second at most before it accepts the first connection, and, once all links are down, as
-/// long as lines are written within five seconds, a minute at most. If the log isn't written by then it can't be
-/// written, and the thread is left to itself.
+/// The log begins with its head, which has the number of the last link and one, and the tag; and gets the lines of each
+/// link about once a second, and more often under load: whole lines, after which the writer is flushed. A thread of its
+/// own writes it. Beside it wait for the writer: a receiving thread whose link finds no place for more lines, two
+/// seconds at most for a read, and a tenth of a second if the run goes on without its log; and the run itself, a second
+/// at most before it accepts the first connection, and, once all links are down, as long as lines are written within
+/// five seconds, a minute at most. If the log isn't written by then it can't be written, and the thread is left to
+/// itself.
 ///
 /// A link ends if its client closes the connection; if it closes its sending side alone, once what was accepted is
 /// served and sent, at most two seconds after the end was read; if a length comes that no frame has; if a read or a
@@ -95,7 +97,7 @@ where
     O: Operator + Drop,
     L: LinkWrite + Send + Drop + 'static,
     W: LinkWrite,
-    ensures { OnOk result (TellsLinks settings.first_link settings.links settings.has_commands
+    ensures { OnOk result (TellsLinks service.entry.tables.now settings.first_link settings.links settings.has_commands
         (W.contents output.old) (W.contents output.new)) }
 {
     serve_through(
@@ -126,7 +128,7 @@ where
     O: Operator + Drop,
     L: LinkWrite + Send + Drop + 'static,
     W: LinkWrite,
-    ensures { OnOk result (TellsLinks settings.first_link settings.links settings.has_commands
+    ensures { OnOk result (TellsLinks service.entry.tables.now settings.first_link settings.links settings.has_commands
         (W.contents output.old) (W.contents output.new)) }
 {
     let tagged = with_tag_of_run(rt, settings);
@@ -169,7 +171,7 @@ where
     O: Operator + Drop,
     L: LinkWrite + Send + Drop + 'static,
     W: LinkWrite,
-    ensures { OnOk result (TellsLinks settings.first_link settings.links settings.has_commands
+    ensures { OnOk result (TellsLinks service.entry.tables.now settings.first_link settings.links settings.has_commands
         (W.contents output.old) (W.contents output.new)) }
 {
     let Ok(address) = listener.local_addr() else {
@@ -187,7 +189,7 @@ where
     let progress = Progress::new(service.alloc, settings.links)?;
     write_address(service.alloc, address, output)?;
     let log = start_log(rt, service.alloc, settings, events.share()?, log)?;
-    if let Err(fault) = start_reading(rt, input, of_commands) {
+    if let Err(fault) = start_reading(rt, input, &log, settings.has_commands, of_commands) {
         log.stop.ask_for(rt, fault);
     }
     let Ended { counted, followed } = run(
@@ -206,9 +208,17 @@ where
     );
     log.finish(rt);
     let counted = counted?;
-    match followed {
-        Ok(()) => {}
-        Err(fault) => return Err(log.stop.fault(rt).unwrap_or(fault)),
+    if let Err(fault) = followed {
+        if settings.has_commands {
+            // By now the output may take it.
+            let _ = write_report(
+                service.alloc,
+                settings.first_link,
+                counted.as_slice(),
+                output,
+            );
+        }
+        return Err(log.stop.fault(rt).unwrap_or(fault));
     }
     let reported = write_report(
         service.alloc,
@@ -253,7 +263,7 @@ where
     G: Gate + Sync,
     O: Operator,
     W: LinkWrite,
-    ensures { OnOk result.followed (TellsAnswers settings.first_link settings.has_commands
+    ensures { OnOk result.followed (TellsAnswers service.entry.tables.now settings.first_link settings.has_commands
         (W.contents output.old) (W.contents output.new)) }
 {
     let mut listener = Some(listener);

@@ -1,9 +1,10 @@
 //! How many links a run has, from which number on, with which tag, how many workers and entries each of them, and what
 //! the run does when its log can't be written.
 
-ghost use Rattle.std.specs.Prelude.{◌≡◌, ◌≤◌, ◌+◌, IfSome, IsSome, ◌↔◌, false, true};
+ghost use Rattle.std.specs.Prelude.{◌≡◌, ◌≤◌, ◌+◌, IfSome, IsSome, ◌↔◌, ◌&&◌, ◌==◌, false, not, true, if◌then◌else◌};
 ghost use Rattle.fp_serve.specs.declared.settings.WhenLogFails.TheVariants.{EndRun, LeaveGap};
 
+use fp_records::Table;
 use fp_tids::LocalIds;
 
 /// What a run does when its log can't be written.
@@ -135,6 +136,17 @@ impl Settings {
         let mut settings = self;
         settings.has_tag_of_start = true;
         settings
+    }
+
+    /// The last index among the tables of a run with these settings: 65,535 with a tag, 999 without one.
+    pub fn last_index(self) -> u16
+        ensures { result ≡ (if (self.tag == 0) && not self.has_tag_of_start then 999 else 65535) }
+    {
+        if self.tag == 0 && !self.has_tag_of_start {
+            Table::LAST_INDEX_WITHOUT_TAG
+        } else {
+            Table::LAST_INDEX
+        }
     }
 
     /// The same settings, of a run that goes on when its log can't be written.

@@ -74,4 +74,12 @@ impl Stop {
         let since = quit_at.and_then(|start| start.elapsed(rt).ok());
         Some(most.saturating_sub(since.unwrap_or(most)))
     }
+
+    /// Whether the links were to end as at the end of their input, and may be up no longer.
+    pub(crate) fn is_over<R: Wait + Clock>(&self, rt: &R) -> bool {
+        match self.time_left(rt) {
+            Some(left) => left.is_zero(),
+            None => false,
+        }
+    }
 }

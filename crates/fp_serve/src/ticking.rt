@@ -17,14 +17,13 @@ pub(crate) fn time_since<R: Clock>(rt: &R, last: Option<Instant>) -> Option<Dura
     last?.elapsed(rt).ok()
 }
 
-/// How many milliseconds the clock rests at most while lines wait and there is no room for their text.
+/// How many milliseconds the clock rests at most while lines wait and there is no room, or no memory, for their text.
 const MILLISECONDS_WITHOUT_ROOM: u64 = 10;
 
 /// Ticks once a second, and hints to a worker then; makes the text of the lines of the link, for the thread that writes
 /// the log, once a second, and when 512 wait in the book, in one turn after another while some are left; notes the
 /// status of the link; and takes it down if all links are to go down, if its dialogues keep more entries than they may,
-/// or two seconds after the links were to end, whatever its other threads wait for: before that it ends its input.
-/// Returns once the link is down.
+/// or two seconds after the links were to end, whatever its other threads wait for. Returns once the link is down.
 ///
 /// If the clock gives no time, it ticks each time that it wakes, and after each turn.
 pub(crate) fn keep_time<R: Wait + Clock, A: Ledger, B: Ledger, C: Ledger>(
@@ -43,7 +42,7 @@ pub(crate) fn keep_time<R: Wait + Clock, A: Ledger, B: Ledger, C: Ledger>(
         match left {
             Left::Nothing => hub.rest(rt, rest),
             Left::Lines => {}
-            Left::NoRoom => hub.rest(rt, rest.min(without_room)),
+            Left::NoRoom | Left::NoMemory => hub.rest(rt, rest.min(without_room)),
         }
         if time_since(rt, last).unwrap_or(second) >= second {
             last = Instant::now(rt).ok();
@@ -56,10 +55,8 @@ pub(crate) fn keep_time<R: Wait + Clock, A: Ledger, B: Ledger, C: Ledger>(
             }
             link.note_status();
         }
-        match log.stop.time_left(rt) {
-            Some(left) if left.is_zero() => link.end(Why::Quit),
-            Some(_) => link.end_input(),
-            None => {}
+        if log.stop.is_over(rt) {
+            link.end(Why::Quit);
         }
         left = link.make_text();
         if hub.is_down(rt) {

@@ -12,7 +12,7 @@ use std::sync::Wait;
 /// How a read or a write ended.
 #[derive(Clone, Copy, Debug, PartialEq, Eq)]
 pub(crate) enum LastCall {
-    /// It moved octets, or was interrupted and is made again.
+    /// It moved octets, or was interrupted, or nothing came for a while: it is made again.
     Moved,
     /// It moved none: the input is at its end.
     AtEnd,
@@ -30,7 +30,7 @@ impl LastCall {
             Ok(0) => LastCall::AtEnd,
             Ok(_) => LastCall::Moved,
             Err(error) => match error.kind() {
-                ErrorKind::Interrupted => LastCall::Moved,
+                ErrorKind::Interrupted | ErrorKind::WouldBlock => LastCall::Moved,
                 ErrorKind::TimedOut
                 | ErrorKind::HostUnreachable
                 | ErrorKind::NetworkUnreachable
@@ -56,7 +56,7 @@ impl LastCall {
 }
 
 /// The connection of a link, and how the last read or write through it ended. Its input is at its end once the links
-/// are to end.
+/// are to end: octets that a read brings after that are dropped.
 ///
 /// A call that fails notes the reason at once. The system reports a fault of the connection to one thread only, and the
 /// other one then finds the end of the input, or a broken pipe: that comes later, and the first reason counts.
@@ -104,8 +104,18 @@ impl<R: Wait> Read for TracedStream<'_, R> {
         }
         let mut stream = self.stream;
         let answer = stream.read(octets);
+        if self.stop.is_quitting() {
+            self.last = LastCall::AtEnd;
+            return Ok(0);
+        }
         self.trace(LastCall::of(&answer), Ended::ReadFault);
-        answer
+        match answer {
+            // Nothing came for a while. A call that was interrupted is made again.
+            Err(error) if error.kind() == ErrorKind::WouldBlock => {
+                Err(io::Error::from(ErrorKind::Interrupted))
+            }
+            answer => answer,
+        }
     }
 }
 

@@ -6,7 +6,7 @@ use crate::fault::RunFault;
 use crate::run::records_in;
 use fp_hub::Tables;
 use fp_records::Table;
-use fp_serve::{Event, Events, Operator};
+use fp_serve::{Event, Events, Operator, ServeFault};
 use sha2::{Digest, Sha256};
 use std::fmt;
 use std::io::Write;
@@ -24,17 +24,19 @@ pub(crate) struct Console<'a, H, E> {
 }
 
 impl<H: Files + AllocGlobal + Wait + Clock, E: Write> Console<'_, H, E> {
-    /// Writes a line in one piece, so that no event comes between its parts. What can't be written is left out.
+    /// Writes a line in one piece, so that no event comes between its parts; without memory for it, `out of memory`.
+    /// What can't be written is left out.
     fn say<D: fmt::Display + Drop>(&mut self, text: D) {
-        if let Ok(line) = format!(in self.rt.alloc(); "{text}\n") {
-            let _ = self.errors.write_all(line.as_bytes());
-            let _ = self.errors.flush();
-        }
+        let _ = match format!(in self.rt.alloc(); "{text}\n") {
+            Ok(line) => self.errors.write_all(line.as_bytes()),
+            Err(_) => self.errors.write_all(b"out of memory\n"),
+        };
+        let _ = self.errors.flush();
     }
 
     /// Reads the records again, and reports their index and the digest of their file as an event.
     fn reread(&self, tables: &Tables) -> Result<u32, RunFault>
-        ensures { IfOk result (λ index. (1 ≤ index) × (index ≤ 999)) }
+        ensures { IfOk result (λ index. (1 ≤ index) × (index ≤ tables.now)) }
     {
         let text = records_in(self.rt, self.records)?;
         let table = Table::read(self.rt.alloc(), text.as_slice())?;
@@ -61,5 +63,9 @@ impl<H: Files + AllocGlobal + Wait + Clock, E: Write> Operator for Console<'_, H
 
     fn refuse(&mut self) {
         self.say("command: unknown");
+    }
+
+    fn fail(&mut self, fault: ServeFault) {
+        self.say(fault);
     }
 }

@@ -33,7 +33,8 @@ pub enum RunFault {
     /// The log isn't replayed.
     #[error("{0}")]
     Replay(ReplayFault),
-    /// The records were read again, and don't replace those of before: 999 did, or memory ran out.
+    /// The records were read again, and don't replace those of before: as many did as the run takes, or
+    /// memory ran out.
     #[error("reload: refused")]
     RefusedReload,
     /// The links were not all served to their end.

@@ -1,6 +1,6 @@
 //! One run of the program that may serve links.
 
-ghost use Rattle.std.specs.Prelude.{◌≡◌, ◌≤◌, ◌⊎◌, IfErr, OnOk};
+ghost use Rattle.std.specs.Prelude.{◌≡◌, ◌≤◌, ◌⊎◌, IfErr, OnOk, ◌&&◌, ◌==◌, not, if◌then◌else◌};
 ghost use Rattle.fp_serve.specs.Report.{TellsLinks};
 ghost use Rattle.fp_serve.specs.declared.fault.ServeFault.TheVariants.{Memory, NoConnection, UnwrittenLog};
 ghost use Rattle.scp.specs.declared.fault.RunFault.TheVariants.{Serve, UnopenedLog};
@@ -37,8 +37,8 @@ use std::thread::Threads;
 ///
 /// A command `reload` reads the file of the records again. If it is faulty, or can't be read, its fault is a line on
 /// `errors`, and the records of before are kept. So they are after `reload: refused`: 999 files replaced others, or
-/// memory ran out once it was read. `links` and `quit` are what [`serve`] says, if the words ask for them. Any other line
-/// of the input gets the line `command: unknown`.
+/// 65,535 in a run with a tag, or memory ran out once it was read. `links` and `quit` are what [`serve`] says, if the
+/// words ask for them. Any other line of the input gets the line `command: unknown`.
 pub fn program_with_links<H, R, W, E, V>(
     rt: &H,
     words: &[String],
@@ -137,7 +137,7 @@ where
     empty(&file)?;
     let events = started_events(rt, asked.events, text.as_slice(), event_lines)?;
     drop(text);
-    let tables = Tables::new(rt.alloc(), table)?;
+    let tables = Tables::with_last_index(rt.alloc(), table, asked.settings.last_index())?;
     let service = Service {
         alloc: rt.alloc(),
         tables: &tables,
@@ -276,7 +276,8 @@ fn empty(file: &File) -> Result<(), ServeFault>
     Ok(())
 }
 
-/// Serves links, and says of writers whose octets are known what [`serve`] says.
+/// Serves links, from tables whose last index is that of the settings, and says of writers whose octets are known what
+/// [`serve`] says.
 fn serve_links<H, I, O, W>(
     rt: &H,
     service: Service<'_>,
@@ -292,7 +293,8 @@ where
     I: Read + Send + Drop + 'static,
     O: Operator + Drop,
     W: Write,
-    ensures { OnOk result (TellsLinks settings.first_link settings.links settings.has_commands
+    requires tables { service.tables.now ≡ (if (settings.tag == 0) && not settings.has_tag_of_start then 999 else 65535) }
+    ensures { OnOk result (TellsLinks service.entry.tables.now settings.first_link settings.links settings.has_commands
         (W.contents output.old.device) (W.contents output.new.device)) }
 {
     serve(
