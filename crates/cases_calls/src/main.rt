@@ -7,6 +7,8 @@
 //! | `ber` | elements of X.690 and their spellings |
 //! | `numbers` | numbers, causes and moments |
 //! | `frames` | frames and their heads |
+//! | `unit_data` | messages of SCCP, addresses, what is returned of them |
+//! | `connections` | messages of IPA, and the connections that carry them |
 //! | `messages` | messages and components of TCAP, their identifiers |
 //! | `portions` | the dialogue portion |
 //! | `streams` | the lines of a reader, and octets written whole |
@@ -24,6 +26,7 @@
 
 mod arguments;
 mod ber;
+mod connections;
 mod deadlines;
 mod dialogues;
 mod elements;
@@ -39,6 +42,7 @@ mod rows;
 mod steps;
 mod streams;
 mod texts;
+mod unit_data;
 mod values;
 
 use cases::{Answers, first_word};
@@ -61,6 +65,8 @@ fn plain(alloc: Global, kind: &str, rest: &str, out: &mut String) -> anyhow::Res
         ber::answer(alloc, kind, rest, out)?
             || numbers::answer(alloc, kind, rest, out)?
             || frames::answer(alloc, kind, rest, out)?
+            || unit_data::answer(alloc, kind, rest, out)?
+            || connections::answer(alloc, kind, rest, out)?
             || messages::answer(alloc, kind, rest, out)?
             || portions::answer(alloc, kind, rest, out)?
             || streams::answer(alloc, kind, rest, out)?

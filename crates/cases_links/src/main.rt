@@ -16,6 +16,7 @@
 //! | `text`, .. | `lines` | the text of a log line, read and written again |
 //! | `replay`, .. | `replays` | logs, replayed |
 //! | `logged-run`, `long-run` | `logged_runs` | the logs of whole runs, and their replay |
+//! | `by-tables` | here | `by-tables COUNT CASE`: a case of a run or of a log by this number of tables without numbers |
 //!
 //! Standard input has one case or more to each comment. A case about dialogues is what is done, step by step, and after
 //! ` => ` what each step must answer. Between steps, as between answers, is `; `. Each case begins without a dialogue,
@@ -62,6 +63,9 @@ const RECORDS: &str = "key,100,60
 const OTHER_RECORDS: &str = "key,100,60
 800123456,,1234567,00:00,24:00,1,route,302223399
 ";
+
+/// Records without a number.
+const HEAD: &str = "key,100,60\n";
 
 /// The cases, which share their records: a run has both tables, all else the first.
 #[derive(Drop)]
@@ -133,10 +137,35 @@ fn of_log(
     )
 }
 
+/// This number of tables that have no numbers, each with the index of its place.
+fn bare_tables(alloc: Global, count: u32) -> anyhow::Result<Vec<Table>> {
+    let mut tables = Vec::new(alloc);
+    for index in 0..count {
+        let table = Table::read(alloc, HEAD.as_bytes())?;
+        tables.push(table.numbered(u16::try_from(index).unwrap_or(u16::MAX)))?;
+    }
+    Ok(tables)
+}
+
+/// Writes what a case of a run or of a log gives by this number of tables that have no numbers.
+fn by_tables(alloc: Global, rest: &str, out: &mut String) -> anyhow::Result<()> {
+    let (count, input) = first_word(rest);
+    let (kind, rest) = first_word(input);
+    let tables = bare_tables(alloc, count.parse()?)?;
+    let tables = tables.as_slice();
+    if !of_run(alloc, tables, kind, rest, out)? && !of_log(alloc, tables, kind, rest, out)? {
+        anyhow::bail!("no such case");
+    }
+    Ok(())
+}
+
 impl Answers for Links {
     fn answer(&mut self, input: &str, out: &mut String) -> anyhow::Result<()> {
         let alloc = self.alloc;
         let (kind, rest) = first_word(input);
+        if kind == "by-tables" {
+            return by_tables(alloc, rest, out);
+        }
         let tables = self.tables.as_slice();
         let Some(first) = tables.first() else {
             anyhow::bail!("no records");

@@ -4,6 +4,7 @@ use crate::talk::RECORDS;
 use fp_hub::Tables;
 use fp_records::Table;
 use std::alloc::Global;
+use std::sync::Wait;
 use std::test::Fail;
 
 /// A table of the records of the calls.
@@ -11,16 +12,34 @@ fn table(alloc: Global) -> Result<Table, Fail> {
     Table::read(alloc, RECORDS.as_bytes()).map_err(|_| Fail::new("no table"))
 }
 
-/// 999 tables replace others, and the thousandth is refused. The last stays.
+/// Tables replace others up to this index, and the next one is refused. The last stays.
+fn reload_up_to<R: Wait>(rt: &R, alloc: Global, tables: &Tables, last: u16) -> Result<(), Fail> {
+    for index in 1..=u32::from(last) {
+        if tables.reload(rt, table(alloc)?) != Some(index) {
+            return Err(Fail::new("refused too early"));
+        }
+    }
+    if tables.reload(rt, table(alloc)?).is_some() {
+        return Err(Fail::new("not refused"));
+    }
+    tables.free_replaced(rt);
+    if tables.table(rt)?.index() != last {
+        return Err(Fail::new("the last one didn't stay"));
+    }
+    Ok(())
+}
+
+/// A run without a tag takes 999 tables that replace others, and refuses the thousandth.
 #[test]
 fn the_thousandth_reload_is_refused(rt: HostRuntime) -> Result<(), Fail> {
     let alloc = rt.alloc();
-    let tables = Tables::new(alloc, table(alloc)?)?;
-    for index in 1..=u32::from(Table::LAST_INDEX) {
-        assert_eq!(rt; tables.reload(&rt, table(alloc)?), Some(index));
-    }
-    assert_eq!(rt; tables.reload(&rt, table(alloc)?), None);
-    tables.free_replaced(&rt);
-    assert_eq!(rt; tables.table(&rt)?.index(), Table::LAST_INDEX);
-    Ok(())
+    reload_up_to(&rt, alloc, &Tables::new(alloc, table(alloc)?)?, 999)
+}
+
+/// A run with a tag takes 65,535.
+#[test]
+fn with_a_tag_the_65536th_is_refused(rt: HostRuntime) -> Result<(), Fail> {
+    let alloc = rt.alloc();
+    let tables = Tables::with_last_index(alloc, table(alloc)?, Table::LAST_INDEX)?;
+    reload_up_to(&rt, alloc, &tables, 65_535)
 }

@@ -38,9 +38,37 @@ pub(crate) fn read_answers(
     for _ in 0..count {
         messages.push(client.message(alloc)?).ok()?;
     }
+    are_answers(alloc, messages, first)
+}
+
+/// How many answers are read before one more call is made.
+const ANSWERS_BETWEEN: u32 = 100;
+
+/// Reads answers as [`read_answers`] does, and goes on making calls meanwhile, which are answered no more: all with the
+/// identifier after these.
+pub(crate) fn read_answers_and_call(
+    alloc: Global,
+    client: &mut Client,
+    first: u32,
+    count: u32,
+) -> Option<()> {
+    let mut messages = Vec::new(alloc);
+    for number in 0..count {
+        if number % ANSWERS_BETWEEN == 0 {
+            write_begins(alloc, client, first.wrapping_add(count), 1)?;
+        }
+        messages.push(client.message(alloc)?).ok()?;
+    }
+    are_answers(alloc, messages, first)
+}
+
+/// `None`: these messages, in whatever order, aren't the answers to the Begins from as many identifiers, from this one
+/// on.
+fn are_answers(alloc: Global, messages: Vec<String>, first: u32) -> Option<()> {
+    let mut messages = messages;
     // They differ in the identifier alone, so the smaller one comes first.
     messages.sort_unstable();
-    for (number, message) in (0..count).zip(&messages) {
+    for (number, message) in (0u32..).zip(&messages) {
         if *message != answer(alloc, first.wrapping_add(number)).ok()? {
             return None;
         }

@@ -86,7 +86,8 @@ fn a_slow_log_holds_nobody_up(rt: HostRuntime) -> Result<(), Fail> {
 struct Row {
     mood: Mood,
     has_gaps: bool,
-    // What is reported before the first call is made, and in the end.
+    wanted: Wanted,
+    // What is reported before the first call is made, and in the end, if only faults of the log are.
     first_event: &'static str,
     events: &'static str,
 }
@@ -96,6 +97,7 @@ const ROWS: [Row; 2] = [
     Row {
         mood: Mood::Hangs,
         has_gaps: false,
+        wanted: Wanted::All,
         first_event: "",
         events: "",
     },
@@ -103,6 +105,7 @@ const ROWS: [Row; 2] = [
     Row {
         mood: Mood::Fails(100),
         has_gaps: true,
+        wanted: Wanted::LogFaults,
         first_event: "lines are lost\n",
         events: "log: cannot be written, lines are lost\nlog: written again\n",
     },
@@ -168,8 +171,8 @@ fn count_lines(log: &str, begin: &str) -> usize {
 }
 
 /// Fails unless a log has one gap, which counts the lines that link 0 lacks, and all lines of link 1. Gives the number
-/// of the line that has the gap.
-fn gap_in(log: &str) -> Result<u128, Fail> {
+/// of the line that has the gap, and how many lines it counts.
+fn gap_in(log: &str) -> Result<(u128, usize), Fail> {
     let (before, after) = log.split_once("\n0 Z ").ok_or("no gap")?;
     let (gap, _) = after.split_once('\n').ok_or("no line")?;
     let lost: usize = gap.parse()?;
@@ -182,12 +185,35 @@ fn gap_in(log: &str) -> Result<u128, Fail> {
     {
         return Err(Fail::new(format_args!("{lost} and {lines} lines")));
     }
-    Ok(u128::try_from(before.lines().count())? + 1)
+    Ok((u128::try_from(before.lines().count())? + 1, lost))
+}
+
+/// Fails unless the events of a run are these, or, if all are wanted, one of them is that link 0 lacks this number of
+/// lines.
+fn assert_events(
+    alloc: Global,
+    told: &str,
+    wanted: Wanted,
+    events: &str,
+    lost: usize,
+) -> Result<(), Fail> {
+    let is_right = match wanted {
+        Wanted::LogFaults => told == events,
+        Wanted::All => {
+            let gap = format!(in alloc; " link 0 log: {lost} lines are lost\n")?;
+            told.contains(gap.as_str()) && told.matches(" lost\n").count() == 1
+        }
+    };
+    if is_right {
+        Ok(())
+    } else {
+        Err(Fail::new(told))
+    }
 }
 
 /// A device that hangs, or stops in a line and fails, while more lines come than there are places: calls are answered
 /// on all links meanwhile; when it takes octets again the log goes on in the middle of that line, and has one gap, at
-/// which a replay ends. With gaps that is reported.
+/// which a replay ends. The gap is reported, and with `--log-gaps` that the log can't be written.
 #[test]
 fn a_log_goes_on_after_a_gap(rt: HostRuntime) -> Result<(), Fail> {
     let alloc = rt.alloc();
@@ -199,7 +225,7 @@ fn a_log_goes_on_after_a_gap(rt: HostRuntime) -> Result<(), Fail> {
         } else {
             settings
         };
-        let trial = Trial::with_events(&rt, alloc, settings, row.mood, Wanted::LogFaults)?;
+        let trial = Trial::with_events(&rt, alloc, settings, row.mood, row.wanted)?;
         let (outcome, given) = thread::join(
             &rt,
             || trial.serve(&rt, alloc, &OpenGate, listener),
@@ -210,9 +236,11 @@ fn a_log_goes_on_after_a_gap(rt: HostRuntime) -> Result<(), Fail> {
         assert_eq!(rt; outcome.fault, None);
         let wanted = "link 0 accepted 3 served 6 sent 3\nlink 1 accepted 3 served 6 sent 3\n";
         assert_eq!(rt; outcome.told.as_slice(), wanted.as_bytes());
-        let gap = gap_in(str::from_utf8(outcome.log.as_slice())?)?;
+        let (gap, lost) = gap_in(str::from_utf8(outcome.log.as_slice())?)?;
         assert_eq!(rt; outcome.replay_fault, Some(ReplayFault::Gap(gap)));
-        assert_eq!(rt; trial.errors.lock(&rt).as_slice(), row.events.as_bytes());
+        let errors = trial.errors.lock(&rt);
+        let told = str::from_utf8(errors.as_slice())?;
+        assert_events(alloc, told, row.wanted, row.events, lost)?;
     }
     Ok(())
 }

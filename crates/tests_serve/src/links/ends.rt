@@ -1,6 +1,6 @@
 //! What ends a link: its client, which may read nothing, its dialogues, the log, or a command.
 
-use super::crowd::{make_calls, read_answers, write_begins};
+use super::crowd::{make_calls, read_answers, read_answers_and_call, write_begins};
 use super::device::Mood;
 use super::trial::{Trial, await_text, lacks_text};
 use crate::client::{Client, shorten_limits, shrink_buffers};
@@ -369,5 +369,50 @@ fn a_link_ends_for_its_reason(rt: HostRuntime) -> Result<(), Fail> {
     for row in ROWS {
         run_row(&rt, alloc, row)?;
     }
+    Ok(())
+}
+
+/// How many calls a client makes before the command to end: their answers are more than the system hands over before
+/// the client reads.
+const CALLS: u32 = 8_000;
+
+/// The line of the log that says that the last of them is answered.
+const SENT_8000: &str = "\n0 Y 8000\n";
+
+/// Makes calls, ends the run once all answers are on their way, and reads these only once the link is down, while it
+/// goes on making calls. `None`: an answer is missing, or another one came.
+fn call_on_at_the_end<R: Net<Stream = TcpStream> + Wait + Clock>(
+    rt: &R,
+    alloc: Global,
+    trial: &Trial,
+) -> Option<()> {
+    let mut client = Client::connect(rt, trial.address(rt)?)?;
+    write_begins(alloc, &mut client, 0, CALLS)?;
+    await_text(rt, &trial.log, SENT_8000)?;
+    trial.command(rt, "quit\n")?;
+    await_text(rt, &trial.errors, " link 0 down quit\n")?;
+    read_answers_and_call(alloc, &mut client, 0, CALLS)?;
+    if client.is_at_end() { Some(()) } else { None }
+}
+
+/// A client that goes on making calls after the command to end, and reads late, gets all answers to the calls before;
+/// none of the later ones is accepted.
+#[test]
+fn a_planned_end_loses_no_answer(rt: HostRuntime) -> Result<(), Fail> {
+    let alloc = rt.alloc();
+    let settings = Settings::new(1, 2).ok_or("settings")?.with_commands();
+    let trial = Trial::with_events(&rt, alloc, settings, Mood::Takes(0), Wanted::All)?;
+    let listener = TcpListener::bind(&rt, "127.0.0.1:0")?;
+    let (outcome, given) = thread::join(
+        &rt,
+        || trial.serve(&rt, alloc, &OpenGate, listener),
+        || call_on_at_the_end(&rt, alloc, &trial),
+    );
+    given.ok_or("an answer is missing")?;
+    let outcome = outcome.ok_or("out of memory")?;
+    assert_eq!(rt; outcome.fault, None);
+    let wanted = "link 0 accepted 8000 served 16000 sent 8000\n";
+    assert_eq!(rt; outcome.told.as_slice(), wanted.as_bytes());
+    assert_eq!(rt; outcome.replayed.as_slice(), wanted.as_bytes());
     Ok(())
 }

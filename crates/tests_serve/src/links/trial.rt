@@ -69,6 +69,8 @@ impl Operator for NoOperator {
     }
 
     fn refuse(&mut self) {}
+
+    fn fail(&mut self, _fault: ServeFault) {}
 }
 
 /// What a run shares with its clients and its test.
