@@ -4,13 +4,16 @@ import glob
 import os
 import pathlib
 import re
+import signal
 import socket
 import subprocess
 import sys
 import time
 
 ROOT, LOGS, RUN, RECORDS = pathlib.Path("/root/scp"), "/var/log/scp", "/run/scp/run", "/etc/scp/records.csv"
-PROGRAM, DROP_IN = "/usr/local/lib/scp/scp", pathlib.Path("/run/systemd/system/scp.service.d/try.conf")
+PACKAGE = next(ROOT.glob("*.deb"), None)
+BY_HAND, LIBRARY = "/usr/local/lib/scp", "/usr/libexec/freephone-scp" if PACKAGE else "/usr/local/lib/scp"
+PROGRAM, DROP_IN = LIBRARY + "/scp", pathlib.Path("/run/systemd/system/scp.service.d/try.conf")
 passed = failed = 0
 
 
@@ -194,10 +197,12 @@ def records(*lines, one="302223344", more=0, end="\n"):
     os.rename(RECORDS + ".new", RECORDS)
 
 
-def block(word):
-    """Gives the commands of the block of docs/serving.md that has a word."""
-    text = (ROOT / "docs/serving.md").read_text()
-    text = text[text.index("\n## Under systemd\n"):]
+def block(word, section="Under systemd"):
+    """Gives the commands of the block of docs/serving.md that has a word, with the paths of the package if that is tried."""
+    text = (ROOT / "docs/serving.md").read_text().replace(BY_HAND, LIBRARY)
+    if PACKAGE:
+        text = text.replace(" examples/", " /usr/share/doc/freephone-scp/examples/")
+    text = text[text.index(f"\n## {section}\n"):]
     for found in re.findall(r"```console by-hand\n(.*?)```", text[:text.index("\n## ", 5)], re.S):
         if word in found:
             return "".join(line[2:] + "\n" for line in found.splitlines() if line.startswith(("$ ", "> ")))
@@ -211,10 +216,10 @@ def replay(run):
 
 
 def install():
-    status, text = sh("set -e\n" + block("useradd"))
+    status, text = sh("set -e\n" + (block("apt-get", "From a package") if PACKAGE else block("useradd", "From the repository")))
     note(status == 0 and is_listening(), "installed by the document's commands, and it listens", text[-150:])
     note(show("scp", "ActiveState") == ["active"], "scp.service", sh("systemd-analyze security --no-pager scp | tail -n 1")[1])
-    text = sh("systemd-analyze verify scp.service scp@14701.service scp.socket scp@14701.socket 2>&1 | grep -i scp")[1]
+    text = sh("systemd-analyze verify --man=no scp.service scp@14701.service scp.socket scp@14701.socket 2>&1 | grep -i scp")[1]
     note(not text, "systemd-analyze verify", text)
     text = sh("journalctl -q -o cat -t scp")[1]
     note("listening 127.0.0.1:14700" in text, "journalctl -t scp", text)
@@ -573,10 +578,81 @@ def closed_day():
     over(link)
 
 
+def system():
+    """What is on the machine: its files, except those that it writes by itself, and its users."""
+    own = ("/etc/*-", "/root/*", "/run/agetty.reload", "/run/systemd/*", "/run/udev/*", "/tmp/*", "/var/cache/*",
+           "/var/lib/apt/*", "/var/lib/dpkg/*", "/var/log/journal/*", "/var/log/apt/*", "/var/log/dpkg.log", "/var/tmp/*")
+    names = " ".join(f"! -path '{it}'" for it in own)
+    return {*sh(f"find / /run -xdev {names}; cat /etc/passwd /etc/group /etc/shadow /etc/gshadow")[1].splitlines()}
+
+
+def signals():
+    """The command `freephone-scp serve` by hand, and SIGTERM or SIGINT."""
+    for number in (signal.SIGTERM, signal.SIGINT):
+        words = ["freephone-scp", "serve", RECORDS, "--listen", "127.0.0.1:14800", "--log", "/root/signals.log"]
+        # (a script that was started in the background ignores SIGINT, and so does what it starts)
+        run = subprocess.Popen(words, stdin=subprocess.PIPE, stdout=subprocess.PIPE, stderr=subprocess.STDOUT,
+                               preexec_fn=lambda: signal.signal(signal.SIGINT, signal.SIG_DFL))
+        link = linked(14800)
+        run.send_signal(number)
+        said = run.communicate(timeout=10)[0].decode()
+        text = sh(f"freephone-scp replay {RECORDS} /root/signals.log")[1]
+        is_done = run.returncode == 0 and link.recv(1) == b"" and said.endswith(text + "\n")
+        note(is_done and "accepted 1 served 2 sent 1" in text, f"{number.name} to the command: quit", said)
+
+
+def package():
+    """The package: a call, an upgrade under an open log, a removal and a purge."""
+    if not PACKAGE:
+        raise ValueError("needs --package FILE")
+    text = sh(block("calls.txt", "From a package"))[1]
+    note("302223344   chosen" in text and " 32 43 04\n" in text, "a call and its explanation, by the document's commands",
+         "\n".join(text.splitlines()[-3:]))
+    signals()
+    is_done, lines = heard(lambda: succeeds(f"set -e\n{block('scp-offset.timer')}systemctl start scp-offset"), RECORDS)
+    note(is_done and " instead of key,100,60" in lines[0], "scp-offset, for Athens, by the document's commands", lines)
+    records()
+    reload()
+    sh("systemctl start scp@14701; dpkg-deb -R *.deb /root/next; sed -i 's/^Version: .*/&.next/' /root/next/DEBIAN/control; "
+       f"echo mark >> /root/next{PROGRAM}; dpkg-deb -Znone -b /root/next /root/next.deb")
+    links, run, pids = [linked(), linked(14701)], name(), [main_pid(), main_pid("scp@14701")]
+    status, text = sh("dpkg -i /root/next.deb")
+    is_open = all(call(link) for link in links) and pids == [main_pid(), main_pid("scp@14701")]
+    is_told = "with the program that they began with:\n    scp.service scp@14701.service" in text
+    note(status == 0 and is_open and is_told, "an upgrade under two open logs: both go on, and it says so",
+         text[text.find("freephone-scp: no"):])
+    records(one="302225454")
+    is_done = reload()
+    note(is_done and call(links[0]) == "302225454", "the older run reloads")
+    over(links[0])
+    text = replay(run)
+    is_new = pathlib.Path(f"/proc/{main_pid()}/exe").read_bytes().endswith(b"mark\n")
+    note(is_new and "accepted 3" in text, "its log replays, and the next run has the new program", text)
+    text = sh("dpkg -i /root/next.deb")[1]
+    note("they began with:\n    scp@14701.service\n" in text and call(links[1]), "once more: one run is older")
+    link, run, before = linked(), name(), files()
+    status, text = sh("dpkg -r freephone-scp")
+    is_over = link.recv(1) == links[1].recv(1) == b"" and not is_listening()
+    after = {it.removesuffix(".gz") for it in files()}
+    is_kept = os.path.exists(RECORDS) and {it.removesuffix(".gz") for it in before} <= after
+    lines = sh("journalctl -q -o cat -u scp -u scp@14701 | grep 'down quit'")[1]
+    is_done = status == 0 and is_over and is_kept and lines.count("quit") == 2
+    note(is_done, "removed: both runs quit, records and logs stay", lines)
+    sh("dpkg -i /root/next.deb; systemctl start scp")
+    is_answered, text = call(linked()) == "302225454", replay(run)
+    note(is_answered and "accepted 1" in text, "installed again: it answers from these records, and the log replays", text)
+    sh("systemctl enable scp@14701; " + block("scp-spare.conf").replace("14700", "14701"))
+    status, text = sh("dpkg -P freephone-scp")
+    more, less = system() - BEFORE, BEFORE - system()
+    note(status == 0 and not more | less, "purged: nothing stays", [*sorted(more)[:9], *sorted(less)[:9]])
+
+
 TRIES = [install, a_call, spare, faulty, doubtful, full_disk, tags, empty_runs, upgrade, starts, plain_file, template,
-         closed_day]
+         closed_day, package]
+BEFORE = system()
+wanted = sys.argv[1:] or [it.__name__ for it in TRIES if (it is package) == bool(PACKAGE)]
 for one in TRIES:
-    if len(sys.argv) > 1 and one.__name__ not in sys.argv and one is not install:
+    if one.__name__ not in wanted and one is not install:
         continue
     print(f"-- {one.__name__}", flush=True)
     try:
