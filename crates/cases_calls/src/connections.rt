@@ -126,7 +126,7 @@ fn push_length(out: &mut String, reader: &mut IpaReader, count: u16) -> anyhow::
     }
 }
 
-/// How many octets a message of so many octets has.
+/// How many octets a message has whose contents have this number of octets.
 fn length(alloc: Global, text: &str, out: &mut String) -> anyhow::Result<()> {
     let count = text.parse()?;
     let mut reader = IpaReader::new(alloc);

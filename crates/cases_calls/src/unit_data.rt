@@ -150,7 +150,7 @@ fn unit_data(alloc: Global, text: &str, out: &mut String) -> anyhow::Result<()> 
     push_octets(out, octets.as_slice())
 }
 
-/// How many octets a UDT with so many octets of data has, between the longest addresses.
+/// How many octets a UDT has with this number of octets of data and the longest addresses.
 fn longest(alloc: Global, text: &str, out: &mut String) -> anyhow::Result<()> {
     let count: u16 = text.parse()?;
     let mut user_data = Vec::new(alloc);

@@ -67,8 +67,9 @@ TellsAnswers last first_link has_commands old new = (answers : List (List ℕ)) 
 abbrev pub with_links_below : ℕ → List Totals → List Totals
 with_links_below first_link totals = replicate first_link no_totals ++ totals
 
--- An address was written, then the answers to commands, of which a reload has an index up to the last one, and in the end what each of this number of links counted, in
--- their order, and nothing else. Before the first link each number below it has a line, as a replay of the log writes it.
+-- An address was written, then the answers to commands, of which those to reload have indexes up to the last one, and in
+-- the end what each of this number of links counted, in their order, and nothing else. Before the first link each number
+-- below it has a line, as a replay of the log writes it.
 pub record TellsLinks (last first_link links : ℕ) (has_commands : Bool) (old new : Option (List ℕ)) : Type 0 where
   pub address : SocketAddr
   pub answers : List (List ℕ)
