@@ -9,6 +9,7 @@
 //! | `frames` | frames and their heads |
 //! | `unit_data` | messages of SCCP, addresses, what is returned of them |
 //! | `connections` | messages of IPA, and the connections that carry them |
+//! | `network` | links to a signalling network |
 //! | `messages` | messages and components of TCAP, their identifiers |
 //! | `portions` | the dialogue portion |
 //! | `streams` | the lines of a reader, and octets written whole |
@@ -35,6 +36,7 @@ mod frames;
 mod invocations;
 mod kinds;
 mod messages;
+mod network;
 mod numbers;
 mod portions;
 mod records;
@@ -67,6 +69,7 @@ fn plain(alloc: Global, kind: &str, rest: &str, out: &mut String) -> anyhow::Res
             || frames::answer(alloc, kind, rest, out)?
             || unit_data::answer(alloc, kind, rest, out)?
             || connections::answer(alloc, kind, rest, out)?
+            || network::answer(alloc, kind, rest, out)?
             || messages::answer(alloc, kind, rest, out)?
             || portions::answer(alloc, kind, rest, out)?
             || streams::answer(alloc, kind, rest, out)?

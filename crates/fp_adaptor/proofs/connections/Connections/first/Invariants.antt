@@ -1,0 +1,7 @@
+use Rattle.std.proofs.Common.{◌≡◌, ℕ, ◌<◌, None}
+use Rattle.fp_adaptor.specs.Connections.{connection_at}
+use Rattle.fp_adaptor.proofs.connections.Connections.first.Given as goal
+
+-- no unit before has a connection
+abbrev pub invariant-loop-unit : goal.invariant-loop-unit
+invariant-loop-unit l = (before : ℕ) → before < l.unit → connection_at l.self.places.items before ≡ None
