@@ -1,4 +1,5 @@
 pub mod Calendar
+pub mod Codes
 pub mod Dates
 pub mod Digits
 pub mod Entries

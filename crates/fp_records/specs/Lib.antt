@@ -3,6 +3,7 @@ pub mod Calendar
 pub mod Choice
 pub mod Closed
 pub mod Closings
+pub mod Code
 pub mod Date
 pub mod Days
 pub mod Digits

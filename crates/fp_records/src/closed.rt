@@ -7,14 +7,15 @@ ghost use Rattle.fp_records.specs.Closed.{closed_in};
 use crate::date::date_of;
 use crate::decimal_digits::DecimalDigits;
 use crate::fault::Reason;
+use crate::number_key::NumberKey;
 use crate::row::three_fields;
 use csv::ByteRecord;
 
 /// A day on which no rule of a number fits.
 #[derive(Clone, Copy)]
-pub(crate) struct ClosedDay {
+pub struct ClosedDay {
     /// The digits of the number.
-    pub(crate) number: DecimalDigits,
+    pub(crate) number: NumberKey,
     /// The number of the day, 0 for 1970-01-01.
     pub(crate) day: i32,
 }
@@ -33,5 +34,8 @@ pub(crate) fn closed_in(row: &ByteRecord) -> Result<ClosedDay, Reason>
     let Some(day) = date_of(date) else {
         return Err(Reason::BadClosed);
     };
-    Ok(ClosedDay { number, day })
+    Ok(ClosedDay {
+        number: NumberKey::new(&number),
+        day,
+    })
 }

@@ -5,8 +5,8 @@ ghost use Rattle.fp_records.specs.Closings.{listed_days, with_day};
 ghost use Rattle.fp_records.specs.declared.fault.RecordsFault.TheVariants.{Memory};
 
 use crate::closed::ClosedDay;
-use crate::decimal_digits::DecimalDigits;
 use crate::fault::RecordsFault;
+use crate::number_key::NumberKey;
 use std::alloc::Global;
 use std::collections::{BTreeMap, BTreeSet};
 use std::marker::Model;
@@ -18,7 +18,7 @@ const MOST_CLOSED: usize = 10_000;
 #[derive(Drop)]
 pub(crate) struct ClosedDays {
     count: usize,
-    days: BTreeMap<DecimalDigits, BTreeSet<i32>>,
+    days: BTreeMap<NumberKey, BTreeSet<i32>>,
 }
 
 impl Model for ClosedDays {
@@ -75,7 +75,7 @@ impl ClosedDays {
     pub(crate) fn of(
         &self,
         alloc: Global,
-        number: &DecimalDigits,
+        number: &NumberKey,
     ) -> Result<BTreeSet<i32>, RecordsFault>
         ensures days { IfOk result (λ days. days.keys ≡ at_number number.now self.now.days) }
         ensures fault { IfErr result (λ fault. fault ≡ Memory) }
@@ -89,9 +89,9 @@ impl ClosedDays {
 
 /// Puts a day into the set of a number.
 fn insert_at(
-    sets: &mut BTreeMap<DecimalDigits, BTreeSet<i32>>,
+    sets: &mut BTreeMap<NumberKey, BTreeSet<i32>>,
     alloc: Global,
-    number: &DecimalDigits,
+    number: &NumberKey,
     day: i32,
 ) -> Result<(), RecordsFault>
     ensures entries { OnOk result (listed_days sets.new.entries ≡ with_day (listed_days sets.old.entries) number.now day) }

@@ -11,6 +11,7 @@ use crate::days::Days;
 use crate::decimal_digits::DecimalDigits;
 use crate::destination::Destination;
 use crate::fault::Reason;
+use crate::number_key::NumberKey;
 use crate::rule::Rule;
 use crate::weight::Weight;
 use crate::window::{LAST_END, LAST_START, Window, time_of};
@@ -21,16 +22,21 @@ const FIELDS: usize = 7;
 
 /// The word of an action.
 #[derive(Clone, Copy, PartialEq, Eq)]
-enum Verb {
+pub enum Verb {
+    /// `route`, with one to four destinations.
     Route,
+    /// `refuse`.
     Refuse,
+    /// `pass`.
     Pass,
 }
 
 /// A rule, and the number that it is for.
 #[derive(Clone, Copy)]
-pub(crate) struct NumberedRule {
-    pub(crate) number: DecimalDigits,
+pub struct NumberedRule {
+    /// The digits of the number.
+    pub(crate) number: NumberKey,
+    /// The rule.
     pub(crate) rule: Rule,
 }
 
@@ -204,5 +210,8 @@ pub(crate) fn numbered_in(row: &ByteRecord) -> Result<NumberedRule, Reason>
 {
     let number = number_in(row)?;
     let rule = rule_in(row)?;
-    Ok(NumberedRule { number, rule })
+    Ok(NumberedRule {
+        number: NumberKey::new(&number),
+        rule,
+    })
 }

@@ -11,9 +11,9 @@ ghost use Rattle.std.specs.Arc.{arc_value};
 ghost use Rattle.fp_records.specs.declared.fault.RecordsFault.TheVariants.{Memory};
 
 use crate::closed_days::ClosedDays;
-use crate::decimal_digits::DecimalDigits;
 use crate::fault::RecordsFault;
 use crate::fields::NumberedRule;
+use crate::number_key::NumberKey;
 use crate::record::Record;
 use crate::rule::KeptRule;
 use std::alloc::Global;
@@ -31,7 +31,7 @@ const MOST_OF_NUMBER: usize = 1_000;
 #[derive(Drop)]
 pub(crate) struct Groups {
     count: usize,
-    groups: BTreeMap<DecimalDigits, Vec<KeptRule>>,
+    groups: BTreeMap<NumberKey, Vec<KeptRule>>,
 }
 
 impl Model for Groups {
@@ -68,14 +68,14 @@ impl Groups {
     }
 
     /// Whether a rule of this number is within the limits.
-    pub(crate) fn has_room(&self, number: &DecimalDigits) -> bool
+    pub(crate) fn has_room(&self, number: &NumberKey) -> bool
         ensures { result ≡ has_room self.now number.now }
     {
         self.count < MOST_RULES && self.count_of(number) < MOST_OF_NUMBER
     }
 
     /// How many rules a number has.
-    fn count_of(&self, number: &DecimalDigits) -> usize
+    fn count_of(&self, number: &NumberKey) -> usize
         ensures { result ≡ length (group_of number.now self.now) }
     {
         match self.groups.get(number) {
@@ -107,7 +107,7 @@ impl Groups {
         alloc: Global,
         offset: i16,
         closed: &ClosedDays,
-    ) -> Result<BTreeMap<DecimalDigits, Arc<Record>>, RecordsFault>
+    ) -> Result<BTreeMap<NumberKey, Arc<Record>>, RecordsFault>
         requires west { neg_ℤ (pos 720) ≤ℤ offset }
         requires east { offset ≤ℤ pos 840 }
         ensures records { IfOk result (λ records. map (λ e. (e.0, arc_value e.1)) records.entries ≡ map (record_of_group offset closed.now.days) self.groups) }
@@ -127,9 +127,9 @@ impl Groups {
 
 /// Puts a value after the others of the list at a number.
 fn push_at<T: Drop>(
-    lists: &mut BTreeMap<DecimalDigits, Vec<T>>,
+    lists: &mut BTreeMap<NumberKey, Vec<T>>,
     alloc: Global,
-    number: &DecimalDigits,
+    number: &NumberKey,
     value: T,
 ) -> Result<(), RecordsFault>
     ensures entries { OnOk result (listed lists.new.entries ≡ with_value (listed lists.old.entries) number.now value) }

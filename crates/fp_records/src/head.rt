@@ -19,7 +19,7 @@ const MOST_EAST: u64 = 840;
 
 /// What the head says.
 #[derive(Clone, Copy, PartialEq, Eq)]
-pub(crate) struct Head {
+pub struct Head {
     /// The service key.
     pub(crate) key: u32,
     /// How many minutes local time is east of UTC.

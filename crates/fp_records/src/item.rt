@@ -13,7 +13,7 @@ use csv::ByteRecord;
 
 /// What a record after the head says.
 #[derive(Clone, Copy)]
-pub(crate) enum Item {
+pub enum Item {
     /// A rule of a number.
     Rule(NumberedRule),
     /// A day on which a number is closed.

@@ -24,7 +24,9 @@
 //! The layer above may rely on this: a table is what the text says and nothing else (`IsTable` of
 //! `specs/Table.antt` and `IsFile` of `specs/File.antt`), a fault names the first faulty record
 //! (`FirstFault`), a choice is `choice` of `specs/Choice.antt`, a record has a rule at least, and only
-//! [`Table::read`] and [`migrate`] take memory.
+//! [`Table::read`] and [`migrate`] take memory. Six types of the reader are `pub` in their private modules, so that
+//! the contracts of other crates can name what these definitions name: `Version`, `Head`, `Item`, `ClosedDay`,
+//! `NumberedRule` and `Verb`.
 #![tactic(auto)]
 
 mod action;
@@ -45,6 +47,7 @@ mod laws;
 mod local_time;
 mod migration;
 mod number;
+mod number_key;
 mod reading;
 mod record;
 mod row;

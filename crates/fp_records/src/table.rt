@@ -8,6 +8,7 @@ use crate::decimal_digits::DecimalDigits;
 use crate::fault::{Reason, RecordsFault};
 use crate::gathering::Gathering;
 use crate::head::head_of;
+use crate::number_key::NumberKey;
 use crate::reading::RecordReader;
 use crate::record::Record;
 use crate::version::read_start;
@@ -25,7 +26,7 @@ pub struct Table {
     key: u32,
     rule_count: u32,
     closed_count: u32,
-    records: BTreeMap<DecimalDigits, Arc<Record>>,
+    records: BTreeMap<NumberKey, Arc<Record>>,
 }
 
 impl Model for Table {
@@ -155,6 +156,6 @@ impl Table {
         let Some(digits) = DecimalDigits::from_digits(called.digits.as_slice()) else {
             return None;
         };
-        records.get(&digits)
+        records.get(&NumberKey::new(&digits))
     }
 }

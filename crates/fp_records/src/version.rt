@@ -12,7 +12,7 @@ use csv::ByteRecord;
 
 /// The version of a file.
 #[derive(Clone, Copy, PartialEq, Eq)]
-pub(crate) enum Version {
+pub enum Version {
     /// The head is the first record, and every other record is a rule.
     One,
     /// `fprecords,2` is the first record, the head the second, and each other one a rule or a closed day.

@@ -15,4 +15,4 @@ returns-in_err-rule c =
     stops ∙ steps-table (fields_of c.args.row.now)
 
 pub returns : goal.returns
-returns c = rw (← steps-table (fields_of c.args.row.now), ← c.in_ok-number.ensures, ← c.in_ok-rule.ensures) refl
+returns c = rw (← steps-table (fields_of c.args.row.now), ← c.in_ok-number.ensures, ← c.in_ok-rule.ensures, c.new.ensures) refl

@@ -28,4 +28,4 @@ returns-in_default c =
 pub returns : goal.returns
 returns c =
     let same = own_digits c.args.called.now.digits c.in-Some.digits (rw c.as_slice.ensures.value at (sym c.from_digits.ensures ∙ c.in-Some.is)) in
-    rw (← c.self.view_is) (seen-found (λ found. arc_value found) c.args.called.now.digits c.self.inside.records.entries c.get.result (rw same at c.get.ensures.value))
+    rw (← c.self.view_is) (seen-found (λ found. arc_value found) c.args.called.now.digits c.self.inside.records.entries c.get.result (rw (c.new.ensures, same) at c.get.ensures.value))
