@@ -1,6 +1,7 @@
 mod After
 mod Led
 mod Maps
+mod Next
 mod PuttingBack
 mod Stepping
 pub mod Fronts

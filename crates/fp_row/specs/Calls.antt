@@ -11,6 +11,7 @@ use Rattle.fp_row.specs.declared.ending.Ending.TheVariants.{ByPeer, Closed}
 use Rattle.fp_row.specs.declared.requested.Requested.{Requested}
 use Rattle.fp_row.specs.declared.requested.Requested.TheVariants.{Nothing, Frames, Dropped}
 use Rattle.fp_row.specs.declared.row.Row.{Row}
+use Rattle.fp_row.specs.declared.served_turn.ServedTurn.{ServedTurn}
 use Rattle.fp_row.specs.declared.turn.Turn.{Turn}
 use Rattle.fp_row.specs.Row.{deadline_of, frames_of, is_admitted, is_closed, is_ready, kept_of, queued_of, sent_of, turn_out, waiting_of}
 use Rattle.fp_row.specs.Turn.{birth_of, most_entries}
@@ -127,6 +128,21 @@ pub record Gives (old : Row) (done : Done) (requested : Requested) (new : Row) :
   pub queued_frames : queued_of new ≡ queued_of old ++ frames_in requested
   pub kept_frames : kept_of new ≡ kept_of old ++ frames_in requested
   pub sent_frames : sent_of new ≡ sent_of old
+
+-- the turn of the next entries was handed out, served and given back, and this is what came of it
+pub record ServesTurn (free : ℕ) (old : Row) (turn : ServedTurn) (new : Row) : Type 0 where
+  pub done : Done
+  pub between : Row
+  pub takes : HandsOut free old done.turn between
+  pub gives : Gives between done turn.requested new
+  pub position : turn.position ≡ done.turn.position
+  pub count : turn.count ≡ length done.turn.entries
+  pub served : turn.served ≡ done.served
+
+-- a turn was served, or the dialogue wasn't ready
+abbrev pub ServesNext : ℕ → Row → Option ServedTurn → Row → Type 0
+ServesNext free old (Some turn) new = ServesTurn free old turn new
+ServesNext free old None new = (is_ready old ≡ false) × (new ≡ old)
 
 -- the turn that was out is out no longer
 pub record PutsBack (old : Row) (turn : Turn) (new : Row) : Type 0 where

@@ -1,11 +1,12 @@
 //! Cores in a place of their own.
 
 ghost use Rattle.std.specs.Prelude.{◌≡◌, IfOk};
-ghost use Rattle.fp_service.specs.Dialogue.{is_over};
-ghost use Rattle.fp_service.specs.Serve.{next, request_of};
+ghost use Rattle.fp_row.specs.proof_only.Serving.{AreAll};
 
+use crate::serving::Steps;
 use fp_entry::Entry;
-use fp_service::{Core, Request};
+use fp_q773::Tid;
+use fp_service::Core;
 use std::alloc::{AllocError, Global};
 use std::marker::Model;
 
@@ -41,19 +42,17 @@ impl HeapCore {
         &self.place
     }
 
-    /// Whether the dialogue is over.
-    pub(crate) fn is_over(&self) -> bool
-        ensures { result ≡ is_over self.now }
+    /// Serves entries of its dialogue until that is over, as [`Steps::of`]. `Err`: memory ran out.
+    pub(crate) fn serve_all(
+        &mut self,
+        alloc: Global,
+        entries: &[Entry],
+        local: u32,
+        peer: &Tid,
+    ) -> Result<Steps, AllocError>
+        ensures { IfOk result (λ steps. AreAll local peer.now self.old entries.now steps self.new) }
     {
-        self.place.is_over()
-    }
-
-    /// Makes the service step for an entry, and returns what that requests. Takes no memory.
-    pub(crate) fn step(&mut self, entry: &Entry) -> Option<Request>
-        ensures core { self.new ≡ next self.old entry.now }
-        ensures request { result ≡ request_of self.old entry.now }
-    {
-        self.place.step(entry)
+        Steps::of(alloc, &mut self.place, entries, local, peer)
     }
 
     /// The core itself. Takes no memory.

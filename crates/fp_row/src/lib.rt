@@ -2,8 +2,9 @@
 //! transaction of ITU-T Q.774, clause 3, seen from its service logic).
 //!
 //! The layer is handed entries, moments, turns that were served and word of what was sent, and says what the dialogue
-//! is then. No call of a row runs the service logic: a [`Turn`] is taken out, served anywhere, and its [`Done`] given
-//! back. It asks the system for nothing but memory.
+//! is then. Entries are served in two ways, of which one thing is said: a [`Turn`] is taken out, served anywhere, and its
+//! [`Done`] given back; or [`Row::serve_next`] does all three in the row, without a copy of the entries. It asks the
+//! system for nothing but memory.
 //!
 //! * [`Row`] is one dialogue: all entries that it accepted, in order, how many of them were served, and how many are
 //!   out as a turn; its core after those that were served; how many of its requests were accepted for
@@ -40,6 +41,7 @@ mod request_frames;
 mod requested;
 mod row;
 mod rows;
+mod served_turn;
 mod serving;
 mod turn;
 
@@ -53,4 +55,5 @@ pub use request_frames::RequestFrames;
 pub use requested::Requested;
 pub use row::Row;
 pub use rows::Rows;
+pub use served_turn::ServedTurn;
 pub use turn::Turn;

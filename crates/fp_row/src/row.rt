@@ -6,7 +6,8 @@ ghost use Rattle.fp_service.specs.Dialogue.{fresh, is_over};
 ghost use Rattle.fp_service.specs.Fold.{core_after, cut, requests};
 
 use crate::heap_core::HeapCore;
-use crate::{Done, Ending, Requested, Turn};
+use crate::serving::Steps;
+use crate::{Done, Ending, Requested, ServedTurn, Turn};
 use fp_digits::Moment;
 use fp_entry::{Entries, Entry, EntryKind, equal_entries_are_the_same};
 use fp_q773::Tid;
@@ -90,7 +91,7 @@ fn append(accepted: &mut Entries, entries: Entries) -> Result<(), AllocError>
 impl Row {
     ghost use Rattle.fp_row.specs.Row.{IsFromHere, deadline_of, entries_out, has_clock, has_turn_out, is_admitted, is_due, is_held, is_ready, places_taken, turn_out, unserved, waits};
     ghost use Rattle.fp_row.specs.Turn.{most_entries};
-    ghost use Rattle.fp_row.specs.Calls.{Accepts, Clocks, Ends, Gives, Opens, PutsBack, Sends, Takes, sending};
+    ghost use Rattle.fp_row.specs.Calls.{Accepts, Clocks, Ends, Gives, Opens, PutsBack, Sends, ServesNext, Takes, sending};
 
     /// The dialogue that a Begin opens at this moment: this end knows it by `local`, its peer by `peer`, and it is the
     /// `birth`-th of its link. It accepted nothing yet. Takes no memory.
@@ -366,6 +367,48 @@ impl Row {
         self.kept += count;
         self.out = 0;
         Ok(requested)
+    }
+
+    /// Serves the next entries in their place: what comes of it is what comes of handing out their turn ([`Row::take`]),
+    /// serving it ([`Turn::serve`]) and giving it back ([`Row::give`]). `None` exactly if the dialogue isn't ready.
+    /// Then, and if memory runs out for the frames, nothing changes.
+    pub fn serve_next(
+        &mut self,
+        alloc: Global,
+        free: usize,
+    ) -> Result<Option<ServedTurn>, AllocError>
+        requires { 0 < free }
+        ensures ok { IfOk result (λ turn. ServesNext free self.old turn self.new) }
+        ensures err { OnErr result (self.new ≡ self.old) }
+        ensures only { OnErr result (is_ready self.old ≡ true) }
+    {
+        if !self.is_ready() {
+            return Ok(None);
+        }
+        births_stay();
+        folds_along_a_grown_list();
+        cut_is_a_front();
+        entries_ask_once_at_most();
+        self.accepted_fits();
+        let position = self.served;
+        let count = self.next_count(free);
+        let mut after = self.core;
+        let entries = &self.unserved()[..count];
+        let steps = Steps::of(alloc, &mut after, entries, self.local, &self.peer)?;
+        let Steps { served, frames } = steps;
+        let asked = Requested::of(self.ended, frames);
+        let queued = asked.frame_count();
+        self.served = position + served;
+        self.core = after;
+        self.queued += queued;
+        self.kept += queued;
+        self.out = 0;
+        Ok(Some(ServedTurn {
+            position,
+            count,
+            served,
+            requested: asked,
+        }))
     }
 
     /// Takes back the turn that is out, not served: its entries are the next ones again. A stale or foreign turn

@@ -1,24 +1,22 @@
-//! The steps of the service logic along the entries of a turn.
+//! The steps of the service logic along entries of a dialogue.
 
 ghost use Rattle.std.specs.Prelude.{◌≡◌, ◌+◌, ◌<◌, ◌++◌, ◌^◌, IfOk, OnOk, OnErr, length, option_to_list};
 ghost use Rattle.fp_row.specs.Turn.{frames_under};
 ghost use Rattle.fp_row.specs.proof_only.Serving.{AreAll, none_served, one_served};
+ghost use Rattle.fp_service.specs.Serve.{next};
 
-use crate::heap_core::HeapCore;
-use crate::{RequestFrame, RequestFrames, Turn};
+use crate::{RequestFrame, RequestFrames};
 use fp_entry::Entry;
 use fp_q773::Tid;
 use fp_reply::bytes_of;
 use fp_service::{Core, Request};
 use std::alloc::{AllocError, Global};
 
-/// What came of the entries of a turn so far.
+/// What came of entries that were served so far.
 #[derive(Debug, Drop)]
 pub(crate) struct Steps {
     /// How many of them were served.
     pub(crate) served: usize,
-    /// The core after those.
-    pub(crate) after: HeapCore,
     /// The frames of what they requested.
     pub(crate) frames: RequestFrames,
 }
@@ -43,54 +41,63 @@ fn add_frame(
 }
 
 impl Steps {
-    /// No entry was served. `Err`: memory ran out.
-    fn none(alloc: Global, before: &Core) -> Result<Steps, AllocError>
-        ensures { IfOk result (λ steps. steps ≡ none_served before.now) }
-    {
-        Ok(Steps {
-            served: 0,
-            after: HeapCore::copy_of(alloc, before)?,
-            frames: RequestFrames::new(alloc),
-        })
-    }
-
-    /// Serves one more entry. `Err`: memory ran out.
+    /// Serves one more entry: `core` is then the core after it. `Err`: memory ran out.
     fn serve(
         &mut self,
         alloc: Global,
+        core: &mut Core,
+        entry: &Entry,
         local: u32,
         peer: &Tid,
-        entry: &Entry,
     ) -> Result<(), AllocError>
         requires fits { self.old.served + 1 < 2 ^ 64 }
-        ensures { OnOk result (self.new ≡ one_served local peer.now self.old entry.now) }
+        ensures steps { OnOk result (self.new ≡ one_served local peer.now core.old self.old entry.now) }
+        ensures core { OnOk result (core.new ≡ next core.old entry.now) }
     {
-        let request = self.after.step(entry);
+        let request = core.step(entry);
         add_frame(alloc, &mut self.frames, request, local, peer)?;
         self.served += 1;
         Ok(())
     }
 
-    /// Serves the entries of a turn, none of which was served, until the dialogue is over. `Err`: memory ran out.
-    fn serve_all(&mut self, alloc: Global, turn: &Turn) -> Result<(), AllocError>
-        requires none { self.old ≡ none_served turn.now.before }
-        ensures { OnOk result (AreAll turn.now self.new) }
+    /// Serves entries, none of which was served, until the dialogue is over: `core` is the core before them, and then
+    /// the one after those that were served. `Err`: memory ran out.
+    fn serve_all(
+        &mut self,
+        alloc: Global,
+        core: &mut Core,
+        entries: &[Entry],
+        local: u32,
+        peer: &Tid,
+    ) -> Result<(), AllocError>
+        requires none { self.old ≡ none_served }
+        ensures { OnOk result (AreAll local peer.now core.old entries.now self.new core.new) }
     {
-        for entry in turn.entries.as_slice() {
-            if self.after.is_over() {
+        for entry in entries {
+            if core.is_over() {
                 return Ok(());
             }
-            self.serve(alloc, turn.local, &turn.peer, entry)?;
+            self.serve(alloc, core, entry, local, peer)?;
         }
         Ok(())
     }
 
-    /// What comes of the entries of a turn. `Err`: memory ran out.
-    pub(crate) fn of(alloc: Global, turn: &Turn) -> Result<Steps, AllocError>
-        ensures { IfOk result (AreAll turn.now) }
+    /// What comes of entries of a dialogue, which are served until it is over: `core` is the core before them, and then
+    /// the one after those that were served. `Err`: memory ran out.
+    pub(crate) fn of(
+        alloc: Global,
+        core: &mut Core,
+        entries: &[Entry],
+        local: u32,
+        peer: &Tid,
+    ) -> Result<Steps, AllocError>
+        ensures { IfOk result (λ steps. AreAll local peer.now core.old entries.now steps core.new) }
     {
-        let mut steps = Steps::none(alloc, turn.before.as_core())?;
-        steps.serve_all(alloc, turn)?;
+        let mut steps = Steps {
+            served: 0,
+            frames: RequestFrames::new(alloc),
+        };
+        steps.serve_all(alloc, core, entries, local, peer)?;
         Ok(steps)
     }
 }

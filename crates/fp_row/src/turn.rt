@@ -76,14 +76,14 @@ impl Turn {
         ensures turn { IfOk result (λ done. done.turn ≡ self) }
         ensures same { IfErr result (λ turn. turn ≡ self) }
     {
-        let Ok(steps) = Steps::of(alloc, &self) else {
+        let Ok(mut after) = HeapCore::copy_of(alloc, self.before.as_core()) else {
             return Err(self);
         };
-        let Steps {
-            served,
-            after,
-            frames,
-        } = steps;
+        let entries = self.entries.as_slice();
+        let Ok(steps) = after.serve_all(alloc, entries, self.local, &self.peer) else {
+            return Err(self);
+        };
+        let Steps { served, frames } = steps;
         Ok(Done {
             turn: self,
             served,
