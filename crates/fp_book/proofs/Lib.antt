@@ -1,6 +1,7 @@
 -- the names that all of them use
 mod Names
 mod Accounts
+mod AtOnce
 mod Born
 mod Busy
 pub mod Changes

@@ -113,7 +113,7 @@ Sound-stays law old l before after more entries accepted queue log s was same is
     })
 
 -- no more entries than there are free places
-min_most : (a b c : ℕ) → min a (min b c) ≤ c
+pub min_most : (a b c : ℕ) → min a (min b c) ≤ c
 min_most a b c = omega arith
 
 -- a turn that goes out is out

@@ -16,6 +16,8 @@ use Rattle.fp_book.specs.declared.parcel.Parcel.{Parcel}
 use Rattle.fp_book.specs.declared.parcel.Picked.{Picked}
 use Rattle.fp_book.specs.declared.parcel.Picked.TheVariants as answers
 use Rattle.fp_book.specs.declared.parcel.Waiting.{Waiting}
+use Rattle.fp_book.specs.declared.in_place.InPlace.{InPlace}
+use Rattle.fp_book.specs.declared.in_place.InPlace.TheVariants as in_place
 use Rattle.fp_book.specs.declared.taken.Taken.{Taken}
 use Rattle.fp_book.specs.declared.taken.Taken.TheVariants.{Turn as ATurn, Nothing, NoRoom, Memory}
 use Rattle.fp_book.specs.declared.totals.Totals.{Totals}
@@ -132,6 +134,23 @@ pub record GivesDone (old : Shelf) (done : Done) (given : Given) (new : Shelf) :
     totals = more_served old.totals done.served;
     log = logged old.log (line.Give before.birth done.turn.position done.served given);
   }
+
+-- SERVE: a turn is handed out, served and given back, and nothing comes between
+
+-- so the log has both lines, the one after the other
+pub record ServesTurn (old : Shelf) (count : ℕ) (given : Given) (new : Shelf) : Type 0 where
+  pub done : Done
+  pub between : Shelf
+  pub takes : TakesTurn old done.turn between
+  pub gives : GivesDone between done given new
+  pub count_is : count ≡ done.served
+
+-- a turn was served, or none is handed out
+abbrev pub Serves : Shelf → InPlace → Shelf → Type 0
+Serves old (in_place.Served count given) new = ServesTurn old count given new
+Serves old in_place.Nothing new = Takes old Nothing new × NoneReady Nothing old
+Serves old in_place.NoRoom new = Takes old NoRoom new
+Serves old in_place.Memory new = Takes old Memory new
 
 -- the turn of a dialogue that is out
 abbrev pub turn_of : Option Row → Option Turn

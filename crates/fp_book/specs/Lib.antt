@@ -1,5 +1,6 @@
 pub mod Calls
 pub mod Holding
+pub mod InPlace
 pub mod Laws
 pub mod Limits
 pub mod Log

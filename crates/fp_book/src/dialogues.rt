@@ -3,7 +3,7 @@
 ghost use Rattle.std.specs.Prelude.{◌≡◌, ◌≢◌, ◌<◌, [], ◌↔◌, not, true, Some, IfErr, IfOk, IsOk, IsTrue, OnErr, ◌&&◌, if◌then◌else◌};
 ghost use Rattle.std.specs.FinMap.{contains_key, get, remove};
 ghost use Rattle.fp_book.specs.Calls.{turn_of};
-ghost use Rattle.fp_book.specs.proof_only.Dialogues.{ClockedAt, EndsAt, ExtendsAt, GivesAt, HandsOutAt, OpensAt, PutsBackAt, SendsAt, Drops, drops_frames, is_due_at, is_unsent, left_as, takes_more};
+ghost use Rattle.fp_book.specs.proof_only.Dialogues.{ClockedAt, EndsAt, ExtendsAt, GivesAt, HandsOutAt, OpensAt, PutsBackAt, SendsAt, ServesAt, Drops, drops_frames, is_due_at, is_unsent, left_as, takes_more};
 ghost use Rattle.fp_row.specs.declared.row.Row.{Row};
 ghost use Rattle.fp_row.specs.Row.{is_ready};
 ghost use Rattle.fp_book.specs.Shelf.{ready_count};
@@ -11,7 +11,7 @@ ghost use Rattle.fp_book.specs.Shelf.{ready_count};
 use fp_digits::Moment;
 use fp_entry::Entries;
 use fp_q773::Tid;
-use fp_row::{Done, Ending, Requested, Row, Rows, Turn, putting_back_changes_nothing};
+use fp_row::{Done, Ending, Requested, Row, Rows, ServedTurn, Turn, putting_back_changes_nothing};
 use std::alloc::{AllocError, Global};
 
 /// What the other parts of a book have to know of a dialogue that changed.
@@ -46,6 +46,15 @@ impl Left {
 pub(crate) struct Served {
     /// What becomes of its request.
     pub(crate) requested: Requested,
+    /// What the other parts have to know of the dialogue.
+    pub(crate) left: Left,
+}
+
+/// What comes of the next entries of a dialogue, which were served in their place.
+#[derive(Debug, Drop)]
+pub(crate) struct ServedInPlace {
+    /// The turn that they would have been, and what becomes of its requests.
+    pub(crate) turn: ServedTurn,
     /// What the other parts have to know of the dialogue.
     pub(crate) left: Left,
 }
@@ -103,6 +112,27 @@ pub(crate) fn take(rows: &mut Rows, local: u32, free: usize) -> Result<Turn, All
         unreachable!()
     };
     Ok(turn)
+}
+
+/// Serves the next entries of a dialogue that is ready, where this many places are free. It goes if nothing of it is
+/// left. If memory runs out for the frames, nothing changes.
+pub(crate) fn serve(rows: &mut Rows, local: u32, free: usize) -> Result<ServedInPlace, AllocError>
+    requires ready { ready_count (get rows.old local) ≡ 1 }
+    requires room { 0 < free }
+    ensures ok { IfOk result (λ served. ServesAt free rows.old local served.turn served.left rows.new) }
+    ensures err { OnErr result (rows.new ≡ rows.old) }
+{
+    putting_back_changes_nothing();
+    let alloc = rows.allocator();
+    let Some(row) = rows.get_mut(local) else {
+        unreachable!()
+    };
+    let Some(turn) = row.serve_next(alloc, free)? else {
+        unreachable!()
+    };
+    let left = Left::of(row);
+    keep(rows, local, left.is_held);
+    Ok(ServedInPlace { turn, left })
 }
 
 /// Gives a turn that was served back to its dialogue, which goes if nothing of it is left. A stale or foreign one comes

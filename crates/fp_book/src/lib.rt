@@ -4,7 +4,7 @@
 //! The layer is handed messages that were prepared, moments, turns that were served and word of what was sent, and says
 //! what is to be done next. It knows no clock, no thread and no socket, and asks the system for nothing but memory:
 //! what [`Book::new`] reserves is never grown, and after it nothing but [`Book::post`] (or
-//! [`Book::post_with_receipt`]), [`Book::tick`] and [`Book::take`] takes any.
+//! [`Book::post_with_receipt`]), [`Book::tick`], [`Book::take`] and [`Book::serve`] takes any.
 //!
 //! | Call | What comes | What is answered |
 //! |---|---|---|
@@ -12,6 +12,7 @@
 //! | [`Book::post_with_receipt`] | a message | [`Receipt`]: that, what was counted, and whether memory ran out |
 //! | [`Book::tick`] | a moment | [`Ticked`]: how many dialogues were given a Clock |
 //! | [`Book::take`] | a worker is free | [`Taken`]: the turn of the dialogue that has been ready longest, or why none |
+//! | [`Book::serve`] | the receiving thread is free | [`InPlace`]: a take, the service steps and a give in one call, or why none |
 //! | [`Book::give`] | a turn that was served | [`Given`]: what became of its request |
 //! | [`Book::put_back`] | a turn that wasn't served | |
 //! | [`Book::pick`] | the link may send | [`Picked`]: the parcel that is sent next, or why none |
@@ -35,8 +36,8 @@
 //! A [`Turn`](fp_row::Turn) and a [`Parcel`] must be spent. What comes back is compared with what is out, and a
 //! stale or foreign one comes back and changes nothing. A dialogue whose turn or parcel was abandoned stays held.
 //!
-//! What a call costs, by the number of dialogues that are held: `post`, `take`, `give`, `put_back` and `sent` look one
-//! of them up by hash. A deadline that comes, goes or changes is found at an end of a lane, or by halves, and then 16
+//! What a call costs, by the number of dialogues that are held: `post`, `take`, `serve`, `give`, `put_back` and `sent`
+//! look one of them up by hash. A deadline that comes, goes or changes is found at an end of a lane, or by halves, and then 16
 //! octets move for each one between its place and the nearer end of that lane: next to none for the oldest and the
 //! newest. A Begin for which the rows have to grow moves all of them. `tick` does so for each dialogue that is due, and
 //! looks at four deadlines, twice, if none is. `entry_count`, `down`, `unsent`, and a tick for which memory ran out, go
@@ -71,6 +72,7 @@ mod answers;
 mod book;
 mod dialogues;
 mod holding;
+mod in_place;
 mod laws;
 mod line;
 mod log;
@@ -91,6 +93,7 @@ mod verdict;
 
 pub use answers::{Given, Posted, Receipt};
 pub use book::Book;
+pub use in_place::InPlace;
 pub use laws::{
     births_are_distinct, clocks_keep_a_book_sound, dialogues_are_kept_in_order,
     going_down_keeps_a_book_sound, messages_keep_a_book_sound, read_messages_have_few_entries,

@@ -1,18 +1,20 @@
-//! Turns of a book: taken, given and put back.
+//! Turns of a book: taken, given and put back, and served in their place.
 
 ghost use Rattle.std.specs.Prelude.{◌≡◌, ◌↔◌, ◌<◌, ◌≤◌, ◌+◌, ◌++◌, false, true, Some, IfErr, IfOk, IsOk, IsSome, IsTrue, length, is_some, OnOk, if◌then◌else◌};
 ghost use Rattle.std.specs.FinMap.{get};
 ghost use Rattle.fp_timers.specs.Deadlines.{HasRoom};
-ghost use Rattle.fp_book.specs.Calls.{GivesDone, NoneReady, PutsTurnBack, Takes, given_of, joins, turn_of, waiting_in};
+ghost use Rattle.fp_book.specs.Calls.{GivesDone, NoneReady, PutsTurnBack, Serves, Takes, given_of, joins, more_served, turn_of, waiting_in};
+ghost use Rattle.fp_book.specs.InPlace.{count_in};
 ghost use Rattle.fp_book.specs.proof_only.Dialogues.{request_count, with_deadline};
 ghost use Rattle.fp_row.specs.Calls.{frames_in};
 ghost use Rattle.fp_book.specs.Shelf.{Sound};
 ghost use Rattle.fp_tids.specs.Identifiers.{IsGiven, with_returned};
 
+use crate::dialogues::ServedInPlace;
 use crate::{
-    Book, Given, LoggedStep, Outbox, ReadyQueue, Taken, dialogues, turns_keep_a_book_sound,
+    Book, Given, InPlace, LoggedStep, Outbox, ReadyQueue, Taken, dialogues, turns_keep_a_book_sound,
 };
-use fp_row::{Done, Requested, Turn, turns_are_served_by_the_step};
+use fp_row::{Done, Requested, ServedTurn, Turn, turns_are_served_by_the_step};
 use fp_tids::LocalIds;
 use fp_timers::Deadlines;
 
@@ -97,6 +99,60 @@ impl Book {
             count: count as u32,
         });
         Taken::Turn(turn)
+    }
+
+    /// Serves the turn of the dialogue that has been ready longest, in its place: what comes of it, its log included, is
+    /// what comes of [`Book::take`], [`Turn::serve`] and [`Book::give`], one right after the other. `Nothing`, `NoRoom`
+    /// and `Memory` are as for `take`, and then nothing changes; `Memory` is also the answer if memory runs out for a
+    /// frame.
+    pub fn serve(&mut self) -> InPlace
+        ensures serves { Serves self.old result self.new }
+        ensures totals { self.new.totals ≡ more_served self.old.totals (count_in result) }
+        ensures sound { Sound self.new }
+    {
+        turns_keep_a_book_sound();
+        turns_are_served_by_the_step();
+        let Some(local) = self.ready.first() else {
+            return InPlace::Nothing;
+        };
+        let held = self.places_held();
+        if held >= Outbox::MOST_FRAMES {
+            return InPlace::NoRoom;
+        }
+        let free = Outbox::MOST_FRAMES - held;
+        let Ok(came) = dialogues::serve(&mut self.rows, local, free) else {
+            return InPlace::Memory;
+        };
+        let ServedInPlace { turn, left } = came;
+        let ServedTurn {
+            position,
+            count,
+            served,
+            requested,
+        } = turn;
+        let birth = left.birth;
+        let position = position as u64;
+        self.ready.next();
+        self.log.add(LoggedStep::Take {
+            birth,
+            position,
+            count: count as u32,
+        });
+        self.totals.served += served as u64;
+        end_serial_unless_held(&mut self.ids, local, left.is_held);
+        set_deadline(&mut self.deadlines, local, left.deadline);
+        join(&mut self.ready, local, left.is_ready);
+        let given = queue(&mut self.outbox, local, birth, requested);
+        self.log.add(LoggedStep::Give {
+            birth,
+            position,
+            served: served as u32,
+            given,
+        });
+        InPlace::Served {
+            count: served,
+            given,
+        }
     }
 
     /// Takes a turn back that was served: the entries that were served count as such. `Queued`: the frames of their

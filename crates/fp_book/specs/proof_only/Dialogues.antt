@@ -25,8 +25,9 @@ use Rattle.fp_row.specs.declared.ending.Ending.TheVariants.{ByPeer}
 use Rattle.fp_row.specs.declared.requested.Requested.{Requested}
 use Rattle.fp_row.specs.declared.requested.Requested.TheVariants as requested
 use Rattle.fp_row.specs.declared.row.Row.{Row}
+use Rattle.fp_row.specs.declared.served_turn.ServedTurn.{ServedTurn}
 use Rattle.fp_row.specs.declared.turn.Turn.{Turn}
-use Rattle.fp_row.specs.Calls.{Ends, Extends, Gives, HandsOut, Opens, PutsBack, SendsOne, sending}
+use Rattle.fp_row.specs.Calls.{Ends, Extends, Gives, HandsOut, Opens, PutsBack, SendsOne, ServesTurn, sending}
 use Rattle.fp_row.specs.Row.{deadline_of, is_admitted, is_due, is_held, is_ready}
 
 abbrev pub Rows : Type 0
@@ -61,6 +62,10 @@ HandsOutAt free old local turn new = Changes (λ before after. HandsOut free bef
 -- it takes its turn back, served
 abbrev pub GivesAt : Rows → Done → Requested → Left → Rows → Type 0
 GivesAt old done requested left new = Changes (λ before after. Gives before done requested after × (left ≡ left_as after)) old done.turn.local new
+
+-- it hands out a turn, which is served and given back
+abbrev pub ServesAt : ℕ → Rows → ℕ → ServedTurn → Left → Rows → Type 0
+ServesAt free old local turn left new = Changes (λ before after. ServesTurn free before turn after × (left ≡ left_as after)) old local new
 
 -- how many requests of a turn these are
 abbrev pub request_count : Requested → ℕ
