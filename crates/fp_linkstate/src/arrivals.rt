@@ -1,0 +1,202 @@
+//! The frames of a link on their way to its book.
+
+ghost use Rattle.std.specs.Prelude.{◌≡◌, ◌⊎◌, ◌≤◌, [], ◌++◌, ◌==◌, true, nat_le, length, max, ◌+◌, IfOk, OnOk, OnErr};
+ghost use Rattle.std.specs.VecDeque.{deque_capacity, deque_len};
+ghost use Rattle.fp_entry.specs.declared.prepared.Prepared.{Prepared};
+ghost use Rattle.fp_entry.specs.Prepared.{arrival_of};
+ghost use Rattle.fp_linkstate.specs.Arrivals.{Adds, IsReadBy, KeepsOrder, frames_of, no_arrivals, quit, with_frame, with_frames_back};
+
+use fp_apdu::Name;
+use fp_digits::Moment;
+use fp_entry::Prepared;
+use fp_frames::Frame;
+use fp_records::Table;
+use std::alloc::{AllocError, Global};
+use std::collections::VecDeque;
+use std::marker::Model;
+
+/// How frames are prepared.
+#[derive(Clone, Copy)]
+pub struct Reading<'x> {
+    /// What the messages take memory from.
+    pub alloc: Global,
+    /// The table from which they are answered. `None`: memory ran out for it, and they are prepared as lost.
+    pub table: Option<&'x Table>,
+    /// The names of application contexts that are accepted.
+    pub contexts: &'x [Name],
+    /// When they are posted.
+    pub moment: Moment,
+}
+
+impl Reading<'_> {
+    /// What a frame is prepared to.
+    fn prepare(&self, frame: Frame) -> Prepared
+        ensures frame { (arrival_of result).frame ≡ frame }
+        ensures read { IsReadBy self.now result }
+    {
+        match self.table {
+            Some(table) => Prepared::read(self.alloc, table, self.contexts, frame, self.moment),
+            None => Prepared::lost(frame, self.moment),
+        }
+    }
+}
+
+/// The frames of a link that came and aren't posted, in their order.
+///
+/// Frames are fed at the back. Those at the front are prepared for a post, into a list of the caller. What is left of
+/// that list after the post comes back to the front, to be prepared again later. After [`ArrivalQueue::quit`] only
+/// frames that came back to the queue come out of it.
+#[derive(Drop)]
+pub struct ArrivalQueue {
+    // Those that aren't prepared.
+    frames: VecDeque<Frame>,
+    // How many are prepared for one post: few after one that was held back.
+    portion: usize,
+    // Whether frames that come are dropped.
+    is_over: bool,
+}
+
+impl Model for ArrivalQueue {
+    ghost use Rattle.std.specs.Prelude.{◌<◌, ◌≤◌};
+    ghost use Rattle.fp_linkstate.specs.Arrivals.{Arrivals};
+
+    ghost Value = { Arrivals };
+
+    ghost view = { λ q. record { frames = q.frames.items; portion = q.portion; is_over = q.is_over } };
+
+    ghost invariant = { λ q. (0 < q.portion) × (q.portion ≤ 64) };
+}
+
+/// Moves frames from the front of a list to the back of another one, prepared, until that has `portion` messages or no
+/// frame is left. There is room for them.
+#[tactic(auto, using(crate::proofs::Adding::adds_none))]
+fn prepare_front(
+    frames: &mut VecDeque<Frame>,
+    messages: &mut VecDeque<Prepared>,
+    portion: usize,
+    reading: &Reading<'_>,
+)
+    requires room { length messages.old.items + portion ≤ deque_capacity messages.old }
+    ensures order { frames_of messages.new.items ++ frames.new.items
+        ≡ frames_of messages.old.items ++ frames.old.items }
+    ensures read { Adds (IsReadBy reading.now) messages.old.items messages.new.items }
+    ensures few { length messages.new.items ≤ max portion (length messages.old.items) }
+    ensures all { (frames.new.items ≡ []) ⊎ (portion ≤ length messages.new.items) }
+{
+    for _count in messages.len()..portion {
+        let Some(frame) = frames.pop_front() else {
+            return;
+        };
+        messages.push_back_reserved(reading.prepare(frame));
+    }
+}
+
+/// Moves the frames of messages to the front of a list, for which it has room.
+fn return_frames(frames: &mut VecDeque<Frame>, messages: &mut VecDeque<Prepared>)
+    requires room { deque_len frames.old + deque_len messages.old ≤ deque_capacity frames.old }
+    ensures order { frames.new.items ≡ frames_of messages.old.items ++ frames.old.items }
+    ensures none { messages.new.items ≡ [] }
+{
+    while let Some(last) = messages.pop_back() {
+        frames.push_front_reserved(last.into_arrival().frame);
+    }
+}
+
+impl ArrivalQueue {
+    /// How many messages are prepared for one post at most.
+    pub const MOST: usize = 64;
+
+    /// No frame came yet.
+    pub fn new(alloc: Global) -> Result<ArrivalQueue, AllocError>
+        ensures { IfOk result (λ queue. queue ≡ no_arrivals) }
+    {
+        Ok(ArrivalQueue {
+            frames: VecDeque::with_capacity(alloc, ArrivalQueue::MOST)?,
+            portion: ArrivalQueue::MOST,
+            is_over: false,
+        })
+    }
+
+    /// Whether no frame waits.
+    pub fn is_empty(&self) -> bool
+        ensures { result ≡ (length self.now.frames == 0) }
+    {
+        self.frames.is_empty()
+    }
+
+    /// Whether there are enough frames for a post.
+    pub fn is_full(&self) -> bool
+        ensures { result ≡ nat_le Self.MOST (length self.now.frames) }
+    {
+        self.frames.len() >= ArrivalQueue::MOST
+    }
+
+    /// A frame came. If an allocation fails, it is dropped, and so is each that comes after it.
+    pub fn feed(&mut self, frame: Frame) -> Result<(), AllocError>
+        ensures ok { OnOk result (self.new ≡ with_frame self.old frame) }
+        ensures err { OnErr result (self.new ≡ record self.old { is_over = true }) }
+    {
+        if self.is_over {
+            return Ok(());
+        }
+        match self.frames.push_back(frame) {
+            Ok(()) => Ok(()),
+            Err(_) => {
+                self.is_over = true;
+                Err(AllocError)
+            }
+        }
+    }
+
+    /// Drops the frames that aren't prepared, and each that comes from now on.
+    pub fn quit(&mut self)
+        ensures { self.new ≡ quit self.old }
+    {
+        self.frames.clear();
+        self.is_over = true;
+    }
+
+    /// Prepares frames for the next post, and adds them to these messages, up to the portion. If an allocation fails,
+    /// nothing changes.
+    pub fn prepare(
+        &mut self,
+        reading: &Reading<'_>,
+        messages: &mut VecDeque<Prepared>,
+    ) -> Result<(), AllocError>
+        ensures order { frames_of messages.new.items ++ self.new.frames
+            ≡ frames_of messages.old.items ++ self.old.frames }
+        ensures read { Adds (IsReadBy reading.now) messages.old.items messages.new.items }
+        ensures few { length messages.new.items ≤ max self.old.portion (length messages.old.items) }
+        ensures most { self.old.portion ≤ Self.MOST }
+        ensures all { OnOk result ((self.new.frames ≡ []) ⊎ (self.old.portion ≤ length messages.new.items)) }
+        ensures err { OnErr result ((messages.new.items ≡ messages.old.items) × (self.new ≡ self.old)) }
+        ensures same { self.new ≡ record self.old { frames = self.new.frames } }
+    {
+        messages.reserve(self.portion)?;
+        prepare_front(&mut self.frames, messages, self.portion, reading);
+        Ok(())
+    }
+
+    /// Takes messages that weren't posted back, to be prepared again. The next portion is one message if there are
+    /// some, since the first of them was held back, and else twice the last one, up to the most. If an allocation fails,
+    /// nothing changes.
+    pub fn take_back(&mut self, messages: &mut VecDeque<Prepared>) -> Result<(), AllocError>
+        ensures ok { OnOk result ((self.new ≡ with_frames_back messages.old.items self.old)
+            × (messages.new.items ≡ [])) }
+        ensures err { OnErr result ((self.new ≡ self.old) × (messages.new.items ≡ messages.old.items)) }
+    {
+        self.frames.reserve(messages.len())?;
+        self.portion = if messages.is_empty() {
+            (self.portion * 2).min(ArrivalQueue::MOST)
+        } else {
+            1
+        };
+        return_frames(&mut self.frames, messages);
+        Ok(())
+    }
+}
+
+/// The queue keeps the order of the frames.
+pub fn queue_keeps_order()
+    ensures { KeepsOrder }
+{}
