@@ -1,0 +1,142 @@
+//! Log lines whose text is being made, and the text so far.
+
+ghost use Rattle.std.specs.Prelude.{◌≡◌, ◌≢◌, ◌⊎◌, ◌+◌, ◌-◌, ◌≤◌, ◌++◌, ◌↔◌, IsTrue, [], length, drop, min, IfOk, OnOk};
+ghost use Rattle.fp_logtext.specs.Logged.{EndsBelow, lines_text, no_text};
+
+use crate::WaitingLines;
+use fp_book::Line;
+use fp_replay::write_line;
+use std::alloc::{AllocError, Global};
+use std::marker::Model;
+use std::mem;
+
+/// More octets than any line has, with its line feed.
+pub(crate) const LONGER_THAN_A_LINE: usize = 8_301;
+
+/// Text for the writing thread, and the lines whose text comes after it. Contracts see the text and these lines.
+#[derive(Drop)]
+pub struct MadeText {
+    // A list from whose front nothing is taken, so that few lines take little of its room.
+    lines: Vec<Line>,
+    // How many of them have their text.
+    made: usize,
+    text: Vec<u8>,
+    // How many lines got their text so far.
+    line_count: u64,
+}
+
+impl Model for MadeText {
+    ghost use Rattle.std.specs.Prelude.{◌≤◌, drop, length};
+    ghost use Rattle.fp_logtext.specs.Logged.{LogPart};
+
+    ghost Value = { LogPart };
+
+    ghost view = { λ made. record {
+      text = made.text.items;
+      lines = drop made.made made.lines.items;
+      line_count = made.line_count;
+    } };
+
+    ghost invariant = { λ made. made.made ≤ length made.lines.items };
+}
+
+/// Adds the text of lines from this place on, while there are fewer than `most` octets. Moves the place on.
+fn add_lines(
+    lines: &[Line],
+    made: &mut usize,
+    text: &mut Vec<u8>,
+    most: usize,
+) -> Result<(), AllocError>
+    requires { made.old ≤ length lines.now }
+    ensures within { made.new ≤ length lines.now }
+    ensures forth { made.old ≤ made.new }
+    ensures in_order { text.new.items ++ lines_text (drop made.new lines.now)
+        ≡ text.old.items ++ lines_text (drop made.old lines.now) }
+    ensures ok { OnOk result ((drop made.new lines.now ≡ []) ⊎ (most ≤ length text.new.items)) }
+    ensures limit { (text.new.items ≡ text.old.items) ⊎ EndsBelow most text.new.items }
+{
+    while *made < lines.len() {
+        if text.len() >= most {
+            return Ok(());
+        }
+        write_line(&lines[*made], text)?;
+        *made += 1;
+    }
+    Ok(())
+}
+
+impl MadeText {
+    /// From how many octets of text that wait for the writing thread no more is made while the link is up. At 100 calls
+    /// a second, of five lines each, a device that takes nothing fills them in five minutes.
+    pub const MOST: usize = 6 << 20;
+
+    /// No line, and no text. There is room for all that may wait, so that no memory is needed while calls are served.
+    pub fn new(alloc: Global) -> Result<MadeText, AllocError>
+        ensures { IfOk result (λ made. made ≡ no_text) }
+    {
+        Ok(MadeText {
+            lines: Vec::with_capacity(alloc, WaitingLines::MOST)?,
+            made: 0,
+            text: Vec::with_capacity(alloc, MadeText::MOST + LONGER_THAN_A_LINE)?,
+            line_count: 0,
+        })
+    }
+
+    /// Whether all lines have their text.
+    pub fn has_all_text(&self) -> bool
+        ensures { IsTrue result ↔ (self.now.lines ≡ []) }
+    {
+        self.lines[self.made..].is_empty()
+    }
+
+    /// The number of octets of text.
+    pub fn len(&self) -> usize
+        ensures { result ≡ length self.now.text }
+    {
+        self.text.len()
+    }
+
+    /// The number of lines that got their text since the link came up, or the greatest number.
+    pub fn line_count(&self) -> u64
+        ensures { result ≡ self.now.line_count }
+    {
+        self.line_count
+    }
+
+    /// Takes the lines that wait, once all lines have their text. Else nothing changes.
+    pub fn refill(&mut self, waiting: &mut WaitingLines)
+        ensures taken { self.old.lines ≡ [] → (self.new ≡ record self.old { lines = waiting.old }) × (waiting.new ≡ []) }
+        ensures unchanged { self.old.lines ≢ [] → (self.new ≡ self.old) × (waiting.new ≡ waiting.old) }
+    {
+        if !self.has_all_text() {
+            return;
+        }
+        self.made = 0;
+        waiting.hand_out(&mut self.lines);
+    }
+
+    /// Makes the text of lines, while it has fewer than `most` octets. If an allocation fails, the lines without text
+    /// stay.
+    pub fn add_text(&mut self, most: usize) -> Result<(), AllocError>
+        ensures in_order { self.new.text ++ lines_text self.new.lines ≡ self.old.text ++ lines_text self.old.lines }
+        ensures ok { OnOk result ((self.new.lines ≡ []) ⊎ (most ≤ length self.new.text)) }
+        ensures limit { (self.new.text ≡ self.old.text) ⊎ EndsBelow most self.new.text }
+        ensures count { self.new.line_count
+            ≡ min (self.old.line_count + (length self.old.lines - length self.new.lines)) u64.MAX }
+    {
+        let before = self.made;
+        let added = add_lines(&self.lines, &mut self.made, &mut self.text, most);
+        let count = self.made.saturating_sub(before) as u64;
+        self.line_count = self.line_count.saturating_add(count);
+        added
+    }
+
+    /// Hands out all text: it takes the place of this one.
+    pub fn hand_out(&mut self, text: &mut Vec<u8>)
+        ensures text { text.new.items ≡ self.old.text }
+        ensures left { self.new ≡ record self.old { text = [] } }
+    {
+        text.clear();
+        mem::swap(&mut self.text, text);
+    }
+}

@@ -1,0 +1,140 @@
+//! The text that the writing thread took, and the device takes part after part.
+
+ghost use Rattle.std.specs.Prelude.{◌≡◌, ◌≢◌, ◌+◌, ◌<◌, ◌≤◌, ◌++◌, ◌↔◌, IsTrue, [], ◌∷◌, length, take, drop, min, IfOk, OnOk, OnErr};
+ghost use Rattle.std.specs.Io.KnownBytes.{Appends};
+ghost use Rattle.std.specs.List.{count_by};
+ghost use Rattle.memchr.specs.Find.{is_byte};
+ghost use Rattle.fp_replay.specs.Format.{text_of};
+
+use crate::MadeText;
+use crate::made::LONGER_THAN_A_LINE;
+use fp_book::Line;
+use fp_replay::write_line;
+use fp_streams::LinkWrite;
+use memchr::memchr_iter;
+use std::alloc::{AllocError, Global};
+use std::marker::Model;
+
+/// Writes a text, and returns how many octets of it the device took: all, or those before a write that failed.
+fn write_front<L: LinkWrite>(device: &mut L, text: &[u8]) -> usize
+    ensures most { result ≤ length text.now }
+    ensures wrote { Appends (L.contents device.old) (L.contents device.new) (take result text.now) }
+    ensures failed { result < length text.now → L.failures device.new ≢ L.failures device.old }
+    ensures fine { result ≡ length text.now → L.failures device.new ≡ L.failures device.old }
+{
+    let mut at = 0;
+    while at < text.len() {
+        let Ok(count) = device.write(&text[at..]) else {
+            return at;
+        };
+        at += count;
+    }
+    at
+}
+
+/// How many line feeds a text has.
+fn line_count(text: &[u8]) -> usize
+    ensures { result ≡ count_by (is_byte 10) text.now }
+{
+    let mut count = 0;
+    // Looks at sixteen octets at a time, which `count` of this iterator doesn't.
+    for _ in memchr_iter(b'\n', text) {
+        count += 1;
+    }
+    count
+}
+
+/// What a device took of a text.
+#[derive(Clone, Copy, Debug, PartialEq, Eq)]
+pub struct WrittenPart {
+    /// The number of octets.
+    pub octets: usize,
+    /// The number of lines that end in them.
+    pub lines: usize,
+    /// Whether no write failed.
+    pub is_all: bool,
+}
+
+/// The text that the device of a log hasn't taken yet. Contracts see it as its octets.
+#[derive(Drop)]
+pub struct UnwrittenText {
+    text: Vec<u8>,
+    // How many of them the device took.
+    taken: usize,
+}
+
+impl Model for UnwrittenText {
+    ghost use Rattle.std.specs.Prelude.{ℕ, List, drop, length, ◌≤◌};
+
+    ghost Value = { List ℕ };
+
+    ghost view = { λ unwritten. drop unwritten.taken unwritten.text.items };
+
+    ghost invariant = { λ unwritten. unwritten.taken ≤ length unwritten.text.items };
+}
+
+impl UnwrittenText {
+    /// The number of octets that are written at once: more than a line has, so that what a slow device takes is counted
+    /// in time.
+    pub const MOST_AT_ONCE: usize = 16_384;
+
+    /// No text. There is room for as much as one link may have.
+    pub fn new(alloc: Global) -> Result<UnwrittenText, AllocError>
+        ensures { IfOk result (λ unwritten. unwritten ≡ []) }
+    {
+        Ok(UnwrittenText {
+            text: Vec::with_capacity(alloc, MadeText::MOST + LONGER_THAN_A_LINE)?,
+            taken: 0,
+        })
+    }
+
+    /// Adds a line that no link has, as the head of a log.
+    pub fn add(&mut self, line: &Line) -> Result<(), AllocError>
+        ensures ok { OnOk result (self.new ≡ self.old ++ text_of line.now ++ 10 ∷ []) }
+        ensures err { OnErr result (self.new ≡ self.old) }
+    {
+        write_line(line, &mut self.text)
+    }
+
+    /// Whether the device took all.
+    pub fn is_empty(&self) -> bool
+        ensures { IsTrue result ↔ (self.now ≡ []) }
+    {
+        self.text[self.taken..].is_empty()
+    }
+
+    /// Takes the text of a link, once the device took all of this one. Else nothing changes.
+    pub fn take(&mut self, made: &mut MadeText)
+        ensures taken { self.old ≡ [] → (self.new ≡ made.old.text) × (made.new ≡ record made.old { text = [] }) }
+        ensures unchanged { self.old ≢ [] → (self.new ≡ self.old) × (made.new ≡ made.old) }
+    {
+        if !self.is_empty() {
+            return;
+        }
+        made.hand_out(&mut self.text);
+        self.taken = 0;
+    }
+
+    /// Writes a part of the text, 16,384 octets at most. If a write fails, the rest is left, from the octet on at which
+    /// it stopped.
+    pub fn write_part<L: LinkWrite>(&mut self, device: &mut L) -> WrittenPart
+        ensures wrote { Appends (L.contents device.old) (L.contents device.new) (take result.octets self.old) }
+        ensures left { self.new ≡ drop result.octets self.old }
+        ensures lines { result.lines ≡ count_by (is_byte 10) (take result.octets self.old) }
+        ensures most { result.octets ≤ Self.MOST_AT_ONCE }
+        ensures full { IsTrue result.is_all → result.octets ≡ min (length self.old) Self.MOST_AT_ONCE }
+        ensures all { IsTrue result.is_all ↔ (L.failures device.new ≡ L.failures device.old) }
+    {
+        let left = &self.text[self.taken..];
+        let part = &left[..left.len().min(UnwrittenText::MOST_AT_ONCE)];
+        let octets = write_front(device, part);
+        let lines = line_count(&part[..octets]);
+        let is_all = octets == part.len();
+        self.taken += octets;
+        WrittenPart {
+            octets,
+            lines,
+            is_all,
+        }
+    }
+}
