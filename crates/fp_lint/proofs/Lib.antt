@@ -1,0 +1,9 @@
+pub mod AllFaults
+pub mod Anys
+pub mod Counts
+pub mod FieldForms
+pub mod Known
+pub mod Loops
+pub mod OneRecord
+pub mod Parts
+pub mod Takings

@@ -1,0 +1,9 @@
+use Rattle.std.proofs.Common.{ap, ◌∙◌}
+use Rattle.std.specs.Prelude.{is_none}
+use Rattle.fp_lint.proofs.FieldForms.{none-is, times-form}
+use Rattle.fp_lint.proofs.fields.times_differ.Goals as goal
+
+pub returns : goal.returns
+returns c =
+    let fault = rw (c.as_slice.ensures, c.rule_of-rule.ensures) at c.in_ok-rule_fault.ensures in
+    none-is _ c.is_none.result c.is_none.ensures ∙ ap is_none fault ∙ times-form c.args.from.now c.args.to.now c.requires.from c.requires.to
