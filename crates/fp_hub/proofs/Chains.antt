@@ -11,7 +11,7 @@ use Rattle.fp_book.specs.Shelf.{Shelf}
 use Rattle.fp_book.specs.declared.answers.Posted.{Posted}
 use Rattle.fp_entry.specs.declared.prepared.Prepared.{Prepared}
 use Rattle.fp_hub.specs.Chain.{Chain}
-use Rattle.fp_hub.specs.Holds.{CountsPost, CountsReturn, CountsWork, GivesAndTakes, PostStep, PostsFront, PostsOne, Return, ReturnStep, ReturnsFront, ReturnsIn, ReturnsOne, StopsPosting, StopsTaking, TakesTurns, gave, went_back, foreign, is_aborted, is_queued}
+use Rattle.fp_hub.specs.Holds.{CountsPost, CountsReturn, CountsServe, CountsWork, GivesAndTakes, PostStep, PostsFront, PostsOne, Return, ReturnStep, ReturnsFront, ReturnsIn, ReturnsOne, ServeStep, ServesIn, ServesOne, ServesSome, StopsPosting, StopsServing, StopsTaking, TakesTurns, gave, went_back, foreign, is_aborted, is_queued, queues}
 use Rattle.fp_hub.specs.Shares.{Shares, after_post}
 use Rattle.fp_hub.specs.declared.work.Stopped.{Stopped}
 use Rattle.fp_hub.specs.declared.work.Work.{Work}
@@ -190,6 +190,46 @@ takes_turns made old new had have limit room stopped taking few stops =
       stops = subst (λ n. StopsTaking stopped new n limit room (length have)) (sym count) stops;
     }
 
+-- this number of turns was served in their places
+pub record InPlaces (made : ℕ) (old new : Shelf) (before after : Shares) (queued : Bool) : Type 0 where
+  pub steps : List ServeStep
+  pub count : length steps ≡ made
+  pub serves : Chain ServesOne old steps new
+  pub grows : Chain CountsServe before steps after
+  pub queued_is : queued ≡ list_any queues steps
+
+-- none was served yet
+pub in_places_none : (s : Shelf) (seat : Shares) → InPlaces 0 s s seat seat false
+in_places_none s seat = record { steps = []; count = refl; serves = refl; grows = refl; queued_is = refl }
+
+-- one more was served
+pub in_places_more : (made : ℕ) (old mid new : Shelf) (before between after : Shares) (queued queues_too : Bool)
+    → InPlaces made old mid before between queued → ServesIn mid new between after queues_too → InPlaces (made + 1) old new before after (queued || queues_too)
+in_places_more made old mid new before between after queued queues_too so_far one =
+    let had = so_far.count in
+    let long = length-append so_far.steps (one.step ∷ []) in
+    record {
+      steps = so_far.steps ++ one.step ∷ [];
+      count = omega (arith, had, long);
+      serves = chain_more ServesOne old mid new so_far.steps one.step so_far.serves one.serves;
+      grows = chain_more CountsServe before between after so_far.steps one.step so_far.grows one.grows;
+      queued_is = ap (λ b. queued || b) one.queued_is ∙ any_more queues so_far.steps one.step queued so_far.queued_is;
+    }
+
+-- no more are served
+pub serves_some : (made : ℕ) (old new : Shelf) (before after : Shares) (limit : ℕ) (queued : Bool) (stopped : Stopped)
+    → InPlaces made old new before after queued → made ≤ limit → StopsServing stopped new made limit → ServesSome old new before after limit queued stopped
+serves_some made old new before after limit queued stopped so_far few stops =
+    let count = so_far.count in
+    record {
+      steps = so_far.steps;
+      few = omega (arith, count, few);
+      serves = so_far.serves;
+      grows = so_far.grows;
+      queued_is = so_far.queued_is;
+      stops = subst (λ n. StopsServing stopped new n limit) (sym count) stops;
+    }
+
 -- of a seat nothing changes but the served entries, whose number grows
 pub record Serves (before after : Shares) : Type 0 where
   pub same : after ≡ record before { served = after.served }
@@ -214,6 +254,11 @@ pub serves_each : (steps : List ReturnStep) (before after : Shares) → Chain Co
 serves_each [] before after none = rw none (record { same = refl; grows = omega arith })
 serves_each (step ∷ steps) before after chain =
     serves_more before chain.between after (serves_one step.0 step.1 before chain.between chain.first) (serves_each steps chain.between after chain.later)
+
+pub serves_in_places : (steps : List ServeStep) (before after : Shares) → Chain CountsServe before steps after → Serves before after
+serves_in_places [] before after none = rw none (record { same = refl; grows = omega arith })
+serves_in_places (step ∷ steps) before after chain =
+    serves_more before chain.between after (rw chain.first (record { same = refl; grows = omega arith })) (serves_in_places steps chain.between after chain.later)
 
 -- what a hold says of a worker's list and seat
 pub counts_work : (old new : Shelf) (work have : List Work) (before after : Shares) (workers most room : ℕ) (worked : Worked)

@@ -3,19 +3,20 @@
 use Rattle.std.specs.Prelude.{◌≡◌, ◌≢◌, ℕ, ◌/◌, ◌≤◌, ◌⊎◌, ⊤, Bool, true, false, List, [], ◌∷◌, ◌++◌, Some, IfErr, OnOk, Result, Ok, length, map, max, min}
 use Rattle.std.specs.List.{list_any}
 use Rattle.std.specs.FinMap.{get}
-use Rattle.fp_book.specs.Calls.{GivesDone, NoneReady, Posts, PutsTurnBack, Sends, Takes, TakesTurn, turn_of}
+use Rattle.fp_book.specs.Calls.{GivesDone, NoneReady, Posts, PutsTurnBack, Sends, Serves, ServesTurn, Takes, TakesTurn, turn_of}
 use Rattle.fp_book.specs.Holding.{holds_back}
 use Rattle.fp_book.specs.Shelf.{Shelf}
 use Rattle.fp_book.specs.declared.answers.Given.{Given}
 use Rattle.fp_book.specs.declared.answers.Given.TheVariants as given
 use Rattle.fp_book.specs.declared.answers.Posted.{Posted}
 use Rattle.fp_book.specs.declared.answers.Posted.TheVariants as posted
+use Rattle.fp_book.specs.declared.in_place.InPlace.TheVariants as in_place
 use Rattle.fp_book.specs.declared.parcel.Parcel.{Parcel}
 use Rattle.fp_book.specs.declared.taken.Taken.TheVariants as taken
 use Rattle.fp_entry.specs.declared.prepared.Prepared.{Prepared}
 use Rattle.fp_hub.specs.Chain.{Chain}
 use Rattle.fp_hub.specs.Next.{Finds}
-use Rattle.fp_hub.specs.Shares.{Shares, after_give, after_post}
+use Rattle.fp_hub.specs.Shares.{Shares, after_give, after_post, after_serve}
 use Rattle.fp_hub.specs.declared.next.Next.{Next}
 use Rattle.fp_hub.specs.declared.work.Stopped.{Stopped}
 use Rattle.fp_hub.specs.declared.work.Stopped.TheVariants.{Enough, Nothing, NoRoom, Memory}
@@ -170,6 +171,56 @@ pub record CountsWork (work have : List Work) (most : ℕ) (before after : Share
   pub returns : CountsReturns work left before after
   pub have_is : have ≡ left ++ map Unserved turns
   pub few : length turns ≤ min most 32
+
+-- SERVE: turns that are served in their places
+
+-- how many entries of a turn were served, and what became of their requests
+abbrev pub ServeStep : Type 0
+ServeStep = ℕ × Given
+
+abbrev pub ServesOne : Shelf → ServeStep → Shelf → Type 0
+ServesOne old step new = ServesTurn old step.0 step.1 new
+
+abbrev pub CountsServe : Shares → ServeStep → Shares → Type 0
+CountsServe old step new = new ≡ after_serve old (in_place.Served step.0 step.1)
+
+-- their requests wait to be sent
+abbrev pub queues : ServeStep → Bool
+queues step = is_queued (gave step.1)
+
+-- no more were served: there were as many as that; or none is handed out
+abbrev pub StopsServing : Stopped → Shelf → ℕ → ℕ → Type 0
+StopsServing Enough s count limit = count ≡ limit
+StopsServing Nothing s count limit = Serves s in_place.Nothing s
+StopsServing NoRoom s count limit = Serves s in_place.NoRoom s
+StopsServing Memory s count limit = Serves s in_place.Memory s
+
+-- one was served
+pub record ServesIn (old new : Shelf) (before after : Shares) (queued : Bool) : Type 0 where
+  pub step : ServeStep
+  pub serves : ServesOne old step new
+  pub grows : CountsServe before step after
+  pub queued_is : queued ≡ queues step
+
+-- none was, for this reason
+pub record ServesNone (stopped : Stopped) (old new : Shelf) (before after : Shares) : Type 0 where
+  pub stops : (count limit : ℕ) → StopsServing stopped old count limit
+  pub new_is : new ≡ old
+  pub after_is : after ≡ before
+
+-- turns were served one after another, this number of them at most, and counted
+pub record ServesSome (old new : Shelf) (before after : Shares) (limit : ℕ) (queued : Bool) (stopped : Stopped) : Type 0 where
+  pub steps : List ServeStep
+  pub few : length steps ≤ limit
+  pub serves : Chain ServesOne old steps new
+  pub grows : Chain CountsServe before steps after
+  pub queued_is : queued ≡ list_any queues steps
+  pub stops : StopsServing stopped new (length steps) limit
+
+-- so they were, at most 32 in one hold
+pub record ServesTurns (old new : Shelf) (before after : Shares) (most : ℕ) (worked : Worked) : Type 0 where
+  pub serves : ServesSome old new before after (min most 32) worked.is_queued worked.stopped
+  pub ready_is : worked.ready_count ≡ length new.ready
 
 -- SENT and PICK: the parcel that was sent, and the next one
 

@@ -2,10 +2,12 @@
 use Rattle.std.specs.Prelude.{◌≡◌, ℕ, ◌+◌, ◌≤◌, Result, Ok, Err}
 use Rattle.std.specs.declared.sync.ledger.Blank.{Blank}
 use Rattle.fp_book.specs.declared.answers.Posted.{Posted}
+use Rattle.fp_book.specs.declared.in_place.InPlace.{InPlace}
 use Rattle.fp_book.specs.declared.parcel.Content.{Content}
 use Rattle.fp_book.specs.declared.parcel.Content.TheVariants as content
 use Rattle.fp_book.specs.declared.parcel.Parcel.{Parcel}
 use Rattle.fp_book.specs.declared.totals.Totals.{Totals}
+use Rattle.fp_book.specs.InPlace.{count_in}
 use Rattle.fp_book.specs.Receipt.{accepted_components}
 use Rattle.fp_entry.specs.declared.prepared.Prepared.{Prepared}
 use Rattle.fp_row.specs.declared.done.Done.{Done}
@@ -91,3 +93,7 @@ frames_if_ok parcel (Err e) = 0
 -- the seat after a parcel was reported sent: more by one frame if it was a dialogue's, unless it comes back
 abbrev pub after_sent : {T E : Type 0} → Shares → Parcel → Result T E → Shares
 after_sent s parcel result = record s { sent = s.sent + frames_if_ok parcel.content result }
+
+-- the seat after a turn was served in its place, or none: more by the entries that were served
+abbrev pub after_serve : Shares → InPlace → Shares
+after_serve s answer = record s { served = s.served + count_in answer }

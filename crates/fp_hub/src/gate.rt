@@ -5,6 +5,9 @@ pub trait Gate {
     /// Returns once the turn of this link, of the dialogue of this birth, and of the entries from this position on may
     /// be served.
     fn pass(&self, link: u8, birth: u64, position: u64);
+
+    /// Called with no lock held, after a hold in which turns may have been served in their places. Those pass no gate.
+    fn after_hold(&self) {}
 }
 
 /// A gate at which no turn waits.

@@ -11,7 +11,7 @@ use crate::hints::HintChannel;
 use crate::hold::Hold;
 use crate::resting::Resting;
 use crate::waiting::Looking;
-use crate::{Hints, Kept, Looks, Seat};
+use crate::{AfterTick, Hints, Kept, Looks, Seat};
 use crossbeam_utils::CachePadded;
 use fp_book::{Given, Line, Parcel, Picked, Posted, Status, Taken, Ticked};
 use fp_digits::Moment;
@@ -190,6 +190,16 @@ impl<A: Ledger, B: Ledger, C: Ledger> Hub<A, B, C> {
     /// Time goes by, as for [`Kept::tick`].
     pub fn tick<R: Wait>(&self, rt: &R, moment: Moment) -> Ticked {
         self.hold(rt).kept.tick(moment)
+    }
+
+    /// Time goes by, as for [`Hub::tick`]. Returns what the book is like after that, in the same hold.
+    pub fn tick_and_look<R: Wait>(&self, rt: &R, moment: Moment) -> AfterTick {
+        let mut hold = self.hold(rt);
+        let _ = hold.kept.tick(moment);
+        AfterTick {
+            status: hold.kept.status(),
+            entry_count: hold.kept.entry_count(),
+        }
     }
 
     /// Hands out a turn, as [`Kept::take`]. After `NoRoom` a worker is hinted when a parcel is awaited next.

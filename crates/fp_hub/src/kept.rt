@@ -4,17 +4,17 @@ ghost use Rattle.std.specs.Prelude.{◌≡◌, ◌↔◌, ◌<◌, ◌≤◌, �
 ghost use Rattle.std.specs.FinMap as map;
 ghost use Rattle.std.specs.FinMap.{get};
 ghost use Rattle.fp_book.specs.declared.line.LoggedStep.TheVariants as line;
-ghost use Rattle.fp_book.specs.Calls.{DrainsBook, GivesDone, GoesDown, Hands, IsOut, NoneReady, Posts, PutsTurnBack, Sends, Takes, Ticks, Unsends, posted_totals, turn_of};
+ghost use Rattle.fp_book.specs.Calls.{DrainsBook, GivesDone, GoesDown, Hands, IsOut, NoneReady, Posts, PutsTurnBack, Sends, Serves, Takes, Ticks, Unsends, posted_totals, turn_of};
 ghost use Rattle.fp_book.specs.Holding.{IsQuiet, entries_kept, holds_back};
 ghost use Rattle.fp_book.specs.Shelf.{Sound, empty_shelf};
 ghost use Rattle.fp_hub.specs.Next.{Finds};
-ghost use Rattle.fp_hub.specs.Shares.{AreBlanks, Whole, Within, after_give, after_post, after_sent, amounts, blank};
+ghost use Rattle.fp_hub.specs.Shares.{AreBlanks, Whole, Within, after_give, after_post, after_sent, after_serve, amounts, blank};
 
 mod several;
 
 use crate::next::Next;
 use crate::{PARTS, Seat};
-use fp_book::{Book, Given, Line, Parcel, Picked, Posted, Status, Taken, Ticked, Totals};
+use fp_book::{Book, Given, InPlace, Line, Parcel, Picked, Posted, Status, Taken, Ticked, Totals};
 use fp_digits::Moment;
 use fp_entry::Prepared;
 use fp_row::{Done, Turn};
@@ -30,9 +30,9 @@ use std::sync::ledger::{Blank, Ledger};
 /// book. Contracts see it as its book.
 ///
 /// A call with the name of one of the book's is that call, and says of the book what that says; [`Kept::post_front`],
-/// [`Kept::return_front`], [`Kept::take_share`], [`Kept::give_and_take`] and [`Kept::sent_and_next`] are several, a
-/// bounded number of them. Those that are lent the seat of the calling thread compare it with the totals, and what the
-/// book counts in such a call, the seat's share counts too.
+/// [`Kept::serve_front`], [`Kept::return_front`], [`Kept::take_share`], [`Kept::give_and_take`] and
+/// [`Kept::sent_and_next`] are several, a bounded number of them. Those that are lent the seat of the calling thread
+/// compare it with the totals, and what the book counts in such a call, the seat's share counts too.
 #[derive(Drop)]
 pub struct Kept<A: Ledger, B: Ledger, C: Ledger> {
     book: Book,
@@ -219,6 +219,19 @@ impl<A: Ledger, B: Ledger, C: Ledger> Kept<A, B, C> {
             }
             Err(foreign) => Err(foreign),
         }
+    }
+
+    /// Serves a turn in its place, as [`Book::serve`].
+    pub fn serve(&mut self, seat: &mut Seat<A, B, C>) -> InPlace
+        ensures serves { Serves self.old result self.new }
+        ensures sound { Sound self.new }
+        ensures grows { seat.new ≡ after_serve seat.old result }
+        ensures within { Within seat.old self.old.totals }
+    {
+        self.compare(seat);
+        let answer = self.book.serve();
+        self.served.add(&mut seat.served, answer.served() as u64);
+        answer
     }
 
     /// Takes back a turn that wasn't served, as [`Book::put_back`].

@@ -9,43 +9,44 @@
 //!   [`sent`](Hub::sent), [`unsent`](Hub::unsent), [`down`](Hub::down) and [`drain`](Hub::drain), takes the lock once,
 //!   makes the one call of the book of that name, and releases it. So does [`Hub::post_unless_held_back`], by the
 //!   book's call that judges a message once, and posts it unless it is held back.
-//! * Three calls make several of these steps in one hold, a bounded number of them, each by one call of the book:
+//! * [`Hub::tick_and_look`] is a tick, after which the clock learns of the book in the same hold.
+//! * Four calls make several of these steps in one hold, a bounded number of them, each by one call of the book:
 //!   [`Hub::post_front`] posts messages of one read, each unless it is held back, [`Hub::give_and_take`] takes back
-//!   turns and hands out the share of a worker, and [`Hub::sent_and_next`] takes back a parcel and hands out the next
-//!   one.
+//!   turns and hands out the share of a worker, [`Hub::serve_front`] serves turns in their places, each of which is a
+//!   take and a give, and [`Hub::sent_and_next`] takes back a parcel and hands out the next one.
 //! * [`Kept`] is what the lock keeps: the book, and the books of three ledgers (of components accepted, entries served
 //!   and frames sent), whose totals its type keeps equal to the book's.
 //! * `Hold` (`src/hold.rt`) is the lock while it is held. Its release publishes whether the log is filling, or nearly
 //!   full, and wakes the clock if the lines of this hold made it [`LINES_OF_A_REST`].
 //! * [`Seat`] is what a thread has of the three ledgers. The first one has all 64 parts. It is split among the threads
 //!   of the link, each of which counts what it does in its own, and joined again when they have ended.
-//! * [`worker`] serves turns: it waits for a hint, and then takes, serves and gives until no turn is ready. Before it
-//!   serves a turn it passes a [`Gate`], with no lock held. [`help`] does so by a thread that isn't a worker, up to a
-//!   bound.
+//! * [`Hub::worker`] serves turns: it waits for a hint, and then takes, serves and gives until no turn is ready. Before it
+//!   serves a turn it passes a [`Gate`], with no lock held. [`Hub::help`] serves turns in their places by a thread that isn't
+//!   a worker, up to a bound.
 //! * [`finish`] returns what the link counted, if all parts came back.
 //! * [`Tables`] is the records that all links of a run answer from, under a lock of their own: they may be replaced
 //!   while the links run.
 //!
 //! | Thread | Calls | Waits for |
 //! |---|---|---|
-//! | receiving | [`Hub::post_front`], then [`help`], and [`Hub::pick`], [`Hub::sent_and_next`] or [`Hub::tell_sender`] | the socket; room, by [`Hub::await_room`]; at the end of the input quiet, by [`Hub::await_quiet`] |
+//! | receiving | [`Hub::post_front`], then [`Hub::help`], and [`Hub::pick`], [`Hub::sent_and_next`] or [`Hub::tell_sender`] | the socket; room, by [`Hub::await_room`]; at the end of the input quiet, by [`Hub::await_quiet`] |
 //! | worker | [`Hub::give_and_take`], [`Hub::hint`] if it leaves a dialogue ready, [`Turn::serve`](fp_row::Turn::serve) | a hint |
 //! | sending | [`Hub::await_parcel`], then [`Hub::sent_and_next`] until nothing is left, or [`Hub::unsent`] | a parcel |
-//! | clock | [`Hub::rest`], then [`Hub::tick`] and [`Hub::hint`], [`Hub::drain`] | the time, [`LINES_OF_A_REST`] lines of the log, or the end of the link |
+//! | clock | [`Hub::rest`], then [`Hub::tick_and_look`] and [`Hub::hint`], [`Hub::drain`] | the time, [`LINES_OF_A_REST`] lines of the log, or the end of the link |
 //!
 //! | Wait | Who wakes it |
 //! |---|---|
-//! | for a hint | [`Hub::hint`], also by [`worker`] and [`help`] where they leave a dialogue ready, and by [`Hub::hint_after_no_room`], which [`Hub::await_parcel`] calls too, after a take found no place; [`Hub::close`] |
-//! | for a parcel | a post that queued an Abort of the provider, a give that queued a frame, sent, unsent, down; after [`Hub::post_front`] and [`Hub::give_and_take`] the caller, by [`Hub::tell_sender`] |
+//! | for a hint | [`Hub::hint`], also by [`Hub::worker`] and [`Hub::help`] where they leave a dialogue ready, and by [`Hub::hint_after_no_room`], which [`Hub::await_parcel`] calls too, after a take found no place; [`Hub::close`] |
+//! | for a parcel | a post that queued an Abort of the provider, a give that queued a frame, sent, unsent, down; after [`Hub::post_front`], [`Hub::serve_front`] and [`Hub::give_and_take`] the caller, by [`Hub::tell_sender`] |
 //! | for room, for quiet | each give, also of a turn that requests nothing or whose request is dropped, and put_back, a pick that hands out a parcel, sent, unsent, down; each also among several steps |
 //! | of the clock | the time, [`LINES_OF_A_REST`] lines of the log, unsent, down |
 //!
 //! A thread that awaits room looks again each second, and one that awaits quiet has a bound that the caller gives.
 //!
 //! Each of them waits for the lock too, which is held for a bounded number of calls of the book (64 posts, 32 turns
-//! that come back and 32 that go out) and never while a turn is served or a frame is sent. For a hint and a parcel each
-//! looks again a number of times before it sleeps ([`Looks`]), by the number of threads and of processors and by what
-//! its looks brought before (`src/waiting.rt`).
+//! that come back and 32 that go out, 32 that are served in their places), never while a worker serves a turn, and never
+//! while a frame is sent. For a hint and a parcel each looks again a number of times before it sleeps ([`Looks`]), by
+//! the number of threads and of processors and by what its looks brought before (`src/waiting.rt`).
 //!
 //! The layer above may rely on this. The book that a lock keeps is sound at each hold (`Sound` of `fp_book`), and each
 //! call of [`Kept`] makes of it what the book's call says; one of several steps makes of it the chain of these
@@ -57,6 +58,7 @@
 //! thread may have changed: the tests in `tests_hub` show it.
 #![tactic(auto)]
 
+mod clocked;
 mod finishing;
 mod gate;
 mod hints;
@@ -71,6 +73,7 @@ mod waiting;
 mod work;
 mod workers;
 
+pub use clocked::AfterTick;
 pub use finishing::finish;
 pub use gate::{Gate, OpenGate};
 pub use hints::Hints;
@@ -82,4 +85,4 @@ pub use seat::{PARTS, Seat};
 pub use tables::Tables;
 pub use waiting::Looks;
 pub use work::{Stopped, Work, Worked};
-pub use workers::{abandon_all, help, worker};
+pub use workers::abandon_all;

@@ -51,88 +51,6 @@ fn serve_each<G: Gate>(alloc: Global, gate: &G, work: &mut VecDeque<Work>) -> bo
     are_served
 }
 
-/// Serves what is ready, at most this number of turns, as a worker that passes this gate: by the seat of a thread that
-/// does other things too. If more is ready than that, workers are hinted before a turn passes the gate. `true`: a frame
-/// was queued, of which the sending thread doesn't know.
-///
-/// No turn is left in the list, which is empty before as well. If there is no memory for it, or none to take or to
-/// serve a turn, all is left to workers.
-pub fn help<R: Wait, G: Gate, A: Ledger, B: Ledger, C: Ledger>(
-    rt: &R,
-    alloc: Global,
-    hub: &Hub<A, B, C>,
-    gate: &G,
-    seat: &mut Seat<A, B, C>,
-    work: &mut VecDeque<Work>,
-    most: usize,
-) -> bool
-    ensures same { seat.new ≡ record seat.old { served = seat.new.served } }
-    ensures grows { seat.old.served ≤ seat.new.served }
-    ensures back { work.new.items ≡ [] }
-{
-    let mut left = if work.reserve(MOST_TURNS).is_ok() {
-        most
-    } else {
-        0
-    };
-    let mut is_queued = false;
-    for _ in rt.forever() {
-        let worked = hub.give_and_take(rt, seat, work, 1, left);
-        is_queued = is_queued || worked.is_queued;
-        left = if worked.stopped == Stopped::Memory {
-            0
-        } else {
-            left.saturating_sub(work.len())
-        };
-        hub.hint_for(rt, worked.ready_count.saturating_sub(left));
-        if work.is_empty() {
-            return is_queued;
-        }
-        if !serve_each(alloc, gate, work) {
-            left = 0;
-        }
-    }
-    unreachable!()
-}
-
-/// Takes and serves turns until none is ready, or places or memory run out: in each hold gives back those that it
-/// served and takes its share of those that are ready. If it leaves some it hints before a turn passes the gate. No
-/// turn is left in the list.
-fn serve_ready<R: Wait, G: Gate, A: Ledger, B: Ledger, C: Ledger>(
-    rt: &R,
-    alloc: Global,
-    hub: &Hub<A, B, C>,
-    gate: &G,
-    seat: &mut Seat<A, B, C>,
-    work: &mut VecDeque<Work>,
-)
-    ensures same { seat.new ≡ record seat.old { served = seat.new.served } }
-    ensures grows { seat.old.served ≤ seat.new.served }
-    ensures back { work.new.items ≡ [] }
-{
-    let mut most = if work.reserve(MOST_TURNS).is_ok() {
-        MOST_TURNS
-    } else {
-        0
-    };
-    for _ in rt.forever() {
-        let worked = hub.give_and_take(rt, seat, work, hub.worker_count(), most);
-        if worked.is_queued {
-            hub.tell_sender();
-        }
-        if work.is_empty() {
-            return;
-        }
-        if worked.ready_count > 0 {
-            hub.hint(rt);
-        }
-        if !serve_each(alloc, gate, work) {
-            most = 0;
-        }
-    }
-    unreachable!()
-}
-
 /// Gives up the turns of a list, and drops it.
 pub fn abandon_all(work: VecDeque<Work>) {
     let mut work = work;
@@ -142,27 +60,103 @@ pub fn abandon_all(work: VecDeque<Work>) {
     work.destroy_empty();
 }
 
-/// Serves turns of a link: at each hint takes and serves turns until none is ready, or places or memory run out.
-/// Returns its seat once the hub is closed and no hint waits.
-pub fn worker<R: Wait, G: Gate, A: Ledger, B: Ledger, C: Ledger>(
-    rt: &R,
-    alloc: Global,
-    hub: &Hub<A, B, C>,
-    hints: Hints,
-    gate: &G,
-    seat: Seat<A, B, C>,
-) -> Seat<A, B, C>
-    ensures same { result ≡ record seat { served = result.served } }
-    ensures grows { seat.served ≤ result.served }
-{
-    let mut seat = seat;
-    let mut work = VecDeque::new(alloc);
-    for _ in rt.forever() {
-        if !hints.wait(rt) {
-            break;
+impl<A: Ledger, B: Ledger, C: Ledger> Hub<A, B, C> {
+    /// Serves what is ready in its place, at most this number of turns and 32 in each hold, by the seat of a thread that
+    /// does other things too. None of these turns passes the gate, which is told of each hold ([`Gate::after_hold`]). After a
+    /// hold workers are hinted for all that is ready beyond what the next ones may serve, for all of it if memory ran out,
+    /// and not at all if there was no place for a frame: the sending thread does that then. `true`: a frame was queued, of
+    /// which the sending thread doesn't know.
+    pub fn help<R: Wait, G: Gate>(
+        &self,
+        rt: &R,
+        gate: &G,
+        seat: &mut Seat<A, B, C>,
+        most: usize,
+    ) -> bool
+        ensures same { seat.new ≡ record seat.old { served = seat.new.served } }
+        ensures grows { seat.old.served ≤ seat.new.served }
+    {
+        let mut left = most;
+        let mut is_queued = false;
+        for _ in rt.forever() {
+            let worked = self.serve_front(rt, seat, left);
+            is_queued = is_queued || worked.is_queued;
+            left = if worked.stopped == Stopped::Enough {
+                left.saturating_sub(MOST_TURNS)
+            } else {
+                0
+            };
+            if worked.stopped != Stopped::NoRoom {
+                self.hint_for(rt, worked.ready_count.saturating_sub(left));
+            }
+            gate.after_hold();
+            if left == 0 {
+                return is_queued;
+            }
         }
-        serve_ready(rt, alloc, hub, gate, &mut seat, &mut work);
+        unreachable!()
     }
-    abandon_all(work);
-    seat
+
+    /// Takes and serves turns until none is ready, or places or memory run out: in each hold gives back those that it
+    /// served and takes its share of those that are ready. If it leaves some it hints before a turn passes the gate. No
+    /// turn is left in the list.
+    fn serve_ready<R: Wait, G: Gate>(
+        &self,
+        rt: &R,
+        alloc: Global,
+        gate: &G,
+        seat: &mut Seat<A, B, C>,
+        work: &mut VecDeque<Work>,
+    )
+        ensures same { seat.new ≡ record seat.old { served = seat.new.served } }
+        ensures grows { seat.old.served ≤ seat.new.served }
+        ensures back { work.new.items ≡ [] }
+    {
+        let mut most = if work.reserve(MOST_TURNS).is_ok() {
+            MOST_TURNS
+        } else {
+            0
+        };
+        for _ in rt.forever() {
+            let worked = self.give_and_take(rt, seat, work, self.worker_count(), most);
+            if worked.is_queued {
+                self.tell_sender();
+            }
+            if work.is_empty() {
+                return;
+            }
+            if worked.ready_count > 0 {
+                self.hint(rt);
+            }
+            if !serve_each(alloc, gate, work) {
+                most = 0;
+            }
+        }
+        unreachable!()
+    }
+
+    /// Serves turns of a link: at each hint takes and serves turns until none is ready, or places or memory run out.
+    /// Returns its seat once the hub is closed and no hint waits.
+    pub fn worker<R: Wait, G: Gate>(
+        &self,
+        rt: &R,
+        alloc: Global,
+        hints: Hints,
+        gate: &G,
+        seat: Seat<A, B, C>,
+    ) -> Seat<A, B, C>
+        ensures same { result ≡ record seat { served = result.served } }
+        ensures grows { seat.served ≤ result.served }
+    {
+        let mut seat = seat;
+        let mut work = VecDeque::new(alloc);
+        for _ in rt.forever() {
+            if !hints.wait(rt) {
+                break;
+            }
+            self.serve_ready(rt, alloc, gate, &mut seat, &mut work);
+        }
+        abandon_all(work);
+        seat
+    }
 }

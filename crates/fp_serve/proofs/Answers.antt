@@ -4,7 +4,7 @@ use Rattle.std.proofs.KnownBytes.{Appends-nil, Appends-trans}
 use Rattle.std.proofs.lemmas.List.Elements.{All-append, All-cons, All-nil}
 use Rattle.std.proofs.lemmas.List.Folds.{concat-append}
 use Rattle.std.specs.Io.KnownBytes.{Appends}
-use Rattle.fp_serve.specs.declared.progress.LinkStatus.{LinkStatus}
+use Rattle.fp_serve.specs.declared.run.status.LinkStatus.{LinkStatus}
 use Rattle.fp_serve.specs.Report.{IsAnswer, TellsAnswers, links_answer, reloaded_line}
 
 module _ (last first_link : ℕ) (has_commands : Bool) (a b : Option (List ℕ)) where

@@ -8,7 +8,7 @@ use Rattle.std.specs.declared.net.socket_addr.SocketAddr.{SocketAddr}
 use Rattle.fp_book.specs.Shelf.{no_totals}
 use Rattle.fp_book.specs.declared.totals.Totals.{Totals}
 use Rattle.fp_replay.specs.Replayed.{report_line}
-use Rattle.fp_serve.specs.declared.progress.LinkStatus.{LinkStatus}
+use Rattle.fp_serve.specs.declared.run.status.LinkStatus.{LinkStatus}
 
 -- the line of an address
 abbrev pub listening_line : SocketAddr → List ℕ

@@ -1,4 +1,4 @@
-//! The time of day.
+//! The time of day, and time that went by.
 
 ghost use Rattle.std.specs.Prelude.{◌≡◌, ◌≤◌, ◌-◌, ◌/◌, min};
 ghost use Rattle.std.specs.Duration.{as_nanos};
@@ -9,7 +9,7 @@ use fp_tids::LocalIds;
 use std::rt::Clock;
 use std::sync::Wait;
 use std::thread;
-use std::time::{Duration, SystemTime, UNIX_EPOCH};
+use std::time::{Duration, Instant, SystemTime, UNIX_EPOCH};
 
 /// How many milliseconds a second has.
 const MILLISECONDS_OF_A_SECOND: u64 = 1_000;
@@ -24,6 +24,11 @@ pub(crate) fn now<R: Clock>(rt: &R) -> Moment {
         return moment_after(Duration::ZERO);
     };
     moment_after(time.duration_since(UNIX_EPOCH).unwrap_or(Duration::ZERO))
+}
+
+/// How long it was since then. `None`: the clock gives no time.
+pub(crate) fn time_since<R: Clock>(rt: &R, then: Option<Instant>) -> Option<Duration> {
+    then?.elapsed(rt).ok()
 }
 
 /// The moment this long after 1970-01-01T00:00:00Z, parts of a millisecond dropped; or the last that there is, if that

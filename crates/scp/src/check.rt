@@ -22,7 +22,7 @@ pub fn check<W: Write>(alloc: Global, table: &Table, output: &mut W) -> Result<(
 }
 
 /// The line that says what a table has.
-fn text_of(alloc: Global, table: &Table) -> Result<String, AllocError>
+pub(crate) fn text_of(alloc: Global, table: &Table) -> Result<String, AllocError>
     ensures { IfOk result (λ text. string_bytes text ≡ counts_line table.now) }
 {
     let (numbers, rules) = table.counts();

@@ -8,7 +8,7 @@ mod serving;
 
 use crate::tag::Tag;
 use clap::error::ErrorKind;
-use clap::{Arg, Command, Error, value_parser};
+use clap::{Arg, ArgAction, Command, Error, value_parser};
 use fp_digits::Moment;
 use fp_serve::{Settings, Wanted};
 use jiff::Timestamp;
@@ -22,6 +22,8 @@ pub enum Asked<'a> {
     Check {
         /// The path of the file.
         records: &'a str,
+        /// Whether all there is to say of it is wanted.
+        explain: bool,
     },
     /// The records of a file as a file of version 2.
     Migrate {
@@ -101,7 +103,10 @@ pub fn asked_by<'a>(alloc: Global, words: &'a [String]) -> Result<Asked<'a>, All
     };
     let records = chosen.get_str("RECORDS").unwrap_or("");
     if name == CHECK {
-        return Ok(Asked::Check { records });
+        return Ok(Asked::Check {
+            records,
+            explain: chosen.get_flag("explain"),
+        });
     }
     if name == MIGRATE {
         return Ok(Asked::Migrate { records });
@@ -145,13 +150,16 @@ fn told_by<'a>(alloc: Global, error: &Error) -> Result<Asked<'a>, AllocError> {
 }
 
 /// What to type, after the help of the program and of its subcommands.
-const CHECK_EXAMPLE: &str = "Example:
+const CHECK_EXAMPLE: &str = "Examples:
   scp check examples/freephone.csv
+  scp check examples/freephone.csv --explain
 
 The first record is key,SERVICE_KEY,OFFSET: OFFSET is local time less UTC, in minutes. Each other record is a rule,
 number,prefix,days,from,to,weight,action[,destination ..], as 800123456,,12345,08:00,18:00,1,route,302223344.
 A file of version 2 begins with fprecords,2 and may have closed days, as closed,800123456,2026-12-25.
-The first faulty record is reported.";
+The first faulty record is reported. With --explain all faults are printed, each with its line, its field and what is
+in it; of a good file the service key, how far local time is from UTC, and what is allowed and may be a slip: minutes
+of the week without a rule, rules that are there twice or that no call gets, closed days of numbers without rules.";
 
 const MIGRATE_EXAMPLE: &str = "Example:
   scp migrate examples/freephone.csv > records.csv
@@ -199,10 +207,15 @@ fn contexts<'a>(alloc: Global) -> Arg<'a> {
 
 /// The subcommand that counts.
 fn check_command<'a>(alloc: Global) -> Result<Command<'a>, AllocError> {
+    let explain = Arg::new(alloc, "explain")
+        .long("explain")
+        .action(ArgAction::SetTrue)
+        .help("Print all faults with their lines and fields, or what may be a slip");
     Command::new(alloc, CHECK)
         .about("Validates a file of records and counts its numbers, rules and closed days")
         .after_help(CHECK_EXAMPLE)
-        .arg(records(alloc))
+        .arg(records(alloc))?
+        .arg(explain)
 }
 
 /// The subcommand that writes a file of version 2.

@@ -15,11 +15,11 @@
 //!
 //! * [`program`] takes one run from the words to the status, over any files, reader and writers; and
 //!   [`program_with_links`] one that may serve links.
-//! * [`ask`] answers the lines of an input, [`ask_with_tag`] in a run with a tag, and [`serve`] the connections to a
+//! * [`ask`] answers the lines of an input, [`ask_with_tag`] in a run with a tag, and [`Server::serve`] the connections to a
 //!   listener. They are those of `fp_ask` and `fp_serve`, with their contracts.
 //! * `command` reads the words of the command line, and the moment among them, `tag` has the tag of a run; `contexts`
 //!   reads the list of names; `console` the records again, while links are served from them.
-//! * `check` prints what the records hold, and `migrate` the records themselves.
+//! * `check` prints what the records hold, `explain` all there is to say of them, and `migrate` the records themselves.
 //! * `output` writes a text or octets.
 //! * `fault` has the faults of a run and their texts.
 //!
@@ -32,6 +32,7 @@ mod check;
 mod command;
 mod console;
 mod contexts;
+mod explain;
 mod fault;
 mod migrate;
 mod output;
@@ -40,6 +41,6 @@ mod tag;
 mod with_links;
 
 pub use fp_ask::{AskFault, ask, ask_with_tag};
-pub use fp_serve::{Events, ServeFault, Settings, serve};
+pub use fp_serve::{Events, ServeFault, Server, Settings};
 pub use run::{program, refuse_words};
 pub use with_links::program_with_links;

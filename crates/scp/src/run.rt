@@ -12,6 +12,7 @@ ghost use Rattle.fp_tids.specs.Identifiers.{base_of};
 use crate::check::check;
 use crate::command::{Asked, asked_by, moment_of};
 use crate::contexts::contexts_in;
+use crate::explain::explain;
 use crate::fault::RunFault;
 use crate::migrate::migrate;
 use crate::output::write_text;
@@ -68,7 +69,7 @@ where
     ensures { result ≤ 2 }
 {
     let outcome = match asked {
-        Ok(Asked::Check { records }) => check_file(rt, records, output),
+        Ok(Asked::Check { records, explain }) => check_file(rt, records, explain, output),
         Ok(Asked::Migrate { records }) => migrate_file(rt, records, output),
         Ok(
             Asked::Ask {
@@ -128,12 +129,17 @@ fn show<W: Write>(text: &str, output: &mut W) -> Result<(), RunFault> {
     Ok(())
 }
 
-/// Writes what the records of a file hold.
+/// Writes what the records of a file hold, or all there is to say of them.
 fn check_file<H: Files + AllocGlobal, W: Write>(
     rt: &H,
     records: &str,
+    is_explained: bool,
     output: &mut W,
 ) -> Result<(), RunFault> {
+    if is_explained {
+        let text = records_in(rt, records)?;
+        return explain(rt.alloc(), text.as_slice(), output);
+    }
     let table = table_in(rt, records)?;
     check(rt.alloc(), &table, output)?;
     Ok(())

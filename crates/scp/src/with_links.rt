@@ -2,7 +2,7 @@
 
 ghost use Rattle.std.specs.Prelude.{◌≡◌, ◌≤◌, ◌⊎◌, IfErr, OnOk, ◌&&◌, ◌==◌, not, if◌then◌else◌};
 ghost use Rattle.fp_serve.specs.Report.{TellsLinks};
-ghost use Rattle.fp_serve.specs.declared.fault.ServeFault.TheVariants.{Memory, NoConnection, UnwrittenLog};
+ghost use Rattle.fp_serve.specs.declared.run.fault.ServeFault.TheVariants.{Memory, NoConnection, UnwrittenLog};
 ghost use Rattle.scp.specs.declared.fault.RunFault.TheVariants.{Serve, UnopenedLog};
 
 use crate::command::{Asked, asked_by};
@@ -11,7 +11,9 @@ use crate::fault::RunFault;
 use crate::run::{accepted, records_in, run_asked, status_of};
 use fp_hub::Tables;
 use fp_records::Table;
-use fp_serve::{Commands, Event, Events, Operator, ServeFault, Service, Settings, Wanted, serve};
+use fp_serve::{
+    Commands, Event, Events, Operator, ServeFault, Server, Service, Settings, System, Wanted,
+};
 use fp_streams::Counted;
 use sha2::{Digest, Sha256};
 use std::fs;
@@ -19,9 +21,7 @@ use std::fs::{File, OpenFile, OpenOptions, TryLockError};
 use std::io::{ErrorKind, Read, Write};
 use std::net::{IpAddr, Net, SocketAddr, TcpListener, TcpStream};
 use std::os::unix::fs::{MetadataExt, OpenOptionsExt};
-use std::rt::{Clock, Files};
-use std::sync::Wait;
-use std::thread::Threads;
+use std::rt::Files;
 
 /// Runs the program as [`program`](crate::program) does, and serves links if the words ask for that. Faults of `serve`
 /// are found in this order: the words, the application contexts, the records, the opening of the log, the address, the
@@ -51,9 +51,7 @@ where
     H: Files<File = File>
         + AllocGlobal
         + Net<Listener = TcpListener, Stream = TcpStream>
-        + Threads
-        + Wait
-        + Clock
+        + System
         + Copy
         + Send
         + Sync
@@ -114,9 +112,7 @@ where
     H: Files<File = File>
         + AllocGlobal
         + Net<Listener = TcpListener, Stream = TcpStream>
-        + Threads
-        + Wait
-        + Clock
+        + System
         + Copy
         + Send
         + Sync
@@ -149,16 +145,13 @@ where
         events: &events,
         errors,
     };
-    let outcome = serve_links(
-        rt,
-        service,
-        asked.settings,
+    let server = Server {
+        settings: asked.settings,
         listener,
-        Commands { input, operator },
-        Counted::new(file),
-        &events,
-        &mut Counted::new(output),
-    );
+        commands: Commands { input, operator },
+        log: Counted::new(file),
+    };
+    let outcome = serve_links(rt, service, server, &events, &mut Counted::new(output));
     events.finish(rt);
     outcome?;
     Ok(())
@@ -172,7 +165,7 @@ fn started_events<H, V>(
     event_lines: V,
 ) -> Result<Events, ServeFault>
 where
-    H: AllocGlobal + Threads + Wait + Clock + Copy + Send + 'static,
+    H: AllocGlobal + System + Copy + Send + Sync + 'static,
     V: Write + Send + Drop + 'static,
 {
     let Some(wanted) = wanted else {
@@ -277,27 +270,22 @@ fn empty(file: &File) -> Result<(), ServeFault>
 }
 
 /// Serves links, from tables whose last index is that of the settings, and says of writers whose octets are known what
-/// [`serve`] says.
+/// [`Server::serve`] says.
 fn serve_links<H, I, O, W>(
     rt: &H,
     service: Service<'_>,
-    settings: Settings,
-    listener: TcpListener,
-    commands: Commands<I, O>,
-    log: Counted<File>,
+    server: Server<I, O, Counted<File>>,
     events: &Events,
     output: &mut Counted<W>,
 ) -> Result<(), ServeFault>
 where
-    H: AllocGlobal + Threads + Wait + Clock + Copy + Send + Sync + 'static,
+    H: AllocGlobal + System + Copy + Send + Sync + 'static,
     I: Read + Send + Drop + 'static,
     O: Operator + Drop,
     W: Write,
-    requires tables { service.tables.now ≡ (if (settings.tag == 0) && not settings.has_tag_of_start then 999 else 65535) }
-    ensures { OnOk result (TellsLinks service.entry.tables.now settings.first_link settings.links settings.has_commands
+    requires tables { service.tables.now ≡ (if (server.settings.tag == 0) && not server.settings.has_tag_of_start then 999 else 65535) }
+    ensures { OnOk result (TellsLinks service.entry.tables.now server.settings.first_link server.settings.links server.settings.has_commands
         (W.contents output.old.device) (W.contents output.new.device)) }
 {
-    serve(
-        rt, service, settings, listener, commands, log, events, output,
-    )
+    server.serve(rt, service, events, output)
 }

@@ -76,23 +76,16 @@ fn assert_answered<R: Abort>(
 /// One worker waits between taking the turn of the first dialogue and serving it, with no lock held: the other one
 /// serves the second dialogue meanwhile, whose answer is sent. Each turn passes the gate once. If there is only one
 /// hint for both messages, the workers hint to each other; also if both messages were posted in one hold, so that the
-/// first worker finds both dialogues ready. And if the thread that posts serves one turn itself, it hints before it
-/// waits there.
+/// first worker finds both dialogues ready.
 #[test]
 fn one_waits_and_the_other_serves(rt: HostRuntime) -> Result<(), Fail> {
     let alloc = rt.alloc();
     let table = Table::read(alloc, RECORDS.as_bytes())?;
-    for (is_hinted_once, is_one_hold, most_helped) in [
-        (false, false, 0),
-        (true, false, 0),
-        (true, true, 0),
-        (false, true, 1),
-    ] {
+    for (is_hinted_once, is_one_hold) in [(false, false), (true, false), (true, true)] {
         let plan = Plan {
             link: 5,
             is_hinted_once,
             is_one_hold,
-            most_helped,
             ..PLAN
         };
         let marks = Marks::new();
@@ -143,14 +136,19 @@ impl Gate for Passes {
     }
 }
 
-/// Each of 40 dialogues has an entry for its Begin and 16 for calls, so two turns: each of them passes the gate once,
-/// with the position of its first entry, whether two workers serve them, the thread that posts, or this one and a
-/// worker.
+/// Each of 40 dialogues has an entry for its Begin and 16 for calls, so two turns: each of them that a worker serves
+/// passes the gate once, with the position of its first entry. The others are served in their places by the thread that
+/// posts, and pass no gate: none of them, all, or the first turns of the dialogues from 1 to 8, whose numbers add up
+/// to 36.
 #[test]
 fn each_turn_passes_the_gate_once(rt: HostRuntime) -> Result<(), Fail> {
     let alloc = rt.alloc();
     let table = Table::read(alloc, RECORDS.as_bytes())?;
-    for (workers, most_helped) in [(2, 0), (0, 128), (1, 8)] {
+    for (workers, most_helped, first, second) in [
+        (2, 0, ONE_OF_EACH, ONE_OF_EACH),
+        (0, 128, 0, 0),
+        (1, 8, ONE_OF_EACH - 8 * ONE_TURN - 36, ONE_OF_EACH),
+    ] {
         let plan = Plan {
             workers,
             most_helped,
@@ -163,8 +161,8 @@ fn each_turn_passes_the_gate_once(rt: HostRuntime) -> Result<(), Fail> {
         let relayed = relay(&rt, alloc, &gate, &table, &Marks::new(), plan);
         let relayed = relayed.ok_or("out of memory")?;
         assert!(rt; relayed.are_opened, "a message wasn't posted");
-        assert_eq!(rt; gate.first.load(Ordering::SeqCst), ONE_OF_EACH);
-        assert_eq!(rt; gate.second.load(Ordering::SeqCst), ONE_OF_EACH);
+        assert_eq!(rt; gate.first.load(Ordering::SeqCst), first);
+        assert_eq!(rt; gate.second.load(Ordering::SeqCst), second);
         assert_eq!(rt; gate.others.load(Ordering::SeqCst), 0);
         assert_eq!(rt; relayed.answers.len(), 640);
         let wanted = Totals {

@@ -25,15 +25,24 @@ use std::sync::ledger::{Blank, Ledger};
 use std::test::Fail;
 use std::thread::Threads;
 
+/// How turns are served.
+#[derive(Clone, Copy, PartialEq, Eq)]
+enum Service {
+    /// Taken and given one by one.
+    OneByOne,
+    /// Taken in shares and given together.
+    InShares,
+    /// In their places, several in one hold.
+    InPlace,
+}
+
 /// The calls that are made.
 #[derive(Clone, Copy)]
 enum Walk {
     /// Each call, until the link is down; then rests, and lines that wake them.
     EachCall,
     /// All places for frames are filled.
-    AllPlaces,
-    /// The same by turns that are taken in shares.
-    AllPlacesInShares,
+    AllPlaces(Service),
     /// Hints to three workers, before the hub is closed and after.
     Hints,
     /// Calls of several steps.
@@ -42,6 +51,8 @@ enum Walk {
     Foreign(bool),
     /// Help with some of the turns that are ready.
     Helps,
+    /// Turns that are served in their places.
+    ServesInPlace,
     /// A worker whose hub is closed while it has turns.
     Closes,
     /// A thread that sleeps until there is an Abort of the provider to be sent.
@@ -146,7 +157,8 @@ fn free_places_are_hinted(rt: HostRuntime) -> Result<(), Fail> {
         served: 8_707,
         sent: 2,
     };
-    for walk in [Walk::AllPlaces, Walk::AllPlacesInShares] {
+    for service in [Service::OneByOne, Service::InShares, Service::InPlace] {
+        let walk = Walk::AllPlaces(service);
         assert_walk(&rt, rt.alloc(), Looks::FEW, walk, words, totals)?;
     }
     Ok(())
@@ -195,13 +207,34 @@ fn foreign_ones_change_nothing(rt: HostRuntime) -> Result<(), Fail> {
 #[test]
 fn help_has_its_bound(rt: HostRuntime) -> Result<(), Fail> {
     let words =
-        "none queued none hinted queued nothing none silent none hinted queued none queued none nothing none silent none hinted hinted closed queued queued drained ";
+        "none queued hinted queued nothing none silent hinted queued none queued nothing none silent hinted hinted closed queued queued drained ";
     let totals = Totals {
         accepted: 9,
         served: 18,
         sent: 0,
     };
     assert_walk(&rt, rt.alloc(), Looks::FEW, Walk::Helps, words, totals)
+}
+
+/// Turns are served in their places, each taken and given before the next one, as the log says: none, as many as a hold
+/// serves at most, fewer than are ready, just as many, and all; and the call says how many are still ready.
+#[test]
+fn turns_are_served_in_their_places(rt: HostRuntime) -> Result<(), Fail> {
+    let words =
+        "none forty silent enough eight queued enough five queued enough none queued enough none silent nothing drained none none queued nothing P P T41 G41 T42 G42 ";
+    let totals = Totals {
+        accepted: 42,
+        served: 84,
+        sent: 0,
+    };
+    assert_walk(
+        &rt,
+        rt.alloc(),
+        Looks::FEW,
+        Walk::ServesInPlace,
+        words,
+        totals,
+    )
 }
 
 /// A worker that has many turns when its hub is closed serves them and gives them back, and those that were ready too.
@@ -265,14 +298,14 @@ fn messages_are_held_back(rt: HostRuntime) -> Result<(), Fail> {
 /// was sent; and by one that couldn't be sent, which ends the link; without them it sleeps on, also after a second. One
 /// that sleeps until the link is quiet is woken when the last parcel was sent, alone or in the hold that picks the next
 /// one, and by the last turn: one that is given, also if its request is dropped, or one that is put back, alone or with
-/// others.
+/// others, or one that is served in its place.
 #[test]
 fn waiting_threads_are_woken(rt: HostRuntime) -> Result<(), Fail> {
     let words =
-        "opened silent accepted accepted accepted accepted woken silent accepted woken given accepted woken given accepted waited silent accepted nothing all aborted woken sent aborted woken sent not quiet aborted woken sent all sent woken sent aborted woken sent accepted woken nothing accepted woken given opened woken dropped opened woken back opened woken back opened woken given accepted accepted accepted accepted aborted woken unsent quiet discarded ";
+        "opened silent accepted accepted accepted accepted woken silent accepted woken given accepted woken given accepted waited silent accepted nothing all aborted woken sent aborted woken sent not quiet aborted woken sent all sent woken sent aborted woken sent accepted woken nothing accepted woken given accepted woken served opened woken dropped opened woken back opened woken back opened woken given accepted accepted accepted accepted aborted woken unsent quiet discarded ";
     let totals = Totals {
-        accepted: 183,
-        served: 120,
+        accepted: 184,
+        served: 121,
         sent: 0,
     };
     for looks in [Looks::FEW, Looks::MANY] {

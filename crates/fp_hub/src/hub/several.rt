@@ -55,6 +55,22 @@ impl<A: Ledger, B: Ledger, C: Ledger> Hub<A, B, C> {
         worked
     }
 
+    /// Serves turns in their places, `most` at most and 32 at most, as [`Kept::serve_front`]. The sending thread isn't
+    /// woken for frames that were queued: [`Hub::tell_sender`] does that. If a turn finds no place for a frame, a worker
+    /// is hinted when a parcel is awaited next.
+    pub fn serve_front<R: Wait>(&self, rt: &R, seat: &mut Seat<A, B, C>, most: usize) -> Worked
+        ensures same { seat.new ≡ record seat.old { served = seat.new.served } }
+        ensures grows { seat.old.served ≤ seat.new.served }
+    {
+        let mut hold = self.hold(rt);
+        let worked = hold.kept.serve_front(seat, most);
+        if worked.stopped == Stopped::NoRoom {
+            self.lacks_room.store(true, Ordering::SeqCst);
+        }
+        self.release_and_wake(hold);
+        worked
+    }
+
     /// Wakes the sending thread: there may be a parcel to pick.
     pub fn tell_sender(&self) {
         self.notify();

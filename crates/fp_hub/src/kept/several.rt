@@ -1,16 +1,16 @@
 //! Calls of a link's book that make several steps, a bounded number of them.
 
-ghost use Rattle.std.specs.Prelude.{◌≡◌, ◌↔◌, ◌||◌, IsOk, length};
+ghost use Rattle.std.specs.Prelude.{◌≡◌, ◌↔◌, ◌||◌, false, IfErr, IfOk, IsOk, length};
 ghost use Rattle.std.specs.VecDeque.{deque_capacity};
 ghost use Rattle.fp_book.specs.Calls.{IsOut};
 ghost use Rattle.fp_book.specs.Shelf.{Sound};
-ghost use Rattle.fp_hub.specs.Holds.{GivesAndTakes, PostsFront, ReturnsFront, ReturnsIn, SendsAndFinds, TakesTurns, gave, is_aborted, is_queued, share};
+ghost use Rattle.fp_hub.specs.Holds.{GivesAndTakes, PostsFront, ReturnsFront, ReturnsIn, SendsAndFinds, ServesIn, ServesNone, ServesSome, ServesTurns, TakesTurns, gave, is_aborted, is_queued, share};
 ghost use Rattle.fp_hub.specs.Shares.{Within, after_sent};
 
 use crate::next::SentAndNext;
 use crate::work::{Stopped, Work, Worked};
 use crate::{Kept, Seat};
-use fp_book::{Given, Parcel, Posted, Taken};
+use fp_book::{Given, InPlace, Parcel, Posted, Taken};
 use fp_entry::Prepared;
 use std::alloc::Global;
 use std::collections::VecDeque;
@@ -158,6 +158,60 @@ impl<A: Ledger, B: Ledger, C: Ledger> Kept<A, B, C> {
     {
         let is_queued = self.return_front(seat, work);
         let stopped = self.take_share(workers, most, work);
+        Worked {
+            is_queued,
+            stopped,
+            ready_count: self.ready_count(),
+        }
+    }
+
+    /// Serves a turn in its place, as [`Kept::serve`], and says whether a frame of its requests was queued; or why none
+    /// was served, and then nothing changes.
+    fn serve_one(&mut self, seat: &mut Seat<A, B, C>) -> Result<bool, Stopped>
+        ensures ok { IfOk result (λ queued. ServesIn self.old self.new seat.old seat.new queued) }
+        ensures err { IfErr result (λ stopped. ServesNone stopped self.old self.new seat.old seat.new) }
+        ensures sound { Sound self.new }
+    {
+        match self.serve(seat) {
+            InPlace::Served { given, .. } => Ok(is_queued(given)),
+            InPlace::Nothing => Err(Stopped::Nothing),
+            InPlace::NoRoom => Err(Stopped::NoRoom),
+            InPlace::Memory => Err(Stopped::Memory),
+        }
+    }
+
+    /// Serves turns in their places, this number of them at most. Sets `has_queued` if a frame of their requests was
+    /// queued. Returns why no more were served.
+    fn serve_some(
+        &mut self,
+        seat: &mut Seat<A, B, C>,
+        most: usize,
+        has_queued: &mut bool,
+    ) -> Stopped
+        requires none { has_queued.old ≡ false }
+        ensures serves { ServesSome self.old self.new seat.old seat.new most has_queued.new result }
+        ensures sound { Sound self.new }
+    {
+        self.say_sound();
+        for _count in 0..most {
+            match self.serve_one(seat) {
+                Ok(queues) => *has_queued = either(*has_queued, queues),
+                Err(stopped) => return stopped,
+            }
+        }
+        Stopped::Enough
+    }
+
+    /// Serves turns in their places, each as [`Kept::serve`], as long as a dialogue is ready: `most` at most, and 32 at
+    /// most.
+    pub fn serve_front(&mut self, seat: &mut Seat<A, B, C>, most: usize) -> Worked
+        ensures serves { ServesTurns self.old self.new seat.old seat.new most result }
+        ensures sound { Sound self.new }
+        ensures within { Within seat.old self.old.totals }
+    {
+        self.compare(seat);
+        let mut is_queued = false;
+        let stopped = self.serve_some(seat, most.min(MOST_TURNS), &mut is_queued);
         Worked {
             is_queued,
             stopped,

@@ -6,7 +6,7 @@ use super::plan::{Load, Marks, Plan, Sending};
 use super::posting::post_until_sent;
 use super::senders::{Sent, send_awaited, send_picked};
 use fp_book::{Line, Log, Totals};
-use fp_hub::{Gate, Hub, PARTS, Seat, finish, worker};
+use fp_hub::{Gate, Hub, PARTS, Seat, finish};
 use fp_records::Table;
 use std::alloc::Global;
 use std::marker::Brand;
@@ -98,7 +98,7 @@ fn run_roles<
                 let (Some(own), Ok(hints)) = (seat.split(), hub.hints()) else {
                     break;
                 };
-                if let Ok(handle) = scope.spawn(move || worker(rt, alloc, hub, hints, gate, own)) {
+                if let Ok(handle) = scope.spawn(move || hub.worker(rt, alloc, hints, gate, own)) {
                     let _ = handles.push(handle);
                 }
             }

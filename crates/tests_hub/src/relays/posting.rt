@@ -7,7 +7,7 @@ use fp_book::Posted;
 use fp_digits::Moment;
 use fp_entry::Prepared;
 use fp_frames::Frame;
-use fp_hub::{Gate, Hub, Seat, abandon_all, help};
+use fp_hub::{Gate, Hub, Seat};
 use std::collections::VecDeque;
 use std::rt::Clock;
 use std::sync::Wait;
@@ -61,13 +61,10 @@ fn post_in_one_hold<R: Wait, G: Gate, A: Ledger, B: Ledger, C: Ledger>(
     if plan.most_helped == 0 {
         return !is_aborted && came.is_empty() && hub.hint(rt);
     }
-    let mut work = VecDeque::new(alloc);
-    if help(rt, alloc, hub, gate, seat, &mut work, plan.most_helped) {
+    if hub.help(rt, gate, seat, plan.most_helped) {
         hub.tell_sender();
     }
-    let is_empty = work.is_empty();
-    abandon_all(work);
-    !is_aborted && came.is_empty() && is_empty
+    !is_aborted && came.is_empty()
 }
 
 /// Posts the messages of a plan, and hints. `false`: one didn't open the dialogue that it should, or a hint failed, or

@@ -365,12 +365,12 @@ pub(crate) fn make_walk<
             caller.make_calls(&mut words);
             caller.rest_often(16, &mut words);
         }
-        Walk::AllPlaces => caller.fill_places(false, &mut words),
-        Walk::AllPlacesInShares => caller.fill_places(true, &mut words),
+        Walk::AllPlaces(service) => caller.fill_places(service, &mut words),
         Walk::Hints => caller.hint_workers(&mut words),
         Walk::Several => caller.make_several(&mut words),
         Walk::Foreign(are_brought) => caller.make_among_foreign(are_brought, &mut words),
         Walk::Helps => caller.help_with_some(&mut words),
+        Walk::ServesInPlace => caller.serve_in_place(&mut words),
         Walk::Closes => caller = caller.serve_and_close(&mut words),
         Walk::SendsAbort => caller = caller.wake_sender(true, &mut words),
         Walk::SendsAnswer => caller = caller.wake_sender(false, &mut words),

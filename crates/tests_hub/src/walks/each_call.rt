@@ -1,5 +1,6 @@
 //! Walks of one thread: each call of a hub, all places for frames, and hints.
 
+use super::Service;
 use super::caller::{Caller, Words};
 use crate::messages::{CALLS_COUNT, EMPTY_BEGIN, begin, calls, frame_of};
 use fp_book::Outbox;
@@ -87,7 +88,7 @@ impl<
 
     /// Fills all places for frames after a parcel was sent. Two workers listen, and one of them is hinted when the next
     /// parcel is awaited; or, if turns are taken in shares, as soon as it is asked for.
-    pub(super) fn fill_places(&mut self, in_shares: bool, words: &mut Words) {
+    pub(super) fn fill_places(&mut self, service: Service, words: &mut Words) {
         let (Ok(hints), Ok(others)) = (self.hub.hints(), self.hub.hints()) else {
             return;
         };
@@ -99,8 +100,8 @@ impl<
                 words.say("else");
             }
         }
-        words.say(self.serve_ready(in_shares));
-        if in_shares {
+        words.say(self.serve_ready(service));
+        if service == Service::InShares {
             words.say(self.send(true));
             self.hub.hint_after_no_room(self.rt);
         } else {
@@ -109,15 +110,15 @@ impl<
         self.hub.close(self.rt);
         words.say(self.await_hint(&hints));
         words.say(self.await_hint(&others));
-        words.say(self.serve_ready(in_shares));
+        words.say(self.serve_ready(service));
     }
 
-    /// Takes and serves turns until none is handed out, one by one or in shares.
-    fn serve_ready(&mut self, in_shares: bool) -> &'static str {
-        if in_shares {
-            self.serve_all_of_several()
-        } else {
-            self.serve_all()
+    /// Serves turns until none is handed out.
+    fn serve_ready(&mut self, service: Service) -> &'static str {
+        match service {
+            Service::OneByOne => self.serve_all(),
+            Service::InShares => self.serve_all_of_several(),
+            Service::InPlace => self.serve_all_in_place(),
         }
     }
 

@@ -1,10 +1,10 @@
-//! Turns that are served by who helps, and by a worker.
+//! Turns that are served by who helps, in their places, and by a worker.
 
 use super::caller::{Caller, Words};
 use super::holding::await_quiet;
-use super::several::number_word;
+use super::several::{MOST_TURNS, number_word, stop_word};
 use crate::messages::begin;
-use fp_hub::{Gate, Hub, OpenGate, abandon_all, help, worker};
+use fp_hub::{Gate, Hub, OpenGate, Stopped};
 use std::collections::VecDeque;
 use std::rt::Clock;
 use std::sync::Wait;
@@ -39,19 +39,8 @@ impl<
             self.add(&mut came, begin(alloc, identifier));
         }
         self.post_front(&mut came, words);
-        let mut work = VecDeque::new(alloc);
-        let is_queued = help(
-            rt,
-            alloc,
-            self.hub,
-            &OpenGate,
-            &mut self.seat,
-            &mut work,
-            most,
-        );
+        let is_queued = self.hub.help(rt, &OpenGate, &mut self.seat, most);
         words.say(if is_queued { "queued" } else { "silent" });
-        words.say(number_word(work.len()));
-        abandon_all(work);
     }
 
     /// Helps with fewer turns than are ready, with none, and with all of them: a worker is hinted if some are left, and
@@ -83,6 +72,56 @@ impl<
         words.say(self.drain(27));
     }
 
+    /// Serves one turn in its place.
+    pub(super) fn serve_one_in_place(&mut self) -> &'static str {
+        match self.hub.serve_front(self.rt, &mut self.seat, 1).stopped {
+            Stopped::Enough => "served",
+            stopped => stop_word(stopped),
+        }
+    }
+
+    /// Serves turns in their places until none is handed out.
+    pub(super) fn serve_all_in_place(&mut self) -> &'static str {
+        for _ in 0..100_000 {
+            let worked = self.hub.serve_front(self.rt, &mut self.seat, MOST_TURNS);
+            if worked.stopped != Stopped::Enough {
+                return stop_word(worked.stopped);
+            }
+        }
+        "else"
+    }
+
+    /// Serves at most this number of turns in their places: how many are still ready, whether a frame was queued, and
+    /// why no more were served.
+    fn serve_front(&mut self, most: usize, words: &mut Words) {
+        let worked = self.hub.serve_front(self.rt, &mut self.seat, most);
+        words.say(number_word(worked.ready_count));
+        words.say(if worked.is_queued { "queued" } else { "silent" });
+        words.say(stop_word(worked.stopped));
+    }
+
+    /// Posts 40 calls in one hold, and serves their turns in several; then two calls, whose turns are served in one. Says
+    /// what the log has of these two.
+    pub(super) fn serve_in_place(&mut self, words: &mut Words) {
+        let alloc = self.alloc;
+        let mut came = VecDeque::new(alloc);
+        for identifier in 0..40 {
+            self.add(&mut came, begin(alloc, identifier));
+        }
+        self.post_front(&mut came, words);
+        for most in [0, 64, 3, 5, 1] {
+            self.serve_front(most, words);
+        }
+        // Of each call the message, and its turn that goes out and comes back.
+        words.say(self.drain(120));
+        for identifier in 40..42 {
+            self.add(&mut came, begin(alloc, identifier));
+        }
+        self.post_front(&mut came, words);
+        self.serve_front(64, words);
+        self.say_lines(words);
+    }
+
     /// Serves 40 calls as a worker, whose hub is closed when the first turn passes its gate: it takes, serves and gives
     /// back all turns, as the log says.
     pub(super) fn serve_and_close(self, words: &mut Words) -> Self {
@@ -105,7 +144,7 @@ impl<
             table,
             last_word,
         } = caller;
-        let seat = worker(rt, alloc, hub, hints, &ClosingGate { rt, hub }, seat);
+        let seat = hub.worker(rt, alloc, hints, &ClosingGate { rt, hub }, seat);
         let mut caller = Caller {
             rt,
             alloc,

@@ -51,6 +51,8 @@ enum Act {
     GivesSeveral,
     /// The same after it posted messages that are discarded, in one hold.
     PostsAndGives,
+    /// Serves the next turn in its place.
+    ServesInPlace,
     /// Takes the turn of the second dialogue, closes the dialogue, and serves and gives the turn, whose request is
     /// dropped.
     GivesDropped,
@@ -302,6 +304,7 @@ impl<
                 self.post_list(&[UNIDIRECTIONAL, UNIDIRECTIONAL]);
                 self.give_one_of_several()
             }
+            Act::ServesInPlace => self.serve_one_in_place(),
             Act::GivesDropped => self.turn_of_closed(END_OF_SECOND, true),
             Act::PutsBack => self.turn_of_closed(END_OF_THIRD, false),
             Act::PutsBackSeveral => self.turn_of_several(END_OF_FOURTH, false),
@@ -403,8 +406,8 @@ impl<
         caller.wake_by_turns(words)
     }
 
-    /// Lets another thread sleep until the link is quiet, by a turn that is given, alone and among several, one whose
-    /// request is dropped, and one that is put back, in this order; and then by one that is put back and one whose
+    /// Lets another thread sleep until the link is quiet, by a turn that is given, alone and among several, one that is
+    /// served in its place, one whose request is dropped, and one that is put back, in this order; and then by one that is put back and one whose
     /// request is dropped among several.
     fn wake_by_turns(self, words: &mut Words) -> Self {
         let mut caller = self;
@@ -413,6 +416,8 @@ impl<
         let mut caller = caller.act_while(Sleep::ForQuiet, Act::Serves, words);
         words.say(caller.offer_text(REJECT));
         let mut caller = caller.act_while(Sleep::ForQuiet, Act::GivesSeveral, words);
+        words.say(caller.offer_text(REJECT));
+        let mut caller = caller.act_while(Sleep::ForQuiet, Act::ServesInPlace, words);
         words.say(caller.offer(begin(alloc, 0x2A)));
         let mut caller = caller.act_while(Sleep::ForQuiet, Act::GivesDropped, words);
         words.say(caller.offer(begin(alloc, 0x2B)));

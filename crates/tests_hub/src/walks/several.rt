@@ -29,12 +29,13 @@ pub(super) fn number_word(number: usize) -> &'static str {
         6 => "six",
         8 => "eight",
         13 => "thirteen",
+        40 => "forty",
         _ => "else",
     }
 }
 
-/// The word for why no more turns were taken.
-fn stop_word(stopped: Stopped) -> &'static str {
+/// The word for why no more turns were taken, or served in their places.
+pub(super) fn stop_word(stopped: Stopped) -> &'static str {
     match stopped {
         Stopped::Enough => "enough",
         Stopped::Nothing => "nothing",

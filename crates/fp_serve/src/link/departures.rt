@@ -1,0 +1,217 @@
+//! The parcels of a link that go out.
+
+ghost use Rattle.std.specs.Prelude.{◌≡◌, IfErr};
+
+use crate::link::Link;
+use crate::socket::TracedStream;
+use crate::system::System;
+use fp_book::{Parcel, Picked};
+use fp_hub::{Next, Seat, SentAndNext};
+use fp_linkio::{Counted, DeviceFault, Ended, Gathered, LinkWrite, Outlet, send_loop};
+use fp_linkstate::{LinkEvent, Why};
+use std::alloc::{AllocError, Global};
+use std::sync::MutexGuard;
+use std::sync::ledger::Ledger;
+
+/// How many parcels a link may send.
+const MOST_PARCELS: u64 = 1 << 40;
+
+/// How many parcels are handed out at most before the lock of what goes out is released.
+const MOST_AT_ONCE: u64 = 1_024;
+
+/// What goes out to the socket of a link.
+#[derive(Drop)]
+pub(crate) struct Outgoing {
+    // Empty while nobody has the lock, except after a write that failed.
+    gathered: Gathered,
+    // How many more parcels the link may send.
+    left: u64,
+}
+
+impl Outgoing {
+    /// Nothing went out yet.
+    pub(crate) fn new(alloc: Global) -> Result<Outgoing, AllocError> {
+        Ok(Outgoing {
+            gathered: Gathered::new(alloc)?,
+            left: MOST_PARCELS,
+        })
+    }
+}
+
+/// The socket of a link, before which octets are gathered, under the lock of these. They are handed on when there is no
+/// room for more, and by a flush.
+#[derive(Drop)]
+struct GatheringSocket<'x, R> {
+    outgoing: MutexGuard<'x, Outgoing>,
+    socket: Counted<TracedStream<'x, R>>,
+}
+
+impl<R: System> GatheringSocket<'_, R> {
+    /// Why the link goes down after its sending ended so.
+    fn why(&self, ended: Ended) -> Why {
+        self.socket.device.last.why(ended)
+    }
+}
+
+impl<R: System> LinkWrite for GatheringSocket<'_, R> {
+    ghost failures = { λ own. own.socket.failed };
+
+    fn write(&mut self, octets: &[u8]) -> Result<usize, DeviceFault> {
+        self.outgoing.gathered.write(&mut self.socket, octets)
+    }
+
+    fn flush(&mut self) -> Result<(), DeviceFault> {
+        self.outgoing.gathered.hand_on(&mut self.socket)
+    }
+}
+
+/// Takes the parcels of a link that wait out of its book, and reports to it what became of each.
+struct Departures<'x, R, A: Ledger, B: Ledger, C: Ledger> {
+    link: Link<'x, R, A, B, C>,
+    seat: &'x mut Seat<A, B, C>,
+    // What was handed out already.
+    next: Option<Parcel>,
+    // How many more are handed out.
+    left: u64,
+    // No more are.
+    is_done: bool,
+}
+
+impl<R: System, A: Ledger, B: Ledger, C: Ledger> Departures<'_, R, A, B, C> {
+    /// Keeps a parcel until it is picked.
+    fn keep(&mut self, parcel: Parcel) {
+        if let Some(other) = self.next.replace(parcel) {
+            let link = self.link;
+            link.take_back(other);
+        }
+    }
+
+    /// Reports a parcel sent, the last one for now: the sending thread is woken for the next one.
+    fn sent_last(&mut self, parcel: Parcel) -> Result<(), Parcel>
+        ensures { IfErr result (λ back. back ≡ parcel) }
+    {
+        self.is_done = true;
+        self.link.hub.sent(self.link.run.rt, self.seat, parcel)
+    }
+
+    /// Reports a parcel sent, and keeps the next one.
+    fn sent_and_next(&mut self, parcel: Parcel) -> Result<(), Parcel>
+        ensures { IfErr result (λ back. back ≡ parcel) }
+    {
+        let Link { run, hub, .. } = self.link;
+        let SentAndNext { sent, next } = hub.sent_and_next(run.rt, self.seat, parcel);
+        match next {
+            Next::Parcel(parcel) => self.keep(parcel),
+            Next::Down | Next::Nothing => self.is_done = true,
+        }
+        sent
+    }
+}
+
+impl<R: System, A: Ledger, B: Ledger, C: Ledger> Outlet for Departures<'_, R, A, B, C> {
+    fn pick(&mut self) -> Option<Parcel> {
+        if let Some(parcel) = self.next.take() {
+            return Some(parcel);
+        }
+        if self.is_done {
+            return None;
+        }
+        match self.link.hub.pick(self.link.run.rt) {
+            Picked::Parcel(parcel) => Some(parcel),
+            Picked::Busy | Picked::Nothing => None,
+        }
+    }
+
+    fn sent(&mut self, parcel: Parcel) -> Result<(), Parcel> {
+        let Link { run, hub, .. } = self.link;
+        self.left = self.left.saturating_sub(1);
+        // Each parcel adds two lines to the log, and lines are moved only before the next run of parcels.
+        let sent = if self.left == 0 || hub.is_log_nearly_full() {
+            self.sent_last(parcel)
+        } else {
+            self.sent_and_next(parcel)
+        };
+        hub.hint_after_no_room(run.rt);
+        sent
+    }
+
+    fn unsent(&mut self, parcel: Parcel) -> Result<(), Parcel> {
+        self.link.hub.unsent(self.link.run.rt, parcel)
+    }
+}
+
+impl<'x, R: System, A: Ledger, B: Ledger, C: Ledger> Link<'x, R, A, B, C> {
+    /// Takes back a parcel that was handed out and isn't sent: the link goes down.
+    fn take_back(&self, parcel: Parcel) {
+        if let Err(foreign) = self.hub.unsent(self.run.rt, parcel) {
+            foreign.abandon();
+        }
+    }
+
+    /// Writes what waits to be sent, after a parcel that was handed out already if there is one, and hands it on to the
+    /// socket, under the lock of what goes out. At most 1,024 parcels, and no more once the log is nearly full: then the
+    /// sending thread is woken for the rest. The error: the link is to go down, for this reason.
+    pub(crate) fn send_waiting(
+        self,
+        outgoing: MutexGuard<'x, Outgoing>,
+        seat: &'x mut Seat<A, B, C>,
+        first: Option<Parcel>,
+    ) -> Result<(), Why> {
+        let mut writer = GatheringSocket {
+            outgoing,
+            socket: Counted::new(self.traced_stream()),
+        };
+        // What a failed write left is never written, so nothing is sent after it.
+        let has_failed = !writer.outgoing.gathered.is_empty();
+        let most = if has_failed {
+            0
+        } else {
+            writer.outgoing.left.min(MOST_AT_ONCE)
+        };
+        let mut departures = Departures {
+            link: self,
+            seat,
+            next: first,
+            left: most,
+            is_done: most == 0,
+        };
+        let ended = send_loop(&mut writer, most, &mut departures);
+        let Departures {
+            link: _,
+            seat: _,
+            next,
+            left,
+            is_done: _,
+        } = departures;
+        if let Some(parcel) = next {
+            self.take_back(parcel);
+        }
+        let count = most.saturating_sub(left);
+        writer.outgoing.left = writer.outgoing.left.saturating_sub(count);
+        if has_failed || ended == Ended::WriteFault || writer.flush().is_err() {
+            Err(writer.why(Ended::WriteFault))
+        } else if writer.outgoing.left == 0 {
+            Err(Why::Limit)
+        } else {
+            Ok(())
+        }
+    }
+
+    /// Sends until the link ends. Returns the seat, with what was counted.
+    pub(crate) fn send_all(self, seat: Seat<A, B, C>) -> Seat<A, B, C> {
+        let mut seat = seat;
+        let rt = self.run.rt;
+        for _ in rt.forever() {
+            self.move_lines_if_many();
+            let Some(parcel) = self.hub.await_parcel(rt) else {
+                break;
+            };
+            let outgoing = self.outgoing.lock(rt);
+            if let Err(why) = self.send_waiting(outgoing, &mut seat, Some(parcel)) {
+                self.meet(LinkEvent::LoopFault { why });
+                break;
+            }
+        }
+        seat
+    }
+}

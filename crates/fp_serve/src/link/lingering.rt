@@ -1,0 +1,68 @@
+//! The end of a link, once its receiving thread reads no more messages.
+//!
+//! A link that drains sends what it accepted. After the command `quit` it then lingers: its book is down, the writing
+//! side of its socket is shut, and the octets that come are dropped until the client closes. The table is in
+//! `fp_linkstate`.
+//!
+//! A connection that is closed while octets come is reset by the system, which then drops answers that the client hasn't
+//! taken yet. So a client that goes on sending gets all answers that it takes within the two seconds.
+
+use crate::link::Link;
+use crate::system::System;
+use fp_linkstate::{LinkEnd, LinkEvent};
+use std::io::{ErrorKind, Read};
+use std::net::TcpStream;
+use std::sync::ledger::Ledger;
+use std::time::Duration;
+
+/// How many octets are dropped at once.
+const MOST_DROPPED: usize = 16_384;
+
+/// For how many milliseconds a read waits at most before it is looked whether all was sent.
+const LOOK_MILLISECONDS: u64 = 10;
+
+/// Waits for octets, for this time at most, and drops them. `false`: none come any more.
+fn drop_input(stream: &TcpStream, most: Duration, room: &mut [u8]) -> bool {
+    if stream.set_read_timeout(Some(most)).is_err() {
+        return false;
+    }
+    let mut stream = stream;
+    match stream.read(room) {
+        Ok(count) => count > 0,
+        Err(error) => match error.kind() {
+            ErrorKind::WouldBlock | ErrorKind::Interrupted => true,
+            _ => false,
+        },
+    }
+}
+
+impl<R: System, A: Ledger, B: Ledger, C: Ledger> Link<'_, R, A, B, C> {
+    /// Waits until a link whose end has begun is down. Drops what the client sends meanwhile, unless it closed its sending
+    /// side.
+    pub(crate) fn await_down(self) {
+        let look = Duration::from_millis(LOOK_MILLISECONDS);
+        let mut room = [0; MOST_DROPPED];
+        for _ in self.run.rt.forever() {
+            self.look_at_clock();
+            if self.is_quiet() {
+                self.meet(LinkEvent::Quiet);
+            }
+            let (end, left) = self.end_and_time_left();
+            let has_more = match end {
+                LinkEnd::Up { .. } | LinkEnd::Down => break,
+                LinkEnd::Draining {
+                    has_closed: true,
+                    ..
+                } => {
+                    self.await_quiet(left);
+                    true
+                }
+                LinkEnd::Draining { .. } => drop_input(self.stream, left.min(look), &mut room),
+                LinkEnd::Lingering { .. } => drop_input(self.stream, left, &mut room),
+            };
+            if !has_more {
+                self.meet(LinkEvent::PeerClosed);
+            }
+        }
+    }
+}

@@ -1,0 +1,208 @@
+//! A link: what its threads share, and what it counted in the end.
+
+ghost use Rattle.std.specs.Prelude.{◌<◌};
+ghost use Rattle.fp_hub.specs.Shares.{AreBlanks};
+
+use crate::link::departures::Outgoing;
+use crate::log::LinkLog;
+use crate::moment::time_since;
+use crate::run::{Event, Run, ServeFault};
+use crate::socket::TracedStream;
+use crate::system::System;
+use crossbeam_utils::CachePadded;
+use fp_book::Totals;
+use fp_hub::{Gate, Hub, Looks, PARTS, finish};
+use fp_linkstate::{Action, LinkEnd, LinkEvent, Why};
+use std::marker::Brand;
+use std::net::{Shutdown, SocketAddr, TcpStream};
+use std::sync::Mutex;
+use std::sync::ledger::{Blank, Ledger};
+use std::thread;
+use std::time::{Duration, Instant};
+
+/// How many milliseconds go by between two looks whether all was handed on to the socket.
+const LOOK_MILLISECONDS: u64 = 1;
+
+/// Which link it is, by its place among those of the run, from 0, and by its number; the address of its client; and how
+/// its threads wait.
+#[derive(Clone, Copy)]
+pub(crate) struct Plan {
+    pub(crate) place: u8,
+    pub(crate) link: u8,
+    pub(crate) peer: SocketAddr,
+    pub(crate) looks: Looks,
+    ghost is_link: { link < 8 },
+}
+
+/// What the threads of a link share.
+#[derive_where(Clone, Copy)]
+pub(crate) struct Link<'x, R, A: Ledger, B: Ledger, C: Ledger> {
+    pub(crate) run: &'x Run<'x, R>,
+    pub(crate) plan: &'x Plan,
+    pub(crate) hub: &'x Hub<A, B, C>,
+    pub(crate) stream: &'x TcpStream,
+    // How far its end has come.
+    pub(crate) end: &'x Mutex<LinkEnd>,
+    // Where its lines wait for the thread that writes the log.
+    pub(crate) lines: &'x LinkLog,
+    // What goes out to its socket.
+    pub(crate) outgoing: &'x Mutex<Outgoing>,
+}
+
+impl<'x, R: System, A: Ledger, B: Ledger, C: Ledger> Link<'x, R, A, B, C> {
+    /// Its connection, as one of its threads reads or writes it.
+    pub(crate) fn traced_stream(&self) -> TracedStream<'x, R> {
+        TracedStream::new(self.run, self.stream, self.end)
+    }
+
+    /// An event happens that may end the link: does what has to be done then. That the link goes down is reported once,
+    /// with the first reason.
+    pub(crate) fn meet(&self, event: LinkEvent) {
+        let action = self.end.lock(self.run.rt).meet(event);
+        match action {
+            Action::Nothing => {}
+            Action::EndSending { why } => self.go_down(why, Shutdown::Write),
+            Action::End { why } => self.go_down(why, Shutdown::Both),
+            Action::Close => {
+                let _ = self.stream.shutdown(Shutdown::Both);
+            }
+        }
+    }
+
+    /// Reports that the link goes down, for this reason. The book goes down, so that the sending thread and the clock
+    /// end; the socket is shut this much down, so that the receiving thread ends, and a write of the sending thread; and
+    /// the hub is closed, so that the workers end.
+    fn go_down(&self, why: Why, how: Shutdown) {
+        let rt = self.run.rt;
+        let down = Event::Down {
+            link: self.plan.link,
+            why,
+        };
+        self.run.events.report(rt, down);
+        self.hub.down(rt);
+        let _ = self.stream.shutdown(how);
+        self.hub.close(rt);
+        self.note_status();
+    }
+
+    /// Reports that the link came up.
+    fn note_up(&self) {
+        let up = Event::Up {
+            link: self.plan.link,
+            peer: self.plan.peer,
+        };
+        self.run.events.report(self.run.rt, up);
+    }
+
+    /// Looks whether the links are to end, and whether the time of this one is over.
+    pub(crate) fn look_at_clock(&self) {
+        let stop = self.run.stop;
+        if let Some(at) = stop.quit_time() {
+            self.meet(LinkEvent::Quit { at });
+        }
+        let at = stop.time(self.run.rt);
+        self.meet(LinkEvent::Clock { at });
+    }
+
+    /// How far its end has come, and for how long it goes on at most; no time, if its end hasn't begun or it is down.
+    pub(crate) fn end_and_time_left(&self) -> (LinkEnd, Duration) {
+        let rt = self.run.rt;
+        let end = *self.end.lock(rt);
+        let left = end.time_left(self.run.stop.time(rt)).unwrap_or(0);
+        (end, Duration::from_millis(left))
+    }
+
+    /// Notes its status.
+    pub(crate) fn note_status(&self) {
+        let rt = self.run.rt;
+        let status = self.hub.status(rt);
+        self.run.statuses.note(rt, self.plan.place, status);
+    }
+
+    /// Waits until nothing is left to be served or sent and all was handed on to the socket, or the link is down; at
+    /// most for this time.
+    pub(crate) fn await_quiet(&self, most: Duration) {
+        let start = Instant::now(self.run.rt).ok();
+        self.hub.await_quiet(self.run.rt, most);
+        for _ in self.run.rt.forever() {
+            let since = time_since(self.run.rt, start).unwrap_or(most);
+            if since >= most || self.outgoing.try_lock().is_some() {
+                break;
+            }
+            thread::sleep(self.run.rt, Duration::from_millis(LOOK_MILLISECONDS));
+        }
+    }
+
+    /// Whether nothing is left to be served or sent, and all was handed on to the socket; or the link is down.
+    pub(crate) fn is_quiet(&self) -> bool {
+        self.hub.await_quiet(self.run.rt, Duration::ZERO) && self.outgoing.try_lock().is_some()
+    }
+
+    /// Whether no more messages are posted: it is down, or the links are to end.
+    pub(crate) fn is_ending(&self) -> bool {
+        self.run.stop.is_quitting() || self.hub.is_down(self.run.rt)
+    }
+}
+
+impl<
+    R: System + Sync,
+    A: Ledger + Send + Sync,
+    B: Ledger + Send + Sync,
+    C: Ledger + Send + Sync,
+> Link<'_, R, A, B, C> {
+    /// Runs a link whose ledgers are opened from these blanks, until it is down. `None`: what it counted isn't known, and
+    /// all links are to go down.
+    fn run<'x, G: Gate + Sync>(
+        run: &'x Run<'x, R>,
+        plan: &Plan,
+        blanks: (Blank, Blank, Blank),
+        gate: &G,
+        stream: &TcpStream,
+    ) -> Option<Totals>
+        requires blanks { AreBlanks blanks A.name A.parts B.name B.parts C.name C.parts }
+    {
+        let Run { rt, stop, .. } = *run;
+        let alloc = run.service.alloc;
+        let tag = run.settings.tag;
+        let (Some(lines), Ok((hub, seat)), Ok(outgoing)) = (
+            run.log.lines_of(usize::from(plan.place)),
+            Hub::<A, B, C>::with_tag(alloc, plan.link, tag, plan.looks, blanks),
+            Outgoing::new(alloc),
+        ) else {
+            stop.ask_for(rt, ServeFault::Memory);
+            return None;
+        };
+        let end = Mutex::new(LinkEnd::new());
+        let outgoing = CachePadded::new(Mutex::new(outgoing));
+        let link = Link {
+            run,
+            plan,
+            hub: &hub,
+            stream,
+            end: &end,
+            lines,
+            outgoing: &*outgoing,
+        };
+        link.note_up();
+        let seat = link.run_threads(gate, seat);
+        link.make_last_text();
+        link.note_status();
+        let totals = finish(hub, seat);
+        if totals.is_none() {
+            stop.ask_for(rt, ServeFault::LostSeat);
+        }
+        totals
+    }
+}
+
+/// Runs a link over a connection, until it is down, and returns what it counted. Its threads pass this gate with each
+/// turn. `None`: what it counted isn't known, and all links are to go down.
+pub(crate) fn run_link<'x, R: System + Sync, G: Gate + Sync>(
+    run: &'x Run<'x, R>,
+    plan: Plan,
+    gate: &G,
+    stream: &TcpStream,
+) -> Option<Totals> {
+    let blanks = (Blank::new(PARTS), Blank::new(PARTS), Blank::new(PARTS));
+    Link::<R, Brand, Brand, Brand>::run(run, &plan, blanks, gate, stream)
+}

@@ -1,0 +1,231 @@
+//! The lines of a link that wait for the thread that writes the log.
+
+use crate::link::Link;
+use crate::run::{Event, Run, ServeFault};
+use crate::system::System;
+use fp_book::{Line, LoggedStep};
+use fp_logtext::{MadeText, UnwrittenText, WaitingLines};
+use std::alloc::{AllocError, Global};
+use std::sync::ledger::Ledger;
+use std::sync::{Mutex, Wait};
+use std::thread;
+use std::time::Duration;
+
+/// How many times lines are moved in one turn at most: all that may wait.
+const MOST_MOVES: usize = WaitingLines::MOST / WaitingLines::MOST_AT_ONCE;
+
+/// How many times a thread moves lines in one turn that has other things to do.
+const MOST_MOVES_ASIDE: usize = 4;
+
+/// How many times text is made in one turn at most.
+const MOST_ROUNDS: usize = 64;
+
+/// From how many octets of text that it made a turn ends, so that nobody waits long for the next one.
+const OCTETS_OF_A_TURN: usize = 1 << 20;
+
+/// How many milliseconds go by between two tries to make the last text of a link, where there is no memory for it.
+const MILLISECONDS_WITHOUT_MEMORY: u64 = 10;
+
+/// How often that is tried at most: for a minute.
+const MOST_TRIES: u32 = 6_000;
+
+/// What is left when a turn of making text ends.
+#[derive(Clone, Copy, PartialEq, Eq)]
+pub(crate) enum Left {
+    /// No line.
+    Nothing,
+    /// Lines may wait, and there is room for their text.
+    Lines,
+    /// Lines may wait, and there is no room for their text until the writing thread takes what there is.
+    NoRoom,
+    /// Lines wait, and memory ran out for their text: it may be tried again.
+    NoMemory,
+}
+
+/// Reports a gap in the log of a link, if a line says that there is one.
+fn report_gap<R: System>(run: &Run<'_, R>, line: &Line) {
+    if let Line::Step {
+        link,
+        step: LoggedStep::Gap { lost },
+    } = line
+    {
+        let gap = Event::LogGap {
+            link: *link,
+            lines: *lost,
+        };
+        run.events.report(run.rt, gap);
+    }
+}
+
+/// Lines that were moved out of the book of a link.
+#[derive(Drop)]
+struct Moved {
+    // What is moved at once. Lines stay here if memory runs out.
+    moved: Vec<Line>,
+    waiting: WaitingLines,
+}
+
+impl Moved {
+    /// No line, in room for as many as may wait.
+    fn new(alloc: Global) -> Result<Moved, AllocError> {
+        Ok(Moved {
+            moved: Vec::with_capacity(alloc, WaitingLines::MOST_AT_ONCE)?,
+            waiting: WaitingLines::new(alloc)?,
+        })
+    }
+}
+
+/// The lines of a link that wait for the thread that writes the log, in the order of its steps.
+///
+/// The clock of the link moves lines here and makes their text, so that the writing thread, the only one of the run,
+/// has nothing to do but to write; it takes all text at once. A thread that serves calls moves lines if the book is
+/// filling; of these only the receiving thread makes text, while the list of lines is filling up. No lock is held while
+/// the device of the log is written, and the one that lines are moved under not while text is made; the lock of the
+/// link is taken under both. If nothing is taken for long, or memory runs out, lines stay here, and then in the book of
+/// the link, which counts those that find no place there in a gap. Each gap is reported as an event.
+#[derive(Drop)]
+pub(crate) struct LinkLog {
+    // Taken before the lock of the lines that wait.
+    making: Mutex<MadeText>,
+    waiting: Mutex<Moved>,
+}
+
+impl LinkLog {
+    /// No line waits.
+    pub(crate) fn new(alloc: Global) -> Result<LinkLog, AllocError> {
+        Ok(LinkLog {
+            making: Mutex::new(MadeText::new(alloc)?),
+            waiting: Mutex::new(Moved::new(alloc)?),
+        })
+    }
+
+    /// Whether the list of lines that wait for their text is filling up. `false` too, if a thread moves lines now.
+    fn is_filling(&self) -> bool {
+        match self.waiting.try_lock() {
+            Some(moved) => moved.waiting.is_filling(),
+            None => false,
+        }
+    }
+
+    /// Hands all text that waits to the writing thread, once the device took all that this has.
+    pub(crate) fn take<R: Wait>(&self, rt: &R, text: &mut UnwrittenText) {
+        text.take(&mut self.making.lock(rt));
+    }
+}
+
+impl<R: System, A: Ledger, B: Ledger, C: Ledger> Link<'_, R, A, B, C> {
+    /// Moves the next lines of the book to those that are moved at once, and reports the gaps among them.
+    fn drain(&self, lines: &mut Moved) {
+        self.hub.drain(self.run.rt, &mut lines.moved);
+        for line in lines.moved.iter() {
+            report_gap(self.run, line);
+        }
+    }
+
+    /// Moves lines of the book here, `most` times at most, while there is room. If memory runs out, they stay where
+    /// they are.
+    fn move_lines(&self, lines: &mut Moved, most: usize) -> Result<(), AllocError> {
+        for _ in 0..most {
+            if !lines.waiting.has_room() {
+                break;
+            }
+            if lines.moved.is_empty() {
+                self.drain(lines);
+            }
+            let leaves_none = lines.moved.len() < WaitingLines::MOST_AT_ONCE;
+            lines.waiting.take_in(&mut lines.moved)?;
+            if leaves_none {
+                break;
+            }
+        }
+        Ok(())
+    }
+
+    /// Takes the lines that wait, once all that the book has were moved, to make their text.
+    fn refill(&self, making: &mut MadeText) -> Result<(), AllocError> {
+        let mut lines = self.lines.waiting.lock(self.run.rt);
+        self.move_lines(&mut lines, MOST_MOVES)?;
+        making.refill(&mut lines.waiting);
+        Ok(())
+    }
+
+    /// Makes the text of lines, also of those that the book has, until there are `most` octets of it. `true`: no line
+    /// is left.
+    fn add_text(&self, making: &mut MadeText, most: usize) -> Result<bool, AllocError> {
+        for _ in 0..MOST_ROUNDS {
+            if making.has_all_text() {
+                self.refill(making)?;
+            }
+            if making.has_all_text() {
+                return Ok(true);
+            }
+            if making.len() >= most {
+                break;
+            }
+            making.add_text(most)?;
+        }
+        Ok(false)
+    }
+
+    /// Makes text in the same way, counts the lines that got theirs, and says what is left.
+    fn make(&self, making: &mut MadeText, most: usize) -> Left {
+        let before = making.line_count();
+        let left = match self.add_text(making, most) {
+            Ok(true) => Left::Nothing,
+            Ok(false) if making.len() < MadeText::MOST => Left::Lines,
+            Ok(false) => Left::NoRoom,
+            Err(_) => Left::NoMemory,
+        };
+        let count = making.line_count().saturating_sub(before);
+        self.run.log.add(self.run.rt, count);
+        left
+    }
+
+    /// Makes the text of lines in one turn, while there is room for it, and says what is left.
+    pub(crate) fn make_text(&self) -> Left {
+        let mut making = self.lines.making.lock(self.run.rt);
+        let most = making.len().saturating_add(OCTETS_OF_A_TURN);
+        self.make(&mut making, most.min(MadeText::MOST))
+    }
+
+    /// Makes the text of all lines, once the link is down and its other threads have ended. If memory runs out, it is
+    /// tried again, for a minute or until the run is to end: then lines are lost, and all links are to go down.
+    pub(crate) fn make_last_text(&self) {
+        let Run { rt, stop, .. } = *self.run;
+        for _ in 0..MOST_TRIES {
+            let left = self.make(&mut self.lines.making.lock(rt), usize::MAX);
+            if left != Left::NoMemory {
+                return;
+            }
+            if stop.refuses_connections(rt) {
+                break;
+            }
+            thread::sleep(rt, Duration::from_millis(MILLISECONDS_WITHOUT_MEMORY));
+        }
+        stop.ask_for(rt, ServeFault::Memory);
+    }
+
+    /// Moves some lines out of the book if five eighths of their places there are taken, unless another thread moves
+    /// some: it waits for that thread only if seven eighths are taken. So lines find no place in the book only if there
+    /// is no room in their list either: between two such calls of each thread fewer lines come than the last eighth of
+    /// the book has, 1,024. They are two for each of the 32 turns that a thread gives back and takes, at most nine
+    /// threads do, and one for each of 64 messages. If memory runs out, they stay where they are.
+    pub(crate) fn move_lines_if_many(&self) {
+        if !self.hub.is_log_filling() {
+            return;
+        }
+        let waiting = match self.lines.waiting.try_lock() {
+            Some(waiting) => Some(waiting),
+            None if self.hub.is_log_nearly_full() => Some(self.lines.waiting.lock(self.run.rt)),
+            None => None,
+        };
+        if let Some(mut lines) = waiting {
+            let _ = self.move_lines(&mut lines, MOST_MOVES_ASIDE);
+        }
+    }
+
+    /// Whether there may soon be no place for lines: the book is nearly full, or their list is filling up.
+    pub(crate) fn lacks_places(&self) -> bool {
+        self.hub.is_log_nearly_full() || self.lines.is_filling()
+    }
+}

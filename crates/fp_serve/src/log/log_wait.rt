@@ -1,0 +1,123 @@
+//! How a receiving thread waits for places for lines of the log.
+
+use crate::link::Link;
+use crate::log::{Left, Log};
+use crate::moment::time_since;
+use crate::run::Run;
+use crate::system::System;
+use std::rt::Clock;
+use std::sync::ledger::Ledger;
+use std::thread;
+use std::time::{Duration, Instant};
+
+/// How many milliseconds go by between two looks whether there are places.
+const LOOK_MILLISECONDS: u64 = 1;
+
+/// How many octets the device has to take so that it gets on: as many as are written at once.
+const OCTETS_OF_PROGRESS: u64 = 16_384;
+
+/// The part of the time of a read for which a device that doesn't get on is waited for.
+const IDLE_PART: u32 = 4;
+
+/// How a receiving thread waits for places for lines of the log: before it posts more messages it makes text itself, or,
+/// if there is no room for that, waits for the writing thread. It waits for a bounded time in each read, and only as
+/// long as the device of the log gets on. Once the device took too little for a quarter of that time, it isn't waited
+/// for until it took more.
+///
+/// For example, a device that takes an octet a second is waited for once in hours, and one that hangs once; a disk that
+/// pauses for a tenth of a second leaves no gap.
+#[derive(Drop)]
+pub(crate) struct LogWait {
+    // How much longer it may wait in this read.
+    left: Duration,
+    // How many octets the device had taken when it didn't get on.
+    stalled_at: Option<u64>,
+}
+
+impl LogWait {
+    /// It hasn't waited yet.
+    pub(crate) fn new(log: &Log) -> LogWait {
+        LogWait {
+            left: log.patience,
+            stalled_at: None,
+        }
+    }
+
+    /// The next read begins.
+    pub(crate) fn renew(&mut self, log: &Log) {
+        self.left = log.patience;
+    }
+
+    /// Whether the device may get on: it took enough since it didn't.
+    fn may_get_on(&mut self, log: &Log) -> bool {
+        match self.stalled_at {
+            Some(at) if log.written().saturating_sub(at) < OCTETS_OF_PROGRESS => false,
+            Some(_) | None => {
+                self.stalled_at = None;
+                true
+            }
+        }
+    }
+}
+
+/// How the device of a log gets on while it is waited for.
+#[derive(Clone, Copy)]
+struct DeviceProgress {
+    // How many octets it had taken at this instant.
+    written: u64,
+    at: Option<Instant>,
+}
+
+impl DeviceProgress {
+    /// Its progress from now on.
+    fn new<R: Clock>(rt: &R, log: &Log) -> DeviceProgress {
+        DeviceProgress {
+            written: log.written(),
+            at: Instant::now(rt).ok(),
+        }
+    }
+
+    /// Whether it took too little for too long. If the clock gives no time, it did.
+    fn is_idle<R: Clock>(&mut self, rt: &R, log: &Log) -> bool {
+        if log.written().saturating_sub(self.written) >= OCTETS_OF_PROGRESS {
+            *self = DeviceProgress::new(rt, log);
+        }
+        let most = log.patience / IDLE_PART;
+        time_since(rt, self.at).unwrap_or(most) >= most
+    }
+}
+
+impl<R: System, A: Ledger, B: Ledger, C: Ledger> Link<'_, R, A, B, C> {
+    /// Makes text of lines while they may soon find no place, and waits while there is no room for their text and the
+    /// device of the log gets on. Moves lines out of the book in any case, if that has many.
+    pub(crate) fn await_places(&self, wait: &mut LogWait) {
+        self.move_lines_if_many();
+        if !self.lacks_places() {
+            return;
+        }
+        let Run { rt, log, .. } = *self.run;
+        let start = Instant::now(rt).ok();
+        let mut progress = DeviceProgress::new(rt, log);
+        for _ in rt.forever() {
+            let left = self.make_text();
+            self.move_lines_if_many();
+            let since = time_since(rt, start).unwrap_or(wait.left);
+            if since >= wait.left || !self.lacks_places() || self.is_ending() {
+                break;
+            }
+            if left == Left::Nothing || left == Left::Lines {
+                continue;
+            }
+            if !wait.may_get_on(log) {
+                break;
+            }
+            if progress.is_idle(rt, log) {
+                wait.stalled_at = Some(log.written());
+                break;
+            }
+            thread::sleep(rt, Duration::from_millis(LOOK_MILLISECONDS));
+        }
+        let since = time_since(rt, start).unwrap_or(wait.left);
+        wait.left = wait.left.saturating_sub(since);
+    }
+}

@@ -1,0 +1,186 @@
+//! The log of a run, as its links and the run itself see it. One thread writes it (`log_writer.rt`).
+//!
+//! | Thread | Waits for | Is woken by | At most |
+//! |---|---|---|---|
+//! | the run, before it accepts connections | the first line, written or failed | the writing thread | a second |
+//! | the writing thread | lines, or that no more come | a thread of a link that made their text; the run | a second |
+//! | the writing thread | the device | the device | without a limit |
+//! | the writing thread, with gaps, after a write that failed | the next try | nobody | a second |
+//! | a receiving thread, for which there are no places | the device, while it gets on (`log_wait.rt`) | nobody | two seconds in a read, with gaps a tenth of one |
+//! | the run, at its end | the last line, written or failed | the writing thread | five idle seconds, a minute in all |
+
+use crate::log::LinkLog;
+use crate::run::{Settings, WhenLogFails};
+use crossbeam_channel::{Receiver, Sender, bounded};
+use std::alloc::{AllocError, Global};
+use std::rt::Clock;
+use std::sync::atomic::{AtomicBool, AtomicU64, Ordering};
+use std::sync::{Arc, Wait};
+use std::time::Duration;
+
+/// How many seconds the run waits for the first line to be written before it accepts connections all the same.
+const SECONDS_FOR_THE_HEAD: u64 = 1;
+
+/// For how many seconds an ending run waits for the last lines although none is written meanwhile.
+const SECONDS_WITHOUT_PROGRESS: u64 = 5;
+
+/// For how many seconds it waits for them in all.
+const SECONDS_FOR_THE_END: u64 = 60;
+
+/// How many milliseconds a receiving thread waits for the device in one read, if the log is to have no gaps.
+const MILLISECONDS_WITHOUT_GAPS: u64 = 2_000;
+
+/// How many it waits, if calls matter more.
+const MILLISECONDS_WITH_GAPS: u64 = 100;
+
+/// How many milliseconds a receiving thread of a run with these settings waits for the device in one read.
+fn patience_of(settings: Settings) -> u64 {
+    match settings.when_log_fails {
+        WhenLogFails::EndRun => MILLISECONDS_WITHOUT_GAPS,
+        WhenLogFails::LeaveGap => MILLISECONDS_WITH_GAPS,
+    }
+}
+
+/// What the links of a run, the run and the thread that writes its log share.
+#[derive(Drop)]
+pub(crate) struct Log {
+    // One for each link, in their order.
+    links: Vec<LinkLog>,
+    // How many lines have their text, the head among them, and aren't written yet. The number may be less for a moment,
+    // and wrap: lines are counted after they got their text. It is looked at only once all lines were.
+    unwritten: AtomicU64,
+    // How many octets the device took.
+    written: AtomicU64,
+    // How long a receiving thread waits for the device at most before it reads on.
+    pub(crate) patience: Duration,
+    // Wakes the writing thread: lines got their text, or no more come.
+    came: Sender<()>,
+    // No more lines come.
+    is_over: AtomicBool,
+    // The run waits no longer for the last lines.
+    is_given_up: AtomicBool,
+    // Says that the writing thread has written the head. Disconnected once it writes no more.
+    begun: Receiver<()>,
+}
+
+/// The ends of the channels of a [`Log`] that its writing thread has.
+#[derive(Drop)]
+pub(crate) struct WriterEnds {
+    /// Says that lines got their text, or that no more come.
+    pub(crate) came: Receiver<()>,
+    /// Takes that the head is written, and is dropped when nothing more is.
+    pub(crate) begun: Sender<()>,
+}
+
+impl Log {
+    /// A log for the links of a run, whose head is still to be written.
+    pub(crate) fn new(
+        alloc: Global,
+        settings: Settings,
+    ) -> Result<(Arc<Log>, WriterEnds), AllocError> {
+        let mut links = Vec::with_capacity(alloc, usize::from(settings.links))?;
+        for _ in 0..settings.links {
+            links.push(LinkLog::new(alloc)?)?;
+        }
+        let (came, wakes) = bounded(alloc, 1)?;
+        let (begins, begun) = bounded(alloc, 1)?;
+        let log = Log {
+            links,
+            unwritten: AtomicU64::new(1),
+            written: AtomicU64::new(0),
+            patience: Duration::from_millis(patience_of(settings)),
+            came,
+            is_over: AtomicBool::new(false),
+            is_given_up: AtomicBool::new(false),
+            begun,
+        };
+        let ends = WriterEnds {
+            came: wakes,
+            begun: begins,
+        };
+        Ok((Arc::new(alloc, log)?, ends))
+    }
+
+    /// Where the lines of the link in this place wait. `None`: the run has no such link.
+    pub(crate) fn lines_of(&self, place: usize) -> Option<&LinkLog> {
+        self.links.get(place)
+    }
+
+    /// Wakes the writing thread if lines got their text, this number of them. Doesn't wait.
+    pub(crate) fn add<R: Wait>(&self, rt: &R, count: u64) {
+        if count > 0 {
+            self.unwritten.fetch_add(count, Ordering::SeqCst);
+            let _ = self.came.try_send(rt, ());
+        }
+    }
+
+    /// The device took this number of octets, in which this number of lines end.
+    pub(crate) fn take_off(&self, octets: usize, lines: usize) {
+        // Numbers of what is in memory.
+        let lines = u64::try_from(lines).unwrap_or(u64::MAX);
+        self.unwritten.fetch_sub(lines, Ordering::SeqCst);
+        let octets = u64::try_from(octets).unwrap_or(u64::MAX);
+        self.written.fetch_add(octets, Ordering::SeqCst);
+    }
+
+    /// How many octets the device took.
+    pub(crate) fn written(&self) -> u64 {
+        self.written.load(Ordering::SeqCst)
+    }
+
+    /// Whether no more lines come.
+    pub(crate) fn is_over(&self) -> bool {
+        self.is_over.load(Ordering::SeqCst)
+    }
+
+    /// Whether nobody waits for what is still to be written.
+    pub(crate) fn is_given_up(&self) -> bool {
+        self.is_given_up.load(Ordering::SeqCst)
+    }
+
+    /// Waits until the head was written, or couldn't be, a second at most: a log that can't be written is known before
+    /// a connection is accepted, unless its device hangs.
+    pub(crate) fn await_head<R: Wait + Clock>(&self, rt: &R) {
+        let patience = Duration::from_secs(SECONDS_FOR_THE_HEAD);
+        let _ = self.begun.recv_timeout(rt, patience);
+    }
+
+    /// Waits until the writing thread writes no more, a second at most. `false`: it goes on.
+    fn await_end<R: Wait + Clock>(&self, rt: &R) -> bool {
+        match self.begun.recv_timeout(rt, Duration::from_secs(1)) {
+            Ok(()) => false,
+            Err(error) => error.is_disconnected(),
+        }
+    }
+
+    /// Waits until the writing thread writes no more, or has written nothing for five seconds; a minute at most.
+    fn await_last_lines<R: Wait + Clock>(&self, rt: &R) {
+        let mut unwritten = self.unwritten.load(Ordering::SeqCst);
+        let mut idle_seconds: u64 = 0;
+        for _ in 0..SECONDS_FOR_THE_END {
+            if self.await_end(rt) {
+                return;
+            }
+            let lines = self.unwritten.load(Ordering::SeqCst);
+            idle_seconds = if lines < unwritten {
+                0
+            } else {
+                idle_seconds.saturating_add(1)
+            };
+            if idle_seconds >= SECONDS_WITHOUT_PROGRESS {
+                return;
+            }
+            unwritten = lines;
+        }
+    }
+
+    /// Ends the log, once the last lines of all links have their text: waits until these were written, or none of them
+    /// for five seconds, a minute at most. Returns how many weren't written then: they are lost.
+    pub(crate) fn finish<R: Wait + Clock>(&self, rt: &R) -> u64 {
+        self.is_over.store(true, Ordering::SeqCst);
+        let _ = self.came.try_send(rt, ());
+        self.await_last_lines(rt);
+        self.is_given_up.store(true, Ordering::SeqCst);
+        self.unwritten.load(Ordering::SeqCst)
+    }
+}

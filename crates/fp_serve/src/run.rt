@@ -1,0 +1,34 @@
+//! A run: what it is given, what its threads share, and what it reports.
+//!
+//! | File | What it has |
+//! |---|---|
+//! | `serving.rt` | [`Server`]: the run from its address to its report, and a thread for each link |
+//! | `context.rt` | [`Run`]: what all threads of a run share |
+//! | `settings.rt`, `service.rt` | which links and which tag a run has, how many workers and entries; what messages are answered from |
+//! | `commands.rt` | the commands, the thread that reads them, and how they are followed |
+//! | `status.rt` | the status of the links, for the commands |
+//! | `stop.rt`, `fault.rt` | why all links are to go down, or since when they are to end |
+//! | `events.rt` | the events of a run, and the thread that writes them |
+//! | `report.rt` | the lines of the address, of the commands' answers and of the report |
+
+mod commands;
+mod context;
+mod events;
+mod fault;
+mod report;
+mod service;
+mod serving;
+mod settings;
+mod status;
+mod stop;
+
+pub use commands::{Commands, Operator};
+pub(crate) use context::Run;
+pub use events::{Event, Events, Wanted};
+pub use fault::ServeFault;
+pub use service::Service;
+pub use serving::Server;
+pub use settings::{Settings, WhenLogFails};
+pub use status::LinkStatus;
+pub(crate) use status::Statuses;
+pub(crate) use stop::Stop;

@@ -1,0 +1,315 @@
+//! The commands of a run: lines of a reader, of which the run follows one after another until it is over.
+
+ghost use Rattle.std.specs.Prelude.{◌≤◌, IfOk, IfSome, OnOk, string_bytes};
+ghost use Rattle.fp_serve.specs.Report.{TellsAnswers, TellsOfLinks};
+
+use crate::moment::time_since;
+use crate::run::report::{answer_of, write_flushed, write_reloaded};
+use crate::run::{Run, ServeFault, Statuses, Stop};
+use crate::system::{System, start_thread};
+use crossbeam_channel::{Receiver, Sender};
+use fp_hub::Tables;
+use fp_streams::LinkWrite;
+use std::alloc::{AllocError, Global};
+use std::io::{ErrorKind, Read};
+use std::rt::Clock;
+use std::sync::{Arc, Wait};
+use std::time::{Duration, Instant};
+use std::{str, thread};
+
+/// How many octets one read of the commands may give.
+const MOST_READ: usize = 512;
+
+/// How many octets of a line are kept: more than any command has.
+const MOST_OCTETS: usize = 16;
+
+/// How many reads of the commands are made at most.
+const MOST_READS: u64 = 1 << 40;
+
+/// How many commands that were read wait to be followed.
+pub(crate) const MOST_WAITING: usize = 16;
+
+/// How many seconds go by between two looks whether tables that were replaced can be freed.
+const REST_SECONDS: u64 = 1;
+
+/// How many milliseconds go by between two looks whether the thread of the links runs, until it does.
+const LOOK_MILLISECONDS: u64 = 200;
+
+/// How many seconds it may take to run.
+const SECONDS_AT_THE_START: u64 = 10;
+
+/// What reads the records of a run again, and says what is wrong with a command.
+pub trait Operator {
+    /// Reads the records again, replaces the newest table by theirs, and gives its index. `None`: the newest stays, and
+    /// it was said why.
+    fn reload(&mut self, tables: &Tables) -> Option<u32>
+        ensures { IfSome result (λ index. (1 ≤ index) × (index ≤ tables.now)) };
+
+    /// Says that a command isn't known.
+    fn refuse(&mut self);
+
+    /// Says why a command that was followed got no answer.
+    fn fail(&mut self, fault: ServeFault);
+}
+
+/// The commands of a run, and who follows them.
+#[derive(Drop)]
+pub struct Commands<I: Drop, O: Drop> {
+    /// What is read: lines, each a command.
+    pub input: I,
+    /// What the run asks for.
+    pub operator: O,
+}
+
+/// A command.
+#[derive(Clone, Copy, Debug, PartialEq, Eq)]
+pub(crate) enum Command {
+    /// `reload`: the records are read again.
+    Reload,
+    /// `links`: the status of each link.
+    Links,
+    /// `quit`: all links are to end.
+    Quit,
+    /// Any other line.
+    Unknown,
+}
+
+/// What wakes the thread that follows the commands.
+#[derive(Clone, Copy, Debug, Drop)]
+pub(crate) enum Notice {
+    /// A command came.
+    Command(Command),
+    /// No more come: the input ended, or a read failed.
+    NoCommands,
+    /// All links are down.
+    LinksDown,
+}
+
+/// A line of which some octets came.
+#[derive(Clone, Copy)]
+struct CommandLine {
+    octets: [u8; MOST_OCTETS],
+    // How many came, at most one more than are kept.
+    count: usize,
+}
+
+impl CommandLine {
+    /// None came.
+    fn new() -> CommandLine {
+        CommandLine {
+            octets: [0; MOST_OCTETS],
+            count: 0,
+        }
+    }
+
+    /// One more came.
+    fn push(&mut self, octet: u8) {
+        if self.count < MOST_OCTETS {
+            self.octets[self.count] = octet;
+        }
+        if self.count <= MOST_OCTETS {
+            self.count += 1;
+        }
+    }
+
+    /// The command that the line is.
+    fn command(&self) -> Command {
+        let octets = self.octets.get(..self.count).unwrap_or_default();
+        match str::from_utf8(octets) {
+            Ok("reload") => Command::Reload,
+            Ok("links") => Command::Links,
+            Ok("quit") => Command::Quit,
+            Ok(_) | Err(_) => Command::Unknown,
+        }
+    }
+}
+
+/// Sends a notice of a line that was read, and ends the links here if it says so: that waits for no command before it.
+/// `false`: nobody takes notices any more.
+fn send_command<R: Wait + Clock>(
+    rt: &R,
+    line: &CommandLine,
+    ended: Option<&Arc<Stop>>,
+    notices: &Sender<Notice>,
+) -> bool {
+    let command = line.command();
+    if let (Command::Quit, Some(stop)) = (command, ended) {
+        stop.quit(rt);
+    }
+    notices.send(rt, Notice::Command(command)).is_ok()
+}
+
+/// Sends a notice of each line that is read here, until no more come, and ends the links here if a line says so.
+/// The last one may have no line feed.
+fn read_commands<R: Wait + Clock, I: Read>(
+    rt: &R,
+    input: &mut I,
+    ended: Option<&Arc<Stop>>,
+    notices: &Sender<Notice>,
+) {
+    let mut room = [0; MOST_READ];
+    let mut line = CommandLine::new();
+    for _ in 0..MOST_READS {
+        let count = match input.read(&mut room) {
+            Ok(0) => break,
+            Ok(count) => count,
+            Err(error) if error.kind() == ErrorKind::Interrupted => continue,
+            Err(_) => break,
+        };
+        for octet in room.iter().take(count) {
+            if *octet != b'\n' {
+                line.push(*octet);
+                continue;
+            }
+            if !send_command(rt, &line, ended, notices) {
+                return;
+            }
+            line = CommandLine::new();
+        }
+    }
+    if line.count > 0 {
+        let _ = send_command(rt, &line, ended, notices);
+    }
+    let _ = notices.send(rt, Notice::NoCommands);
+}
+
+/// Starts a thread that reads commands, of which `quit` ends the links here, if more commands are known. The thread
+/// isn't joined: it may wait for its input when the run is over.
+pub(crate) fn start_reading<R: System + Copy + Send + 'static, I: Read + Send + Drop + 'static>(
+    rt: &R,
+    input: I,
+    stop: &Arc<Stop>,
+    has_commands: bool,
+    notices: Sender<Notice>,
+) -> Result<(), ServeFault> {
+    let own = *rt;
+    let ended = if has_commands {
+        Some(Arc::try_clone(stop)?)
+    } else {
+        None
+    };
+    start_thread(rt, move || {
+        let mut input = input;
+        read_commands(&own, &mut input, ended.as_ref(), &notices);
+    })
+}
+
+/// The answer to `links`.
+fn links_text<R: Wait>(run: &Run<'_, R>) -> Result<String, AllocError>
+    ensures { IfOk result (λ text. TellsOfLinks run.entry.now.settings.first_link (string_bytes text)) }
+{
+    let alloc = run.service.alloc;
+    let links = run.statuses.links(run.rt, alloc)?;
+    answer_of(alloc, run.settings.first_link, links.as_slice())
+}
+
+/// Does what a command asks for, if one came, and writes its answer, if it has one. If memory runs out for that of
+/// `links`, it is said, and nothing is written.
+fn obey<R: System, O: Operator, W: LinkWrite>(
+    run: &Run<'_, R>,
+    command: Option<Command>,
+    operator: &mut O,
+    output: &mut W,
+) -> Result<(), ServeFault>
+    ensures { OnOk result (TellsAnswers run.entry.now.service.tables.now run.entry.now.settings.first_link run.entry.now.settings.has_commands
+        (W.contents output.old) (W.contents output.new)) }
+{
+    let has_commands = run.settings.has_commands;
+    match command {
+        None => Ok(()),
+        Some(Command::Reload) => {
+            let Some(index) = operator.reload(run.service.tables) else {
+                return Ok(());
+            };
+            write_reloaded(index, output)
+        }
+        Some(Command::Links) if has_commands => match links_text(run) {
+            Ok(text) => write_flushed(text.as_str(), output),
+            Err(_) => {
+                operator.fail(ServeFault::Memory);
+                Ok(())
+            }
+        },
+        // The thread that read it has ended the links.
+        Some(Command::Quit) if has_commands => Ok(()),
+        Some(Command::Links | Command::Quit | Command::Unknown) => {
+            operator.refuse();
+            Ok(())
+        }
+    }
+}
+
+/// Whether the thread of the links can't have been started: it doesn't run, and the system has no thread now either, or
+/// too much time went by since this start.
+fn lacks_thread<R: System>(rt: &R, statuses: &Statuses, start: Option<Instant>) -> bool {
+    if statuses.have_begun() {
+        return false;
+    }
+    let most = Duration::from_secs(SECONDS_AT_THE_START);
+    let is_late = time_since(rt, start).is_some_and(|since| since >= most);
+    is_late || thread::spawn(rt, || {}).is_err()
+}
+
+/// How long the next command is awaited: until it is known that the thread of the links runs, a fifth of a second.
+fn rest(statuses: &Statuses) -> Duration {
+    if statuses.have_begun() {
+        Duration::from_secs(REST_SECONDS)
+    } else {
+        Duration::from_millis(LOOK_MILLISECONDS)
+    }
+}
+
+/// Follows the commands until all links are down, and, unless the run ends with its links, no more commands come or
+/// there was a fault. If what they give can't be written, all links are to go down; if the run ends with its links,
+/// that is said, and they go on, but the run has this fault in the end. If the thread of the links can't be started,
+/// or doesn't run within ten seconds, they are to go down too.
+pub(crate) fn follow<R: System, O: Operator, W: LinkWrite>(
+    run: &Run<'_, R>,
+    notices: &Receiver<Notice>,
+    operator: &mut O,
+    output: &mut W,
+) -> Result<(), ServeFault>
+    ensures { OnOk result (TellsAnswers run.entry.now.service.tables.now run.entry.now.settings.first_link run.entry.now.settings.has_commands
+        (W.contents output.old) (W.contents output.new)) }
+{
+    let Run {
+        rt,
+        statuses,
+        stop,
+        ..
+    } = *run;
+    let has_commands = run.settings.has_commands;
+    let mut is_input_open = true;
+    let start = Instant::now(rt).ok();
+    let mut outcome = Ok(());
+    for _ in rt.forever() {
+        let mut command = None;
+        match notices.recv_timeout(rt, rest(statuses)) {
+            Ok(Notice::Command(came)) => command = Some(came),
+            Ok(Notice::NoCommands) => is_input_open = false,
+            Ok(Notice::LinksDown) => {}
+            Err(_) => {}
+        }
+        match obey(run, command, operator, output) {
+            Ok(()) => {}
+            Err(fault) if has_commands => {
+                operator.fail(fault);
+                outcome = Err(fault);
+            }
+            Err(fault) => {
+                stop.ask_for(rt, fault);
+                return Err(fault);
+            }
+        }
+        run.service.tables.free_replaced(rt);
+        if lacks_thread(rt, statuses, start) {
+            stop.ask_for(rt, ServeFault::NoThread);
+            return Err(ServeFault::NoThread);
+        }
+        let awaits_commands = is_input_open && !has_commands && stop.fault(rt).is_none();
+        if statuses.are_down() && !awaits_commands {
+            return outcome;
+        }
+    }
+    outcome
+}

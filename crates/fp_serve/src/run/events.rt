@@ -1,0 +1,260 @@
+//! The events of a run, as lines on standard error: which links came and went, which records were read again, and what
+//! became of the log.
+//!
+//! Standard error may block, and no thread that reports an event waits for it: the event goes into a channel of bounded
+//! length, and a thread of its own writes what comes out.
+
+use crate::moment::now;
+use crate::run::ServeFault;
+use crate::system::{System, start_thread};
+use crossbeam_channel::{Receiver, Sender, bounded};
+use fp_digits::Moment;
+use fp_linkstate::Why;
+use jiff::Timestamp;
+use std::alloc::{AllocError, Global};
+use std::fmt;
+use std::io::Write;
+use std::net::SocketAddr;
+use std::rt::Clock;
+use std::sync::{Arc, Wait};
+use std::time::Duration;
+
+/// How many events wait to be written at most. An event that comes then is lost.
+const MOST_EVENTS: usize = 1_024;
+
+/// How many seconds the end of a run waits for a place in a channel that is full, and for its last events to be written.
+const PATIENCE_SECONDS: u64 = 1;
+
+/// What happened in a run.
+#[derive(Clone, Copy, Debug, PartialEq, Eq)]
+pub enum Event {
+    /// The records were read from a file of this SHA-256 digest.
+    Records {
+        /// The digest.
+        digest: [u8; 32],
+    },
+    /// The records were read again, from a file of this SHA-256 digest.
+    Reloaded {
+        /// Their index among those of the run, from 1.
+        index: u32,
+        /// The digest.
+        digest: [u8; 32],
+    },
+    /// A link came up.
+    Up {
+        /// Its number.
+        link: u8,
+        /// The address of its client.
+        peer: SocketAddr,
+    },
+    /// A link went down.
+    Down {
+        /// Its number.
+        link: u8,
+        /// The first reason that came.
+        why: Why,
+    },
+    /// The log can't be written, and the run goes on.
+    LogFails,
+    /// The log is written again.
+    LogGoesOn,
+    /// Lines of a link found no place, and the log has a gap there.
+    LogGap {
+        /// The number of the link.
+        link: u8,
+        /// How many lines.
+        lines: u64,
+    },
+    /// The run ended without having written this number of lines.
+    LogLost {
+        /// How many lines.
+        lines: u64,
+    },
+}
+
+/// Writes a digest in hexadecimal digits.
+fn write_digest<W: fmt::Write>(digest: &[u8; 32], f: &mut fmt::Formatter<W>) -> fmt::Result {
+    for octet in digest {
+        write!(f, "{octet:02x}")?;
+    }
+    Ok(())
+}
+
+impl fmt::Display for Event {
+    fn fmt<W: fmt::Write>(&self, f: &mut fmt::Formatter<W>) -> fmt::Result {
+        match self {
+            Event::Records { digest } => {
+                f.write_str("records ")?;
+                write_digest(digest, f)
+            }
+            Event::Reloaded { index, digest } => {
+                write!(f, "reloaded {index} ")?;
+                write_digest(digest, f)
+            }
+            Event::Up { link, peer } => write!(f, "link {link} up {peer}"),
+            Event::Down { link, why } => write!(f, "link {link} down {why}"),
+            Event::LogFails => f.write_str("log: cannot be written, lines are lost"),
+            Event::LogGoesOn => f.write_str("log: written again"),
+            Event::LogGap { link, lines: 1 } => write!(f, "link {link} log: 1 line is lost"),
+            Event::LogGap { link, lines } => write!(f, "link {link} log: {lines} lines are lost"),
+            Event::LogLost { lines: 1 } => f.write_str("log: 1 line is lost"),
+            Event::LogLost { lines } => write!(f, "log: {lines} lines are lost"),
+        }
+    }
+}
+
+/// Which events are written.
+#[derive(Clone, Copy, Debug, PartialEq, Eq)]
+pub enum Wanted {
+    /// All of them, each after its moment.
+    All,
+    /// Only that the log can't be written, and that it is written again, with no moment.
+    LogFaults,
+}
+
+impl Wanted {
+    /// Whether this event is written.
+    fn includes(self, event: Event) -> bool {
+        match (self, event) {
+            (Wanted::All, _) => true,
+            (Wanted::LogFaults, Event::LogFails | Event::LogGoesOn) => true,
+            (Wanted::LogFaults, _) => false,
+        }
+    }
+}
+
+/// An event, and when it came.
+#[derive(Clone, Copy)]
+struct TimedEvent {
+    moment: Moment,
+    event: Event,
+}
+
+impl TimedEvent {
+    /// Its line.
+    fn line(&self, alloc: Global, wanted: Wanted) -> Result<String, AllocError> {
+        let event = self.event;
+        let milliseconds = i64::try_from(self.moment.milliseconds()).unwrap_or(i64::MAX);
+        match (wanted, Timestamp::from_millisecond(milliseconds)) {
+            (Wanted::All, Ok(moment)) => format!(in alloc; "{moment:.3} {event}\n"),
+            (Wanted::All | Wanted::LogFaults, _) => format!(in alloc; "{event}\n"),
+        }
+    }
+}
+
+/// A message to the thread that writes events.
+#[derive(Clone, Copy, Drop)]
+enum Message {
+    /// An event came.
+    Event(TimedEvent),
+    /// No more come.
+    End,
+}
+
+/// Writes events, each in one piece, until no more come. An event that can't be written is left out.
+fn write_events<R: Wait, E: Write>(
+    rt: &R,
+    alloc: Global,
+    wanted: Wanted,
+    messages: &Receiver<Message>,
+    errors: &mut E,
+) {
+    for _ in rt.forever() {
+        let Ok(Message::Event(event)) = messages.recv(rt) else {
+            return;
+        };
+        if let Ok(line) = event.line(alloc, wanted) {
+            let _ = errors.write_all(line.as_bytes());
+        }
+    }
+}
+
+/// The events on their way to the thread that writes them.
+#[derive(Drop)]
+struct EventQueue {
+    wanted: Wanted,
+    sender: Sender<Message>,
+    // Nothing comes here. It is disconnected once the thread has written all.
+    written: Receiver<()>,
+}
+
+/// The events of a run. All threads share them, and none waits when it reports one.
+#[derive(Drop)]
+pub struct Events {
+    // None: nobody asked for events.
+    queue: Option<Arc<EventQueue>>,
+}
+
+impl Events {
+    /// Events that nobody asked for.
+    pub fn none() -> Events {
+        Events { queue: None }
+    }
+
+    /// Events that a thread of its own writes here. It isn't joined: the end of the program may cut it off.
+    pub fn start<R: System + Copy + Send + 'static, E: Write + Send + Drop + 'static>(
+        rt: &R,
+        alloc: Global,
+        wanted: Wanted,
+        errors: E,
+    ) -> Result<Events, ServeFault> {
+        let (sender, messages) = bounded(alloc, MOST_EVENTS)?;
+        let (ending, written) = bounded(alloc, 1)?;
+        let queue = EventQueue {
+            wanted,
+            sender,
+            written,
+        };
+        let queue = match Arc::new(alloc, queue) {
+            Ok(queue) => queue,
+            Err(fault) => return Err(AllocError::from(fault).into()),
+        };
+        let own = *rt;
+        start_thread(rt, move || {
+            let mut errors = errors;
+            write_events(&own, alloc, wanted, &messages, &mut errors);
+            drop::<Sender<()>>(ending);
+        })?;
+        Ok(Events { queue: Some(queue) })
+    }
+
+    /// The same events, for a thread that goes on by itself.
+    pub fn share(&self) -> Result<Events, AllocError> {
+        match &self.queue {
+            Some(queue) => Ok(Events {
+                queue: Some(Arc::try_clone(queue)?),
+            }),
+            None => Ok(Events::none()),
+        }
+    }
+
+    /// An event came. It is lost if 1,024 wait to be written.
+    pub fn report<R: Wait + Clock>(&self, rt: &R, event: Event) {
+        let Some(queue) = &self.queue else {
+            return;
+        };
+        if !queue.wanted.includes(event) {
+            return;
+        }
+        let event = TimedEvent {
+            moment: now(rt),
+            event,
+        };
+        let _ = queue.sender.try_send(rt, Message::Event(event));
+    }
+
+    /// No more come. Waits until all were written, a second at most, or two if 1,024 wait.
+    pub fn finish<R: Wait + Clock>(&self, rt: &R) {
+        let Some(queue) = &self.queue else {
+            return;
+        };
+        let patience = Duration::from_secs(PATIENCE_SECONDS);
+        if queue
+            .sender
+            .send_timeout(rt, Message::End, patience)
+            .is_ok()
+        {
+            let _ = queue.written.recv_timeout(rt, patience);
+        }
+    }
+}

@@ -1,0 +1,386 @@
+//! A run: its connections, a thread for each link, and the report.
+
+ghost use Rattle.std.specs.Prelude.{◌≡◌, ◌≤◌, ◌<◌, ◌+◌, OnOk, length};
+ghost use Rattle.std.specs.Io.KnownBytes.{Appends};
+ghost use Rattle.fp_replay.specs.Replayed.{report_line};
+ghost use Rattle.fp_serve.specs.Report.{TellsAnswers, TellsLinks, lines_by, with_links_below};
+
+use crate::link::{Plan, run_link};
+use crate::log::start_log;
+use crate::moment::{await_next_second, now, tag_of};
+use crate::run::commands::{Commands, MOST_WAITING, Notice, Operator, follow, start_reading};
+use crate::run::report::{NOTHING, write_address, write_report};
+use crate::run::{Event, Events, Run, ServeFault, Service, Settings, Statuses, Stop};
+use crate::socket::connection;
+use crate::system::System;
+use crossbeam_channel::{Receiver, Sender, bounded};
+use fp_book::Totals;
+use fp_hub::{Gate, Looks, OpenGate};
+use fp_streams::LinkWrite;
+use std::alloc::{AllocError, Global};
+use std::io::Read;
+use std::net::{SocketAddr, TcpListener};
+use std::rt::Clock;
+use std::sync::Wait;
+use std::thread;
+use std::thread::{JoinHandle, Scope, Threads};
+
+/// How many threads of a link have work to do, beside its workers: the receiving thread and the sending one.
+const OTHER_THREADS: usize = 2;
+
+/// How the run's threads wait, given their number and the number of processors.
+fn looks<R: Threads>(rt: &R, settings: Settings) -> Looks {
+    let processors = match thread::available_parallelism(rt) {
+        Ok(count) => count.get(),
+        Err(_) => 1,
+    };
+    let of_a_link = usize::from(settings.workers) + OTHER_THREADS;
+    Looks::for_threads(usize::from(settings.links) * of_a_link, processors)
+}
+
+/// The settings with the tag of the run. If that is the tag of the second in which the run begins, returns once this
+/// second is over, so that the first connection is accepted in a later one.
+fn with_tag_of_run<R: Wait + Clock>(rt: &R, settings: Settings) -> Settings
+    ensures first { result.first_link ≡ settings.first_link }
+    ensures links { result.links ≡ settings.links }
+    ensures has_commands { result.has_commands ≡ settings.has_commands }
+{
+    if !settings.has_tag_of_start {
+        return settings;
+    }
+    let start = now(rt);
+    await_next_second(rt, start);
+    settings.with_tag(tag_of(start))
+}
+
+/// The address of a listener, which doesn't block any more.
+fn address_of(listener: &TcpListener) -> Result<SocketAddr, ServeFault> {
+    let Ok(address) = listener.local_addr() else {
+        return Err(ServeFault::NoConnection);
+    };
+    match listener.set_nonblocking(true) {
+        Ok(()) => Ok(address),
+        Err(_) => Err(ServeFault::NoConnection),
+    }
+}
+
+/// What a run is given beside its records: how many links there are, where they come, what they are asked, and where
+/// their log goes.
+#[derive(Drop)]
+pub struct Server<I: Drop, O: Drop, L: Drop> {
+    /// How many links there are, and how they are served.
+    pub settings: Settings,
+    /// Where a connection is awaited for each link.
+    pub listener: TcpListener,
+    /// What is asked of the run while it lasts.
+    pub commands: Commands<I, O>,
+    /// The device of the log.
+    pub log: L,
+}
+
+impl<
+    I: Read + Send + Drop + 'static,
+    O: Operator + Drop,
+    L: LinkWrite + Send + Drop + 'static,
+> Server<I, O, L> {
+    /// Serves links until all of them are down and no more commands come: writes `listening A` to `output`, with the
+    /// address of the listener; accepts one connection for each link, which are numbered from the settings' first link
+    /// on, 0 as a rule, in the order in which they came; answers on each the messages that come, from the newest records
+    /// and with the names of application contexts that are accepted; and writes in the end `link L accepted A served S
+    /// sent T` for each number below the first link, with zeros, and then for each link, in order, up to the first of
+    /// which that isn't known.
+    ///
+    /// The local identifiers of the dialogues have the tag of the settings. If the settings say that it is that of the
+    /// second in which the run begins ([`Settings::with_tag_of_start`]), the first connection is accepted once this second is
+    /// over.
+    ///
+    /// Each line of the commands' input is a command. `reload`: the operator reads the records again, and `reloaded N` is
+    /// written once they replace the newest, N their index: each message that is prepared from then on is answered from
+    /// them, and a dialogue that is open goes on with the rule that it got. Any other line is handed to the operator to be
+    /// refused. A read that fails ends the commands, as the end of their input does. After a fault the run ends without
+    /// waiting for their end, and the thread that reads them is left to itself.
+    ///
+    /// If the settings say so ([`Settings::with_commands`]), the run ends with its links, without waiting for the end of
+    /// the commands, and two more are known. `links` writes, for each link that came, in order, `link L up P accepted A
+    /// served S sent T held H`, or `down` in the place of `up`: with the address of its client, what it had counted and how
+    /// many dialogues it held at its last tick, a second ago at most, or in the end; and then `links N`, how many came.
+    /// `quit` ends all links: nothing more is accepted, what was is served and sent, two seconds after the command at most,
+    /// and then each link goes down. A link that never came has counted nothing.
+    ///
+    /// The log begins with its head, which has the number of the last link and one, and the tag; and gets the lines of each
+    /// link about once a second, and more often under load: whole lines, after which the writer is flushed. A thread of its
+    /// own writes it. Beside it wait for the writer: a receiving thread whose link finds no place for more lines, two
+    /// seconds at most for a read, and a tenth of a second if the run goes on without its log; and the run itself, a second
+    /// at most before it accepts the first connection, and, once all links are down, as long as lines are written within
+    /// five seconds, a minute at most. If the log isn't written by then it can't be written, and the thread is left to
+    /// itself.
+    ///
+    /// A link ends if its client closes the connection; if it closes its sending side alone, once what was accepted is
+    /// served and sent, at most two seconds after the end was read; if a length comes that no frame has; if a read or a
+    /// write fails, also because the client acknowledges nothing, or takes nothing of what waits for it, for 110 seconds;
+    /// if an allocation for a frame fails; if its dialogues keep more entries than [`Settings::most_entries`], at its next
+    /// tick; and after 2^40 reads, or 2^40 frames and Aborts sent.
+    ///
+    /// After a fault each link that is up goes down at its next tick, a second later at most, and the run ends, even if it
+    /// awaits a connection. The first fault is reported. A write to the log that fails is no fault if the settings say so
+    /// ([`Settings::with_log_gaps`]): it is tried again each second. Once the last connection was accepted, or after a
+    /// fault, the listener is dropped, so that later connections are refused. `events` get each link that comes up or goes
+    /// down, when the log failed first and when it went on, and how many of its lines the run ended without.
+    pub fn serve<R: System + Copy + Send + Sync + 'static, W: LinkWrite>(
+        self,
+        rt: &R,
+        service: Service<'_>,
+        events: &Events,
+        output: &mut W,
+    ) -> Result<(), ServeFault>
+        ensures { OnOk result (TellsLinks service.entry.tables.now self.settings.first_link self.settings.links self.settings.has_commands
+            (W.contents output.old) (W.contents output.new)) }
+    {
+        self.serve_through(rt, service, &OpenGate, events, output)
+    }
+
+    /// Serves links as [`Server::serve`] does, whose workers pass an [`OpenGate`]: here each worker passes this gate
+    /// between taking a turn and serving it, with no lock held. A turn that waits there holds up its worker and the
+    /// dialogues whose turns that worker took. The receiving thread serves turns in their places, which pass no gate; so
+    /// if all turns are to pass there, it is to serve none ([`Settings::with_most_helped`]). The run ends only once no
+    /// thread waits there.
+    pub fn serve_through<R: System + Copy + Send + Sync + 'static, G: Gate + Sync, W: LinkWrite>(
+        self,
+        rt: &R,
+        service: Service<'_>,
+        gate: &G,
+        events: &Events,
+        output: &mut W,
+    ) -> Result<(), ServeFault>
+        ensures { OnOk result (TellsLinks service.entry.tables.now self.settings.first_link self.settings.links self.settings.has_commands
+            (W.contents output.old) (W.contents output.new)) }
+    {
+        let Server {
+            settings,
+            listener,
+            commands,
+            log,
+        } = self;
+        let tagged = Server {
+            settings: with_tag_of_run(rt, settings),
+            listener,
+            commands,
+            log,
+        };
+        tagged.serve_tagged(rt, service, gate, events, output)
+    }
+
+    /// Serves links as [`Server::serve_through`] does, in a run whose settings have its tag.
+    fn serve_tagged<R: System + Copy + Send + Sync + 'static, G: Gate + Sync, W: LinkWrite>(
+        self,
+        rt: &R,
+        service: Service<'_>,
+        gate: &G,
+        events: &Events,
+        output: &mut W,
+    ) -> Result<(), ServeFault>
+        ensures { OnOk result (TellsLinks service.entry.tables.now self.settings.first_link self.settings.links self.settings.has_commands
+            (W.contents output.old) (W.contents output.new)) }
+    {
+        let Server {
+            settings,
+            listener,
+            commands: Commands {
+                input,
+                mut operator,
+            },
+            log: device,
+        } = self;
+        let alloc = service.alloc;
+        let address = address_of(&listener)?;
+        let (sender, notices) = bounded(alloc, MOST_WAITING)?;
+        let of_commands = sender.clone()?;
+        let statuses = Statuses::new(alloc, settings.links)?;
+        let stop = Stop::new(rt, alloc)?;
+        write_address(alloc, address, output)?;
+        let log = start_log(rt, alloc, settings, events, &stop, device)?;
+        if let Err(fault) = start_reading(rt, input, &stop, settings.has_commands, of_commands) {
+            stop.ask_for(rt, fault);
+        }
+        let run = Run {
+            rt,
+            service,
+            settings,
+            statuses: &statuses,
+            events,
+            stop: &stop,
+            log: &log,
+        };
+        let Outcome { counted, followed } = run.serve_and_follow(
+            gate,
+            listener,
+            &sender,
+            &notices,
+            &mut operator,
+            output,
+        );
+        run.finish_log();
+        let counted = counted?;
+        if let Err(fault) = followed {
+            if settings.has_commands {
+                // By now the output may take it.
+                let _ = write_report(alloc, settings.first_link, counted.as_slice(), output);
+            }
+            return Err(stop.fault(rt).unwrap_or(fault));
+        }
+        run.report(counted.as_slice(), output)
+    }
+}
+
+/// What came of the links of a run, and of its commands.
+#[derive(Drop)]
+struct Outcome {
+    counted: Result<Vec<Totals>, AllocError>,
+    followed: Result<(), ServeFault>,
+}
+
+impl<'x, R: System + Sync> Run<'x, R> {
+    /// Runs links, at most 8, until all of them are down, in a thread of their own, and follows the commands meanwhile.
+    fn serve_and_follow<G: Gate + Sync, O: Operator, W: LinkWrite>(
+        &'x self,
+        gate: &'x G,
+        listener: TcpListener,
+        sender: &Sender<Notice>,
+        notices: &Receiver<Notice>,
+        operator: &mut O,
+        output: &mut W,
+    ) -> Outcome
+        ensures { OnOk result.followed (TellsAnswers self.entry.now.service.tables.now self.entry.now.settings.first_link self.entry.now.settings.has_commands
+            (W.contents output.old) (W.contents output.new)) }
+    {
+        let mut listener = Some(listener);
+        let (counted, followed) = thread::join_mut(
+            self.rt,
+            &mut || {
+                self.statuses.begin();
+                let counted = run_links(self, gate, listener.take());
+                if counted.is_err() {
+                    self.stop.ask_for(self.rt, ServeFault::Memory);
+                }
+                self.statuses.end(self.rt, sender);
+                counted
+            },
+            &mut || follow(self, notices, operator, output),
+        );
+        Outcome { counted, followed }
+    }
+
+    /// Ends the log once all links are down. If lines of it weren't written, it is reported how many, and that is the
+    /// fault of the run unless it had another one.
+    fn finish_log(&self) {
+        let lines = self.log.finish(self.rt);
+        if lines > 0 {
+            self.stop.ask_for(self.rt, ServeFault::UnwrittenLog);
+            self.events.report(self.rt, Event::LogLost { lines });
+        }
+    }
+
+    /// Writes what the links counted. The first fault of the run comes before one of writing.
+    fn report<W: LinkWrite>(&self, counted: &[Totals], output: &mut W) -> Result<(), ServeFault>
+        ensures { OnOk result ((length counted.now ≡ self.entry.now.settings.links) × Appends (W.contents output.old) (W.contents output.new)
+            (lines_by report_line 0 (with_links_below self.entry.now.settings.first_link counted.now))) }
+    {
+        let Settings {
+            first_link,
+            links,
+            ..
+        } = self.settings;
+        let reported = write_report(self.service.alloc, first_link, counted, output);
+        if let Some(first) = self.stop.fault(self.rt) {
+            return Err(first);
+        }
+        reported?;
+        if counted.len() != usize::from(links) {
+            return Err(ServeFault::LostSeat);
+        }
+        Ok(())
+    }
+}
+
+/// Accepts a connection for each link of a run and starts a thread for it, as long as connections are wanted. Then drops
+/// the listener, so that later ones are refused. There is room for the handles.
+fn start_links<'s, E: 's, R: System + Sync, G: Gate + Sync>(
+    scope: &'s Scope<'s, E>,
+    run: &'s Run<'s, R>,
+    gate: &'s G,
+    listener: Option<TcpListener>,
+    handles: &mut Vec<JoinHandle<Option<Totals>>>,
+) {
+    let Some(listener) = listener else {
+        return;
+    };
+    let Settings {
+        links,
+        first_link,
+        ..
+    } = run.settings;
+    let looks = looks(run.rt, run.settings);
+    for place in 0..links {
+        let Some((stream, peer)) = connection(run.rt, &listener, run.stop) else {
+            break;
+        };
+        run.statuses.add(run.rt, peer);
+        let plan = Plan {
+            place,
+            link: first_link + place,
+            peer,
+            looks,
+        };
+        match scope.spawn(move || run_link(run, plan, gate, &stream)) {
+            Ok(handle) => {
+                let _ = handles.push(handle);
+            }
+            Err(_) => run.stop.ask_for(run.rt, ServeFault::NoThread),
+        }
+    }
+}
+
+/// Waits for the threads of the links of a run. Puts what they counted here, where there is room for it, in their order
+/// up to the first of which that isn't known; and, if the links were asked to end, zeros for those that never came.
+fn join_links<R: System>(
+    run: &Run<'_, R>,
+    handles: Vec<JoinHandle<Option<Totals>>>,
+    counted: &mut Vec<Totals>,
+) {
+    let mut is_known = true;
+    for handle in handles {
+        match handle.join(run.rt) {
+            Some(totals) if is_known => {
+                let _ = counted.push(totals);
+            }
+            Some(_) | None => is_known = false,
+        }
+    }
+    if is_known && run.stop.is_quitting() {
+        for _ in counted.len()..usize::from(run.settings.links) {
+            let _ = counted.push(NOTHING);
+        }
+    }
+}
+
+/// Runs links, at most 8, until all of them are down, and hands back what they counted, in their order, up to the first
+/// of which that isn't known.
+fn run_links<'x, R: System + Sync, G: Gate + Sync>(
+    run: &'x Run<'x, R>,
+    gate: &'x G,
+    listener: Option<TcpListener>,
+) -> Result<Vec<Totals>, AllocError> {
+    thread::scope(
+        thread::scope_env(),
+        run.rt,
+        move |scope| -> Result<Vec<Totals>, AllocError> {
+            let alloc: Global = run.service.alloc;
+            let most = usize::from(run.settings.links);
+            let mut handles = Vec::with_capacity(alloc, most)?;
+            let mut counted = Vec::with_capacity(alloc, most)?;
+            start_links(scope, run, gate, listener, &mut handles);
+            join_links(run, handles, &mut counted);
+            Ok(counted)
+        },
+    )
+}

@@ -1,0 +1,89 @@
+//! The status of the links of a run.
+
+use crate::run::commands::Notice;
+use crate::run::report::NOTHING;
+use crossbeam_channel::Sender;
+use fp_book::Status;
+use std::alloc::{AllocError, Global};
+use std::net::SocketAddr;
+use std::sync::atomic::{AtomicBool, Ordering};
+use std::sync::{Mutex, Wait};
+
+/// The status of a link that was accepted.
+#[derive(Clone, Copy, Debug, PartialEq, Eq)]
+pub struct LinkStatus {
+    /// The address of its client.
+    pub peer: SocketAddr,
+    /// What its book said at its last tick, or in the end.
+    pub status: Status,
+}
+
+/// The status of the links of a run, for the thread that follows the commands.
+#[derive(Drop)]
+pub(crate) struct Statuses {
+    // Whether their thread runs.
+    have_begun: AtomicBool,
+    // Whether all of them are down.
+    are_down: AtomicBool,
+    // Those that were accepted, in their order, in room for all.
+    links: Mutex<Vec<LinkStatus>>,
+}
+
+impl Statuses {
+    /// The thread of the links doesn't run yet. There may be this number of them.
+    pub(crate) fn new(alloc: Global, links: u8) -> Result<Statuses, AllocError> {
+        Ok(Statuses {
+            have_begun: AtomicBool::new(false),
+            are_down: AtomicBool::new(false),
+            links: Mutex::new(Vec::with_capacity(alloc, usize::from(links))?),
+        })
+    }
+
+    /// Their thread runs.
+    pub(crate) fn begin(&self) {
+        self.have_begun.store(true, Ordering::SeqCst);
+    }
+
+    /// Whether their thread runs.
+    pub(crate) fn have_begun(&self) -> bool {
+        self.have_begun.load(Ordering::SeqCst)
+    }
+
+    /// All of them are down. If no notice finds a place, it is seen without one.
+    pub(crate) fn end<R: Wait>(&self, rt: &R, notices: &Sender<Notice>) {
+        self.are_down.store(true, Ordering::SeqCst);
+        let _ = notices.try_send(rt, Notice::LinksDown);
+    }
+
+    /// Whether all of them are down.
+    pub(crate) fn are_down(&self) -> bool {
+        self.are_down.load(Ordering::SeqCst)
+    }
+
+    /// The next link was accepted, from this client.
+    pub(crate) fn add<R: Wait>(&self, rt: &R, peer: SocketAddr) {
+        let status = Status {
+            is_down: false,
+            totals: NOTHING,
+            dialogues: 0,
+        };
+        // There is room for all of them.
+        let _ = self.links.lock(rt).push(LinkStatus { peer, status });
+    }
+
+    /// Notes the status of the link in this place, which was accepted.
+    pub(crate) fn note<R: Wait>(&self, rt: &R, place: u8, status: Status) {
+        if let Some(known) = self.links.lock(rt).get_mut(usize::from(place)) {
+            known.status = status;
+        }
+    }
+
+    /// The links that were accepted, in their order.
+    pub(crate) fn links<R: Wait>(
+        &self,
+        rt: &R,
+        alloc: Global,
+    ) -> Result<Vec<LinkStatus>, AllocError> {
+        self.links.lock(rt).to_vec(alloc)
+    }
+}

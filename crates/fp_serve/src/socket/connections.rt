@@ -1,0 +1,140 @@
+//! The connections of a run.
+
+use crate::run::{ServeFault, Stop};
+use crate::socket::keep_alive::watch_peer;
+use libc::net::{POLLIN, poll};
+use libc::types::pollfd;
+use std::io::ErrorKind;
+use std::net::{SocketAddr, TcpListener, TcpStream};
+use std::os::fd::AsRawFd;
+use std::rt::Clock;
+use std::sync::Wait;
+use std::time::Duration;
+use std::{io, thread};
+
+/// How many milliseconds a connection is awaited before it is looked whether a fault came.
+const LOOK_MILLISECONDS: i32 = 200;
+
+/// Linux's number of an error: the machine isn't on the network.
+const ENONET: i32 = 64;
+
+/// An error of the protocol.
+const EPROTO: i32 = 71;
+
+/// The protocol isn't available.
+const ENOPROTOOPT: i32 = 92;
+
+/// The operation isn't supported.
+const EOPNOTSUPP: i32 = 95;
+
+/// The network is down.
+const ENETDOWN: i32 = 100;
+
+/// The network can't be reached.
+const ENETUNREACH: i32 = 101;
+
+/// No room for the buffers of a connection.
+const ENOBUFS: i32 = 105;
+
+/// The host of the client is down.
+const EHOSTDOWN: i32 = 112;
+
+/// The host of the client can't be reached.
+const EHOSTUNREACH: i32 = 113;
+
+/// What looking for a connection brought.
+#[derive(Drop)]
+enum Look {
+    /// One, and the address of its client.
+    Came(TcpStream, SocketAddr),
+    /// None, or one that was gone before it was accepted.
+    Nothing,
+    /// None can be had any more.
+    Failed(ServeFault),
+}
+
+/// Whether an error says that no connection waits, or is one that a connection had while it waited: the system hands
+/// such an error out when the connection is accepted, and the next one may be fine.
+fn is_of_one_connection(error: &io::Error) -> bool {
+    match error.kind() {
+        ErrorKind::WouldBlock | ErrorKind::Interrupted | ErrorKind::ConnectionAborted => true,
+        _ => match error.raw_os_error() {
+            Some(
+                ENONET
+                | EPROTO
+                | ENOPROTOOPT
+                | EOPNOTSUPP
+                | ENETDOWN
+                | ENETUNREACH
+                | EHOSTDOWN
+                | EHOSTUNREACH,
+            ) => true,
+            Some(_) | None => false,
+        },
+    }
+}
+
+/// Whether an error says that memory ran out. That the system has no room for the buffers of a connection is reported
+/// as `out of memory` too, and not as a listener that can't listen.
+fn is_of_memory(error: &io::Error) -> bool {
+    error.kind() == ErrorKind::OutOfMemory || error.raw_os_error() == Some(ENOBUFS)
+}
+
+/// Accepts the connection that came next, if one waits within some time.
+fn look_for_one<R: Wait + Clock>(rt: &R, listener: &TcpListener) -> Look {
+    let mut asked = [pollfd {
+        fd: listener.as_raw_fd(),
+        events: POLLIN,
+        revents: 0,
+    }];
+    let ready_count = poll(&mut asked, LOOK_MILLISECONDS);
+    if ready_count == 0 {
+        return Look::Nothing;
+    }
+    if ready_count < 0 {
+        // The listener doesn't block, so that the call below returns at once; without this the loop above would spin.
+        thread::sleep(
+            rt,
+            Duration::from_millis(LOOK_MILLISECONDS.unsigned_abs().into()),
+        );
+    }
+    match listener.accept() {
+        Ok((stream, peer)) => Look::Came(stream, peer),
+        Err(error) if is_of_one_connection(&error) => Look::Nothing,
+        Err(error) if is_of_memory(&error) => Look::Failed(ServeFault::Memory),
+        Err(_) => Look::Failed(ServeFault::NoConnection),
+    }
+}
+
+/// Awaits the next connection of a listener that doesn't block, and gives it with the address of its client. `None`:
+/// all links are to go down or to end, or none can be had, for which they are to go down.
+pub(crate) fn connection<R: Wait + Clock>(
+    rt: &R,
+    listener: &TcpListener,
+    stop: &Stop,
+) -> Option<(TcpStream, SocketAddr)> {
+    for _ in rt.forever() {
+        if stop.refuses_connections(rt) {
+            return None;
+        }
+        match look_for_one(rt, listener) {
+            Look::Came(stream, peer) => {
+                // A fault, or the command to end, may have come while the connection was awaited.
+                if stop.refuses_connections(rt) {
+                    return None;
+                }
+                // Each answer goes out at once, whether the client has acknowledged the one before or not. If the
+                // system refuses that, answers go out all the same.
+                let _ = stream.set_nodelay(true);
+                // So a thread that reads sees the command to end, although nothing comes.
+                let most = Duration::from_millis(LOOK_MILLISECONDS.unsigned_abs().into());
+                let _ = stream.set_read_timeout(Some(most));
+                watch_peer(&stream);
+                return Some((stream, peer));
+            }
+            Look::Nothing => {}
+            Look::Failed(fault) => stop.ask_for(rt, fault),
+        }
+    }
+    None
+}

@@ -1,0 +1,136 @@
+//! A connection that remembers how its last read or write ended.
+
+use crate::run::Run;
+use crate::system::System;
+use fp_linkio::Ended;
+use fp_linkstate::{LinkEnd, LinkEvent, Why};
+use std::io;
+use std::io::{ErrorKind, Read, Write};
+use std::net::TcpStream;
+use std::sync::Mutex;
+
+/// How a read or a write ended.
+#[derive(Clone, Copy, Debug, PartialEq, Eq)]
+pub(crate) enum LastCall {
+    /// It moved octets, or was interrupted, or nothing came for a while: it is made again.
+    Moved,
+    /// It moved none: the input is at its end.
+    AtEnd,
+    /// The peer acknowledged nothing for too long, or can't be reached.
+    PeerGone,
+    /// It failed otherwise.
+    Failed,
+}
+
+impl LastCall {
+    /// How a call ended. The system reports a peer that acknowledges nothing as unreachable if it knows that, as that
+    /// no machine of its network has its address, and else as timed out.
+    fn of(answer: &io::Result<usize>) -> LastCall {
+        match answer {
+            Ok(0) => LastCall::AtEnd,
+            Ok(_) => LastCall::Moved,
+            Err(error) => match error.kind() {
+                ErrorKind::Interrupted | ErrorKind::WouldBlock => LastCall::Moved,
+                ErrorKind::TimedOut
+                | ErrorKind::HostUnreachable
+                | ErrorKind::NetworkUnreachable
+                | ErrorKind::NetworkDown => LastCall::PeerGone,
+                _ => LastCall::Failed,
+            },
+        }
+    }
+
+    /// Why a link goes down whose receiving or sending loop ended so, after this last call.
+    pub(crate) fn why(self, ended: Ended) -> Why {
+        match (ended, self) {
+            (Ended::BadFrame, LastCall::AtEnd) => Why::ClosedInsideFrame,
+            (Ended::BadFrame, _) => Why::BadFrameLength,
+            (Ended::ReadFault | Ended::WriteFault, LastCall::PeerGone) => Why::PeerGone,
+            (Ended::ReadFault, _) => Why::ReadFault,
+            (Ended::WriteFault, _) => Why::WriteFault,
+            (Ended::EndOfInput, _) => Why::PeerClosed,
+            (Ended::TurnLimit, _) => Why::Limit,
+            (Ended::Memory, _) => Why::Memory,
+        }
+    }
+}
+
+/// The connection of a link, and how the last read or write through it ended. Its input is at its end once the links
+/// are to end: octets that a read brings after that are dropped.
+///
+/// A call that fails notes the reason at once. The system reports a fault of the connection to one thread only, and the
+/// other one then finds the end of the input, or a broken pipe: that comes later, and the first reason counts.
+#[derive(Drop)]
+pub(crate) struct TracedStream<'x, R> {
+    run: &'x Run<'x, R>,
+    stream: &'x TcpStream,
+    // The end of the link, which a call that fails is reported to.
+    end: &'x Mutex<LinkEnd>,
+    pub(crate) last: LastCall,
+}
+
+impl<'x, R: System> TracedStream<'x, R> {
+    /// A connection that was neither read nor written.
+    pub(crate) fn new(
+        run: &'x Run<'x, R>,
+        stream: &'x TcpStream,
+        end: &'x Mutex<LinkEnd>,
+    ) -> TracedStream<'x, R> {
+        TracedStream {
+            run,
+            stream,
+            end,
+            last: LastCall::Moved,
+        }
+    }
+
+    /// A call ended so. If it failed, a loop that makes such calls ends like this.
+    fn trace(&mut self, last: LastCall, ended: Ended) {
+        self.last = last;
+        match last {
+            LastCall::PeerGone | LastCall::Failed => {
+                let why = last.why(ended);
+                let run = self.run;
+                let _ = self.end.lock(run.rt).meet(LinkEvent::CallFailed { why });
+            }
+            LastCall::Moved | LastCall::AtEnd => {}
+        }
+    }
+}
+
+impl<R: System> Read for TracedStream<'_, R> {
+    fn read(&mut self, octets: &mut [u8]) -> io::Result<usize> {
+        let run = self.run;
+        if run.stop.is_quitting() {
+            self.last = LastCall::AtEnd;
+            return Ok(0);
+        }
+        let mut stream = self.stream;
+        let answer = stream.read(octets);
+        if run.stop.is_quitting() {
+            self.last = LastCall::AtEnd;
+            return Ok(0);
+        }
+        self.trace(LastCall::of(&answer), Ended::ReadFault);
+        match answer {
+            // Nothing came for a while. A call that was interrupted is made again.
+            Err(error) if error.kind() == ErrorKind::WouldBlock => {
+                Err(io::Error::from(ErrorKind::Interrupted))
+            }
+            answer => answer,
+        }
+    }
+}
+
+impl<R: System> Write for TracedStream<'_, R> {
+    fn write(&mut self, octets: &[u8]) -> io::Result<usize> {
+        let mut stream = self.stream;
+        let answer = stream.write(octets);
+        self.trace(LastCall::of(&answer), Ended::WriteFault);
+        answer
+    }
+
+    fn flush(&mut self) -> io::Result<()> {
+        Ok(())
+    }
+}
