@@ -26,6 +26,7 @@
 //! | `serve NAME` | the turn is served, and not given back: `served` |
 //! | `give NAME` | the turn is served, if it wasn't, and given back: how many entries were served, and `S`, `Q` or `D`; or |
 //! | | `strange` |
+//! | `serve-next` | the next turn is served in its place: how many entries were served, and `S`, `Q` or `D`; or as `take` |
 //! | `put-back NAME` | the turn is put back: `back`, or `strange` |
 //! | `serve-all` | turns are taken and given until there is none: how many, how many entries were served, and how many |
 //! | | frames then wait for them |
@@ -150,6 +151,7 @@ fn own_step(
         "calls" => calls(scene, book, rest, out),
         "tick" => tick(scene, book, out),
         "serve-all" => serve_all(scene.alloc, book, out),
+        "serve-next" => turns::serve_next(book, out),
         "send-all" => loops::send_all(scene.alloc, book, out),
         "totals" => push_totals(out, book.totals()),
         "lines" => lines::all(scene.alloc, book, rest, out),

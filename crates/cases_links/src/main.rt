@@ -12,6 +12,8 @@
 //! | `ready` | `ready` | the order in which dialogues are served |
 //! | `outbox` | `outbox` | what waits to be sent |
 //! | `book` | `book` | all dialogues of a link |
+//! | `end` | `link_end` | how the end of a link goes on |
+//! | `arrivals` | `arrivals` | the frames of a link on their way to its book |
 //! | `run`, `random`, .. | `runs` | whole runs of a link |
 //! | `text`, .. | `lines` | the text of a log line, read and written again |
 //! | `replay`, .. | `replays` | logs, replayed |
@@ -26,10 +28,12 @@
 //! through them, `numbering` the link and the tag of a run, and `texts` words of steps and of answers.
 #![tactic(auto)]
 
+mod arrivals;
 mod book;
 mod devices;
 mod held;
 mod lines;
+mod link_end;
 mod log;
 mod logged_runs;
 mod memory;
@@ -98,6 +102,8 @@ fn of_dialogues(
         "log" => log::answer(alloc, steps, out),
         "ready" => ready::answer(alloc, steps, out),
         "outbox" => outbox::answer(alloc, steps, out),
+        "end" => link_end::answer(steps, out),
+        "arrivals" => arrivals::answer(alloc, table, steps, out),
         "book" => book::answer(alloc, table, steps, out),
         _ => return Ok(false),
     };

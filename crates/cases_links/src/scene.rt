@@ -12,6 +12,8 @@
 //! | `clock` | it is given a Clock: `due`, or `not due` |
 //! | `take NAME` | its next turn is taken: the place of its first entry and how many it has, or `none` |
 //! | `take NAME FREE` | the same with this number of free places for frames, else 8192 |
+//! | `serve-next`, `serve-next FREE` | its next turn is served in its place: the place of its first entry, how many it has, |
+//! | | and what `give` answers; or `none` |
 //! | `show NAME` | what the turn, or what was served, says of itself |
 //! | `serve NAME` | the turn is served, and not given back: `served` |
 //! | `give NAME` | the turn is served, if it wasn't, and given back: how many entries were served, and `nothing`, |
@@ -166,6 +168,25 @@ fn take(
     keep(turns, name, Held::Turn(turn));
     write!(out, "{position} {count}")?;
     Ok(())
+}
+
+/// Serves the next turn of a dialogue in its place.
+fn serve_in_place(
+    alloc: Global,
+    row: &mut Row,
+    free: &str,
+    out: &mut String,
+) -> anyhow::Result<()> {
+    let free = free_of(free)?;
+    if free < 1 {
+        bail!("no place is free");
+    }
+    let Some(turn) = row.serve_next(alloc, free)? else {
+        return push_text(out, "none");
+    };
+    write!(out, "{} {} ", turn.position, turn.count)?;
+    push_served_count(out, turn.served)?;
+    push_requested(out, &turn.requested)
 }
 
 /// Gives a turn to a dialogue.
@@ -373,6 +394,7 @@ impl Scene<'_> {
             "state" => push_state(out, row),
             "each" => each(alloc, row, out),
             "take" => take(alloc, row, &mut self.turns, rest, out),
+            "serve-next" => serve_in_place(alloc, row, rest, out),
             "give" => give(alloc, row, &mut self.turns, rest, out),
             "put-back" => put_back(row, &mut self.turns, rest, out),
             "clock" => clock(row, moment, out),

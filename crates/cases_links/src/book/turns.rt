@@ -5,7 +5,7 @@ use crate::held::{
     Held, Named, find, find_parcel, find_served, keep, push_parcel, push_served_count,
 };
 use crate::texts::{name_of, push_text};
-use fp_book::{Book, Picked, Taken};
+use fp_book::{Book, InPlace, Picked, Taken};
 use std::alloc::Global;
 use std::fmt::Write;
 
@@ -49,6 +49,19 @@ pub(super) fn give(
         Err(done) => {
             keep(turns, name, Held::Done(done));
             push_text(out, "strange")
+        }
+    }
+}
+
+/// Serves the next turn in its place.
+pub(super) fn serve_next(book: &mut Book, out: &mut String) -> anyhow::Result<()> {
+    match book.serve() {
+        InPlace::Nothing => push_text(out, "nothing"),
+        InPlace::NoRoom => push_text(out, "no room"),
+        InPlace::Memory => push_text(out, "no memory"),
+        InPlace::Served { count, given } => {
+            push_served_count(out, count)?;
+            push_given(out, given)
         }
     }
 }

@@ -1,0 +1,103 @@
+//! The frames of a link on their way to its book.
+//!
+//! | Step | What happens, and what it answers |
+//! |---|---|
+//! | `feed HEX` | a frame of this message comes: `feed` |
+//! | `prepare` | frames are prepared at noon: the messages that are prepared then |
+//! | `post COUNT` | this number of messages is posted: these |
+//! | `back` | the others come back: `back` |
+//! | `quit` | the command `quit` comes: `quit` |
+
+use crate::messages::frame_of;
+use crate::script::{Steps, play};
+use crate::texts::moment_after;
+use anyhow::bail;
+use cases::{first_word, push_octets};
+use fp_entry::Prepared;
+use fp_linkstate::{ArrivalQueue, Reading};
+use fp_records::Table;
+use std::alloc::Global;
+use std::collections::VecDeque;
+
+/// The frames of a case.
+#[derive(Drop)]
+struct Coming<'x> {
+    alloc: Global,
+    table: &'x Table,
+    queue: ArrivalQueue,
+    messages: VecDeque<Prepared>,
+}
+
+/// Writes the octets of a message, after a comma if others came before.
+fn push_message(out: &mut String, message: &Prepared, is_first: bool) -> anyhow::Result<()> {
+    if !is_first {
+        out.push_str(", ")?;
+    }
+    push_octets(out, message.arrival().frame.octets())
+}
+
+impl Coming<'_> {
+    /// Prepares frames, and writes the messages.
+    fn prepare(&mut self, out: &mut String) -> anyhow::Result<()> {
+        let reading = Reading {
+            alloc: self.alloc,
+            table: Some(self.table),
+            contexts: &[],
+            moment: moment_after(0)?,
+        };
+        self.queue.prepare(&reading, &mut self.messages)?;
+        let mut is_first = true;
+        for message in self.messages.iter() {
+            push_message(out, message, is_first)?;
+            is_first = false;
+        }
+        if is_first {
+            out.push_str("none")?;
+        }
+        Ok(())
+    }
+
+    /// Posts messages, and writes them.
+    fn post(&mut self, count: u32, out: &mut String) -> anyhow::Result<()> {
+        for index in 0..count {
+            let Some(message) = self.messages.pop_front() else {
+                bail!("no message");
+            };
+            push_message(out, &message, index == 0)?;
+        }
+        Ok(())
+    }
+}
+
+impl Steps for Coming<'_> {
+    fn step(&mut self, step: &str, out: &mut String) -> anyhow::Result<()> {
+        let (verb, rest) = first_word(step);
+        match verb {
+            "prepare" => return self.prepare(out),
+            "post" => return self.post(rest.parse()?, out),
+            "feed" => self.queue.feed(frame_of(self.alloc, rest)?)?,
+            "back" => self.queue.take_back(&mut self.messages)?,
+            "quit" => self.queue.quit(),
+            _ => bail!("no step: {verb}"),
+        }
+        Ok(out.push_str(verb)?)
+    }
+}
+
+/// Writes what the steps of a case answer.
+pub(crate) fn answer(
+    alloc: Global,
+    table: &Table,
+    script: &str,
+    out: &mut String,
+) -> anyhow::Result<()> {
+    let queue = ArrivalQueue::new(alloc)?;
+    let messages = VecDeque::new(alloc);
+    let mut coming = Coming {
+        alloc,
+        table,
+        queue,
+        messages,
+    };
+    play(&mut coming, script, out)
+}
