@@ -15,7 +15,7 @@ rule_of kept = record kept.rule { days = kept.days }
 abbrev pub rules_of : List WeekRule → List Rule
 rules_of rules = map rule_of rules
 
--- whether a rule holds at a minute of the week, whoever calls
+-- whether a rule holds at a minute of the week, for any caller
 abbrev pub holds_at : Rule → ℕ → Bool
 holds_at rule minute = has_day rule.days (minute / 1440 + 1) && holds_minute rule.window (minute % 1440)
 
@@ -34,7 +34,7 @@ pub record IsFirstBare (rules : List Rule) (first : ℕ) : Type 0 where
   pub bare : is_bare rules first ≡ true
   pub before : (minute : ℕ) → minute < first → is_bare rules minute ≡ false
 
--- so many are without a rule, and this is the first
+-- the number of minutes of the week without a rule, and the first of them
 pub record IsGap (rules : List Rule) (minutes first : ℕ) : Type 0 where
   pub count : minutes ≡ count_below (is_bare rules) 10080
   pub first_is : IsFirstBare rules first

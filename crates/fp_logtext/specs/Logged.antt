@@ -24,7 +24,7 @@ pub record LogPart : Type 0 where
 abbrev pub no_text : LogPart
 no_text = record { text = []; lines = []; line_count = 0 }
 
--- before its last line this text is shorter than so many octets
+-- before its last line this text is shorter than this number of octets
 pub record EndsBelow (most : ℕ) (text : List ℕ) : Type 0 where
   pub before : List ℕ
   pub last : Line
@@ -71,7 +71,7 @@ pub record KeepsText : Type 0 where
   -- after more was
   pub adds : (before now : Option (List ℕ)) (handed unwritten more : List ℕ)
       → Written before now handed unwritten → Written before now (handed ++ more) (unwritten ++ more)
-  -- after the device took so many octets
+  -- after the device took this number of octets
   pub writes : (before now later : Option (List ℕ)) (handed unwritten : List ℕ) (count : ℕ)
       → Appends now later (take count unwritten)
       → Written before now handed unwritten → Written before later handed (drop count unwritten)

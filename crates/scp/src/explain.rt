@@ -19,7 +19,8 @@ use std::io::Write;
 /// Writes what there is to say of the text of a records file: the line of `check` and what [`Survey::write`] adds, or
 /// all faults.
 ///
-/// The fault is that of the text, as [`Table::read`] has it, and all faults were written then; or the output failed.
+/// The fault is the first one of the text, as [`Table::read`] has it, and all faults were written then; or memory ran
+/// out, and nothing was written; or the output failed.
 pub fn explain<W: Write>(alloc: Global, text: &[u8], output: &mut W) -> Result<(), RunFault>
     ensures file { (file : File) → IsFile (records_of text.now) file
         → IfErr result (λ fault. (fault ≡ Ask WriteFault) ⊎ (fault ≡ Ask ask.Memory) ⊎ (fault ≡ Records Memory)) }
