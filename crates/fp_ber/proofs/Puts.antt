@@ -1,7 +1,7 @@
 -- Octets in front of a place, and others in front of those.
-use Rattle.std.proofs.Common.{◌≡◌, ℕ, ◌-◌, ◌≤◌, true, List, ◌++◌, length, take, drop, length-append, length-take-le, reverse, append_assoc, refl, sym, ◌∙◌, ap, subst, arith}
-use Rattle.std.proofs.lemmas.List.{length-reverse, reverse-append, reverse-reverse, take-append-le, take-take}
-use Rattle.std.proofs.Math.Seq.{drop-append_seam, take-append_seam}
+use Rattle.std.proofs.Common.{◌≡◌, ℕ, ◌+◌, ◌-◌, ◌≤◌, true, List, ◌++◌, length, take, drop, length-append, length-take-le, append_assoc, refl, sym, ◌∙◌, ap, subst, arith}
+use Rattle.std.proofs.lemmas.List.{drop-drop, take-append-le, take-take}
+use Rattle.std.proofs.Math.Seq.{drop-append_seam}
 use Rattle.fp_ber.specs.declared.element.Class.{Class}
 use Rattle.fp_ber.specs.Tree.{Trees, constructed}
 use Rattle.fp_ber.specs.Canon.{Puts, tag_octets, length_octets, canon, canon_of_all}
@@ -32,13 +32,8 @@ constructed_put class number ts old mid new start middle end p q h =
     subst Q (append_assoc (tag_octets class true number) (length_octets (length (canon_of_all ts))) (canon_of_all ts))
     (puts_both (canon_of_all ts) (tag_octets class true number ++ length_octets (length (canon_of_all ts))) old mid new start middle end p (subst P size q) h)
 
--- of octets that are kept the last one first, the first ones are the last ones of the text
-pub kept_behind : (reversed front rest : List ℕ) (behind : ℕ) → reverse reversed ≡ front ++ rest → length rest ≡ behind
-    → reverse (take behind reversed) ≡ rest
-kept_behind reversed front rest behind is size =
-    let turned : reversed ≡ reverse rest ++ reverse front =
-    sym (reverse-reverse reversed) ∙ (ap (reverse {A = ℕ}) is ∙ reverse-append front rest) in
-    let place : behind ≡ length (reverse rest) = sym size ∙ sym (length-reverse rest) in
-    let kept : take behind reversed ≡ reverse rest =
-    ap (take behind) turned ∙ (ap (λ (n : ℕ). take n (reverse rest ++ reverse front)) place ∙ take-append_seam (reverse rest) (reverse front)) in
-    ap (reverse {A = ℕ}) kept ∙ reverse-reverse rest
+-- of octets at the end of room the last ones are the last ones of the room
+pub kept_behind : (room front rest : List ℕ) (start : ℕ) → drop start room ≡ front ++ rest → drop (start + (length (front ++ rest) - length rest)) room ≡ rest
+kept_behind room front rest start is =
+    let place : length (front ++ rest) - length rest ≡ length front = omega (arith, length-append front rest) in
+    rw place (sym (drop-drop (length front) start room) ∙ (ap (drop (length front)) is ∙ drop-append_seam front rest))

@@ -1,6 +1,6 @@
 -- Octets that grow at their front by one element after another: what `canon` of elements comes to, and that those
 -- behind stay.
-use Rattle.std.proofs.Common.{◌≡◌, ℕ, zero, suc, ◌-◌, ◌<◌, ◌≤◌, List, ◌∷◌, ◌++◌, length, get_or, drop, drop-cons, refl, sym, ◌∙◌, ap, arith, append_assoc, length-append}
+use Rattle.std.proofs.Common.{◌≡◌, ℕ, zero, suc, ◌-◌, ◌<◌, ◌≤◌, ◌^◌, List, ◌∷◌, ◌++◌, length, get_or, drop, drop-cons, refl, sym, ◌∙◌, ap, arith, append_assoc, length-append}
 use Rattle.fp_ber.specs.Canon.{canon, canon_of_all}
 use Rattle.fp_ber.specs.Tree.{Tree, Trees, none, more}
 
@@ -38,3 +38,10 @@ end_of_end xs ys zs p q = record {
   front = p.front ++ q.front;
   is = p.is ∙ (ap (λ octets. p.front ++ octets) q.is ∙ sym (append_assoc p.front q.front zs));
 }
+
+-- room where there are this many places in front of a place, from which on it has what it had
+pub record HasRoom (old : List ℕ) (start count : ℕ) (new : List ℕ) (place : ℕ) : Type 0 where
+  pub front : count ≤ place
+  pub inside : place ≤ length new
+  pub fits : length new < 2 ^ 32
+  pub kept : drop place new ≡ drop start old

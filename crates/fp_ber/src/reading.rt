@@ -19,6 +19,9 @@ use std::alloc::Global;
 /// How many elements may lie inside each other, the outermost counted.
 const DEPTH: u8 = 16;
 
+/// For how many elements that contents hold there is room at first.
+const FIRST_ROOM: usize = 8;
+
 /// Reads the element at the front, with at most `depth` elements inside each other, and gives what follows.
 #[cycle(read)]
 fn element_at(alloc: Global, octets: &[u8], depth: u8) -> Result<(Element, &[u8]), BerFault>
@@ -53,7 +56,8 @@ fn elements_of(alloc: Global, contents: &[u8], depth: u8) -> Result<Vec<Element>
     ensures ok { IfOk result (λ v. BeginAll depth contents.now (forest_of v.items) []) }
     ensures err { IfErr result (λ fault. fault ≢ faults.Memory → InContents depth (ElementFault depth) contents.now fault) }
 {
-    let mut children = Vec::new(alloc);
+    // An element takes two octets or more.
+    let mut children = Vec::with_capacity(alloc, FIRST_ROOM.min(contents.len() / 2))?;
     let mut rest = contents;
     'children: while !rest.is_empty() {
         let (child, after) = element_at(alloc, rest, depth)?;

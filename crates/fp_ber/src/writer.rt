@@ -4,17 +4,18 @@
 //! made from its end to its front: the contents first, and then their tag and length before them. No element is built
 //! on the way.
 
-ghost use Rattle.std.specs.Prelude.{◌≡◌, ◌<◌, ◌≤◌, ◌^◌, ◌++◌, ℕ, List, [], IfOk, OnOk, OnErr, drop, length, reverse, take, vec_len};
+ghost use Rattle.std.specs.Prelude.{◌≡◌, ◌<◌, ◌≤◌, ◌^◌, ◌++◌, ℕ, List, [], IfOk, OnOk, OnErr, length, vec_len};
 ghost use Rattle.std.specs.Prelude as lists;
 ghost use Rattle.fp_ber.specs.Canon.{HasLengths, canon, canon_of_all, length_octets, tag_octets};
-ghost use Rattle.fp_ber.specs.Putting.{EndsWith};
+ghost use Rattle.fp_ber.specs.Putting.{EndsWith, HasRoom};
 ghost use Rattle.fp_ber.specs.Tree as tree;
 ghost use Rattle.fp_ber.specs.Tree.{HasTags, IsTagNumber};
 ghost use Rattle.fp_ber.specs.View.{tree_of};
 
 use crate::element::{Class, Element};
+use crate::placing::put;
 use crate::tag::Tag;
-use crate::writing::{put_header, size_of, write};
+use crate::writing::{header_size, put_element, put_header, size_of};
 use std::alloc::{AllocError, Global};
 use std::marker::Model;
 
@@ -22,42 +23,66 @@ use std::marker::Model;
 /// If memory runs out for what is put, the octets are unchanged. More than 2^32 - 1 octets count as out of memory.
 #[derive(Debug, Drop)]
 pub struct Writer {
-    /// The octets, the last one first.
-    reversed: Vec<u8>,
+    /// Room, at whose end the octets lie.
+    room: Vec<u8>,
+    /// Where they begin.
+    start: usize,
 }
 
 impl Model for Writer {
-    ghost use Rattle.std.specs.Prelude.{List, ℕ, ◌<◌, ◌^◌, length, reverse};
+    ghost use Rattle.std.specs.Prelude.{List, ℕ, ◌<◌, ◌≤◌, ◌^◌, drop, length};
 
     ghost Value = { List ℕ };
 
-    ghost view = { λ writer. reverse writer.reversed.items };
+    ghost view = { λ writer. drop writer.start writer.room.items };
 
-    ghost invariant = { λ writer. length writer.reversed.items < 2 ^ 32 };
-}
-
-/// Turns round the octets from a place on.
-fn reverse_from(octets: &mut Vec<u8>, start: usize)
-    requires { start ≤ vec_len octets.old }
-    ensures { octets.new.items ≡ take start octets.old.items ++ reverse (drop start octets.old.items) }
-{
-    octets[start..].reverse();
+    ghost invariant = { λ writer. (writer.start ≤ length writer.room.items) × (length writer.room.items < 2 ^ 32) };
 }
 
 /// How many octets there may be.
 const MOST: usize = 0xFFFF_FFFF;
 
-/// How many octets a tag and a length take at most.
-const HEADER: usize = 8;
+/// Makes the room larger, so that this many octets find room in front of a place. Gives that place then; what was from it
+/// on still is. `Err`: there would be more than 2^32 - 1 octets, or memory ran out. Nothing has changed then.
+fn grow(room: &mut Vec<u8>, start: usize, count: usize) -> Result<usize, AllocError>
+    requires start { start ≤ vec_len room.old }
+    requires fits { vec_len room.old < 2 ^ 32 }
+    requires count { start < count }
+    ensures ok { IfOk result (HasRoom room.old.items start count room.new.items) }
+    ensures err { OnErr result (room.new.items ≡ room.old.items) }
+{
+    let length = room.len();
+    let more = length.max(count).min(MOST - length);
+    let place = start + more;
+    if place < count {
+        return Err(AllocError);
+    }
+    room.resize(length + more, 0)?;
+    room.copy_within(start..length, place);
+    Ok(place)
+}
+
+/// Makes room for this many octets in front of a place, as [`grow`] does, unless there is room.
+fn make_room(room: &mut Vec<u8>, start: usize, count: usize) -> Result<usize, AllocError>
+    requires start { start ≤ vec_len room.old }
+    requires fits { vec_len room.old < 2 ^ 32 }
+    ensures ok { IfOk result (HasRoom room.old.items start count room.new.items) }
+    ensures err { OnErr result (room.new.items ≡ room.old.items) }
+{
+    if count <= start {
+        return Ok(start);
+    }
+    grow(room, start, count)
+}
 
 impl Writer {
     /// No octets, and room for this many before memory is asked for again.
     pub fn with_capacity(alloc: Global, capacity: usize) -> Result<Writer, AllocError>
         ensures { IfOk result (λ writer. writer ≡ []) }
     {
-        Ok(Writer {
-            reversed: Vec::with_capacity(alloc, capacity)?,
-        })
+        let start = capacity.min(MOST);
+        let room = vec![in alloc; 0; start]?;
+        Ok(Writer { room, start })
     }
 
     /// How many octets there are.
@@ -65,7 +90,7 @@ impl Writer {
         ensures value { result ≡ length self.now }
         ensures most { length self.now < 2 ^ 32 }
     {
-        self.reversed.len()
+        self.room.len() - self.start
     }
 
     /// Puts octets before those that are there. More than 2^32 - 1 in all count as out of memory.
@@ -74,12 +99,8 @@ impl Writer {
         ensures err { OnErr result (self.new ≡ self.old) }
         ensures stays { EndsWith self.new self.old }
     {
-        let length = self.reversed.len();
-        if octets.len() > MOST - length {
-            return Err(AllocError);
-        }
-        self.reversed.extend_from_slice(octets)?;
-        reverse_from(&mut self.reversed, length);
+        let end = make_room(&mut self.room, self.start, octets.len())?;
+        self.start = put(octets, self.room.as_mut_slice(), end);
         Ok(())
     }
 
@@ -91,9 +112,9 @@ impl Writer {
         ensures err { OnErr result (self.new ≡ self.old) }
         ensures stays { EndsWith self.new self.old }
     {
-        let mut header = [0; HEADER];
-        let start = put_header(tag, length, &mut header, HEADER);
-        self.put(&header[start..])
+        let end = make_room(&mut self.room, self.start, header_size(tag, length))?;
+        self.start = put_header(tag, length, self.room.as_mut_slice(), end);
+        Ok(())
     }
 
     /// Takes away all octets but the last ones, this many. If there are fewer, they stay.
@@ -101,7 +122,10 @@ impl Writer {
         ensures some { (rest : List ℕ) → EndsWith self.old rest → length rest ≡ count → self.new ≡ rest }
         ensures all { length self.old ≤ count → self.new ≡ self.old }
     {
-        self.reversed.truncate(count);
+        let length = self.len();
+        if count < length {
+            self.start += length - count;
+        }
     }
 
     /// Puts the canonical spelling of a primitive element before the octets that are there. More than 2^32 - 1 octets
@@ -148,7 +172,7 @@ impl Writer {
         ensures err { OnErr result (self.new ≡ self.old) }
         ensures stays { EndsWith self.new self.old }
     {
-        let length = self.reversed.len() - behind;
+        let length = self.len() - behind;
         let tag = Tag {
             class,
             constructed: true,
@@ -166,12 +190,8 @@ impl Writer {
         ensures err { OnErr result (self.new ≡ self.old) }
         ensures stays { EndsWith self.new self.old }
     {
-        let length = self.reversed.len();
-        if size_of(element) > MOST - length {
-            return Err(AllocError);
-        }
-        write(element, &mut self.reversed)?;
-        reverse_from(&mut self.reversed, length);
+        let end = make_room(&mut self.room, self.start, size_of(element))?;
+        self.start = put_element(element, self.room.as_mut_slice(), end);
         Ok(())
     }
 
@@ -179,8 +199,10 @@ impl Writer {
     pub fn into_octets(self) -> Vec<u8>
         ensures { result.items ≡ self }
     {
-        let mut octets = self.reversed;
-        octets.as_mut_slice().reverse();
-        octets
+        let Writer { mut room, start } = self;
+        let count = room.len() - start;
+        room.copy_within(start.., 0);
+        room.truncate(count);
+        room
     }
 }

@@ -17,7 +17,7 @@ use crate::tag::{Tag, put_tag, tag_size};
 use std::alloc::AllocError;
 
 /// How many octets the tag and the length of an element take.
-fn header_size(tag: Tag, length: usize) -> usize
+pub fn header_size(tag: Tag, length: usize) -> usize
     requires { length < 2 ^ 32 }
     ensures { result ≡ lists.length (tag_octets tag.class tag.constructed tag.number ++ length_octets length) }
 {
@@ -81,7 +81,7 @@ pub fn put_header(tag: Tag, length: usize, out: &mut [u8], end: usize) -> usize
 
 /// Puts the canonical spelling of an element in front of a place, and gives where it begins.
 #[cycle(write)]
-fn put_element(element: &Element, out: &mut [u8], end: usize) -> usize
+pub fn put_element(element: &Element, out: &mut [u8], end: usize) -> usize
     requires tags { HasTags (tree_of element.now) }
     requires lengths { HasLengths (tree_of element.now) }
     requires room { length (canon (tree_of element.now)) ≤ end }

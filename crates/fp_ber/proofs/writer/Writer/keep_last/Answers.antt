@@ -1,7 +1,8 @@
 -- What is left when the first octets are taken away.
+use Rattle.std.proofs.Common.{sym}
 use Rattle.fp_ber.proofs.Puts.{kept_behind}
 use Rattle.fp_ber.proofs.writer.Writer.keep_last.Goals as goal
 
-pub returns-clause-some : goal.returns-clause-some
-returns-clause-some c rest ends size =
-    rw c.truncate.ensures.items (kept_behind c.self.inside.reversed.items ends.front rest c.args.count (rw c.self.view_is ends.is) size)
+pub returns-then-count-length-clause-some : goal.returns-then-count-length-clause-some
+returns-then-count-length-clause-some c rest ends size =
+    rw (c.len-length.ensures.value, ends.is, sym size) (kept_behind c.self.inside.room.items ends.front rest c.self.inside.start (rw c.self.view_is ends.is))
