@@ -89,8 +89,3 @@ few-parts group groups all = by (nat_lt 0 (length group.1)) refl (nat_le (length
     by true is_some true is_most rest = (grind (arith, nat_tests), grind (arith, nat_tests), rest)
     by true is_some false is_most rest = cc
     by false is_some most is_most rest = cc
-
--- an insertion makes a map longer by at most one
-pub one_longer : (old new : ℕ) (had : Bool) → new ≡ old + (if had then 0 else 1) → new ≤ old + 1
-one_longer old new true is = omega arith
-one_longer old new false is = omega arith

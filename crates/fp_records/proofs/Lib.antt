@@ -13,6 +13,7 @@ pub mod Orders
 pub mod OwnDays
 pub mod Places
 pub mod Running
+pub mod Searches
 pub mod Shares
 pub mod Tables
 pub mod WholeText

@@ -23,10 +23,12 @@ pub record Contents : Type 0 where
   pub closed_count : ℕ
   pub records : List (List ℕ × Rules)
 
--- what the records of a table keep: there are at most 100,000, and each number is one of decimal digits
+-- what the records of a table keep: there are at most 100,000, each number is one of decimal digits, and each is there
+-- once, in rising order
 pub record IsKept (records : List (List ℕ × Rules)) : Type 0 where
   pub most : length records ≤ 100000
   pub decimal : list_all (λ entry. is_decimal entry.0) records ≡ true
+  pub once : IsStrictlySortedBy (slice_cmp nat_cmp) (keys_of records)
 
 -- the record of a number, by its digits alone
 abbrev pub record_at : Contents → List ℕ → Option Rules

@@ -1,6 +1,7 @@
 //! Which rules fit a call.
 
-ghost use Rattle.std.specs.Prelude.{◌≡◌, ◌+◌};
+ghost use Rattle.std.specs.Prelude.{◌≡◌, ◌+◌, length, nat_eq};
+ghost use Rattle.std.specs.Cmp.Lexicographic.{pointwise};
 ghost use Rattle.jiff_core.specs.Weekday.{monday_zero};
 ghost use Rattle.fp_records.specs.Choice.{fits};
 
@@ -15,13 +16,31 @@ pub(crate) struct Call<'a> {
     pub(crate) time: LocalTime,
 }
 
+/// Whether these octets are those, as many of them. They are compared one by one, since most prefixes of a number with
+/// many rules differ from what is called in one of their first digits.
+fn all_same(one: &[u8], other: &[u8]) -> bool
+    requires { length one.now ≡ length other.now }
+    ensures { result ≡ pointwise nat_eq one.now other.now }
+{
+    for place in 0..one.len() {
+        if one[place] != other[place] {
+            return false;
+        }
+    }
+    true
+}
+
 impl Call<'_> {
     /// Whether a rule fits: its prefix begins the calling digits, its days have the weekday and its
     /// window holds the minute.
     pub(crate) fn fits(&self, rule: &Rule) -> bool
         ensures { result ≡ fits self.now.calling.now (monday_zero self.now.time.weekday + 1) self.now.time.minute rule.now }
     {
-        self.calling.starts_with(rule.prefix.as_slice())
+        let prefix = rule.prefix.as_slice();
+        let Some(front) = self.calling.get(..prefix.len()) else {
+            return false;
+        };
+        all_same(prefix, front)
             && rule.days.has(self.time.weekday)
             && rule.window.holds(self.time.minute)
     }

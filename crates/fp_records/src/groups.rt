@@ -101,25 +101,25 @@ impl Groups {
         Ok(())
     }
 
-    /// The record of each number, with its closed days, and local time this number of minutes east of UTC.
+    /// The record of each number, in the order of the numbers, with its closed days, and local time this number of minutes
+    /// east of UTC.
     pub(crate) fn into_records(
         self,
         alloc: Global,
         offset: i16,
         closed: &ClosedDays,
-    ) -> Result<BTreeMap<NumberKey, Arc<Record>>, RecordsFault>
+    ) -> Result<Vec<(NumberKey, Arc<Record>)>, RecordsFault>
         requires west { neg_ℤ (pos 720) ≤ℤ offset }
         requires east { offset ≤ℤ pos 840 }
-        ensures records { IfOk result (λ records. map (λ e. (e.0, arc_value e.1)) records.entries ≡ map (record_of_group offset closed.now.days) self.groups) }
-        ensures kept { IfOk result (λ records. IsKept (map (λ e. (e.0, arc_value e.1)) records.entries)) }
+        ensures records { IfOk result (λ records. map (λ e. (e.0, arc_value e.1)) records.items ≡ map (record_of_group offset closed.now.days) self.groups) }
+        ensures kept { IfOk result (λ records. IsKept (map (λ e. (e.0, arc_value e.1)) records.items)) }
         ensures fault { IfErr result (λ fault. fault ≡ Memory) }
     {
-        let mut records = BTreeMap::new(alloc);
+        let mut records = Vec::with_capacity(alloc, self.groups.len())?;
         for (number, rules) in self.groups {
             let days = closed.of(alloc, &number)?;
             let record = Arc::new(alloc, Record::new(offset, rules, days))?;
-            // A number is in the groups once, so no record is replaced.
-            drop(records.insert(number, record)?);
+            records.push((number, record))?;
         }
         Ok(records)
     }

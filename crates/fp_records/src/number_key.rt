@@ -11,7 +11,7 @@ use crate::decimal_digits::DecimalDigits;
 use std::cmp::Ordering;
 use std::marker::Model;
 
-/// The digits of a number, as a map has them for its key: two are compared as one machine word each. Contracts see them
+/// The digits of a number, by which records are found: two are compared as one machine word each. Contracts see them
 /// as a list. Their order is that of [`DecimalDigits`].
 #[derive(Clone, Copy, Debug)]
 pub struct NumberKey {

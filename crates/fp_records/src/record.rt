@@ -193,7 +193,7 @@ fn rule_at<'a>(
     let mut before = 0;
     for kept in rules {
         let rule = kept.rule();
-        if call.fits(rule) && rule.prefix.len() == longest {
+        if rule.prefix.len() == longest && call.fits(rule) {
             before += u64::from(rule.weight.parts());
             if draw < before {
                 return Some(rule);

@@ -15,7 +15,6 @@ use crate::version::read_start;
 use csv::ByteRecord;
 use fp_digits::Number;
 use std::alloc::Global;
-use std::collections::BTreeMap;
 use std::marker::Model;
 use std::sync::Arc;
 
@@ -26,7 +25,8 @@ pub struct Table {
     key: u32,
     rule_count: u32,
     closed_count: u32,
-    records: BTreeMap<NumberKey, Arc<Record>>,
+    // In the order of the numbers.
+    records: Vec<(NumberKey, Arc<Record>)>,
 }
 
 impl Model for Table {
@@ -41,10 +41,10 @@ impl Model for Table {
       key = table.key;
       rule_count = table.rule_count;
       closed_count = table.closed_count;
-      records = map (λ e. (e.0, arc_value e.1)) table.records.entries;
+      records = map (λ e. (e.0, arc_value e.1)) table.records.items;
     } };
 
-    ghost invariant = { λ table. IsKept (map (λ e. (e.0, arc_value e.1)) table.records.entries) };
+    ghost invariant = { λ table. IsKept (map (λ e. (e.0, arc_value e.1)) table.records.items) };
 }
 
 impl Table {
@@ -156,6 +156,9 @@ impl Table {
         let Some(digits) = DecimalDigits::from_digits(called.digits.as_slice()) else {
             return None;
         };
-        records.get(&NumberKey::new(&digits))
+        match records.binary_search_by_key(&NumberKey::new(&digits), |entry| entry.0) {
+            Ok(place) => Some(&records[place].1),
+            Err(_) => None,
+        }
     }
 }

@@ -15,10 +15,10 @@ abbrev pub invariant-loop-number : goal.invariant-loop-number
 invariant-loop-number l = record {
   west : neg_ℤ (pos 720) ≤ℤ l.offset;
   east : l.offset ≤ℤ pos 840;
-  so_far : seen (λ shared. arc_value shared) l.records.entries ++ map (record_of_group l.offset l.closed.days) (listed l.number-iterator) ≡ map (record_of_group l.offset l.closed.days) l.fn.self.groups;
-  once : IsStrictlySortedBy (slice_cmp nat_cmp) (keys_of (seen (λ shared. arc_value shared) l.records.entries) ++ keys_of (listed l.number-iterator));
+  so_far : seen (λ shared. arc_value shared) l.records.items ++ map (record_of_group l.offset l.closed.days) (listed l.number-iterator) ≡ map (record_of_group l.offset l.closed.days) l.fn.self.groups;
+  once : IsStrictlySortedBy (slice_cmp nat_cmp) (keys_of (seen (λ shared. arc_value shared) l.records.items) ++ keys_of (listed l.number-iterator));
   short : list_all (λ group. few group.1) (listed l.number-iterator) ≡ true;
   decimal : list_all (λ group. is_decimal group.0) (listed l.number-iterator) ≡ true;
-  kept : list_all (λ entry. is_decimal entry.0) (seen (λ shared. arc_value shared) l.records.entries) ≡ true;
-  count : length l.records.entries + length l.number-iterator ≤ 100000;
+  kept : list_all (λ entry. is_decimal entry.0) (seen (λ shared. arc_value shared) l.records.items) ≡ true;
+  count : length l.records.items + length l.number-iterator ≤ 100000;
 }

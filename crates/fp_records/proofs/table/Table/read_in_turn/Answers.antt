@@ -14,5 +14,5 @@ returns c =
     let (items, are, holds) = c.in_ok-gathering.ensures in
     let made = simp to_z-of_z at c.in_ok-into_records.ensures.records in
     reads (records_of c.args.text.now) c.in_ok-version.version others (fields_of c.read_start.new.row) c.read_start.new.records.rows c.in-Some.head items c.in_ok-gathering.gathering
-    (record { index = 0; key = c.in-Some.head.key; rule_count = c.count.result; closed_count = c.count-2.result; records = seen (λ a. arc_value a) c.in_ok-into_records.field-0.entries })
+    (record { index = 0; key = c.in-Some.head.key; rule_count = c.count.result; closed_count = c.count-2.result; records = seen (λ a. arc_value a) c.in_ok-into_records.field-0.items })
     start (sym c.in-Some.ensures.value) are holds refl refl c.count.ensures.value c.count-2.ensures.value made
