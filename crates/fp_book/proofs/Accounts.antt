@@ -1,5 +1,5 @@
 -- That a log has or counts each step, and what a drain has done after each step that it moved.
-use Rattle.fp_book.proofs.Names.{Bool, Drains, Line, List, LoggedStep, None, Option, Some, Step, [], accounted, ap, append-nil, append_assoc, arith, drop, drop-drop, drop_min, false, filter-append, gap_at_end, get_or, get_or-drop, get_or_from_slice_get, if◌then◌else◌, is_told, length, lose_behind, lost_in, map, map_more, min, one_more, option_and_then, refl, slice_get, slice_get_within, sym, take, take_all, take_min, take_more, told, true, unwrap_or, ℕ, ◌++◌, ◌+◌, ◌-◌, ◌<◌, ◌∙◌, ◌∷◌, ◌≡◌}
+use Rattle.fp_book.proofs.Names.{Bool, Drains, Line, List, LoggedStep, None, Option, Some, Step, [], accounted, ap, append-nil, append_assoc, arith, drop, drop-drop, drop_all, drop_min, false, filter-append, gap_at_end, get_or, get_or-drop, get_or_from_slice_get, if◌then◌else◌, is_told, length, lose_behind, lost_in, map, map_more, min, one_more, option_and_then, refl, slice_get, slice_get_within, sym, take, take_all, take_min, take_more, told, true, unwrap_or, ℕ, ◌++◌, ◌+◌, ◌-◌, ◌<◌, ◌∙◌, ◌∷◌, ◌≡◌, ◌≤◌}
 use Rattle.fp_book.specs.declared.line.LoggedStep.TheVariants as steps
 
 -- two lists account for what each does
@@ -72,6 +72,13 @@ one_moved link old lines i rest more step within so_far first =
           ∙ ap (λ l. lines ++ l) (ap (λ s. map (Step link) (take i old) ++ Step link s ∷ []) here ∙ sym (map_more (Step link) old i step within));
       left = ap (drop 1) so_far.left ∙ drop-drop 1 i old;
     }
+
+-- all lines go out at once
+pub all_exchanged : (link : ℕ) (old new handed : List LoggedStep) (room : ℕ) → length old ≤ room → handed ≡ old → new ≡ [] → Drains link old [] room new (map (Step link) handed)
+all_exchanged link old new handed room fits out none = record {
+  moved = ap (map (Step link)) (out ∙ sym (take_all room old fits));
+  left = none ∙ sym (drop_all room old fits);
+}
 
 -- as many were moved as there is room for, or all
 pub all_moved : (link : ℕ) (old : List LoggedStep) (lines : List Line) (room count : ℕ) (rest : List LoggedStep) (more : List Line) → count ≡ min room (length old) → Drains link old lines count rest more → Drains link old lines room rest more

@@ -4,7 +4,7 @@ pub use Rattle.std.proofs.Math.Bool.{not-not, or-false, or-true, or_comm}
 pub use Rattle.std.proofs.lemmas.Bool.{and_from, and_left, and_parts, and_right, both_ways, cases_Bool, cond_both, eq-eqb, eqb-false, eqb-true, false_from_ne_true, false≢true, le-leb, leb-false, leb-true, lt-ltb, ltb-false, ltb-true, not-true, or_cases, or_left, or_parts, or_right}
 pub use Rattle.std.proofs.lemmas.Bool.Decides.{nat_tests}
 pub use Rattle.std.proofs.lemmas.Fn.{filter_same}
-pub use Rattle.std.proofs.lemmas.List.{drop-append-le, drop-drop, drop_min, get_or-drop, length-drop, length-map, map-append, map_more, nil_from_length, take-append-drop, take-append-le, take_min, take_more}
+pub use Rattle.std.proofs.lemmas.List.{drop-append-le, drop-drop, drop_all, drop_min, get_or-drop, length-drop, length-map, map-append, map_more, nil_from_length, take-append-drop, take-append-le, take_min, take_more}
 pub use Rattle.std.proofs.lemmas.List.Concat.{flat_map-append}
 pub use Rattle.std.proofs.lemmas.List.Elements.{All-nil, All-push, filter-append, recursion_from_All}
 pub use Rattle.std.proofs.lemmas.List.Filters.{length-filter_both}

@@ -41,7 +41,11 @@ pub record IsKept (list : List LoggedStep) (capacity : ℕ) : Type 0 where
   pub gap_in_last_place : length list ≡ most_lines → IsSome (gap_at_end list)
   pub room : most_lines ≤ capacity
 
+-- steps as lines of a link
+abbrev pub lines_of : ℕ → List LoggedStep → List Line
+lines_of link steps = map (Step link) steps
+
 -- the oldest steps, as many as `lines` has room for, come after `lines` as lines of this link, and the others stay
 pub record Drains (link : ℕ) (old : List LoggedStep) (lines : List Line) (room : ℕ) (new : List LoggedStep) (more : List Line) : Type 0 where
-  pub moved : more ≡ lines ++ map (Step link) (take room old)
+  pub moved : more ≡ lines ++ lines_of link (take room old)
   pub left : new ≡ drop room old

@@ -3,7 +3,7 @@
 ghost use Rattle.std.specs.Prelude.{◌≡◌, ◌+◌, ◌-◌, ◌<◌, ◌≤◌, [], IfOk, length, vec_capacity, vec_len};
 ghost use Rattle.std.specs.FinMap as map;
 ghost use Rattle.fp_book.specs.Calls.{DrainsBook};
-ghost use Rattle.fp_book.specs.Log.{Drains};
+ghost use Rattle.fp_book.specs.Log.{Drains, lines_of};
 ghost use Rattle.fp_book.specs.Outbox.{frames_held};
 ghost use Rattle.fp_book.specs.Shelf.{Sound, empty_shelf, places_held};
 ghost use Rattle.fp_book.specs.declared.totals.Totals as counts;
@@ -164,6 +164,18 @@ impl Book {
         ensures sound { Sound self.new }
     {
         self.log.drain(self.link, lines);
+    }
+
+    /// Exchanges the log for an empty one, so that all its lines are handed out at once, and returns the link whose lines
+    /// they are. Changes nothing else. Takes no memory and frees none.
+    pub fn exchange_log(&mut self, log: &mut Log) -> u8
+        requires empty { log.old ≡ [] }
+        ensures link { result ≡ self.old.link }
+        ensures drains { DrainsBook self.old [] Log.MOST self.new (lines_of result log.new) }
+        ensures sound { Sound self.new }
+    {
+        self.log.exchange(log);
+        self.link
     }
 
     /// How many places for frames are held: by frames that wait, by the one that is being sent, and by entries that are

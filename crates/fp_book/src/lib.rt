@@ -20,6 +20,7 @@
 //! | [`Book::down`] | the link is gone | |
 //! | [`Book::is_down`] | | whether it went down |
 //! | [`Book::drain`] | room for lines | the oldest lines of the log |
+//! | [`Book::exchange_log`] | an empty log | all lines of the log, and their link |
 //! | [`Book::holds_back`] | a message | whether it is better posted later: what keeps it out goes away |
 //! | [`Book::is_quiet`] | | whether nothing is left to be served or sent |
 //! | [`Book::entry_count`] | | how many entries the dialogues that are held keep |
@@ -46,8 +47,8 @@
 //! what other dialogues have: an identifier is given by a count or from the front of a queue, and its serial goes to
 //! the back of that queue once the dialogue is no longer held.
 //!
-//! [`Log`], [`Outbox`] and [`ReadyQueue`] are parts of a book, public so that worked cases can try each alone; the
-//! layers above use [`Log::MOST`] alone.
+//! [`Log`], [`Outbox`] and [`ReadyQueue`] are parts of a book, public so that worked cases can try each alone. Of these
+//! the layers above use [`Log`] alone, as the list that they exchange.
 //!
 //! The layer above may rely on this: contracts see a [`Book`] as a `Shelf` (`specs/Shelf.antt`), and its type keeps
 //! what `Sound` says: identifiers are those of the link, each of a serial that isn't free meanwhile, and births

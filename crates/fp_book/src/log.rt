@@ -1,6 +1,7 @@
 //! The log of a link.
 
 ghost use Rattle.std.specs.Prelude.{◌≡◌, ◌-◌, ◌≤◌, [], IfOk, length, vec_capacity, vec_len};
+ghost use Rattle.std.specs.Slice.{IsItemAt};
 ghost use Rattle.std.specs.VecDeque.{deque_capacity};
 ghost use Rattle.fp_book.specs.Log.{Drains, gap_at_end, logged, lose, lost_in};
 
@@ -8,6 +9,7 @@ use crate::{Line, LoggedStep};
 use std::alloc::{AllocError, Global};
 use std::collections::VecDeque;
 use std::marker::Model;
+use std::mem;
 
 /// The steps of a link that weren't drained yet, the oldest first, at most [`Log::MOST`]. In the last place is nothing
 /// but a gap, which counts the steps that found no place. Contracts see them as their list.
@@ -70,6 +72,29 @@ impl Log {
         ensures capacity { vec_capacity lines.new ≡ vec_capacity lines.old }
     {
         move_steps(&mut self.steps, link, lines);
+    }
+
+    /// The step in this place, the oldest in place 0. `None`: there are fewer.
+    pub fn get(&self, place: usize) -> Option<&LoggedStep>
+        ensures item { IsItemAt self.now place result }
+    {
+        self.steps.get(place)
+    }
+
+    /// Drops all steps. Keeps the memory for others.
+    pub fn clear(&mut self)
+        ensures { self.new ≡ [] }
+    {
+        self.steps.clear();
+    }
+
+    /// Exchanges the steps for those of another log. Takes no memory, and frees none.
+    pub fn exchange(&mut self, other: &mut Log)
+        ensures here { self.new ≡ other.old }
+        ensures there { other.new ≡ self.old }
+        ensures most { length self.old ≤ Self.MOST }
+    {
+        mem::swap(&mut self.steps, &mut other.steps);
     }
 
     /// Counts a step as lost, in the gap that is last, or in a new one. Takes no memory.

@@ -1,3 +1,5 @@
 pub mod Limits
 pub mod LineOrders
 pub mod MessageLens
+pub mod OneAfterOther
+pub mod StepsMade

@@ -32,8 +32,18 @@ refills came handed part waiting moved none l = record {
   in_order = l.in_order ∙ ap (λ (lines : List Line). handed ++ (part.text ++ lines_text (lines ++ (waiting ++ moved)))) none;
 }
 
+exchanges : (came more : List Line) (handed : List ℕ) (part : LogPart) → part.lines ≡ [] → Logged came handed part [] []
+    → Logged (came ++ more) handed (record part { lines = more }) [] []
+exchanges came more handed part none l =
+    let all = l.in_order ∙ ap (λ (lines : List Line). handed ++ (part.text ++ lines_text (lines ++ []))) none
+    ∙ ap (λ (text : List ℕ). handed ++ text) (append-nil part.text) in
+    record {
+      in_order = lines_text-append came more ∙ ap (λ (text : List ℕ). text ++ lines_text more) all ∙ append_assoc handed part.text (lines_text more)
+          ∙ ap (λ (lines : List Line). handed ++ (part.text ++ lines_text lines)) (sym (append-nil more));
+    }
+
 -- the text that was made and that of the lines, apart from the others
-apart : (text : List ℕ) (lines later : List Line) → text ++ lines_text (lines ++ later) ≡ (text ++ lines_text lines) ++ lines_text later
+pub apart : (text : List ℕ) (lines later : List Line) → text ++ lines_text (lines ++ later) ≡ (text ++ lines_text lines) ++ lines_text later
 apart text lines later =
     ap (λ (rest : List ℕ). text ++ rest) (lines_text-append lines later) ∙ sym (append_assoc text (lines_text lines) (lines_text later))
 
@@ -58,6 +68,7 @@ keeps_lines = record {
   drains = drains;
   takes_in = takes_in;
   refills = refills;
+  exchanges = exchanges;
   makes = makes;
   hands = hands;
 }

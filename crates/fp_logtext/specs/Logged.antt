@@ -49,6 +49,9 @@ pub record KeepsLines : Type 0 where
   -- after lines that wait were taken, to make their text
   pub refills : (came : List Line) (handed : List ℕ) (part : LogPart) (waiting moved : List Line) → part.lines ≡ []
       → Logged came handed part waiting moved → Logged came handed (record part { lines = waiting }) [] moved
+  -- after all lines of the book left it at once, as no others are between it and the text
+  pub exchanges : (came more : List Line) (handed : List ℕ) (part : LogPart) → part.lines ≡ []
+      → Logged came handed part [] [] → Logged (came ++ more) handed (record part { lines = more }) [] []
   -- after text was made
   pub makes : (came : List Line) (handed : List ℕ) (old new : LogPart) (waiting moved : List Line)
       → new.text ++ lines_text new.lines ≡ old.text ++ lines_text old.lines

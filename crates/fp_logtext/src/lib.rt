@@ -4,12 +4,14 @@
 //! value below is kept under a lock of the caller, or by one thread.
 //!
 //! ```text
-//!   book --drain--> moved --> WaitingLines --> MadeText --> UnwrittenText --> device
-//!                            (lines)          (lines, text) (text)
+//!   book --exchange_log--------------------> MadeText --> UnwrittenText --> device
+//!     \---drain--> moved --> WaitingLines ---/ (lines, text)  (text)
+//!                            (lines)
 //! ```
 //!
 //! * [`WaitingLines`]: lines that were moved out of the book and wait for their text.
-//! * [`MadeText`]: lines whose text is being made, and the text so far.
+//! * [`MadeText`]: lines whose text is being made, and the text so far. They are lines that waited, or, if none does, all
+//!   that the book had ([`MadeText::take_log`]).
 //! * [`UnwrittenText`]: text that the writing thread took, of which the device takes part after part.
 //!
 //! The layer above may rely on this: no line is lost, doubled or moved before another one. The text that was handed to
@@ -19,6 +21,7 @@
 //! A gap in a book's log is a line of its own. If an allocation fails, the line stays where it is.
 #![tactic(auto)]
 
+mod exchanged;
 mod laws;
 mod made;
 mod unwritten;

@@ -1,10 +1,12 @@
 //! Log lines whose text is being made, and the text so far.
 
 ghost use Rattle.std.specs.Prelude.{◌≡◌, ◌≢◌, ◌⊎◌, ◌+◌, ◌-◌, ◌≤◌, ◌++◌, ◌↔◌, IsTrue, [], length, drop, min, IfOk, OnOk};
+ghost use Rattle.fp_book.specs.Log.{lines_of};
 ghost use Rattle.fp_logtext.specs.Logged.{EndsBelow, lines_text, no_text};
 
 use crate::WaitingLines;
-use fp_book::Line;
+use crate::exchanged::ExchangedLines;
+use fp_book::{Line, Log};
 use fp_replay::write_line;
 use std::alloc::{AllocError, Global};
 use std::marker::Model;
@@ -20,20 +22,22 @@ pub struct MadeText {
     lines: Vec<Line>,
     // How many of them have their text.
     made: usize,
+    // The lines after those.
+    exchanged: ExchangedLines,
     text: Vec<u8>,
     // How many lines got their text so far.
     line_count: u64,
 }
 
 impl Model for MadeText {
-    ghost use Rattle.std.specs.Prelude.{◌≤◌, drop, length};
+    ghost use Rattle.std.specs.Prelude.{◌≤◌, ◌++◌, drop, length};
     ghost use Rattle.fp_logtext.specs.Logged.{LogPart};
 
     ghost Value = { LogPart };
 
     ghost view = { λ made. record {
       text = made.text.items;
-      lines = drop made.made made.lines.items;
+      lines = drop made.made made.lines.items ++ made.exchanged;
       line_count = made.line_count;
     } };
 
@@ -65,6 +69,31 @@ fn add_lines(
     Ok(())
 }
 
+/// Adds the text of lines from this place on, and then of those after them, while there are fewer than `most` octets.
+/// Moves the place on.
+fn add_all(
+    lines: &[Line],
+    made: &mut usize,
+    exchanged: &mut ExchangedLines,
+    text: &mut Vec<u8>,
+    most: usize,
+) -> Result<(), AllocError>
+    requires { made.old ≤ length lines.now }
+    ensures within { made.new ≤ length lines.now }
+    ensures forth { made.old ≤ made.new }
+    ensures fewer { length exchanged.new ≤ length exchanged.old }
+    ensures in_order { text.new.items ++ lines_text (drop made.new lines.now ++ exchanged.new)
+        ≡ text.old.items ++ lines_text (drop made.old lines.now ++ exchanged.old) }
+    ensures ok { OnOk result ((drop made.new lines.now ++ exchanged.new ≡ []) ⊎ (most ≤ length text.new.items)) }
+    ensures limit { (text.new.items ≡ text.old.items) ⊎ EndsBelow most text.new.items }
+{
+    add_lines(lines, made, text, most)?;
+    if *made < lines.len() {
+        return Ok(());
+    }
+    exchanged.add_text(text, most)
+}
+
 impl MadeText {
     /// From how many octets of text that wait for the writing thread no more is made while the link is up. At 100 calls
     /// a second, of five lines each, a device that takes nothing fills them in five minutes.
@@ -77,6 +106,7 @@ impl MadeText {
         Ok(MadeText {
             lines: Vec::with_capacity(alloc, WaitingLines::MOST)?,
             made: 0,
+            exchanged: ExchangedLines::new(alloc)?,
             text: Vec::with_capacity(alloc, MadeText::MOST + LONGER_THAN_A_LINE)?,
             line_count: 0,
         })
@@ -86,7 +116,7 @@ impl MadeText {
     pub fn has_all_text(&self) -> bool
         ensures { IsTrue result ↔ (self.now.lines ≡ []) }
     {
-        self.lines[self.made..].is_empty()
+        self.made >= self.lines.len() && self.exchanged.len() == 0
     }
 
     /// The number of octets of text.
@@ -115,8 +145,23 @@ impl MadeText {
         waiting.hand_out(&mut self.lines);
     }
 
+    /// Takes the lines that the book of this link handed out all at once, as by [`Book::exchange_log`](fp_book::Book),
+    /// once all lines have their text: an empty list takes their place. Else nothing changes.
+    pub fn take_log(&mut self, link: u8, log: &mut Log)
+        ensures taken { self.old.lines ≡ [] → (self.new ≡ record self.old { lines = lines_of link log.old }) × (log.new ≡ []) }
+        ensures unchanged { self.old.lines ≢ [] → (self.new ≡ self.old) × (log.new ≡ log.old) }
+    {
+        if !self.has_all_text() {
+            return;
+        }
+        self.made = 0;
+        self.lines.clear();
+        self.exchanged.take(link, log);
+    }
+
     /// Makes the text of lines, while it has fewer than `most` octets. If an allocation fails, the lines without text
     /// stay.
+    #[tactic(auto, using(crate::proofs::OneAfterOther::both_count))]
     pub fn add_text(&mut self, most: usize) -> Result<(), AllocError>
         ensures in_order { self.new.text ++ lines_text self.new.lines ≡ self.old.text ++ lines_text self.old.lines }
         ensures ok { OnOk result ((self.new.lines ≡ []) ⊎ (most ≤ length self.new.text)) }
@@ -125,9 +170,17 @@ impl MadeText {
             ≡ min (self.old.line_count + (length self.old.lines - length self.new.lines)) u64.MAX }
     {
         let before = self.made;
-        let added = add_lines(&self.lines, &mut self.made, &mut self.text, most);
-        let count = self.made.saturating_sub(before) as u64;
-        self.line_count = self.line_count.saturating_add(count);
+        let after = self.exchanged.len();
+        let added = add_all(
+            &self.lines,
+            &mut self.made,
+            &mut self.exchanged,
+            &mut self.text,
+            most,
+        );
+        let count = (self.made - before) as u64;
+        let more = (after - self.exchanged.len()) as u64;
+        self.line_count = self.line_count.saturating_add(count).saturating_add(more);
         added
     }
 

@@ -64,7 +64,7 @@ mod turn;
 
 pub use fault::LineFault;
 pub use laws::texts_are_of_one_line;
-pub use line::{read_line, write_line};
+pub use line::{read_line, write_line, write_step_line};
 pub use replay_fault::ReplayFault;
 pub use replay_laws::{logs_have_one_report, logs_of_runs_are_replayed};
 pub use replaying::replay;

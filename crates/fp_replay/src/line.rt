@@ -2,6 +2,7 @@
 
 ghost use Rattle.std.specs.Prelude.{◌≡◌, [], ◌∷◌, ◌++◌, IfOk, MatchResult, OnErr, OnOk};
 ghost use Rattle.fp_book.specs.declared.line.Line.{Line};
+ghost use Rattle.fp_book.specs.declared.line.Line.TheVariants.{Step};
 ghost use Rattle.fp_replay.specs.Format.{IsLine, text_of};
 ghost use Rattle.fp_replay.specs.proof_only.Writing.{KeepsFront};
 ghost use Rattle.fp_replay.specs.declared.fault.LineFault.TheVariants.{Memory};
@@ -11,8 +12,18 @@ use crate::fields::{cut, is_text};
 use crate::head::{head_in, write_head};
 use crate::number::{number_in, write_number};
 use crate::step::{step_in, write_step};
-use fp_book::Line;
+use fp_book::{Line, LoggedStep};
 use std::alloc::{AllocError, Global};
+
+/// Adds the text of a step of this link to a text, without a line feed.
+fn write_step_text(link: u8, step: &LoggedStep, text: &mut Vec<u8>) -> Result<(), AllocError>
+    ensures written { OnOk result (text.new.items ≡ text.old.items ++ text_of (Step link step.now)) }
+    ensures front { OnErr result (KeepsFront text.old.items text.new.items) }
+{
+    write_number(u64::from(link), text)?;
+    text.push(b' ')?;
+    write_step(step, text)
+}
 
 /// Adds the text of a line to a text, without a line feed.
 fn write_text(line: &Line, text: &mut Vec<u8>) -> Result<(), AllocError>
@@ -21,11 +32,7 @@ fn write_text(line: &Line, text: &mut Vec<u8>) -> Result<(), AllocError>
 {
     match line {
         Line::Head { links, tag } => write_head(*links, *tag, text),
-        Line::Step { link, step } => {
-            write_number(u64::from(*link), text)?;
-            text.push(b' ')?;
-            write_step(step, text)
-        }
+        Line::Step { link, step } => write_step_text(*link, step, text),
     }
 }
 
@@ -48,6 +55,28 @@ pub fn write_line(line: &Line, text: &mut Vec<u8>) -> Result<(), AllocError>
 {
     let before = text.len();
     let written = write_ended(line, text);
+    if written.is_err() {
+        text.truncate(before);
+    }
+    written
+}
+
+/// Adds the text of a step of this link and a line feed to a text.
+fn write_ended_step(link: u8, step: &LoggedStep, text: &mut Vec<u8>) -> Result<(), AllocError>
+    ensures written { OnOk result (text.new.items ≡ text.old.items ++ text_of (Step link step.now) ++ 10 ∷ []) }
+    ensures front { OnErr result (KeepsFront text.old.items text.new.items) }
+{
+    write_step_text(link, step, text)?;
+    Ok(text.push(b'\n')?)
+}
+
+/// Adds the line of a step of this link to a text, as [`write_line`]. If memory runs out, the text is unchanged.
+pub fn write_step_line(link: u8, step: &LoggedStep, text: &mut Vec<u8>) -> Result<(), AllocError>
+    ensures written { OnOk result (text.new.items ≡ text.old.items ++ text_of (Step link step.now) ++ 10 ∷ []) }
+    ensures unchanged { OnErr result (text.new.items ≡ text.old.items) }
+{
+    let before = text.len();
+    let written = write_ended_step(link, step, text);
     if written.is_err() {
         text.truncate(before);
     }
