@@ -1,0 +1,4 @@
+pub mod Connection
+pub mod Frames
+pub mod Node
+pub mod Units

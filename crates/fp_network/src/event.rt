@@ -1,0 +1,151 @@
+//! What happened on a network.
+
+ghost use Rattle.std.specs.Prelude.{◌<◌};
+
+use crate::Tally;
+use fp_ipa::UnitName;
+use std::fmt;
+use std::net::SocketAddr;
+
+/// Why a connection was closed.
+#[derive(Clone, Copy, Debug, PartialEq, Eq)]
+pub enum Closing {
+    /// Its peer closed it.
+    PeerClosed,
+    /// A read or a write failed.
+    Failed,
+    /// Another one came for its unit.
+    Replaced,
+    /// It named no unit of the node.
+    UnknownUnit,
+    /// It sent a message that its state doesn't allow.
+    OutOfOrder,
+    /// It sent a message of more than 4,096 octets.
+    TooLong,
+    /// It wasn't active within five seconds.
+    Silent,
+    /// Its peer took too little: a megabyte waited for it.
+    Slow,
+    /// The node drains.
+    Draining,
+    /// 16 others are there.
+    TooMany,
+    /// The link is down.
+    LinkDown,
+}
+
+impl Closing {
+    /// All reasons, in the order in which their numbers are told.
+    pub const ALL: [Closing; Tally::REASONS] = [
+        Closing::PeerClosed,
+        Closing::Failed,
+        Closing::Replaced,
+        Closing::UnknownUnit,
+        Closing::OutOfOrder,
+        Closing::TooLong,
+        Closing::Silent,
+        Closing::Slow,
+        Closing::Draining,
+        Closing::TooMany,
+        Closing::LinkDown,
+    ];
+
+    /// Its place among the numbers of a [`Tally`].
+    pub(crate) fn place(self) -> usize
+        ensures { result < Tally.REASONS }
+    {
+        match self {
+            Closing::PeerClosed => 0,
+            Closing::Failed => 1,
+            Closing::Replaced => 2,
+            Closing::UnknownUnit => 3,
+            Closing::OutOfOrder => 4,
+            Closing::TooLong => 5,
+            Closing::Silent => 6,
+            Closing::Slow => 7,
+            Closing::Draining => 8,
+            Closing::TooMany => 9,
+            Closing::LinkDown => 10,
+        }
+    }
+
+    /// Its word.
+    pub(crate) fn word(self) -> &'static str {
+        match self {
+            Closing::PeerClosed => "peer-closed",
+            Closing::Failed => "failed",
+            Closing::Replaced => "replaced",
+            Closing::UnknownUnit => "unknown-unit",
+            Closing::OutOfOrder => "out-of-order",
+            Closing::TooLong => "message-too-long",
+            Closing::Silent => "silent",
+            Closing::Slow => "slow",
+            Closing::Draining => "draining",
+            Closing::TooMany => "too-many",
+            Closing::LinkDown => "link-down",
+        }
+    }
+}
+
+impl fmt::Display for Closing {
+    fn fmt<W: fmt::Write>(&self, f: &mut fmt::Formatter<W>) -> fmt::Result {
+        f.write_str(self.word())
+    }
+}
+
+/// What happened on a network. Connections are numbered from 1 in the order in which they came.
+#[derive(Clone, Copy, Debug, PartialEq, Eq)]
+pub enum NetworkEvent {
+    /// A connection came.
+    Came {
+        /// Its number.
+        connection: u64,
+        /// The address of its client.
+        peer: SocketAddr,
+    },
+    /// A connection carries messages for a unit from now on.
+    Active {
+        /// Its number.
+        connection: u64,
+        /// The name of the unit.
+        unit: UnitName,
+    },
+    /// A connection is over.
+    Gone {
+        /// Its number.
+        connection: u64,
+        /// Why.
+        why: Closing,
+    },
+    /// The numbers of messages and of connections so far.
+    Counted(Tally),
+}
+
+/// Writes the name of a unit.
+fn write_unit<W: fmt::Write>(unit: &UnitName, f: &mut fmt::Formatter<W>) -> fmt::Result {
+    f.write_str(str::from_utf8(unit.as_slice()).unwrap_or("?"))
+}
+
+impl fmt::Display for NetworkEvent {
+    fn fmt<W: fmt::Write>(&self, f: &mut fmt::Formatter<W>) -> fmt::Result {
+        match self {
+            NetworkEvent::Came { connection, peer } => {
+                write!(f, "connection {connection} from {peer}")
+            }
+            NetworkEvent::Active { connection, unit } => {
+                write!(f, "connection {connection} unit ")?;
+                write_unit(unit, f)
+            }
+            NetworkEvent::Gone { connection, why } => {
+                write!(f, "connection {connection} over: {why}")
+            }
+            NetworkEvent::Counted(tally) => tally.fmt(f),
+        }
+    }
+}
+
+/// Somebody who is told what happened on a network.
+pub trait Observer {
+    /// Something happened.
+    fn note(&mut self, event: NetworkEvent);
+}

@@ -1,0 +1,111 @@
+//! The numbers of a network.
+
+ghost use Rattle.std.specs.Prelude.{◌≡◌, ◌<◌};
+
+use crate::Closing;
+use fp_adaptor::{Adaptor, Counted};
+use std::fmt;
+
+/// The kinds of messages that are counted, in the order in which they are told.
+const KINDS: [Counted; 10] = [
+    Counted::HandedOn,
+    Counted::Segment,
+    Counted::OtherSubsystem,
+    Counted::OtherSender,
+    Counted::Management,
+    Counted::Returned,
+    Counted::Unreadable,
+    Counted::Sent,
+    Counted::Dropped,
+    Counted::TooLong,
+];
+
+/// The word for a kind of message.
+fn word_of(kind: Counted) -> &'static str {
+    match kind {
+        Counted::HandedOn => "handed-on",
+        Counted::Segment => "segment",
+        Counted::OtherSubsystem => "other-subsystem",
+        Counted::OtherSender => "other-sender",
+        Counted::Management => "management",
+        Counted::Returned => "returned",
+        Counted::Unreadable => "unreadable",
+        Counted::Sent => "sent",
+        Counted::Dropped => "dropped",
+        Counted::TooLong => "too-long",
+    }
+}
+
+/// The numbers of a network so far: of messages by their kind, of connections, of those that were closed by the reason,
+/// and of the messages of IPA that were skipped. A number stays at the greatest one of 64 bits.
+#[derive(Clone, Copy, Debug, PartialEq, Eq)]
+pub struct Tally {
+    messages: [u64; 10],
+    connections: u64,
+    closings: [u64; Tally::REASONS],
+    skipped: u64,
+}
+
+impl Tally {
+    /// How many reasons there are for which a connection is closed.
+    pub const REASONS: usize = 11;
+
+    /// Nothing was counted.
+    pub(crate) fn new() -> Tally {
+        Tally {
+            messages: [0; 10],
+            connections: 0,
+            closings: [0; Tally::REASONS],
+            skipped: 0,
+        }
+    }
+
+    /// One more connection came. Returns its number.
+    pub(crate) fn connection(&mut self) -> u64 {
+        self.connections = self.connections.saturating_add(1);
+        self.connections
+    }
+
+    /// One more connection was closed for this reason.
+    pub(crate) fn closing(&mut self, why: Closing) {
+        let place = why.place();
+        self.closings[place] = self.closings[place].saturating_add(1);
+    }
+
+    /// One more message of IPA was skipped.
+    pub(crate) fn skip(&mut self) {
+        self.skipped = self.skipped.saturating_add(1);
+    }
+
+    /// The same numbers, with those of messages that an adaptor has.
+    pub(crate) fn with_messages(self, adaptor: &Adaptor) -> Tally {
+        let mut tally = self;
+        for (place, kind) in KINDS.iter().enumerate() {
+            tally.messages[place] = adaptor.count(*kind);
+        }
+        tally
+    }
+
+    /// The number of connections that were closed for this reason.
+    pub fn closed(&self, why: Closing) -> u64 {
+        self.closings[why.place()]
+    }
+}
+
+impl fmt::Display for Tally {
+    fn fmt<W: fmt::Write>(&self, f: &mut fmt::Formatter<W>) -> fmt::Result {
+        f.write_str("network")?;
+        for (kind, number) in KINDS.iter().zip(&self.messages) {
+            write!(f, " {} {number}", word_of(*kind))?;
+        }
+        write!(
+            f,
+            " skipped {} connections {}",
+            self.skipped, self.connections
+        )?;
+        for (why, number) in Closing::ALL.iter().zip(&self.closings) {
+            write!(f, " {} {number}", why.word())?;
+        }
+        Ok(())
+    }
+}

@@ -1,0 +1,66 @@
+//! Octets that wait to be written.
+
+ghost use Rattle.std.specs.Prelude.{◌≡◌, ◌≤◌, ◌==◌, [], ◌++◌, drop, length, OnErr, OnOk};
+
+use bytes::{Buf, BytesMut};
+use std::alloc::{AllocError, Global};
+use std::marker::Model;
+
+/// Octets that wait to be written to a stream, in their order. Contracts see them as their list.
+#[derive(Drop)]
+pub(crate) struct Waiting {
+    octets: BytesMut,
+}
+
+impl Model for Waiting {
+    ghost use Rattle.std.specs.Prelude.{ℕ, List};
+
+    ghost Value = { List ℕ };
+
+    ghost view = { λ waiting. waiting.octets.items };
+}
+
+impl Waiting {
+    /// None wait. Takes no memory.
+    pub(crate) fn new(alloc: Global) -> Waiting
+        ensures { result ≡ [] }
+    {
+        Waiting {
+            octets: BytesMut::new(alloc),
+        }
+    }
+
+    /// These wait too, after the others. `Err`: memory ran out, and nothing changes.
+    pub(crate) fn push(&mut self, octets: &[u8]) -> Result<(), AllocError>
+        ensures ok { OnOk result (self.new ≡ self.old ++ octets.now) }
+        ensures err { OnErr result (self.new ≡ self.old) }
+    {
+        self.octets.extend_from_slice(octets)
+    }
+
+    /// Those that wait.
+    pub(crate) fn octets(&self) -> &[u8]
+        ensures { result.now ≡ self.now }
+    {
+        self.octets.as_slice()
+    }
+
+    /// How many wait.
+    pub(crate) fn count(&self) -> usize
+        ensures { result ≡ length self.now }
+    {
+        self.octets.len()
+    }
+
+    /// This number of them was written; all, if fewer wait.
+    pub(crate) fn take(&mut self, count: usize)
+        ensures { self.new ≡ drop count self.old }
+    {
+        let most = self.octets.len();
+        if count < most {
+            self.octets.advance(count);
+        } else {
+            self.octets.clear();
+        }
+    }
+}
