@@ -1,0 +1,6 @@
+pub mod Counter
+pub mod Counted
+pub mod Ends
+pub mod Histogram
+pub mod Requests
+pub mod Steps

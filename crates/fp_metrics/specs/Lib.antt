@@ -1,0 +1,5 @@
+pub mod Answer
+pub mod Gauge
+pub mod Series
+pub mod Text
+pub mod Times

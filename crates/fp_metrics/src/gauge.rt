@@ -1,0 +1,117 @@
+//! What a link has now, and the most that it had.
+
+ghost use Rattle.std.specs.Prelude.{◌≡◌, if◌then◌else◌};
+ghost use Rattle.fp_metrics.specs.Gauge.{all_gauges, gauge_front, gauge_heading, gauge_value};
+
+/// What a link has now, and the most that it had.
+#[derive(Clone, Copy, Debug, PartialEq, Eq)]
+pub struct Gauges {
+    /// Whether it is up.
+    pub is_up: bool,
+    /// How many dialogues it holds.
+    pub dialogues: u64,
+    /// The most that it held.
+    pub most_dialogues: u64,
+    /// The most places for frames that were held.
+    pub most_places: u64,
+    /// How many of its log lines aren't written yet.
+    pub lines: u64,
+    /// The most that weren't.
+    pub most_lines: u64,
+}
+
+/// One of these numbers.
+#[derive(Clone, Copy, Debug, PartialEq, Eq)]
+pub(crate) enum Gauge {
+    /// Whether the link is up.
+    Up,
+    /// The dialogues that it holds.
+    Dialogues,
+    /// The most that it held.
+    MostDialogues,
+    /// The most places for frames.
+    MostPlaces,
+    /// Its log lines.
+    Lines,
+    /// The most that waited.
+    MostLines,
+}
+
+impl Gauge {
+    /// Each of them once.
+    pub(crate) fn all() -> [Gauge; 6]
+        ensures { result ≡ all_gauges }
+    {
+        [
+            Gauge::Up,
+            Gauge::Dialogues,
+            Gauge::MostDialogues,
+            Gauge::MostPlaces,
+            Gauge::Lines,
+            Gauge::MostLines,
+        ]
+    }
+
+    /// How the lines of a number begin: its name, up to the number of the link.
+    pub(crate) fn front(self) -> &'static str
+        ensures { result.now ≡ gauge_front self }
+    {
+        match self {
+            Gauge::Up => "freephone_scp_link_up{link=\"",
+            Gauge::Dialogues => "freephone_scp_dialogues{link=\"",
+            Gauge::MostDialogues => "freephone_scp_dialogues_most{link=\"",
+            Gauge::MostPlaces => "freephone_scp_places_most{link=\"",
+            Gauge::Lines => "freephone_scp_log_lines_waiting{link=\"",
+            Gauge::MostLines => "freephone_scp_log_lines_waiting_most{link=\"",
+        }
+    }
+
+    /// The comments before them.
+    pub(crate) fn heading(self) -> &'static str
+        ensures { result.now ≡ gauge_heading self }
+    {
+        match self {
+            Gauge::Up => {
+                "# HELP freephone_scp_link_up Whether the link is up.\n# TYPE freephone_scp_link_up gauge\n"
+            }
+            Gauge::Dialogues => {
+                "# HELP freephone_scp_dialogues Dialogues that the link holds.\n# TYPE freephone_scp_dialogues gauge\n"
+            }
+            Gauge::MostDialogues => {
+                "# HELP freephone_scp_dialogues_most The most dialogues that the link held.\n# TYPE freephone_scp_dialogues_most gauge\n"
+            }
+            Gauge::MostPlaces => {
+                "# HELP freephone_scp_places_most The most places for frames that were held.\n# TYPE freephone_scp_places_most gauge\n"
+            }
+            Gauge::Lines => {
+                "# HELP freephone_scp_log_lines_waiting Log lines of the link that aren't written yet.\n# TYPE freephone_scp_log_lines_waiting gauge\n"
+            }
+            Gauge::MostLines => {
+                "# HELP freephone_scp_log_lines_waiting_most The most log lines of the link that weren't written.\n# TYPE freephone_scp_log_lines_waiting_most gauge\n"
+            }
+        }
+    }
+}
+
+/// One if it is, and else nothing.
+fn one_if(is: bool) -> u64
+    ensures { result ≡ (if is then 1 else 0) }
+{
+    if is { 1 } else { 0 }
+}
+
+impl Gauges {
+    /// One of the numbers.
+    pub(crate) fn value(&self, gauge: Gauge) -> u64
+        ensures { result ≡ gauge_value self.now gauge }
+    {
+        match gauge {
+            Gauge::Up => one_if(self.is_up),
+            Gauge::Dialogues => self.dialogues,
+            Gauge::MostDialogues => self.most_dialogues,
+            Gauge::MostPlaces => self.most_places,
+            Gauge::Lines => self.lines,
+            Gauge::MostLines => self.most_lines,
+        }
+    }
+}
