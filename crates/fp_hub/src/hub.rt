@@ -1,6 +1,6 @@
 //! The hub of a link.
 
-ghost use Rattle.std.specs.Prelude.{◌≡◌, ◌<◌, ◌≤◌, IfErr, IfOk, vec_capacity};
+ghost use Rattle.std.specs.Prelude.{◌≡◌, [], ◌<◌, ◌≤◌, IfErr, IfOk, vec_capacity};
 ghost use Rattle.fp_hub.specs.Lines.{KeepsFront};
 ghost use Rattle.fp_hub.specs.Shares.{AreBlanks, after_give, after_post, after_sent, blank};
 
@@ -13,7 +13,7 @@ use crate::resting::Resting;
 use crate::waiting::Looking;
 use crate::{AfterTick, Hints, Kept, Looks, Seat};
 use crossbeam_utils::CachePadded;
-use fp_book::{Given, Line, Parcel, Picked, Posted, Status, Taken, Ticked};
+use fp_book::{Given, Line, Log, Parcel, Picked, Posted, Status, Taken, Ticked};
 use fp_digits::Moment;
 use fp_entry::Prepared;
 use fp_row::{Done, Turn};
@@ -301,6 +301,13 @@ impl<A: Ledger, B: Ledger, C: Ledger> Hub<A, B, C> {
         self.hold(rt).kept.drain(lines);
     }
 
+    /// Exchanges the log for an empty one, as [`Kept::exchange_log`], and returns the link. Takes no memory.
+    pub fn exchange_log<R: Wait>(&self, rt: &R, log: &mut Log) -> u8
+        requires empty { log.old ≡ [] }
+    {
+        self.hold(rt).kept.exchange_log(log)
+    }
+
     /// Whether the link is down.
     pub fn is_down<R: Wait>(&self, rt: &R) -> bool {
         self.hold(rt).kept.is_down()
@@ -335,6 +342,18 @@ impl<A: Ledger, B: Ledger, C: Ledger> Hub<A, B, C> {
     /// released.
     pub fn is_log_nearly_full(&self) -> bool {
         self.resting.is_log_nearly_full()
+    }
+
+    /// Whether at least [`LINES_OF_A_TEXT`](crate::LINES_OF_A_TEXT) lines of the log wait, so that a thread that adds
+    /// lines had better make their text. Doesn't take the lock of the link: it is as the lock was last released.
+    pub fn has_log_lines(&self) -> bool {
+        self.resting.has_log_lines()
+    }
+
+    /// Whether so many lines of the log wait, 1,024, that they are moved in portions and not exchanged. Doesn't take the
+    /// lock of the link: it is as the lock was last released.
+    pub fn is_log_long(&self) -> bool {
+        self.resting.is_log_long()
     }
 
     /// A worker's end of the hint channel. The ends of all workers are to be taken before the first hint: at most as

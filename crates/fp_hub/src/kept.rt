@@ -1,10 +1,11 @@
 //! What the lock of a link keeps.
 
-ghost use Rattle.std.specs.Prelude.{◌≡◌, ◌↔◌, ◌<◌, ◌≤◌, ◌-◌, false, Some, IfErr, IfOk, IsOk, IsTrue, OnOk, length, vec_capacity, vec_len};
+ghost use Rattle.std.specs.Prelude.{◌≡◌, ◌↔◌, ◌<◌, ◌≤◌, ◌-◌, [], false, Some, IfErr, IfOk, IsOk, IsTrue, OnOk, length, vec_capacity, vec_len};
 ghost use Rattle.std.specs.FinMap as map;
 ghost use Rattle.std.specs.FinMap.{get};
 ghost use Rattle.fp_book.specs.declared.line.LoggedStep.TheVariants as line;
 ghost use Rattle.fp_book.specs.Calls.{DrainsBook, GivesDone, GoesDown, Hands, IsOut, NoneReady, Posts, PutsTurnBack, Sends, Serves, Takes, Ticks, Unsends, posted_totals, turn_of};
+ghost use Rattle.fp_book.specs.Log.{lines_of};
 ghost use Rattle.fp_book.specs.Holding.{IsQuiet, entries_kept, holds_back};
 ghost use Rattle.fp_book.specs.Shelf.{Sound, empty_shelf};
 ghost use Rattle.fp_hub.specs.Next.{Finds};
@@ -14,7 +15,9 @@ mod several;
 
 use crate::next::Next;
 use crate::{PARTS, Seat};
-use fp_book::{Book, Given, InPlace, Line, Parcel, Picked, Posted, Status, Taken, Ticked, Totals};
+use fp_book::{
+    Book, Given, InPlace, Line, Log, Parcel, Picked, Posted, Status, Taken, Ticked, Totals,
+};
 use fp_digits::Moment;
 use fp_entry::Prepared;
 use fp_row::{Done, Turn};
@@ -306,6 +309,16 @@ impl<A: Ledger, B: Ledger, C: Ledger> Kept<A, B, C> {
         ensures sound { Sound self.new }
     {
         self.book.drain(lines);
+    }
+
+    /// Exchanges the log for an empty one, as [`Book::exchange_log`].
+    pub fn exchange_log(&mut self, log: &mut Log) -> u8
+        requires empty { log.old ≡ [] }
+        ensures link { result ≡ self.old.link }
+        ensures drains { DrainsBook self.old [] Log.MOST self.new (lines_of result log.new) }
+        ensures sound { Sound self.new }
+    {
+        self.book.exchange_log(log)
     }
 
     /// How many lines the log has.

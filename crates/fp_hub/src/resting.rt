@@ -11,6 +11,12 @@ use std::time::Duration;
 /// The number of lines of the log at which the resting thread is woken, so that few wait and it hands on few at a time.
 pub const LINES_OF_A_REST: usize = 512;
 
+/// The number of lines from which it is worth while to make their text.
+pub const LINES_OF_A_TEXT: usize = 64;
+
+/// The number of lines from which the log is long.
+const LINES_OF_A_LONG_LOG: usize = 1_024;
+
 /// The number of lines from which the log is filling: five eighths of its places.
 const LINES_OF_A_FILLING_LOG: usize = Log::MOST / 8 * 5;
 
@@ -20,7 +26,9 @@ const LINES_OF_A_NEARLY_FULL_LOG: usize = Log::MOST / 8 * 7;
 /// Where the thread rests that runs the clock of a link and drains its log, and how full that log is.
 #[derive(Drop)]
 pub(crate) struct Resting {
-    // Both are as they were when the lock of the link was last released.
+    // All are as they were when the lock of the link was last released.
+    has_log_lines: AtomicBool,
+    is_log_long: AtomicBool,
     is_log_filling: AtomicBool,
     is_log_nearly_full: AtomicBool,
     parker: Parker,
@@ -38,6 +46,8 @@ impl Resting {
     /// The log is empty, and nobody rests.
     pub(crate) fn new() -> Resting {
         Resting {
+            has_log_lines: AtomicBool::new(false),
+            is_log_long: AtomicBool::new(false),
             is_log_filling: AtomicBool::new(false),
             is_log_nearly_full: AtomicBool::new(false),
             parker: Parker::new(),
@@ -50,6 +60,8 @@ impl Resting {
     pub(crate) fn publish(&self, before: usize, now: usize) -> bool
         ensures { IsTrue result ↔ ((before < 512) × (512 ≤ now)) }
     {
+        publish_mark(&self.has_log_lines, LINES_OF_A_TEXT, before, now);
+        publish_mark(&self.is_log_long, LINES_OF_A_LONG_LOG, before, now);
         publish_mark(&self.is_log_filling, LINES_OF_A_FILLING_LOG, before, now);
         publish_mark(
             &self.is_log_nearly_full,
@@ -58,6 +70,16 @@ impl Resting {
             now,
         );
         before < LINES_OF_A_REST && now >= LINES_OF_A_REST
+    }
+
+    /// Whether at least [`LINES_OF_A_TEXT`] lines wait.
+    pub(crate) fn has_log_lines(&self) -> bool {
+        self.has_log_lines.load(Ordering::SeqCst)
+    }
+
+    /// Whether at least 1,024 lines wait.
+    pub(crate) fn is_log_long(&self) -> bool {
+        self.is_log_long.load(Ordering::SeqCst)
     }
 
     /// Whether five eighths of the places are taken.

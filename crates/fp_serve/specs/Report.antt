@@ -8,6 +8,8 @@ use Rattle.std.specs.declared.net.socket_addr.SocketAddr.{SocketAddr}
 use Rattle.fp_book.specs.Shelf.{no_totals}
 use Rattle.fp_book.specs.declared.totals.Totals.{Totals}
 use Rattle.fp_replay.specs.Replayed.{report_line}
+use Rattle.fp_serve.specs.declared.run.peer.Peer.{Peer}
+use Rattle.fp_serve.specs.declared.run.peer.Peer.TheVariants.{Client, Named}
 use Rattle.fp_serve.specs.declared.run.status.LinkStatus.{LinkStatus}
 
 -- the line of an address
@@ -23,11 +25,16 @@ lines_by line link (first ∷ others) = line link first ++ lines_by line (link +
 abbrev pub reloaded_line : ℕ → List ℕ
 reloaded_line index = codes "reloaded " ++ (decimal index ++ 10 ∷ [])
 
+-- the text of a peer: the address of a client, or the name
+abbrev pub peer_text : Peer → List ℕ
+peer_text (Client address) = socket_text address
+peer_text (Named name) = name.bytes
+
 -- the beginning of the status line of a link, and the rest of it
-abbrev pub beginning : ℕ → Bool → SocketAddr → List ℕ
+abbrev pub beginning : ℕ → Bool → List ℕ → List ℕ
 beginning link is_down peer =
     codes "link " ++ (decimal link ++ ((if is_down then codes " down " else codes " up ")
-    ++ (socket_text peer ++ codes " accepted ")))
+    ++ (peer ++ codes " accepted ")))
 
 abbrev pub counts : Totals → ℕ → List ℕ
 counts totals dialogues =
@@ -36,7 +43,7 @@ counts totals dialogues =
 
 -- the status line of a link
 abbrev pub status_line : ℕ → LinkStatus → List ℕ
-status_line link known = beginning link known.status.is_down known.peer ++ counts known.status.totals known.status.dialogues
+status_line link known = beginning link known.status.is_down (peer_text known.peer) ++ counts known.status.totals known.status.dialogues
 
 -- the line with the number of links that were accepted
 abbrev pub links_line : ℕ → List ℕ

@@ -24,7 +24,7 @@
 //!        \--take, give, sent-->   |    Hub     |   ^--sent-----/          ^
 //!   workers --take, give, hint--> | (the book) |    receiver -------------/
 //!   clock  --tick, hint---------> +------------+
-//!     |                             |drain
+//!     |                             |exchange_log, by the receiver too
 //!     \-- once a second, or 512 --->v
 //!                                LinkLog (one for each link)
 //!                                   |the text of all that wait, at once
@@ -36,8 +36,9 @@
 //! if nobody else does at this moment. So with few calls open it wakes no other thread for them. What is sent is
 //! gathered first and then written at once, under a lock, by whichever thread sends.
 //!
-//! If lines wait in a book, the clock is woken, which makes their text; if many do the other threads move some of them
-//! out of the book too. Only the writing thread waits for the device of the log, and for a bounded time a receiver does.
+//! Once it has sent, the receiver makes the text of the lines of its link, if 64 wait. If 512 do, the clock is woken, which
+//! makes it otherwise once a second; if many do, the other threads move some of them out of the book too. Only the
+//! writing thread waits for the device of the log, and for a bounded time a receiver does.
 //!
 //! A thread of its own reads the commands, and the run follows them, while another thread accepts the connections and
 //! joins the threads of the links. All links share the tables, and each keeps the one from which it answers.
@@ -47,7 +48,7 @@
 //! | `run/` | the run: what it is given, its context, commands, status, events, report, and a thread for each link |
 //! | `link/` | a link: its threads, what they share, and its end |
 //! | `socket/` | connections: how they are awaited, watched, read and written |
-//! | `log/` | the log, from the lines that a book drains to the device |
+//! | `log/` | the log, from the lines that a book hands out to the device |
 //! | `moment.rt`, `system.rt` | the time; what is asked of the system, and how a thread of no scope is started |
 //!
 //! The links of a run have the numbers from its first link on. Inside, a link is known by its place among them, from 0;
@@ -70,7 +71,7 @@ mod system;
 
 pub use fp_linkstate::Why;
 pub use run::{
-    Commands, Event, Events, LinkStatus, Operator, ServeFault, Server, Service, Settings, Wanted,
-    WhenLogFails,
+    Commands, Event, Events, LinkStatus, Links, Operator, Peer, PeerName, ServeFault, Server,
+    Service, Settings, StandingLink, Wanted, WhenLogFails,
 };
 pub use system::System;

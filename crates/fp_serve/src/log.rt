@@ -1,4 +1,4 @@
-//! The log of a run, from the lines that a book drains to the device.
+//! The log of a run, from the lines that a book hands out to the device.
 //!
 //! | File | What it has |
 //! |---|---|

@@ -6,6 +6,7 @@
 //! | `context.rt` | [`Run`]: what all threads of a run share |
 //! | `settings.rt`, `service.rt` | which links and which tag a run has, how many workers and entries; what messages are answered from |
 //! | `commands.rt` | the commands, the thread that reads them, and how they are followed |
+//! | `peer.rt` | the peer of a link, and its text |
 //! | `status.rt` | the status of the links, for the commands |
 //! | `stop.rt`, `fault.rt` | why all links are to go down, or since when they are to end |
 //! | `events.rt` | the events of a run, and the thread that writes them |
@@ -15,6 +16,7 @@ mod commands;
 mod context;
 mod events;
 mod fault;
+mod peer;
 mod report;
 mod service;
 mod serving;
@@ -26,8 +28,9 @@ pub use commands::{Commands, Operator};
 pub(crate) use context::Run;
 pub use events::{Event, Events, Wanted};
 pub use fault::ServeFault;
+pub use peer::{Peer, PeerName};
 pub use service::Service;
-pub use serving::Server;
+pub use serving::{Links, Server, StandingLink};
 pub use settings::{Settings, WhenLogFails};
 pub use status::LinkStatus;
 pub(crate) use status::Statuses;

@@ -6,6 +6,7 @@ ghost use Rattle.scp.specs.Instant.{moment_in};
 
 mod serving;
 
+use crate::network::NetworkWords;
 use crate::tag::Tag;
 use clap::error::ErrorKind;
 use clap::{Arg, ArgAction, Command, Error, value_parser};
@@ -58,6 +59,8 @@ pub enum Asked<'a> {
         records: &'a str,
         /// The text of the address where connections are awaited, which has not been read.
         listen: &'a str,
+        /// The words for the node on a signalling network that the program is, if it is one.
+        network: Option<NetworkWords<'a>>,
         /// How many links there are, 1 to 8, from which number on, with which tag, and how many workers each has, 1 to 8.
         settings: Settings,
         /// The path of the log that is written.

@@ -3,6 +3,7 @@
 ghost use Rattle.std.specs.Prelude.{◌≡◌};
 
 use fp_ask::AskFault;
+use fp_network::NetworkFault;
 use fp_records::RecordsFault;
 use fp_replay::ReplayFault;
 use fp_serve::ServeFault;
@@ -40,6 +41,19 @@ pub enum RunFault {
     /// The links were not all served to their end.
     #[error("{0}")]
     Serve(ServeFault),
+    /// The network of a node ended before its link did.
+    #[error("{0}")]
+    Network(NetworkFault),
+}
+
+impl From<NetworkFault> for RunFault {
+    ghost use Rattle.scp.specs.declared.fault.RunFault.TheVariants.{Network};
+
+    ghost from_gives = { λ cause fault. fault ≡ Network cause };
+
+    fn from(cause: NetworkFault) -> RunFault {
+        RunFault::Network(cause)
+    }
 }
 
 impl From<RecordsFault> for RunFault {

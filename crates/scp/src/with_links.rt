@@ -8,20 +8,25 @@ ghost use Rattle.scp.specs.declared.fault.RunFault.TheVariants.{Serve, UnopenedL
 use crate::command::{Asked, asked_by};
 use crate::console::Console;
 use crate::fault::RunFault;
+use crate::network::NetworkWords;
 use crate::run::{accepted, records_in, run_asked, status_of};
 use fp_hub::Tables;
+use fp_network::{Drain, Network, NetworkEvent, NetworkFault, Node, Observer, Opened, Plan};
 use fp_records::Table;
 use fp_serve::{
-    Commands, Event, Events, Operator, ServeFault, Server, Service, Settings, System, Wanted,
+    Commands, Event, Events, Links, Operator, ServeFault, Server, Service, Settings, StandingLink,
+    System, Wanted,
 };
 use fp_streams::Counted;
 use sha2::{Digest, Sha256};
-use std::fs;
 use std::fs::{File, OpenFile, OpenOptions, TryLockError};
 use std::io::{ErrorKind, Read, Write};
 use std::net::{IpAddr, Net, SocketAddr, TcpListener, TcpStream};
 use std::os::unix::fs::{MetadataExt, OpenOptionsExt};
 use std::rt::Files;
+use std::sync::Arc;
+use std::thread::JoinHandle;
+use std::{fs, thread};
 
 /// Runs the program as [`program`](crate::program) does, and serves links if the words ask for that. Faults of `serve`
 /// are found in this order: the words, the application contexts, the records, the opening of the log, the address, the
@@ -67,6 +72,7 @@ where
             Asked::Serve {
                 records,
                 listen,
+                network,
                 settings,
                 log,
                 events,
@@ -81,7 +87,7 @@ where
                 events,
                 contexts,
             };
-            let outcome = serve_file(rt, asked, input, output, errors, event_lines);
+            let outcome = serve_file(rt, asked, network, input, output, errors, event_lines);
             status_of(outcome, errors)
         }
         asked => run_asked(rt, asked, input, output, errors),
@@ -103,6 +109,7 @@ struct Run<'a> {
 fn serve_file<H, R, W, E, V>(
     rt: &H,
     asked: Run<'_>,
+    network: Option<NetworkWords<'_>>,
     input: R,
     output: &mut W,
     errors: &mut E,
@@ -145,16 +152,112 @@ where
         events: &events,
         errors,
     };
+    let Side { links, network } = side_of(rt, network, listener)?;
+    let network = started(rt, network, &events)?;
     let server = Server {
         settings: asked.settings,
-        listener,
+        links,
         commands: Commands { input, operator },
         log: Counted::new(file),
     };
     let outcome = serve_links(rt, service, server, &events, &mut Counted::new(output));
+    let driven = match network {
+        Some(network) => network.join(rt),
+        None => Ok(()),
+    };
     events.finish(rt);
     outcome?;
+    driven?;
     Ok(())
+}
+
+/// Where the links of a run come from, and the network that carries them, if one does.
+#[derive(Drop)]
+struct Side {
+    links: Links,
+    network: Option<Network>,
+}
+
+/// Where the links of a run come from: from a listener, or over the network of a node whose transfer points connect to
+/// it.
+fn side_of<H: AllocGlobal + Net<Listener = TcpListener, Stream = TcpStream>>(
+    rt: &H,
+    words: Option<NetworkWords<'_>>,
+    listener: TcpListener,
+) -> Result<Side, RunFault> {
+    let Some(words) = words else {
+        return Ok(Side {
+            links: Links::Awaited(listener),
+            network: None,
+        });
+    };
+    let alloc = rt.alloc();
+    let Some(asked) = words.node(alloc)? else {
+        return Err(RunFault::Serve(ServeFault::NoConnection));
+    };
+    let Ok(address) = listener.local_addr() else {
+        return Err(RunFault::Serve(ServeFault::NoConnection));
+    };
+    let Ok(drain) = Arc::new(alloc, Drain::new()) else {
+        return Err(RunFault::Serve(ServeFault::Memory));
+    };
+    let plan = Plan {
+        own: asked.own,
+        exchange: asked.exchange,
+        units: asked.units.as_slice(),
+    };
+    let node = Node::new(alloc, plan)?;
+    let Opened { network, link } = Network::new(
+        rt,
+        alloc,
+        listener,
+        node,
+        Arc::try_clone(&drain)?,
+    )?;
+    let links = Links::Standing(StandingLink {
+        stream: link,
+        peer: asked.peer,
+        address,
+        drain,
+    });
+    Ok(Side {
+        links,
+        network: Some(network),
+    })
+}
+
+/// Tells the events of a run what happens on its network.
+#[derive(Drop)]
+struct Reporter<H> {
+    rt: H,
+    events: Events,
+}
+
+impl<H: System> Observer for Reporter<H> {
+    fn note(&mut self, event: NetworkEvent) {
+        self.events.report(&self.rt, Event::Network(event));
+    }
+}
+
+/// Starts a thread that drives a network, if there is one.
+fn started<H: System + Copy + Send + Sync + 'static>(
+    rt: &H,
+    network: Option<Network>,
+    events: &Events,
+) -> Result<Option<JoinHandle<Result<(), NetworkFault>>>, RunFault> {
+    let Some(network) = network else {
+        return Ok(None);
+    };
+    let own = *rt;
+    let events = events.share()?;
+    let work = move || {
+        let mut reporter = Reporter { rt: own, events };
+        network.run(&own, &mut reporter)
+    };
+    match thread::spawn(rt, work) {
+        Ok(handle) => Ok(Some(handle)),
+        Err(_) => Err(RunFault::Serve(ServeFault::NoThread)),
+    }
 }
 
 /// The events that are asked for, of which the first has the digest of the records.

@@ -134,11 +134,11 @@ fn assert_walk<R: Threads + Wait + Clock + Sync + Abort>(
 /// Each call of a hub makes its step: a call that is answered, then one that is held until its time is over and whose
 /// Abort can't be sent, which takes the link down and wakes the thread that rests. 512 lines wake it too, each time
 /// after the log was drained, and fewer don't; with 5,120 the log is filling, and with 7,168 nearly full, also if a
-/// drain left some of them.
+/// drain left some of them. An exchange takes all at once.
 #[test]
 fn each_call_makes_its_step(rt: HostRuntime) -> Result<(), Fail> {
     let words =
-        "opened back queued nothing sent nothing opened silent none due nothing one due queued up unsent down discarded nothing none due nothing woken all discarded rested all discarded woken drained all discarded woken all discarded not filling all discarded filling drained not filling all discarded filling all discarded nearly full drained filling drained not filling woken ";
+        "opened back queued nothing sent nothing opened silent none due nothing one due queued up unsent down discarded nothing none due nothing woken all discarded rested all discarded woken drained all discarded woken all discarded not filling all discarded filling drained not filling all discarded filling all discarded nearly full drained filling drained not filling few exchanged all discarded few all discarded some exchanged few exchanged all discarded some all discarded long exchanged few drained woken ";
     let totals = Totals {
         accepted: 1,
         served: 4,

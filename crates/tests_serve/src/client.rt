@@ -140,6 +140,16 @@ impl Client {
         hex::encode_upper(alloc, octets.as_slice()).ok()
     }
 
+    /// Reads octets. `None`: others come than those of this hexadecimal text, in upper case.
+    pub(crate) fn expect_octets(&mut self, alloc: Global, wanted: &str) -> Option<()> {
+        let text = self.read_text(alloc, wanted.len() / 2)?;
+        if text.as_str() == wanted {
+            Some(())
+        } else {
+            None
+        }
+    }
+
     /// Reads the next frame, and gives the hexadecimal text of its message.
     pub(crate) fn message(&mut self, alloc: Global) -> Option<String> {
         let head = self.read_text(alloc, 4)?;

@@ -2,6 +2,7 @@
 
 mod calls;
 mod commanding;
+mod network;
 mod reloading;
 mod runs;
 

@@ -31,6 +31,28 @@ impl<A: Ledger, B: Ledger, C: Ledger> Hub<A, B, C> {
         }
     }
 
+    /// Waits as [`Hub::await_room`], at most for this time. `false`: the message is still held back.
+    pub fn await_room_within<R: Wait + Clock>(
+        &self,
+        rt: &R,
+        came: &Prepared,
+        most: Duration,
+    ) -> bool {
+        let patience = Patience::new(rt, most);
+        let mut hold = self.hold(rt);
+        for _ in rt.forever() {
+            if !hold.kept.holds_back(came) {
+                return true;
+            }
+            let Some(left) = patience.left(rt) else {
+                return false;
+            };
+            self.awaits_room.store(true, Ordering::SeqCst);
+            hold = hold.wait_timeout(rt, &*self.room_came, left);
+        }
+        unreachable!()
+    }
+
     /// Waits until the book is quiet or the link is down, and says so; at most for this time. It is woken as
     /// [`Hub::await_room`] is.
     pub fn await_quiet<R: Wait + Clock>(&self, rt: &R, most: Duration) -> bool {

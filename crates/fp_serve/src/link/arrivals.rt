@@ -1,10 +1,11 @@
 //! The frames of a link that came.
 
 use crate::link::Link;
+use crate::link::hold_back::HoldBack;
 use crate::link::turns::LineGate;
 use crate::log::LogWait;
 use crate::moment::now;
-use crate::run::{Service, Stop};
+use crate::run::{Event, Service, Stop};
 use crate::system::System;
 use fp_apdu::Name;
 use fp_digits::Moment;
@@ -28,8 +29,9 @@ const OUT_OF_MEMORY: LinkEvent = LinkEvent::LoopFault { why: Why::Memory };
 
 /// Puts the frames of a link into its book, those of a read in as few holds of its lock as it takes, and helps to serve
 /// and to send what they bring. A frame that is held back waits here with those after it, and no other is read
-/// meanwhile: TCP holds the peer back then. Each is prepared again just before it is posted, so that its moment is that
-/// of the post; without memory for that it is posted as lost.
+/// meanwhile: TCP holds the peer back then. If a network carries the link, which TCP doesn't hold back, it waits for a
+/// fifth of a second and is posted then. Each is prepared again just before it is posted, so that its moment is that of
+/// the post; without memory for that it is posted as lost.
 #[derive(Drop)]
 struct Arrivals<'x, R, G: Gate, A: Ledger, B: Ledger, C: Ledger> {
     link: Link<'x, R, A, B, C>,
@@ -43,6 +45,8 @@ struct Arrivals<'x, R, G: Gate, A: Ledger, B: Ledger, C: Ledger> {
     came: VecDeque<Prepared>,
     // How it waits for the log.
     log_wait: LogWait,
+    // For how long messages are held back, if a network carries the link.
+    hold_back: Option<HoldBack>,
 }
 
 impl<R: System, G: Gate, A: Ledger, B: Ledger, C: Ledger> Arrivals<'_, R, G, A, B, C> {
@@ -88,11 +92,41 @@ impl<R: System, G: Gate, A: Ledger, B: Ledger, C: Ledger> Arrivals<'_, R, G, A, 
         }
     }
 
-    /// If a message is held back, waits until there is room. Takes it and those after it back to be prepared again.
+    /// Posts the messages that were prepared, up to the first that is held back; that one too, if it was held back for
+    /// long enough. `true`: an Abort answers one of them, of which the sending thread doesn't know.
+    fn post(&mut self) -> bool {
+        let Link { run, hub, .. } = self.link;
+        let alloc = run.service.alloc;
+        let count = self.came.len();
+        let is_aborted = hub.post_front(run.rt, alloc, &mut self.seat, &mut self.came);
+        let Some(hold_back) = &mut self.hold_back else {
+            return is_aborted;
+        };
+        if self.came.len() < count {
+            hold_back.is_over = false;
+            return is_aborted;
+        }
+        if hold_back.is_over {
+            if let Some(late) = self.came.pop_front() {
+                hub.post(run.rt, alloc, &mut self.seat, late);
+                hold_back.late = hold_back.late.saturating_add(1);
+            }
+        }
+        is_aborted
+    }
+
+    /// If a message is held back, waits until there is room, for as long as it is held back. Takes it and those after it
+    /// back to be prepared again.
     fn await_room(&mut self) {
         let Link { run, hub, .. } = self.link;
         if let Some(first) = self.came.front() {
-            hub.await_room(run.rt, first);
+            match &mut self.hold_back {
+                None => hub.await_room(run.rt, first),
+                Some(hold_back) => {
+                    let left = hold_back.left(run.rt);
+                    hold_back.is_over = !hub.await_room_within(run.rt, first, left);
+                }
+            }
         }
         if self.queue.take_back(&mut self.came).is_err() {
             self.link.meet(OUT_OF_MEMORY);
@@ -101,17 +135,19 @@ impl<R: System, G: Gate, A: Ledger, B: Ledger, C: Ledger> Arrivals<'_, R, G, A, 
 
     /// Posts the frames that were read, and helps to serve and to send what they bring, until none is left.
     fn post_frames(&mut self) {
-        let Link { run, hub, .. } = self.link;
-        let rt = run.rt;
-        let alloc = run.service.alloc;
+        let rt = self.link.run.rt;
+        if let Some(hold_back) = &mut self.hold_back {
+            hold_back.begin(rt);
+        }
         for _ in rt.forever() {
             if !self.prepare() {
                 break;
             }
-            let is_aborted = hub.post_front(rt, alloc, &mut self.seat, &mut self.came);
+            let is_aborted = self.post();
             if self.help() || is_aborted {
                 self.send();
             }
+            self.link.make_own_text();
             self.link.await_places(&mut self.log_wait);
             self.await_room();
         }
@@ -131,6 +167,9 @@ impl<R: System, G: Gate, A: Ledger, B: Ledger, C: Ledger> Inbox for Arrivals<'_,
     fn end_of_read(&mut self) {
         self.post_frames();
         self.log_wait.renew(self.link.run.log);
+        if let Some(hold_back) = &mut self.hold_back {
+            hold_back.is_new_read = true;
+        }
     }
 }
 
@@ -161,6 +200,20 @@ fn event_of<R: Clock>(stop: &Stop, rt: &R, ended: Ended, why: Why) -> LinkEvent 
 }
 
 impl<'x, R: System, A: Ledger, B: Ledger, C: Ledger> Link<'x, R, A, B, C> {
+    /// Reports how many messages were held back too long, if some were.
+    fn note_late(&self, hold_back: Option<HoldBack>) {
+        let messages = match hold_back {
+            Some(hold_back) => hold_back.late,
+            None => 0,
+        };
+        if messages > 0 {
+            let link = self.plan.link;
+            self.run
+                .events
+                .report(self.run.rt, Event::Late { link, messages });
+        }
+    }
+
     /// Receives until the link ends, and then awaits that it is down, as the table of `fp_linkstate` says. Returns the seat,
     /// with what was counted.
     pub(crate) fn receive_all<G: Gate>(self, gate: &'x G, seat: Seat<A, B, C>) -> Seat<A, B, C> {
@@ -184,13 +237,23 @@ impl<'x, R: System, A: Ledger, B: Ledger, C: Ledger> Link<'x, R, A, B, C> {
             queue,
             came,
             log_wait: LogWait::new(run.log),
+            hold_back: if run.drain.is_some() {
+                Some(HoldBack::new())
+            } else {
+                None
+            },
         };
         let mut reader = Counted::new(link.traced_stream());
         let ended = receive(alloc, &mut reader, MOST_READS, &mut arrivals);
         let why = reader.device.last.why(ended);
         link.meet(event_of(run.stop, run.rt, ended, why));
         link.await_down();
-        let Arrivals { seat, .. } = arrivals;
+        let Arrivals {
+            seat,
+            hold_back,
+            ..
+        } = arrivals;
+        link.note_late(hold_back);
         seat
     }
 }

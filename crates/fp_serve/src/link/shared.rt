@@ -14,7 +14,7 @@ use fp_book::Totals;
 use fp_hub::{Gate, Hub, Looks, PARTS, finish};
 use fp_linkstate::{Action, LinkEnd, LinkEvent, Why};
 use std::marker::Brand;
-use std::net::{Shutdown, SocketAddr, TcpStream};
+use std::net::{Shutdown, TcpStream};
 use std::sync::Mutex;
 use std::sync::ledger::{Blank, Ledger};
 use std::thread;
@@ -23,13 +23,11 @@ use std::time::{Duration, Instant};
 /// How many milliseconds go by between two looks whether all was handed on to the socket.
 const LOOK_MILLISECONDS: u64 = 1;
 
-/// Which link it is, by its place among those of the run, from 0, and by its number; the address of its client; and how
-/// its threads wait.
+/// Which link it is, by its place among those of the run, from 0, and by its number; and how its threads wait.
 #[derive(Clone, Copy)]
 pub(crate) struct Plan {
     pub(crate) place: u8,
     pub(crate) link: u8,
-    pub(crate) peer: SocketAddr,
     pub(crate) looks: Looks,
     ghost is_link: { link < 8 },
 }
@@ -87,11 +85,12 @@ impl<'x, R: System, A: Ledger, B: Ledger, C: Ledger> Link<'x, R, A, B, C> {
 
     /// Reports that the link came up.
     fn note_up(&self) {
-        let up = Event::Up {
-            link: self.plan.link,
-            peer: self.plan.peer,
-        };
-        self.run.events.report(self.run.rt, up);
+        let Plan { place, link, .. } = *self.plan;
+        if let Some(peer) = self.run.statuses.peer(self.run.rt, place) {
+            self.run
+                .events
+                .report(self.run.rt, Event::Up { link, peer });
+        }
     }
 
     /// Looks whether the links are to end, and whether the time of this one is over.

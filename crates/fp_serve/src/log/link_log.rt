@@ -3,7 +3,7 @@
 use crate::link::Link;
 use crate::run::{Event, Run, ServeFault};
 use crate::system::System;
-use fp_book::{Line, LoggedStep};
+use fp_book::{Line, Log, LoggedStep};
 use fp_logtext::{MadeText, UnwrittenText, WaitingLines};
 use std::alloc::{AllocError, Global};
 use std::sync::ledger::Ledger;
@@ -29,6 +29,12 @@ const MILLISECONDS_WITHOUT_MEMORY: u64 = 10;
 /// How often that is tried at most: for a minute.
 const MOST_TRIES: u32 = 6_000;
 
+/// From how many octets of text that it made a turn of the receiving thread ends.
+const OCTETS_OF_AN_OWN_TURN: usize = 1 << 16;
+
+/// From how many octets of text on the writing thread is woken by the receiving one.
+const OCTETS_OF_A_WRITE: usize = 1 << 16;
+
 /// What is left when a turn of making text ends.
 #[derive(Clone, Copy, PartialEq, Eq)]
 pub(crate) enum Left {
@@ -42,26 +48,21 @@ pub(crate) enum Left {
     NoMemory,
 }
 
-/// Reports a gap in the log of a link, if a line says that there is one.
-fn report_gap<R: System>(run: &Run<'_, R>, line: &Line) {
-    if let Line::Step {
-        link,
-        step: LoggedStep::Gap { lost },
-    } = line
-    {
-        let gap = Event::LogGap {
-            link: *link,
-            lines: *lost,
-        };
+/// Reports a gap in the log of a link, if a step says that there is one.
+fn report_gap<R: System>(run: &Run<'_, R>, link: u8, step: &LoggedStep) {
+    if let LoggedStep::Gap { lost } = step {
+        let gap = Event::LogGap { link, lines: *lost };
         run.events.report(run.rt, gap);
     }
 }
 
-/// Lines that were moved out of the book of a link.
+/// Lines that left the book of a link.
 #[derive(Drop)]
 struct Moved {
     // What is moved at once. Lines stay here if memory runs out.
     moved: Vec<Line>,
+    // For an exchange with the log of the book. Empty between two calls.
+    exchanged: Log,
     waiting: WaitingLines,
 }
 
@@ -70,6 +71,7 @@ impl Moved {
     fn new(alloc: Global) -> Result<Moved, AllocError> {
         Ok(Moved {
             moved: Vec::with_capacity(alloc, WaitingLines::MOST_AT_ONCE)?,
+            exchanged: Log::new(alloc)?,
             waiting: WaitingLines::new(alloc)?,
         })
     }
@@ -77,12 +79,14 @@ impl Moved {
 
 /// The lines of a link that wait for the thread that writes the log, in the order of its steps.
 ///
-/// The clock of the link moves lines here and makes their text, so that the writing thread, the only one of the run,
-/// has nothing to do but to write; it takes all text at once. A thread that serves calls moves lines if the book is
-/// filling; of these only the receiving thread makes text, while the list of lines is filling up. No lock is held while
-/// the device of the log is written, and the one that lines are moved under not while text is made; the lock of the
-/// link is taken under both. If nothing is taken for long, or memory runs out, lines stay here, and then in the book of
-/// the link, which counts those that find no place there in a gap. Each gap is reported as an event.
+/// The receiving thread of the link makes the text of its lines once it has sent, and the clock that of lines which are
+/// left for a second, or are many. So the writing thread, the only one of the run, has nothing to do but to write; it
+/// takes all text at once. Lines whose text is made leave the book by an exchange of two lists. If the book is filling,
+/// any thread that serves calls moves lines to those that wait; their text is made first then. Of these threads only
+/// the receiving one makes text. No lock is held while the device of the log is written, and the one that lines are moved
+/// under not while text is made; the lock of the link is taken under both. If nothing is taken for long, or memory runs
+/// out, lines stay here, and then in the book of the link, which counts those that find no place there in a gap. Each gap
+/// is reported as an event.
 #[derive(Drop)]
 pub(crate) struct LinkLog {
     // Taken before the lock of the lines that wait.
@@ -118,7 +122,9 @@ impl<R: System, A: Ledger, B: Ledger, C: Ledger> Link<'_, R, A, B, C> {
     fn drain(&self, lines: &mut Moved) {
         self.hub.drain(self.run.rt, &mut lines.moved);
         for line in lines.moved.iter() {
-            report_gap(self.run, line);
+            if let Line::Step { link, step } = line {
+                report_gap(self.run, *link, step);
+            }
         }
     }
 
@@ -141,11 +147,29 @@ impl<R: System, A: Ledger, B: Ledger, C: Ledger> Link<'_, R, A, B, C> {
         Ok(())
     }
 
-    /// Takes the lines that wait, once all that the book has were moved, to make their text.
+    /// Exchanges the log of the book for an empty one, to make the text of its lines, and reports the gaps among them.
+    fn exchange(&self, lines: &mut Moved, making: &mut MadeText) {
+        lines.exchanged.clear();
+        let link = self.hub.exchange_log(self.run.rt, &mut lines.exchanged);
+        for place in 0..lines.exchanged.len() {
+            if let Some(step) = lines.exchanged.get(place) {
+                report_gap(self.run, link, step);
+            }
+        }
+        making.take_log(link, &mut lines.exchanged);
+    }
+
+    /// Takes the lines that wait, to make their text, or, if none do, all that the book has. If these are many, they are
+    /// moved first.
     fn refill(&self, making: &mut MadeText) -> Result<(), AllocError> {
         let mut lines = self.lines.waiting.lock(self.run.rt);
-        self.move_lines(&mut lines, MOST_MOVES)?;
+        if self.hub.is_log_long() || !lines.moved.is_empty() {
+            self.move_lines(&mut lines, MOST_MOVES)?;
+        }
         making.refill(&mut lines.waiting);
+        if making.has_all_text() {
+            self.exchange(&mut lines, making);
+        }
         Ok(())
     }
 
@@ -177,7 +201,7 @@ impl<R: System, A: Ledger, B: Ledger, C: Ledger> Link<'_, R, A, B, C> {
             Err(_) => Left::NoMemory,
         };
         let count = making.line_count().saturating_sub(before);
-        self.run.log.add(self.run.rt, count);
+        self.run.log.add(count);
         left
     }
 
@@ -185,7 +209,28 @@ impl<R: System, A: Ledger, B: Ledger, C: Ledger> Link<'_, R, A, B, C> {
     pub(crate) fn make_text(&self) -> Left {
         let mut making = self.lines.making.lock(self.run.rt);
         let most = making.len().saturating_add(OCTETS_OF_A_TURN);
-        self.make(&mut making, most.min(MadeText::MOST))
+        let left = self.make(&mut making, most.min(MadeText::MOST));
+        if making.len() > 0 {
+            self.run.log.wake(self.run.rt);
+        }
+        left
+    }
+
+    /// Makes the text of lines, if the book has some, unless another thread does: of few of them, by the thread whose
+    /// calls add most lines.
+    pub(crate) fn make_own_text(&self) {
+        if !self.hub.has_log_lines() {
+            return;
+        }
+        let Some(mut making) = self.lines.making.try_lock() else {
+            return;
+        };
+        let before = making.len();
+        let most = before.saturating_add(OCTETS_OF_AN_OWN_TURN);
+        let _ = self.make(&mut making, most.min(MadeText::MOST));
+        if before < OCTETS_OF_A_WRITE && making.len() >= OCTETS_OF_A_WRITE {
+            self.run.log.wake(self.run.rt);
+        }
     }
 
     /// Makes the text of all lines, once the link is down and its other threads have ended. If memory runs out, it is
@@ -194,6 +239,7 @@ impl<R: System, A: Ledger, B: Ledger, C: Ledger> Link<'_, R, A, B, C> {
         let Run { rt, stop, .. } = *self.run;
         for _ in 0..MOST_TRIES {
             let left = self.make(&mut self.lines.making.lock(rt), usize::MAX);
+            self.run.log.wake(rt);
             if left != Left::NoMemory {
                 return;
             }

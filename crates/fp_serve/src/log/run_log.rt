@@ -3,7 +3,7 @@
 //! | Thread | Waits for | Is woken by | At most |
 //! |---|---|---|---|
 //! | the run, before it accepts connections | the first line, written or failed | the writing thread | a second |
-//! | the writing thread | lines, or that no more come | a thread of a link that made their text; the run | a second |
+//! | the writing thread | text, or that no more comes | a receiving thread that made 64 KB of it, the clock of a link that made or found some; the run | a second |
 //! | the writing thread | the device | the device | without a limit |
 //! | the writing thread, with gaps, after a write that failed | the next try | nobody | a second |
 //! | a receiving thread, for which there are no places | the device, while it gets on (`log_wait.rt`) | nobody | two seconds in a read, with gaps a tenth of one |
@@ -53,7 +53,7 @@ pub(crate) struct Log {
     written: AtomicU64,
     // How long a receiving thread waits for the device at most before it reads on.
     pub(crate) patience: Duration,
-    // Wakes the writing thread: lines got their text, or no more come.
+    // Wakes the writing thread: text waits for it, or no more comes.
     came: Sender<()>,
     // No more lines come.
     is_over: AtomicBool,
@@ -66,7 +66,7 @@ pub(crate) struct Log {
 /// The ends of the channels of a [`Log`] that its writing thread has.
 #[derive(Drop)]
 pub(crate) struct WriterEnds {
-    /// Says that lines got their text, or that no more come.
+    /// Says that text waits, or that no more comes.
     pub(crate) came: Receiver<()>,
     /// Takes that the head is written, and is dropped when nothing more is.
     pub(crate) begun: Sender<()>,
@@ -106,12 +106,16 @@ impl Log {
         self.links.get(place)
     }
 
-    /// Wakes the writing thread if lines got their text, this number of them. Doesn't wait.
-    pub(crate) fn add<R: Wait>(&self, rt: &R, count: u64) {
+    /// Lines got their text, this number of them.
+    pub(crate) fn add(&self, count: u64) {
         if count > 0 {
             self.unwritten.fetch_add(count, Ordering::SeqCst);
-            let _ = self.came.try_send(rt, ());
         }
+    }
+
+    /// Wakes the writing thread: text waits for it. Doesn't wait.
+    pub(crate) fn wake<R: Wait>(&self, rt: &R) {
+        let _ = self.came.try_send(rt, ());
     }
 
     /// The device took this number of octets, in which this number of lines end.

@@ -35,6 +35,9 @@ const REST_SECONDS: u64 = 1;
 /// How many milliseconds go by between two looks whether the thread of the links runs, until it does.
 const LOOK_MILLISECONDS: u64 = 200;
 
+/// How many seconds after the command to drain it is looked first whether dialogues are held.
+const SECONDS_TO_DRAIN: u64 = 2;
+
 /// How many seconds it may take to run.
 const SECONDS_AT_THE_START: u64 = 10;
 
@@ -68,6 +71,8 @@ pub(crate) enum Command {
     Reload,
     /// `links`: the status of each link.
     Links,
+    /// `drain`: the node is to ask for no new dialogues, and all links are to end once none is held.
+    Drain,
     /// `quit`: all links are to end.
     Quit,
     /// Any other line.
@@ -118,6 +123,7 @@ impl CommandLine {
         match str::from_utf8(octets) {
             Ok("reload") => Command::Reload,
             Ok("links") => Command::Links,
+            Ok("drain") => Command::Drain,
             Ok("quit") => Command::Quit,
             Ok(_) | Err(_) => Command::Unknown,
         }
@@ -203,6 +209,33 @@ fn links_text<R: Wait>(run: &Run<'_, R>) -> Result<String, AllocError>
     answer_of(alloc, run.settings.first_link, links.as_slice())
 }
 
+/// The node whose network carries the link is to drain.
+fn drain<R>(run: &Run<'_, R>) {
+    if let Some(drain) = run.drain {
+        drain.set();
+    }
+}
+
+/// Ends the links if the node drains and none of their dialogues is held. What they hold is as new as their last tick, a
+/// second ago at most. So it is looked at from two seconds after the command on (`since`).
+fn end_if_drained<R: System>(run: &Run<'_, R>, since: &mut Option<Instant>) {
+    let rt = run.rt;
+    let Some(drain) = run.drain else {
+        return;
+    };
+    if !drain.is_set() {
+        return;
+    }
+    if since.is_none() {
+        *since = Instant::now(rt).ok();
+    }
+    let least = Duration::from_secs(SECONDS_TO_DRAIN);
+    let is_time = time_since(rt, *since).is_some_and(|since| since >= least);
+    if is_time && run.statuses.hold_nothing(rt) {
+        run.stop.quit(rt);
+    }
+}
+
 /// Does what a command asks for, if one came, and writes its answer, if it has one. If memory runs out for that of
 /// `links`, it is said, and nothing is written.
 fn obey<R: System, O: Operator, W: LinkWrite>(
@@ -232,7 +265,11 @@ fn obey<R: System, O: Operator, W: LinkWrite>(
         },
         // The thread that read it has ended the links.
         Some(Command::Quit) if has_commands => Ok(()),
-        Some(Command::Links | Command::Quit | Command::Unknown) => {
+        Some(Command::Drain) if has_commands && run.drain.is_some() => {
+            drain(run);
+            Ok(())
+        }
+        Some(Command::Links | Command::Quit | Command::Drain | Command::Unknown) => {
             operator.refuse();
             Ok(())
         }
@@ -280,6 +317,7 @@ pub(crate) fn follow<R: System, O: Operator, W: LinkWrite>(
     } = *run;
     let has_commands = run.settings.has_commands;
     let mut is_input_open = true;
+    let mut drains_since = None;
     let start = Instant::now(rt).ok();
     let mut outcome = Ok(());
     for _ in rt.forever() {
@@ -302,6 +340,7 @@ pub(crate) fn follow<R: System, O: Operator, W: LinkWrite>(
             }
         }
         run.service.tables.free_replaced(rt);
+        end_if_drained(run, &mut drains_since);
         if lacks_thread(rt, statuses, start) {
             stop.ask_for(rt, ServeFault::NoThread);
             return Err(ServeFault::NoThread);

@@ -2,6 +2,8 @@
 
 use crate::log::Log;
 use crate::run::{Events, Service, Settings, Statuses, Stop};
+use fp_network::Drain;
+use std::sync::Arc;
 
 /// What all threads of a run share, except those that write its log and its events.
 #[derive_where(Clone, Copy)]
@@ -13,4 +15,6 @@ pub(crate) struct Run<'x, R> {
     pub(crate) events: &'x Events,
     pub(crate) stop: &'x Stop,
     pub(crate) log: &'x Log,
+    // Whether the node of the link drains, if a network carries the link.
+    pub(crate) drain: &'x Option<Arc<Drain>>,
 }

@@ -5,16 +5,16 @@
 //! length, and a thread of its own writes what comes out.
 
 use crate::moment::now;
-use crate::run::ServeFault;
+use crate::run::{Peer, ServeFault};
 use crate::system::{System, start_thread};
 use crossbeam_channel::{Receiver, Sender, bounded};
 use fp_digits::Moment;
 use fp_linkstate::Why;
+use fp_network::NetworkEvent;
 use jiff::Timestamp;
 use std::alloc::{AllocError, Global};
 use std::fmt;
 use std::io::Write;
-use std::net::SocketAddr;
 use std::rt::Clock;
 use std::sync::{Arc, Wait};
 use std::time::Duration;
@@ -44,8 +44,8 @@ pub enum Event {
     Up {
         /// Its number.
         link: u8,
-        /// The address of its client.
-        peer: SocketAddr,
+        /// Its peer.
+        peer: Peer,
     },
     /// A link went down.
     Down {
@@ -54,6 +54,15 @@ pub enum Event {
         /// The first reason that came.
         why: Why,
     },
+    /// Messages of a link were held back for as long as they may be, and then posted.
+    Late {
+        /// The number of the link.
+        link: u8,
+        /// How many messages.
+        messages: u64,
+    },
+    /// Something happened on the network that carries the link.
+    Network(NetworkEvent),
     /// The log can't be written, and the run goes on.
     LogFails,
     /// The log is written again.
@@ -93,6 +102,16 @@ impl fmt::Display for Event {
             }
             Event::Up { link, peer } => write!(f, "link {link} up {peer}"),
             Event::Down { link, why } => write!(f, "link {link} down {why}"),
+            Event::Late { link, messages: 1 } => {
+                write!(f, "link {link}: 1 message was held back too long")
+            }
+            Event::Late { link, messages } => {
+                write!(
+                    f,
+                    "link {link}: {messages} messages were held back too long"
+                )
+            }
+            Event::Network(event) => event.fmt(f),
             Event::LogFails => f.write_str("log: cannot be written, lines are lost"),
             Event::LogGoesOn => f.write_str("log: written again"),
             Event::LogGap { link, lines: 1 } => write!(f, "link {link} log: 1 line is lost"),
@@ -114,11 +133,10 @@ pub enum Wanted {
 
 impl Wanted {
     /// Whether this event is written.
-    fn includes(self, event: Event) -> bool {
-        match (self, event) {
-            (Wanted::All, _) => true,
-            (Wanted::LogFaults, Event::LogFails | Event::LogGoesOn) => true,
-            (Wanted::LogFaults, _) => false,
+    fn includes(self, event: &Event) -> bool {
+        match self {
+            Wanted::All => true,
+            Wanted::LogFaults => matches!(event, Event::LogFails | Event::LogGoesOn),
         }
     }
 }
@@ -233,14 +251,12 @@ impl Events {
         let Some(queue) = &self.queue else {
             return;
         };
-        if !queue.wanted.includes(event) {
+        if !queue.wanted.includes(&event) {
             return;
         }
-        let event = TimedEvent {
-            moment: now(rt),
-            event,
-        };
-        let _ = queue.sender.try_send(rt, Message::Event(event));
+        let moment = now(rt);
+        let timed = TimedEvent { moment, event };
+        let _ = queue.sender.try_send(rt, Message::Event(timed));
     }
 
     /// No more come. Waits until all were written, a second at most, or two if 1,024 wait.

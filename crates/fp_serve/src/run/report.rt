@@ -82,13 +82,8 @@ fn report(alloc: Global, totals: &[Totals]) -> Result<String, AllocError>
 }
 
 /// The beginning of the status line of a link.
-fn beginning(
-    alloc: Global,
-    link: usize,
-    is_down: bool,
-    peer: SocketAddr,
-) -> Result<String, AllocError>
-    ensures { IfOk result (λ text. string_bytes text ≡ beginning link is_down peer) }
+fn beginning(alloc: Global, link: usize, is_down: bool, peer: &str) -> Result<String, AllocError>
+    ensures { IfOk result (λ text. string_bytes text ≡ beginning link is_down peer.now) }
 {
     if is_down {
         format!(in alloc; "link {link} down {peer} accepted ")
@@ -114,7 +109,8 @@ fn status_line(alloc: Global, link: usize, known: LinkStatus) -> Result<String, 
     ensures { IfOk result (λ text. string_bytes text ≡ status_line link known) }
 {
     let LinkStatus { peer, status } = known;
-    let mut line = beginning(alloc, link, status.is_down, peer)?;
+    let peer = peer.text(alloc)?;
+    let mut line = beginning(alloc, link, status.is_down, peer.as_str())?;
     let counts = counts(alloc, status.totals, status.dialogues)?;
     line.push_str(counts.as_str())?;
     Ok(line)

@@ -10,18 +10,21 @@ use crate::log::start_log;
 use crate::moment::{await_next_second, now, tag_of};
 use crate::run::commands::{Commands, MOST_WAITING, Notice, Operator, follow, start_reading};
 use crate::run::report::{NOTHING, write_address, write_report};
-use crate::run::{Event, Events, Run, ServeFault, Service, Settings, Statuses, Stop};
-use crate::socket::connection;
+use crate::run::{
+    Event, Events, Peer, PeerName, Run, ServeFault, Service, Settings, Statuses, Stop,
+};
+use crate::socket::{connection, look_often};
 use crate::system::System;
 use crossbeam_channel::{Receiver, Sender, bounded};
 use fp_book::Totals;
 use fp_hub::{Gate, Looks, OpenGate};
+use fp_network::Drain;
 use fp_streams::LinkWrite;
 use std::alloc::{AllocError, Global};
 use std::io::Read;
-use std::net::{SocketAddr, TcpListener};
+use std::net::{SocketAddr, TcpListener, TcpStream};
 use std::rt::Clock;
-use std::sync::Wait;
+use std::sync::{Arc, Wait};
 use std::thread;
 use std::thread::{JoinHandle, Scope, Threads};
 
@@ -64,14 +67,54 @@ fn address_of(listener: &TcpListener) -> Result<SocketAddr, ServeFault> {
     }
 }
 
+/// A link whose connection was there before the run.
+#[derive(Drop)]
+pub struct StandingLink {
+    /// The connection: a stream of frames.
+    pub stream: TcpStream,
+    /// The text of its peer.
+    pub peer: PeerName,
+    /// The address that is reported as the one where the run listens.
+    pub address: SocketAddr,
+    /// Whether the node whose network carries the link is to drain.
+    pub drain: Arc<Drain>,
+}
+
+/// Where the links of a run come from.
+#[derive(Drop)]
+pub enum Links {
+    /// A connection is awaited here for each link.
+    Awaited(TcpListener),
+    /// The run has one link, which is there already. A network carries it.
+    Standing(StandingLink),
+}
+
+impl Links {
+    /// The address where the run listens.
+    fn address(&self) -> Result<SocketAddr, ServeFault> {
+        match self {
+            Links::Awaited(listener) => address_of(listener),
+            Links::Standing(link) => Ok(link.address),
+        }
+    }
+
+    /// Whether the node is to drain, if a network carries the link.
+    fn drain(&self) -> Result<Option<Arc<Drain>>, AllocError> {
+        match self {
+            Links::Awaited(_) => Ok(None),
+            Links::Standing(link) => Ok(Some(Arc::try_clone(&link.drain)?)),
+        }
+    }
+}
+
 /// What a run is given beside its records: how many links there are, where they come, what they are asked, and where
 /// their log goes.
 #[derive(Drop)]
 pub struct Server<I: Drop, O: Drop, L: Drop> {
     /// How many links there are, and how they are served.
     pub settings: Settings,
-    /// Where a connection is awaited for each link.
-    pub listener: TcpListener,
+    /// Where the links come from.
+    pub links: Links,
     /// What is asked of the run while it lasts.
     pub commands: Commands<I, O>,
     /// The device of the log.
@@ -157,13 +200,13 @@ impl<
     {
         let Server {
             settings,
-            listener,
+            links,
             commands,
             log,
         } = self;
         let tagged = Server {
             settings: with_tag_of_run(rt, settings),
-            listener,
+            links,
             commands,
             log,
         };
@@ -184,7 +227,7 @@ impl<
     {
         let Server {
             settings,
-            listener,
+            links,
             commands: Commands {
                 input,
                 mut operator,
@@ -192,7 +235,8 @@ impl<
             log: device,
         } = self;
         let alloc = service.alloc;
-        let address = address_of(&listener)?;
+        let address = links.address()?;
+        let drain = links.drain()?;
         let (sender, notices) = bounded(alloc, MOST_WAITING)?;
         let of_commands = sender.clone()?;
         let statuses = Statuses::new(alloc, settings.links)?;
@@ -210,55 +254,34 @@ impl<
             events,
             stop: &stop,
             log: &log,
+            drain: &drain,
         };
-        let Outcome { counted, followed } = run.serve_and_follow(
-            gate,
-            listener,
-            &sender,
-            &notices,
-            &mut operator,
-            output,
-        );
-        run.finish_log();
-        let counted = counted?;
-        if let Err(fault) = followed {
-            if settings.has_commands {
-                // By now the output may take it.
-                let _ = write_report(alloc, settings.first_link, counted.as_slice(), output);
-            }
-            return Err(stop.fault(rt).unwrap_or(fault));
-        }
+        let counted = run.serve_and_follow(gate, links, &sender, &notices, &mut operator, output)?;
         run.report(counted.as_slice(), output)
     }
 }
 
-/// What came of the links of a run, and of its commands.
-#[derive(Drop)]
-struct Outcome {
-    counted: Result<Vec<Totals>, AllocError>,
-    followed: Result<(), ServeFault>,
-}
-
 impl<'x, R: System + Sync> Run<'x, R> {
-    /// Runs links, at most 8, until all of them are down, in a thread of their own, and follows the commands meanwhile.
+    /// Runs links, at most 8, until all of them are down, in a thread of their own, and follows the commands meanwhile. Then
+    /// ends the log, and returns what the links counted. After a fault it is written, if commands are known.
     fn serve_and_follow<G: Gate + Sync, O: Operator, W: LinkWrite>(
         &'x self,
         gate: &'x G,
-        listener: TcpListener,
+        links: Links,
         sender: &Sender<Notice>,
         notices: &Receiver<Notice>,
         operator: &mut O,
         output: &mut W,
-    ) -> Outcome
-        ensures { OnOk result.followed (TellsAnswers self.entry.now.service.tables.now self.entry.now.settings.first_link self.entry.now.settings.has_commands
+    ) -> Result<Vec<Totals>, ServeFault>
+        ensures { OnOk result (TellsAnswers self.entry.now.service.tables.now self.entry.now.settings.first_link self.entry.now.settings.has_commands
             (W.contents output.old) (W.contents output.new)) }
     {
-        let mut listener = Some(listener);
+        let mut links = Some(links);
         let (counted, followed) = thread::join_mut(
             self.rt,
             &mut || {
                 self.statuses.begin();
-                let counted = run_links(self, gate, listener.take());
+                let counted = run_links(self, gate, links.take());
                 if counted.is_err() {
                     self.stop.ask_for(self.rt, ServeFault::Memory);
                 }
@@ -267,7 +290,21 @@ impl<'x, R: System + Sync> Run<'x, R> {
             },
             &mut || follow(self, notices, operator, output),
         );
-        Outcome { counted, followed }
+        self.finish_log();
+        let counted = counted?;
+        if let Err(fault) = followed {
+            let Settings {
+                first_link,
+                has_commands,
+                ..
+            } = self.settings;
+            if has_commands {
+                // By now the output may take it.
+                let _ = write_report(self.service.alloc, first_link, counted.as_slice(), output);
+            }
+            return Err(self.stop.fault(self.rt).unwrap_or(fault));
+        }
+        Ok(counted)
     }
 
     /// Ends the log once all links are down. If lines of it weren't written, it is reported how many, and that is the
@@ -302,18 +339,34 @@ impl<'x, R: System + Sync> Run<'x, R> {
     }
 }
 
-/// Accepts a connection for each link of a run and starts a thread for it, as long as connections are wanted. Then drops
-/// the listener, so that later ones are refused. There is room for the handles.
-fn start_links<'s, E: 's, R: System + Sync, G: Gate + Sync>(
+/// Starts a thread for a link that came, of this peer. There is room for its handle.
+fn start_link<'s, E: 's, R: System + Sync, G: Gate + Sync>(
     scope: &'s Scope<'s, E>,
     run: &'s Run<'s, R>,
     gate: &'s G,
-    listener: Option<TcpListener>,
+    plan: Plan,
+    peer: Peer,
+    stream: TcpStream,
     handles: &mut Vec<JoinHandle<Option<Totals>>>,
 ) {
-    let Some(listener) = listener else {
-        return;
-    };
+    run.statuses.add(run.rt, peer);
+    match scope.spawn(move || run_link(run, plan, gate, &stream)) {
+        Ok(handle) => {
+            let _ = handles.push(handle);
+        }
+        Err(_) => run.stop.ask_for(run.rt, ServeFault::NoThread),
+    }
+}
+
+/// Accepts a connection for each link of a run and starts a thread for it, as long as connections are wanted. Then drops
+/// the listener, so that later ones are refused. There is room for the handles.
+fn await_links<'s, E: 's, R: System + Sync, G: Gate + Sync>(
+    scope: &'s Scope<'s, E>,
+    run: &'s Run<'s, R>,
+    gate: &'s G,
+    listener: TcpListener,
+    handles: &mut Vec<JoinHandle<Option<Totals>>>,
+) {
     let Settings {
         links,
         first_link,
@@ -324,19 +377,50 @@ fn start_links<'s, E: 's, R: System + Sync, G: Gate + Sync>(
         let Some((stream, peer)) = connection(run.rt, &listener, run.stop) else {
             break;
         };
-        run.statuses.add(run.rt, peer);
         let plan = Plan {
             place,
             link: first_link + place,
-            peer,
             looks,
         };
-        match scope.spawn(move || run_link(run, plan, gate, &stream)) {
-            Ok(handle) => {
-                let _ = handles.push(handle);
-            }
-            Err(_) => run.stop.ask_for(run.rt, ServeFault::NoThread),
-        }
+        start_link(scope, run, gate, plan, Peer::Client(peer), stream, handles);
+    }
+}
+
+/// Starts a thread for the first link of a run, whose connection is there, unless no connections are wanted.
+fn start_standing<'s, E: 's, R: System + Sync, G: Gate + Sync>(
+    scope: &'s Scope<'s, E>,
+    run: &'s Run<'s, R>,
+    gate: &'s G,
+    link: StandingLink,
+    handles: &mut Vec<JoinHandle<Option<Totals>>>,
+) {
+    if run.stop.refuses_connections(run.rt) {
+        return;
+    }
+    let StandingLink { stream, peer, .. } = link;
+    look_often(&stream);
+    let plan = Plan {
+        place: 0,
+        link: run.settings.first_link,
+        looks: looks(run.rt, run.settings),
+    };
+    start_link(scope, run, gate, plan, Peer::Named(peer), stream, handles);
+}
+
+/// Starts a thread for each link of a run, wherever it comes from.
+fn start_links<'s, E: 's, R: System + Sync, G: Gate + Sync>(
+    scope: &'s Scope<'s, E>,
+    run: &'s Run<'s, R>,
+    gate: &'s G,
+    links: Option<Links>,
+    handles: &mut Vec<JoinHandle<Option<Totals>>>,
+) {
+    let Some(links) = links else {
+        return;
+    };
+    match links {
+        Links::Awaited(listener) => await_links(scope, run, gate, listener, handles),
+        Links::Standing(link) => start_standing(scope, run, gate, link, handles),
     }
 }
 
@@ -368,7 +452,7 @@ fn join_links<R: System>(
 fn run_links<'x, R: System + Sync, G: Gate + Sync>(
     run: &'x Run<'x, R>,
     gate: &'x G,
-    listener: Option<TcpListener>,
+    links: Option<Links>,
 ) -> Result<Vec<Totals>, AllocError> {
     thread::scope(
         thread::scope_env(),
@@ -378,7 +462,7 @@ fn run_links<'x, R: System + Sync, G: Gate + Sync>(
             let most = usize::from(run.settings.links);
             let mut handles = Vec::with_capacity(alloc, most)?;
             let mut counted = Vec::with_capacity(alloc, most)?;
-            start_links(scope, run, gate, listener, &mut handles);
+            start_links(scope, run, gate, links, &mut handles);
             join_links(run, handles, &mut counted);
             Ok(counted)
         },

@@ -1,19 +1,19 @@
 //! The status of the links of a run.
 
+use crate::run::Peer;
 use crate::run::commands::Notice;
 use crate::run::report::NOTHING;
 use crossbeam_channel::Sender;
 use fp_book::Status;
 use std::alloc::{AllocError, Global};
-use std::net::SocketAddr;
 use std::sync::atomic::{AtomicBool, Ordering};
 use std::sync::{Mutex, Wait};
 
 /// The status of a link that was accepted.
 #[derive(Clone, Copy, Debug, PartialEq, Eq)]
 pub struct LinkStatus {
-    /// The address of its client.
-    pub peer: SocketAddr,
+    /// Its peer.
+    pub peer: Peer,
     /// What its book said at its last tick, or in the end.
     pub status: Status,
 }
@@ -60,8 +60,8 @@ impl Statuses {
         self.are_down.load(Ordering::SeqCst)
     }
 
-    /// The next link was accepted, from this client.
-    pub(crate) fn add<R: Wait>(&self, rt: &R, peer: SocketAddr) {
+    /// The next link came, of this peer.
+    pub(crate) fn add<R: Wait>(&self, rt: &R, peer: Peer) {
         let status = Status {
             is_down: false,
             totals: NOTHING,
@@ -71,11 +71,25 @@ impl Statuses {
         let _ = self.links.lock(rt).push(LinkStatus { peer, status });
     }
 
+    /// The peer of the link in this place, which was accepted.
+    pub(crate) fn peer<R: Wait>(&self, rt: &R, place: u8) -> Option<Peer> {
+        match self.links.lock(rt).get(usize::from(place)) {
+            Some(known) => Some(known.peer),
+            None => None,
+        }
+    }
+
     /// Notes the status of the link in this place, which was accepted.
     pub(crate) fn note<R: Wait>(&self, rt: &R, place: u8, status: Status) {
         if let Some(known) = self.links.lock(rt).get_mut(usize::from(place)) {
             known.status = status;
         }
+    }
+
+    /// Whether no dialogue was held when their status was noted last.
+    pub(crate) fn hold_nothing<R: Wait>(&self, rt: &R) -> bool {
+        let links = self.links.lock(rt);
+        links.iter().all(|known| known.status.dialogues == 0)
     }
 
     /// The links that were accepted, in their order.

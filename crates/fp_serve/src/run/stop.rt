@@ -53,13 +53,12 @@ impl Stop {
         *self.fault.lock(rt)
     }
 
-    /// The links are to end as at the end of their input, from the first time on that this was asked for. One thread
-    /// asks for it.
+    /// The links are to end as at the end of their input, from the first time on that this was asked for.
     pub(crate) fn quit<R: Clock>(&self, rt: &R) {
-        if !self.is_quitting() {
-            self.quit_at
-                .store(self.time(rt).min(NOT_YET - 1), Ordering::SeqCst);
-        }
+        let at = self.time(rt).min(NOT_YET - 1);
+        let _ = self
+            .quit_at
+            .compare_exchange(NOT_YET, at, Ordering::SeqCst, Ordering::SeqCst);
     }
 
     /// When the links were to end as at the end of their input. `None`: they go on.

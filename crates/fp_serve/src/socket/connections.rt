@@ -1,7 +1,7 @@
 //! The connections of a run.
 
 use crate::run::{ServeFault, Stop};
-use crate::socket::keep_alive::watch_peer;
+use fp_network::watch_peer;
 use libc::net::{POLLIN, poll};
 use libc::types::pollfd;
 use std::io::ErrorKind;
@@ -106,6 +106,13 @@ fn look_for_one<R: Wait + Clock>(rt: &R, listener: &TcpListener) -> Look {
     }
 }
 
+/// Lets a read of a connection end after a fifth of a second, so that a thread that reads sees the command to end,
+/// although nothing comes.
+pub(crate) fn look_often(stream: &TcpStream) {
+    let most = Duration::from_millis(LOOK_MILLISECONDS.unsigned_abs().into());
+    let _ = stream.set_read_timeout(Some(most));
+}
+
 /// Awaits the next connection of a listener that doesn't block, and gives it with the address of its client. `None`:
 /// all links are to go down or to end, or none can be had, for which they are to go down.
 pub(crate) fn connection<R: Wait + Clock>(
@@ -126,9 +133,7 @@ pub(crate) fn connection<R: Wait + Clock>(
                 // Each answer goes out at once, whether the client has acknowledged the one before or not. If the
                 // system refuses that, answers go out all the same.
                 let _ = stream.set_nodelay(true);
-                // So a thread that reads sees the command to end, although nothing comes.
-                let most = Duration::from_millis(LOOK_MILLISECONDS.unsigned_abs().into());
-                let _ = stream.set_read_timeout(Some(most));
+                look_often(&stream);
                 watch_peer(&stream);
                 return Some((stream, peer));
             }

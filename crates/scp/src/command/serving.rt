@@ -1,7 +1,9 @@
 //! The words of `serve`.
 
 use super::{Asked, contexts, records};
+use crate::network::{NetworkWords, address_in, has_subsystem, units_in};
 use crate::tag::Tag;
+use clap::builder::ArgPredicate;
 use clap::{Arg, ArgAction, ArgMatches, Command, value_parser};
 use fp_serve::{Settings, Wanted};
 use fp_tids::LocalIds;
@@ -32,6 +34,10 @@ pub(super) fn serve_asked<'a>(
     let Some(settings) = settings.with_first_link(first_link) else {
         return refused_first_link(alloc, first_link, settings);
     };
+    let network = match network_words(alloc, chosen, links)? {
+        Ok(network) => network,
+        Err(refusal) => return Ok(Asked::Refused(refusal)),
+    };
     let tag = chosen.get_str("tag").unwrap_or("0");
     let Some(settings) = with_tag(settings, tag) else {
         return refused_tag(alloc, tag);
@@ -45,6 +51,7 @@ pub(super) fn serve_asked<'a>(
     Ok(Asked::Serve {
         records,
         listen: chosen.get_str("listen").unwrap_or(""),
+        network,
         settings: if chosen.get_flag("commands") {
             settings.with_commands()
         } else {
@@ -54,6 +61,55 @@ pub(super) fn serve_asked<'a>(
         events: wanted_events(chosen.get_flag("events"), has_log_gaps),
         contexts,
     })
+}
+
+/// The words for an address.
+const ADDRESS: &str = "neither PC:SSN, as 201:241, nor an address of SCCP in hexadecimal digits";
+
+/// The text of a value that is none of an option, in the form of clap's.
+fn refused_value(
+    alloc: Global,
+    option: &str,
+    value: &str,
+    wanted: &str,
+) -> Result<String, AllocError> {
+    format!(in alloc; "error: invalid value '{value}' for '--{option}': {value} is {wanted}{MORE}")
+}
+
+/// The words of `serve` for a node, if it is to be one; or the text of a word that is refused.
+fn network_words<'a>(
+    alloc: Global,
+    chosen: &ArgMatches<'a>,
+    links: u8,
+) -> Result<Result<Option<NetworkWords<'a>>, String>, AllocError> {
+    let Some(own) = chosen.get_str("sccp") else {
+        return Ok(Ok(None));
+    };
+    let exchange = chosen.get_str("exchange").unwrap_or("");
+    let units = chosen.get_str("units").unwrap_or("");
+    if links != 1 {
+        let refusal = format!(in alloc; "error: with '--sccp' there is 1 link, not {links}{MORE}")?;
+        return Ok(Err(refusal));
+    }
+    let Some(address) = address_in(own) else {
+        return Ok(Err(refused_value(alloc, "sccp <ADDRESS>", own, ADDRESS)?));
+    };
+    if !has_subsystem(&address) {
+        let wanted = "an address without a subsystem number";
+        return Ok(Err(refused_value(alloc, "sccp <ADDRESS>", own, wanted)?));
+    }
+    if address_in(exchange).is_none() {
+        return Ok(Err(refused_value(alloc, "exchange <ADDRESS>", exchange, ADDRESS)?));
+    }
+    if units_in(alloc, units)?.is_none() {
+        let wanted = "no list of 1 to 8 different names of 1 to 64 octets";
+        return Ok(Err(refused_value(alloc, "units <NAME,..>", units, wanted)?));
+    }
+    Ok(Ok(Some(NetworkWords {
+        own,
+        exchange,
+        units,
+    })))
 }
 
 /// The settings with the tag that a text names: a number up to 4,094, or `auto`. `None`: it names none.
@@ -126,6 +182,46 @@ fn flag<'a>(alloc: Global, name: &'a str, help: &'a str) -> Arg<'a> {
         .help(help)
 }
 
+/// The option for the tag of the run.
+fn tag_option<'a>(alloc: Global) -> Result<Arg<'a>, AllocError> {
+    let tag = Arg::new(alloc, "tag")
+        .long("tag")
+        .value_name("N|auto")
+        .default_value("0")
+        .help(
+            "The tag of the run, 0 to 4094, by which its identifiers differ from those of others; auto: by the time",
+        );
+    tag.default_value_if("sccp", ArgPredicate::IsPresent, Some(AUTO))
+}
+
+/// The options of a node on a signalling network.
+fn with_network_options<'a>(
+    alloc: Global,
+    command: Command<'a>,
+) -> Result<Command<'a>, AllocError> {
+    let sccp = Arg::new(alloc, "sccp")
+        .long("sccp")
+        .value_name("ADDRESS")
+        .help(
+            "Be a node with this address of SCCP, PC:SSN or all its octets in hexadecimal digits; transfer points connect over IPA",
+        )
+        .requires_arg("exchange")?
+        .requires_arg("units")?;
+    let exchange = Arg::new(alloc, "exchange")
+        .long("exchange")
+        .value_name("ADDRESS")
+        .help("The address of the exchange whose dialogues are served, with --sccp")
+        .requires_arg("sccp")?;
+    let units = Arg::new(alloc, "units")
+        .long("units")
+        .value_name("NAME,..")
+        .help(
+            "The units that transfer points may name, with --sccp; the first is the one that several nodes have in common",
+        )
+        .requires_arg("sccp")?;
+    command.arg(sccp)?.arg(exchange)?.arg(units)
+}
+
 /// The subcommand that serves links.
 pub(super) fn serve_command<'a>(alloc: Global) -> Result<Command<'a>, AllocError> {
     let listen = Arg::new(alloc, "listen")
@@ -144,14 +240,7 @@ pub(super) fn serve_command<'a>(alloc: Global) -> Result<Command<'a>, AllocError
         .value_parser(value_parser!(u8).range(0..=7))
         .default_value("0")
         .help("The number of the first link, 0 to 7; the others have the next ones, up to 7");
-    let tag = Arg::new(alloc, "tag")
-        .long("tag")
-        .value_name("N|auto")
-        .default_value("0")
-        .help(
-            "The tag of the run, 0 to 4094, by which its identifiers differ from those of others; auto: by the time",
-        );
-    Command::new(alloc, SERVE)
+    let command = Command::new(alloc, SERVE)
         .about("Awaits connections, and answers the TCAP messages of each as one link")
         .after_help(SERVE_EXAMPLE)
         .arg(records(alloc))?
@@ -170,7 +259,8 @@ pub(super) fn serve_command<'a>(alloc: Global) -> Result<Command<'a>, AllocError
             "How many connections are accepted, 1 to 8",
         ))?
         .arg(first_link)?
-        .arg(tag)?
+        .arg(tag_option(alloc)?)?;
+    with_network_options(alloc, command)?
         .arg(contexts(alloc))?
         .arg(flag(
             alloc,

@@ -317,6 +317,29 @@ impl<R: Wait + Clock, A: Ledger, B: Ledger, C: Ledger> Caller<'_, R, A, B, C> {
         }
     }
 
+    /// How many lines the log has, roughly.
+    pub(super) fn amount(&self) -> &'static str {
+        match (self.hub.has_log_lines(), self.hub.is_log_long()) {
+            (false, false) => "few",
+            (true, false) => "some",
+            (true, true) => "long",
+            (false, true) => "else",
+        }
+    }
+
+    /// Exchanges the log of link 0, which has so many lines, for an empty one.
+    pub(super) fn exchange(&self, line_count: usize) -> &'static str {
+        let Ok(mut log) = Log::new(self.alloc) else {
+            return "no memory";
+        };
+        let link = self.hub.exchange_log(self.rt, &mut log);
+        if link == 0 && log.len() == line_count {
+            "exchanged"
+        } else {
+            "else"
+        }
+    }
+
     /// Drains the log, which has so many lines.
     pub(super) fn drain(&self, line_count: usize) -> &'static str {
         self.drain_into(Log::MOST, line_count)

@@ -18,6 +18,12 @@ const FILLING_LOG: usize = 5120;
 /// With how many the log is nearly full: seven eighths of the places for them.
 const NEARLY_FULL_LOG: usize = 7168;
 
+/// With how many it is worth while to make their text.
+const OF_A_TEXT: usize = 64;
+
+/// With how many the log is long.
+const LONG_LOG: usize = 1024;
+
 /// How many Begins fill all places for frames, and one more.
 const FILLING: usize = Outbox::MOST_FRAMES / CALLS_COUNT + 1;
 
@@ -82,8 +88,30 @@ impl<
         words.say(self.fullness());
         words.say(self.drain(NEARLY_FULL_LOG - 1));
         words.say(self.fullness());
+        self.exchange_often(words);
         self.hub.down(self.rt);
         words.say(self.rest(LONG));
+    }
+
+    /// Exchanges the log, which has no lines at first: it has some from 64 on, and is long from 1,024 on. All come out at
+    /// once, and none comes out twice.
+    fn exchange_often(&mut self, words: &mut Words) {
+        words.say(self.amount());
+        words.say(self.exchange(0));
+        words.say(self.post_many(OF_A_TEXT - 1));
+        words.say(self.amount());
+        words.say(self.post_many(1));
+        words.say(self.amount());
+        words.say(self.exchange(OF_A_TEXT));
+        words.say(self.amount());
+        words.say(self.exchange(0));
+        words.say(self.post_many(LONG_LOG - 1));
+        words.say(self.amount());
+        words.say(self.post_many(1));
+        words.say(self.amount());
+        words.say(self.exchange(LONG_LOG));
+        words.say(self.amount());
+        words.say(self.drain(0));
     }
 
     /// Fills all places for frames after a parcel was sent. Two workers listen, and one of them is hinted when the next

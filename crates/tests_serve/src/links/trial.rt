@@ -8,7 +8,7 @@ use fp_apdu::Name;
 use fp_hub::{Gate, Tables};
 use fp_records::Table;
 use fp_replay::{ReplayFault, replay};
-use fp_serve::{Commands, Events, Operator, ServeFault, Server, Service, Settings, Wanted};
+use fp_serve::{Commands, Events, Links, Operator, ServeFault, Server, Service, Settings, Wanted};
 use fp_streams::Counted;
 use std::alloc::{AllocError, Global};
 use std::net::{SocketAddr, TcpListener};
@@ -189,7 +189,7 @@ impl Trial {
         };
         let server = Server {
             settings: self.settings,
-            listener,
+            links: Links::Awaited(listener),
             commands: Commands {
                 input: Typed::new(rt, &self.commands).ok()?,
                 operator: NoOperator,

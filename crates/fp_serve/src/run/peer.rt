@@ -1,0 +1,58 @@
+//! The peer of a link.
+
+ghost use Rattle.std.specs.Prelude.{◌≡◌, IfOk, string_bytes};
+ghost use Rattle.fp_serve.specs.Report.{peer_text};
+
+use arrayvec::ArrayString;
+use std::alloc::{AllocError, Global};
+use std::fmt;
+use std::net::SocketAddr;
+
+/// The text of a peer, of at most 40 octets.
+pub type PeerName = ArrayString<40>;
+
+/// The peer of a link.
+#[derive(Clone, Copy, Debug, PartialEq, Eq)]
+pub enum Peer {
+    /// The client of a connection that was accepted, at this address.
+    Client(SocketAddr),
+    /// The peer of a link whose connection was there already.
+    Named(PeerName),
+}
+
+impl fmt::Display for Peer {
+    fn fmt<W: fmt::Write>(&self, f: &mut fmt::Formatter<W>) -> fmt::Result {
+        match self {
+            Peer::Client(address) => write!(f, "{address}"),
+            Peer::Named(name) => f.write_str(name.as_str()),
+        }
+    }
+}
+
+impl Peer {
+    /// The text of an address.
+    fn address_text(alloc: Global, address: SocketAddr) -> Result<String, AllocError>
+        ensures { IfOk result (λ text. string_bytes text ≡ peer_text (Self.Client address)) }
+    {
+        format!(in alloc; "{address}")
+    }
+
+    /// A name as a text.
+    fn name_text(alloc: Global, name: PeerName) -> Result<String, AllocError>
+        ensures { IfOk result (λ text. string_bytes text ≡ peer_text (Self.Named name)) }
+    {
+        let mut text = String::new(alloc);
+        text.push_str(name.as_str())?;
+        Ok(text)
+    }
+
+    /// Its text: the address, or the name.
+    pub(crate) fn text(self, alloc: Global) -> Result<String, AllocError>
+        ensures { IfOk result (λ text. string_bytes text ≡ peer_text self) }
+    {
+        match self {
+            Peer::Client(address) => Peer::address_text(alloc, address),
+            Peer::Named(name) => Peer::name_text(alloc, name),
+        }
+    }
+}
