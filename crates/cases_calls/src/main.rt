@@ -10,6 +10,7 @@
 //! | `unit_data` | messages of SCCP, addresses, what is returned of them |
 //! | `connections` | messages of IPA, and the connections that carry them |
 //! | `network` | links to a signalling network |
+//! | `nodes` | nodes: their connections and their link, octet by octet |
 //! | `messages` | messages and components of TCAP, their identifiers |
 //! | `portions` | the dialogue portion |
 //! | `streams` | the lines of a reader, and octets written whole |
@@ -37,6 +38,7 @@ mod invocations;
 mod kinds;
 mod messages;
 mod network;
+mod nodes;
 mod numbers;
 mod portions;
 mod records;
@@ -70,6 +72,7 @@ fn plain(alloc: Global, kind: &str, rest: &str, out: &mut String) -> anyhow::Res
             || unit_data::answer(alloc, kind, rest, out)?
             || connections::answer(alloc, kind, rest, out)?
             || network::answer(alloc, kind, rest, out)?
+            || nodes::answer(alloc, kind, rest, out)?
             || messages::answer(alloc, kind, rest, out)?
             || portions::answer(alloc, kind, rest, out)?
             || streams::answer(alloc, kind, rest, out)?

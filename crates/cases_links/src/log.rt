@@ -6,6 +6,7 @@
 //! |---|---|
 //! | `add COUNT` | COUNT steps are put into the log: how many there are then |
 //! | `len` | how many there are |
+//! | `exchange` | the log is exchanged for an empty one: the same of all steps, and how many there are then |
 //! | `drain LINK ROOM` | the oldest ones, at most ROOM, as lines of this link: how many, the first, the last |
 //!
 //! A line is `take PLACE` or `gap LOST`. If one is of another link, or its place isn't above those before it, the case
@@ -108,6 +109,16 @@ impl Turns {
         self.push_length(out)
     }
 
+    /// Exchanges the log for an empty one.
+    fn exchange(&mut self, out: &mut String) -> anyhow::Result<()> {
+        let mut log = Log::new(self.alloc)?;
+        self.log.exchange(&mut log);
+        let lines = lines_of(self.alloc, &mut log)?;
+        push_lines(out, 0, lines.as_slice())?;
+        write!(out, ", {} left", self.log.len())?;
+        Ok(())
+    }
+
     /// Drains the oldest steps.
     fn drain(&mut self, text: &str, out: &mut String) -> anyhow::Result<()> {
         let (link, room) = first_word(text);
@@ -118,6 +129,13 @@ impl Turns {
     }
 }
 
+/// Moves the steps of a log to a list, as lines of link 0.
+fn lines_of(alloc: Global, log: &mut Log) -> anyhow::Result<Vec<Line>> {
+    let mut lines = Vec::with_capacity(alloc, log.len())?;
+    log.drain(0, &mut lines);
+    Ok(lines)
+}
+
 impl Steps for Turns {
     fn step(&mut self, step: &str, out: &mut String) -> anyhow::Result<()> {
         let (verb, rest) = first_word(step);
@@ -125,6 +143,7 @@ impl Steps for Turns {
             "drain" => self.drain(rest, out),
             "add" => self.add(rest, out),
             "len" => self.push_length(out),
+            "exchange" => self.exchange(out),
             _ => bail!("no step: {verb}"),
         }
     }

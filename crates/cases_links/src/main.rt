@@ -17,6 +17,8 @@
 //! | `run`, `random`, .. | `runs` | whole runs of a link |
 //! | `text`, .. | `lines` | the text of a log line, read and written again |
 //! | `replay`, .. | `replays` | logs, replayed |
+//! | `counted`, `sent`, `times`, .. | `counting` | what is counted on a link |
+//! | `page`, `metrics` | `pages` | what an operator's tools get over HTTP |
 //! | `logged-run`, `long-run` | `logged_runs` | the logs of whole runs, and their replay |
 //! | `by-tables` | here | `by-tables COUNT CASE`: a case of a run or of a log by this number of tables without numbers |
 //!
@@ -30,6 +32,7 @@
 
 mod arrivals;
 mod book;
+mod counting;
 mod devices;
 mod held;
 mod lines;
@@ -40,6 +43,7 @@ mod memory;
 mod messages;
 mod numbering;
 mod outbox;
+mod pages;
 mod ready;
 mod receiving;
 mod replays;
@@ -84,7 +88,9 @@ fn of_link(alloc: Global, kind: &str, rest: &str, out: &mut String) -> anyhow::R
         streams::answer(alloc, kind, rest, out)?
             || receiving::answer(alloc, kind, rest, out)?
             || sending::answer(alloc, kind, rest, out)?
-            || lines::answer(alloc, kind, rest, out)?,
+            || lines::answer(alloc, kind, rest, out)?
+            || counting::answer(alloc, kind, rest, out)?
+            || pages::answer(alloc, kind, rest, out)?,
     )
 }
 

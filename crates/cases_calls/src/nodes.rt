@@ -1,0 +1,169 @@
+//! Nodes: what becomes of the octets of their connections and of their link.
+//!
+//! | Case | What it gives |
+//! |---|---|
+//! | `node OWN EXCHANGE NAME,.. EVENT ..` | what a node with these units comes to after each event: what happened, the octets that are to be written (`K<HEX` to the connection in place K, `link<HEX`), all of which are written before the next event |
+//!
+//! | Event | What it is |
+//! |---|---|
+//! | `came:AT` | a connection comes at this time; it gets the first free place |
+//! | `received:K:HEX` | octets come by the connection in place K |
+//! | `over:K` | the peer of the connection in place K closed it |
+//! | `link:HEX` | octets come from the link |
+//! | `tick:AT` | time goes by |
+//! | `drain` | the node is to drain |
+//! | `counts` | nothing happens, and the numbers are written |
+
+use anyhow::bail;
+use cases::{first_word, octets_of, push_octets};
+use fp_ipa::UnitName;
+use fp_network::{Closing, Node, Plan};
+use fp_sccp::Address;
+use std::alloc::Global;
+use std::fmt::Write;
+use std::net::{Ipv4Addr, SocketAddr};
+
+/// The two parts of a text at its first colon.
+fn parts(text: &str) -> (&str, &str) {
+    match text.split_once(':') {
+        Some((first, rest)) => (first, rest),
+        None => (text, ""),
+    }
+}
+
+/// The address of these octets.
+fn address(alloc: Global, text: &str) -> anyhow::Result<Address> {
+    let octets = octets_of(alloc, text)?;
+    match Address::new(octets.as_slice()) {
+        Some(address) => Ok(address),
+        None => bail!("no address"),
+    }
+}
+
+/// Units of these names.
+fn units(alloc: Global, text: &str) -> anyhow::Result<Vec<UnitName>> {
+    let mut names = Vec::new(alloc);
+    for piece in text.split(',') {
+        let Some(name) = UnitName::new(piece.as_bytes()) else {
+            bail!("no name");
+        };
+        names.push(name)?;
+    }
+    Ok(names)
+}
+
+/// A node receives octets of a connection.
+fn receive(alloc: Global, node: &mut Node, place: &str, text: &str) -> anyhow::Result<()> {
+    let octets = octets_of(alloc, text)?;
+    Ok(node.received(place.parse()?, octets.as_slice())?)
+}
+
+/// A node receives octets of its link.
+fn receive_from_link(alloc: Global, node: &mut Node, text: &str) -> anyhow::Result<()> {
+    let octets = octets_of(alloc, text)?;
+    Ok(node.received_from_link(octets.as_slice())?)
+}
+
+/// Lets an event happen.
+fn happen(alloc: Global, node: &mut Node, event: &str) -> anyhow::Result<()> {
+    let (kind, rest) = parts(event);
+    let (first, second) = parts(rest);
+    match kind {
+        "came" => {
+            let peer = SocketAddr::from((Ipv4Addr::LOCALHOST, 5000));
+            node.came(peer, first.parse()?)?;
+        }
+        "received" => receive(alloc, node, first, second)?,
+        "over" => node.close(first.parse()?, Closing::PeerClosed),
+        "link" => receive_from_link(alloc, node, first)?,
+        "tick" => node.tick(first.parse()?),
+        "drain" => node.drain(),
+        "counts" => {}
+        _ => bail!("no such event"),
+    }
+    Ok(())
+}
+
+/// Writes what happened.
+fn push_events(out: &mut String, node: &mut Node) -> anyhow::Result<()> {
+    for _ in 0..100 {
+        let Some(event) = node.next_event() else {
+            return Ok(());
+        };
+        write!(out, " [{event}]")?;
+    }
+    Ok(())
+}
+
+/// Writes what waits for the connection in a place, and clears the place if its connection is to be closed.
+fn push_waiting(out: &mut String, node: &mut Node, place: usize) -> anyhow::Result<()> {
+    if node.is_over(place) {
+        node.clear(place);
+        return Ok(());
+    }
+    let count = node.waiting(place).len();
+    if count > 0 {
+        write!(out, " {place}<")?;
+        push_octets(out, node.waiting(place))?;
+        node.written(place, count);
+    }
+    Ok(())
+}
+
+/// Writes what waits for the link.
+fn push_for_link(out: &mut String, node: &mut Node) -> anyhow::Result<()> {
+    let count = node.waiting_for_link().len();
+    if count > 0 {
+        out.push_str(" link<")?;
+        push_octets(out, node.waiting_for_link())?;
+        node.written_to_link(count);
+    }
+    Ok(())
+}
+
+/// Writes what a node comes to after an event.
+fn push_effects(out: &mut String, node: &mut Node, event: &str) -> anyhow::Result<()> {
+    push_events(out, node)?;
+    for place in 0..Node::PLACES {
+        push_waiting(out, node, place)?;
+    }
+    push_for_link(out, node)?;
+    if event == "counts" {
+        write!(out, " {}", node.tally())?;
+    }
+    Ok(())
+}
+
+/// What comes of the events of a node.
+fn node(alloc: Global, text: &str, out: &mut String) -> anyhow::Result<()> {
+    let (own, rest) = first_word(text);
+    let (exchange, rest) = first_word(rest);
+    let (names, events) = first_word(rest);
+    let names = units(alloc, names)?;
+    let plan = Plan {
+        own: address(alloc, own)?,
+        exchange: address(alloc, exchange)?,
+        units: names.as_slice(),
+    };
+    let mut node = Node::new(alloc, plan)?;
+    for event in events.split(' ') {
+        happen(alloc, &mut node, event)?;
+        push_effects(out, &mut node, event)?;
+        out.push_str(";")?;
+    }
+    Ok(())
+}
+
+/// Writes what a case of this module gives, and says whether it has one of this kind.
+pub(crate) fn answer(
+    alloc: Global,
+    kind: &str,
+    rest: &str,
+    out: &mut String,
+) -> anyhow::Result<bool> {
+    if kind != "node" {
+        return Ok(false);
+    }
+    node(alloc, rest, out)?;
+    Ok(true)
+}

@@ -1,0 +1,87 @@
+//! What an operator's tools get over HTTP.
+//!
+//! | Case | What it gives |
+//! |---|---|
+//! | `page METHOD PATH HEALTH` | the status and the body, where HEALTH is `live`, `ready`, `both` or `none` |
+//! | `metrics LINK ..` | the lines of the counters that aren't 0, each link having counted one Begin; in the run an answer took 20 seconds |
+
+use cases::first_word;
+use fp_counters::{Counter, Counters, Histogram};
+use fp_metrics::{Gauges, Health, LinkNumbers, RunNumbers, answer_to, metrics_text};
+use std::alloc::Global;
+use std::fmt::Write;
+
+/// What each link has in a case.
+const GAUGES: Gauges = Gauges {
+    is_up: true,
+    dialogues: 5,
+    most_dialogues: 6,
+    most_places: 7,
+    lines: 8,
+    most_lines: 9,
+};
+
+/// What a page says.
+fn page(words: &str, out: &mut String) -> anyhow::Result<()> {
+    let (method, rest) = first_word(words);
+    let (path, health) = first_word(rest);
+    let health = Health {
+        is_live: health == "live" || health == "both",
+        is_ready: health == "ready" || health == "both",
+    };
+    let answer = answer_to(method, path, health);
+    let status = answer.status().as_u16();
+    let body = answer.body("numbers\n").trim_end();
+    write!(out, "{status} {body}")?;
+    Ok(())
+}
+
+/// The lines that don't end in 0, and the number of all lines.
+fn metrics(alloc: Global, words: &str, out: &mut String) -> anyhow::Result<()> {
+    let mut links = Vec::new(alloc);
+    for word in words.split(' ') {
+        let mut counters = Counters::new();
+        counters.count(Counter::Begins);
+        counters.add(Counter::LinesLost, u64::MAX);
+        links.push(LinkNumbers {
+            link: word.parse()?,
+            gauges: GAUGES,
+            counters,
+        })?;
+    }
+    let mut answer_times = Histogram::new();
+    answer_times.observe(20_000_000);
+    let run = RunNumbers {
+        version: "1.0",
+        records: "ab",
+        reloads: 3,
+        answer_times,
+        links: links.as_slice(),
+    };
+    let text = metrics_text(alloc, &run)?;
+    let mut count: usize = 0;
+    for line in text.as_str().lines() {
+        count = count.saturating_add(1);
+        if !line.starts_with('#') && !line.ends_with(" 0") {
+            write!(out, "{line}; ")?;
+        }
+    }
+    write!(out, "{count} lines")?;
+    Ok(())
+}
+
+/// Writes what a case of this module gives, and says whether it has one of this kind.
+pub(crate) fn answer(
+    alloc: Global,
+    kind: &str,
+    rest: &str,
+    out: &mut String,
+) -> anyhow::Result<bool> {
+    let written = match kind {
+        "page" => page(rest, out),
+        "metrics" => metrics(alloc, rest, out),
+        _ => return Ok(false),
+    };
+    written?;
+    Ok(true)
+}
