@@ -3,7 +3,7 @@
 ghost use Rattle.std.specs.Prelude.{◌≡◌, ◌↔◌, IfSome, IsSome};
 ghost use Rattle.fp_hub.specs.Shares.{Whole, amounts};
 
-use crate::{Hub, Seat};
+use crate::{Hub, PARTS, Seat};
 use fp_book::Totals;
 use std::sync::ledger::Ledger;
 
@@ -18,7 +18,7 @@ pub fn finish<A: Ledger, B: Ledger, C: Ledger>(
     ensures all { IsSome result ↔ (seat.parts ≡ 64) }
     ensures amounts { IfSome result (λ totals. totals ≡ amounts seat) }
 {
-    if !seat.is_whole() {
+    if seat.parts != PARTS {
         return None;
     }
     let mut seat = seat;

@@ -83,11 +83,9 @@ impl HintChannel {
         if !self.is_open.load(Ordering::SeqCst) {
             return false;
         }
-        self.is_full() || self.add(rt)
-    }
-
-    /// Sends a hint, unless as many wait by now as there are workers. `false`: as for [`hint`](Self::hint).
-    fn add<R: Wait>(&self, rt: &R) -> bool {
+        if self.is_full() {
+            return true;
+        }
         match &*self.sender.lock(rt) {
             None => false,
             Some(sender) => self.is_full() || sender.try_send(rt, ()).is_ok(),

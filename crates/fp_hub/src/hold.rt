@@ -22,7 +22,7 @@ impl<'a, A: Ledger, B: Ledger, C: Ledger> Hold<'a, A, B, C> {
         kept: MutexGuard<'a, Kept<A, B, C>>,
         resting: &'a Resting,
     ) -> Hold<'a, A, B, C> {
-        let line_count = kept.line_count();
+        let line_count = kept.book().line_count();
         Hold {
             kept,
             line_count,
@@ -65,7 +65,7 @@ impl<A: Ledger, B: Ledger, C: Ledger> Drop for Hold<'_, A, B, C> {
             line_count,
             resting,
         } = self;
-        let is_to_wake = resting.publish(line_count, kept.line_count());
+        let is_to_wake = resting.publish(line_count, kept.book().line_count());
         // Nobody waits for the lock while the resting thread is woken.
         drop(kept);
         if is_to_wake {

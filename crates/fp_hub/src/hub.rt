@@ -9,7 +9,10 @@ mod several;
 
 use crate::hints::HintChannel;
 use crate::hold::Hold;
-use crate::resting::Resting;
+use crate::resting::{
+    LINES_OF_A_FILLING_LOG, LINES_OF_A_LONG_LOG, LINES_OF_A_NEARLY_FULL_LOG, LINES_OF_A_TEXT,
+    Resting,
+};
 use crate::waiting::Looking;
 use crate::{AfterTick, Hints, Kept, Looks, Seat};
 use crossbeam_utils::CachePadded;
@@ -26,9 +29,8 @@ use std::time::Duration;
 
 /// The book of a link under its lock, which all threads of the link share.
 ///
-/// After it was made only [`Hub::post`], [`Hub::post_unless_held_back`], [`Hub::post_front`], [`Hub::tick`],
-/// [`Hub::take`], [`Hub::give_and_take`], [`Hub::hints`] and [`Hub::hint`] take memory, and [`Hub::hint_after_no_room`]
-/// and [`Hub::await_parcel`] if they hint.
+/// After it was made only [`Hub::post`], [`Hub::post_front`], [`Hub::tick`], [`Hub::take`], [`Hub::give_and_take`],
+/// [`Hub::hints`] and [`Hub::hint`] take memory, and [`Hub::hint_after_no_room`] and [`Hub::await_parcel`] if they hint.
 #[derive(Drop)]
 pub struct Hub<A: Ledger, B: Ledger, C: Ledger> {
     kept: Mutex<Kept<A, B, C>>,
@@ -68,25 +70,11 @@ impl<A: Ledger, B: Ledger, C: Ledger> Hub<A, B, C> {
         requires blanks { AreBlanks blanks A.name A.parts B.name B.parts C.name C.parts }
         ensures { IfOk result (λ made. made.1 ≡ blank 64) }
     {
-        Self::with_looks(alloc, link, Looks::FEW, blanks)
+        Self::with_tag(alloc, link, 0, Looks::FEW, blanks)
     }
 
-    /// The hub of a link, as [`Hub::new`], whose threads look again this often before they sleep.
-    pub fn with_looks(
-        alloc: Global,
-        link: u8,
-        looks: Looks,
-        blanks: (Blank, Blank, Blank),
-    ) -> Result<(Hub<A, B, C>, Seat<A, B, C>), AllocError>
-        requires link { link < LocalIds.LINKS }
-        requires blanks { AreBlanks blanks A.name A.parts B.name B.parts C.name C.parts }
-        ensures { IfOk result (λ made. made.1 ≡ blank 64) }
-    {
-        Self::with_tag(alloc, link, 0, looks, blanks)
-    }
-
-    /// The hub of a link, as [`Hub::with_looks`], in a run with this tag, 0 to 4,094, which its book has, as by
-    /// [`Kept::new`].
+    /// The hub of a link, as [`Hub::new`], whose threads look again this often before they sleep, in a run with this tag,
+    /// 0 to 4,094, which its book has, as by [`Kept::new`].
     pub fn with_tag(
         alloc: Global,
         link: u8,
@@ -129,24 +117,15 @@ impl<A: Ledger, B: Ledger, C: Ledger> Hub<A, B, C> {
         }
     }
 
-    /// Releases the lock. If the call may have brought room, or quiet, wakes the threads that await it.
-    fn release(&self, hold: Hold<'_, A, B, C>, brings_room: bool) {
-        if brings_room {
-            self.release_and_wake(hold);
-        } else {
-            drop(hold);
-        }
-    }
-
     /// Wakes the sending thread: there may be a parcel to pick, or the link went down.
-    fn notify(&self) {
+    pub fn tell_sender(&self) {
         self.is_moved.store(true, Ordering::SeqCst);
         self.moved.notify_all();
     }
 
     /// Wakes the sending thread and the resting one: the link went down.
     fn notify_down(&self) {
-        self.notify();
+        self.tell_sender();
         self.resting.wake();
     }
 
@@ -162,29 +141,9 @@ impl<A: Ledger, B: Ledger, C: Ledger> Hub<A, B, C> {
     {
         let answer = self.hold(rt).kept.post(alloc, seat, came);
         if let Posted::Aborted(_) = answer {
-            self.notify();
+            self.tell_sender();
         }
         answer
-    }
-
-    /// Posts a message, as [`Hub::post`], unless it is held back ([`Book::holds_back`](fp_book::Book::holds_back)):
-    /// then it comes back, and nothing changes; [`Hub::await_room`] waits until it may be posted. Each message of
-    /// [`Hub::post_front`] is posted so, by the same call of [`Kept`].
-    pub fn post_unless_held_back<R: Wait>(
-        &self,
-        rt: &R,
-        alloc: Global,
-        seat: &mut Seat<A, B, C>,
-        came: Prepared,
-    ) -> Result<Posted, Prepared>
-        ensures grows { IfOk result (λ posted. seat.new ≡ after_post seat.old came posted) }
-        ensures back { IfErr result (λ back. (back ≡ came) × (seat.new ≡ seat.old)) }
-    {
-        let posted = self.hold(rt).kept.post_unless_held_back(alloc, seat, came);
-        if let Ok(Posted::Aborted(_)) = &posted {
-            self.notify();
-        }
-        posted
     }
 
     /// Time goes by, as for [`Kept::tick`].
@@ -196,9 +155,10 @@ impl<A: Ledger, B: Ledger, C: Ledger> Hub<A, B, C> {
     pub fn tick_and_look<R: Wait>(&self, rt: &R, moment: Moment) -> AfterTick {
         let mut hold = self.hold(rt);
         let _ = hold.kept.tick(moment);
+        let book = hold.kept.book();
         AfterTick {
-            status: hold.kept.status(),
-            entry_count: hold.kept.entry_count(),
+            status: book.status(),
+            entry_count: book.entry_count(),
         }
     }
 
@@ -223,7 +183,7 @@ impl<A: Ledger, B: Ledger, C: Ledger> Hub<A, B, C> {
         let given = hold.kept.give(seat, done);
         self.release_and_wake(hold);
         if let Ok(Given::Queued(_)) = &given {
-            self.notify();
+            self.tell_sender();
         }
         given
     }
@@ -243,9 +203,8 @@ impl<A: Ledger, B: Ledger, C: Ledger> Hub<A, B, C> {
     pub fn pick<R: Wait>(&self, rt: &R) -> Picked {
         let mut hold = self.hold(rt);
         let picked = hold.kept.pick();
-        match &picked {
-            Picked::Parcel(_) => self.release_and_wake(hold),
-            Picked::Busy | Picked::Nothing => drop(hold),
+        if let Picked::Parcel(_) = &picked {
+            self.release_and_wake(hold);
         }
         picked
     }
@@ -266,7 +225,7 @@ impl<A: Ledger, B: Ledger, C: Ledger> Hub<A, B, C> {
         let sent = hold.kept.sent(seat, parcel);
         self.release_and_wake(hold);
         if sent.is_ok() {
-            self.notify();
+            self.tell_sender();
         }
         sent
     }
@@ -310,17 +269,12 @@ impl<A: Ledger, B: Ledger, C: Ledger> Hub<A, B, C> {
 
     /// Whether the link is down.
     pub fn is_down<R: Wait>(&self, rt: &R) -> bool {
-        self.hold(rt).kept.is_down()
+        self.hold(rt).kept.book().is_down()
     }
 
-    /// The status of the link, as [`Kept::status`].
+    /// The status of the link.
     pub fn status<R: Wait>(&self, rt: &R) -> Status {
-        self.hold(rt).kept.status()
-    }
-
-    /// How many entries the dialogues that are held keep, as [`Kept::entry_count`]. Goes through all of them.
-    pub fn entry_count<R: Wait>(&self, rt: &R) -> u64 {
-        self.hold(rt).kept.entry_count()
+        self.hold(rt).kept.book().status()
     }
 
     /// Rests for this time, or until [`LINES_OF_A_REST`](crate::LINES_OF_A_REST) lines of the log wait, or the link
@@ -332,28 +286,27 @@ impl<A: Ledger, B: Ledger, C: Ledger> Hub<A, B, C> {
     }
 
     /// Whether five eighths of the places for lines of the log are taken, so that a thread that adds lines had better
-    /// drain some if that needs no wait. Doesn't take the lock of the link: it is as the lock was last released.
+    /// drain some if that needs no wait. This and the next three calls don't take the lock of the link: they say how full
+    /// the log was when the lock was last released.
     pub fn is_log_filling(&self) -> bool {
-        self.resting.is_log_filling()
+        self.resting.has_reached(LINES_OF_A_FILLING_LOG)
     }
 
     /// Whether seven eighths of the places for lines of the log are taken, so that a thread that adds lines had better
-    /// drain some, even if it has to wait for that. Doesn't take the lock of the link: it is as the lock was last
-    /// released.
+    /// drain some, even if it has to wait for that.
     pub fn is_log_nearly_full(&self) -> bool {
-        self.resting.is_log_nearly_full()
+        self.resting.has_reached(LINES_OF_A_NEARLY_FULL_LOG)
     }
 
-    /// Whether at least [`LINES_OF_A_TEXT`](crate::LINES_OF_A_TEXT) lines of the log wait, so that a thread that adds
-    /// lines had better make their text. Doesn't take the lock of the link: it is as the lock was last released.
+    /// Whether at least [`LINES_OF_A_TEXT`] lines of the log wait, so that a thread that adds lines had better make their
+    /// text.
     pub fn has_log_lines(&self) -> bool {
-        self.resting.has_log_lines()
+        self.resting.has_reached(LINES_OF_A_TEXT)
     }
 
-    /// Whether so many lines of the log wait, 1,024, that they are moved in portions and not exchanged. Doesn't take the
-    /// lock of the link: it is as the lock was last released.
+    /// Whether so many lines of the log wait, 1,024, that they are moved in portions and not exchanged.
     pub fn is_log_long(&self) -> bool {
-        self.resting.is_log_long()
+        self.resting.has_reached(LINES_OF_A_LONG_LOG)
     }
 
     /// A worker's end of the hint channel. The ends of all workers are to be taken before the first hint: at most as

@@ -1,12 +1,11 @@
 //! What the lock of a link keeps.
 
-ghost use Rattle.std.specs.Prelude.{◌≡◌, ◌↔◌, ◌<◌, ◌≤◌, ◌-◌, [], false, Some, IfErr, IfOk, IsOk, IsTrue, OnOk, length, vec_capacity, vec_len};
-ghost use Rattle.std.specs.FinMap as map;
+ghost use Rattle.std.specs.Prelude.{◌≡◌, ◌↔◌, ◌<◌, ◌≤◌, ◌-◌, [], false, Some, IfErr, IfOk, IsOk, OnOk, vec_capacity, vec_len};
 ghost use Rattle.std.specs.FinMap.{get};
 ghost use Rattle.fp_book.specs.declared.line.LoggedStep.TheVariants as line;
 ghost use Rattle.fp_book.specs.Calls.{DrainsBook, GivesDone, GoesDown, Hands, IsOut, NoneReady, Posts, PutsTurnBack, Sends, Serves, Takes, Ticks, Unsends, posted_totals, turn_of};
 ghost use Rattle.fp_book.specs.Log.{lines_of};
-ghost use Rattle.fp_book.specs.Holding.{IsQuiet, entries_kept, holds_back};
+ghost use Rattle.fp_book.specs.Holding.{holds_back};
 ghost use Rattle.fp_book.specs.Shelf.{Sound, empty_shelf};
 ghost use Rattle.fp_hub.specs.Next.{Finds};
 ghost use Rattle.fp_hub.specs.Shares.{AreBlanks, Whole, Within, after_give, after_post, after_sent, after_serve, amounts, blank};
@@ -15,9 +14,7 @@ mod several;
 
 use crate::next::Next;
 use crate::{PARTS, Seat};
-use fp_book::{
-    Book, Given, InPlace, Line, Log, Parcel, Picked, Posted, Status, Taken, Ticked, Totals,
-};
+use fp_book::{Book, Given, InPlace, Line, Log, Parcel, Picked, Posted, Taken, Ticked, Totals};
 use fp_digits::Moment;
 use fp_entry::Prepared;
 use fp_row::{Done, Turn};
@@ -97,6 +94,13 @@ impl<A: Ledger, B: Ledger, C: Ledger> Kept<A, B, C> {
         Ok((kept, seat))
     }
 
+    /// The book, for the calls that change nothing.
+    pub fn book(&self) -> &Book
+        ensures value { result.now ≡ self.now }
+    {
+        &self.book
+    }
+
     /// Says that the book is sound, as each of its calls does. Does nothing else.
     fn say_sound(&self)
         ensures { Sound self.now }
@@ -155,38 +159,6 @@ impl<A: Ledger, B: Ledger, C: Ledger> Kept<A, B, C> {
         Ok(receipt.posted)
     }
 
-    /// Whether a message is held back, as [`Book::holds_back`].
-    pub fn holds_back(&self, came: &Prepared) -> bool
-        ensures value { result ≡ holds_back self.now came.now }
-        ensures sound { Sound self.now }
-    {
-        self.book.holds_back(came)
-    }
-
-    /// Whether nothing is left to be served or sent, as [`Book::is_quiet`].
-    pub fn is_quiet(&self) -> bool
-        ensures value { IsTrue result ↔ IsQuiet self.now }
-        ensures sound { Sound self.now }
-    {
-        self.book.is_quiet()
-    }
-
-    /// How many entries the dialogues that are held keep, as [`Book::entry_count`].
-    pub fn entry_count(&self) -> u64
-        ensures value { result ≡ entries_kept self.now }
-        ensures sound { Sound self.now }
-    {
-        self.book.entry_count()
-    }
-
-    /// The status of the link, as [`Book::status`].
-    pub fn status(&self) -> Status
-        ensures value { result ≡ record { is_down = self.now.is_down; totals = self.now.totals; dialogues = map.len self.now.rows } }
-        ensures sound { Sound self.now }
-    {
-        self.book.status()
-    }
-
     /// Time goes by, as for [`Book::tick`].
     pub fn tick(&mut self, moment: Moment) -> Ticked
         ensures ticks { Ticks self.old moment result.added result.wanting self.new }
@@ -215,13 +187,9 @@ impl<A: Ledger, B: Ledger, C: Ledger> Kept<A, B, C> {
     {
         self.compare(seat);
         let count = done.served() as u64;
-        match self.book.give(done) {
-            Ok(given) => {
-                self.served.add(&mut seat.served, count);
-                Ok(given)
-            }
-            Err(foreign) => Err(foreign),
-        }
+        let given = self.book.give(done)?;
+        self.served.add(&mut seat.served, count);
+        Ok(given)
     }
 
     /// Serves a turn in its place, as [`Book::serve`].
@@ -247,15 +215,6 @@ impl<A: Ledger, B: Ledger, C: Ledger> Kept<A, B, C> {
         self.book.put_back(turn)
     }
 
-    /// How many dialogues are ready, as [`Book::ready_count`].
-    pub fn ready_count(&self) -> usize
-        ensures value { result ≡ length self.now.ready }
-        ensures sound { Sound self.now }
-    {
-        self.say_sound();
-        self.book.ready_count()
-    }
-
     /// Hands out what is sent next, as [`Book::pick`].
     pub fn pick(&mut self) -> Picked
         ensures hands { Hands self.old result self.new }
@@ -275,13 +234,9 @@ impl<A: Ledger, B: Ledger, C: Ledger> Kept<A, B, C> {
     {
         self.compare(seat);
         let count = u64::from(parcel.dialogue().is_some());
-        match self.book.sent(parcel) {
-            Ok(()) => {
-                self.sent.add(&mut seat.sent, count);
-                Ok(())
-            }
-            Err(foreign) => Err(foreign),
-        }
+        self.book.sent(parcel)?;
+        self.sent.add(&mut seat.sent, count);
+        Ok(())
     }
 
     /// Takes back the parcel that couldn't be sent, as [`Book::unsent`].
@@ -321,27 +276,12 @@ impl<A: Ledger, B: Ledger, C: Ledger> Kept<A, B, C> {
         self.book.exchange_log(log)
     }
 
-    /// How many lines the log has.
-    pub(crate) fn line_count(&self) -> usize
-        ensures { result ≡ length self.now.log }
-    {
-        self.book.line_count()
-    }
-
-    /// Whether the link is down, as [`Book::is_down`].
-    pub fn is_down(&self) -> bool
-        ensures value { result ≡ self.now.is_down }
-        ensures sound { Sound self.now }
-    {
-        self.book.is_down()
-    }
-
     /// Hands out what is sent next, unless the link is down.
     pub(crate) fn next(&mut self) -> Next
         ensures finds { Finds self.old result self.new }
         ensures sound { Sound self.new }
     {
-        if self.is_down() {
+        if self.book.is_down() {
             return Next::Down;
         }
         match self.pick() {

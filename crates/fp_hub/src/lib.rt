@@ -7,19 +7,15 @@
 //! * [`Hub`] is the book of one link under its lock. Each of its ten calls that change the book, [`Hub::post`],
 //!   [`tick`](Hub::tick), [`take`](Hub::take), [`give`](Hub::give), [`put_back`](Hub::put_back), [`pick`](Hub::pick),
 //!   [`sent`](Hub::sent), [`unsent`](Hub::unsent), [`down`](Hub::down) and [`drain`](Hub::drain), takes the lock once,
-//!   makes the one call of the book of that name, and releases it. So do [`Hub::post_unless_held_back`], by the
-//!   book's call that judges a message once, and posts it unless it is held back, and [`Hub::exchange_log`], by the
-//!   book's call that hands out all lines of the log in exchange for an empty one.
-//! * [`Hub::tick_and_look`] is a tick, after which the clock learns of the book in the same hold.
+//!   makes the one call of the book of that name, and releases it. So do [`Hub::tick_and_look`], after whose tick the
+//!   clock learns of the book, and [`Hub::exchange_log`], which hands out all lines of the log for an empty one.
 //! * Four calls make several of these steps in one hold, a bounded number of them, each by one call of the book:
 //!   [`Hub::post_front`] posts messages of one read, each unless it is held back, [`Hub::give_and_take`] takes back
 //!   turns and hands out the share of a worker, [`Hub::serve_front`] serves turns in their places, each of which is a
 //!   take and a give, and [`Hub::sent_and_next`] takes back a parcel and hands out the next one.
 //! * [`Kept`] is what the lock keeps: the book, and the books of three ledgers (of components accepted, entries served
 //!   and frames sent), whose totals its type keeps equal to the book's.
-//! * `Hold` (`src/hold.rt`) is the lock while it is held. Its release publishes whether the log has
-//!   [`LINES_OF_A_TEXT`], is long, is filling, or is nearly full, and wakes the clock if the lines of this hold made it
-//!   [`LINES_OF_A_REST`].
+//! * `Hold` (`src/hold.rt`) is the lock while it is held. Its release publishes how full the log is.
 //! * [`Seat`] is what a thread has of the three ledgers. The first one has all 64 parts. It is split among the threads
 //!   of the link, each of which counts what it does in its own, and joined again when they have ended.
 //! * [`Hub::worker`] serves turns: it waits for a hint, and then takes, serves and gives until no turn is ready. Before it

@@ -1,6 +1,6 @@
 //! Seats.
 
-ghost use Rattle.std.specs.Prelude.{◌≡◌, ◌↔◌, ◌+◌, ◌<◌, IfNone, IfSome, IsSome, IsTrue};
+ghost use Rattle.std.specs.Prelude.{◌≡◌, ◌↔◌, ◌+◌, ◌<◌, IfNone, IfSome, IsSome};
 ghost use Rattle.fp_hub.specs.Shares.{Whole, blank, joined};
 
 use std::marker::Model;
@@ -33,13 +33,6 @@ impl<A: Ledger, B: Ledger, C: Ledger> Model for Seat<A, B, C> {
 }
 
 impl<A: Ledger, B: Ledger, C: Ledger> Seat<A, B, C> {
-    /// Whether it has all parts of its link.
-    pub(crate) fn is_whole(&self) -> bool
-        ensures { IsTrue result ↔ (self.now.parts ≡ 64) }
-    {
-        self.parts == PARTS
-    }
-
     /// A seat of one part for another thread, or `None` if only one part is left. Amounts stay here. Takes no memory.
     pub fn split(&mut self) -> Option<Seat<A, B, C>>
         ensures some { IsSome result ↔ (1 < self.old.parts) }

@@ -92,28 +92,14 @@ pub(crate) fn pause() {
     }
 }
 
-/// How long a thread waits at most, in one sleep or several.
-#[derive(Clone, Copy)]
-pub(crate) struct Patience {
-    // `None`: the clock gives no time.
+/// What is left of this time, which began then. `None`: nothing, or the clock gives no time.
+pub(crate) fn time_left<R: Clock>(
+    rt: &R,
     start: Option<Instant>,
     most: Duration,
-}
-
-impl Patience {
-    /// This time from now on.
-    pub(crate) fn new<R: Clock>(rt: &R, most: Duration) -> Patience {
-        Patience {
-            start: Instant::now(rt).ok(),
-            most,
-        }
-    }
-
-    /// What is left of it. `None`: it is up, or the clock gives no time.
-    pub(crate) fn left<R: Clock>(&self, rt: &R) -> Option<Duration> {
-        let left = self.most.checked_sub(self.start?.elapsed(rt).ok()?)?;
-        if left.is_zero() { None } else { Some(left) }
-    }
+) -> Option<Duration> {
+    let left = most.checked_sub(start?.elapsed(rt).ok()?)?;
+    if left.is_zero() { None } else { Some(left) }
 }
 
 /// Waits for a hint. `false`: none waits, and none comes from now on.

@@ -5,29 +5,23 @@ ghost use Rattle.fp_hub.specs.Holds.{turn_in};
 
 use crate::kept::MOST_TURNS;
 use crate::{Gate, Hints, Hub, Seat, Stopped, Work};
-use fp_row::Turn;
 use std::alloc::Global;
 use std::collections::VecDeque;
 use std::sync::Wait;
 use std::sync::ledger::Ledger;
 
-/// Serves a turn. If memory runs out it stays unserved.
-fn serve<G: Gate>(alloc: Global, gate: &G, turn: Turn) -> Work
-    ensures { turn_in result ≡ turn }
-{
-    gate.pass(turn.link(), turn.birth(), turn.position());
-    match turn.serve(alloc) {
-        Ok(done) => Work::Served(done),
-        Err(turn) => Work::Unserved(turn),
-    }
-}
-
-/// Serves a turn, unless it was served before.
+/// Serves a turn that wasn't served before. If memory runs out it stays unserved.
 fn serve_one<G: Gate>(alloc: Global, gate: &G, work: Work) -> Work
     ensures { turn_in result ≡ turn_in work }
 {
     match work {
-        Work::Unserved(turn) => serve(alloc, gate, turn),
+        Work::Unserved(turn) => {
+            gate.pass(turn.link(), turn.birth(), turn.position());
+            match turn.serve(alloc) {
+                Ok(done) => Work::Served(done),
+                Err(turn) => Work::Unserved(turn),
+            }
+        }
         Work::Served(done) => Work::Served(done),
     }
 }
@@ -112,12 +106,9 @@ impl<A: Ledger, B: Ledger, C: Ledger> Hub<A, B, C> {
         ensures grows { seat.old.served ≤ seat.new.served }
         ensures back { work.new.items ≡ [] }
     {
-        let mut most = if work.reserve(MOST_TURNS).is_ok() {
-            MOST_TURNS
-        } else {
-            0
-        };
+        let mut has_memory = work.reserve(MOST_TURNS).is_ok();
         for _ in rt.forever() {
+            let most = if has_memory { MOST_TURNS } else { 0 };
             let worked = self.give_and_take(rt, seat, work, self.worker_count(), most);
             if worked.is_queued {
                 self.tell_sender();
@@ -128,9 +119,7 @@ impl<A: Ledger, B: Ledger, C: Ledger> Hub<A, B, C> {
             if worked.ready_count > 0 {
                 self.hint(rt);
             }
-            if !serve_each(alloc, gate, work) {
-                most = 0;
-            }
+            has_memory = serve_each(alloc, gate, work) && has_memory;
         }
         unreachable!()
     }

@@ -1,5 +1,6 @@
 //! One thread makes each call of a hub in turn.
 
+ghost use Rattle.std.specs.Prelude.{◌<◌};
 ghost use Rattle.fp_hub.specs.Shares.{AreBlanks};
 
 mod caller;
@@ -63,8 +64,22 @@ enum Walk {
     Holds,
     /// Threads that sleep until there is room, or the link is quiet or down.
     Wakes,
+    /// Threads that sleep until there is room, for a time at most.
+    WakesInTime,
     /// A thread that sleeps for this, and a link that goes down.
     Downs(Sleep),
+}
+
+impl Walk {
+    /// The link whose calls are made.
+    fn link(self) -> u8
+        ensures { result < 8 }
+    {
+        match self {
+            Walk::EachCall => 3,
+            _ => 0,
+        }
+    }
 }
 
 /// What the calls of a walk answered, word by word, and what was counted.
@@ -90,10 +105,11 @@ fn walk_over<
 ) -> Option<Walked>
     requires { AreBlanks blanks A.name A.parts B.name B.parts C.name C.parts }
 {
+    let link = walk.link();
     let made = if looks == Looks::FEW {
-        Hub::<A, B, C>::new(alloc, 0, blanks)
+        Hub::<A, B, C>::new(alloc, link, blanks)
     } else {
-        Hub::<A, B, C>::with_looks(alloc, 0, looks, blanks)
+        Hub::<A, B, C>::with_tag(alloc, link, 0, looks, blanks)
     };
     let (hub, seat) = made.ok()?;
     let (words, seat) = make_walk(rt, alloc, &hub, seat, table, walk);
@@ -134,7 +150,7 @@ fn assert_walk<R: Threads + Wait + Clock + Sync + Abort>(
 /// Each call of a hub makes its step: a call that is answered, then one that is held until its time is over and whose
 /// Abort can't be sent, which takes the link down and wakes the thread that rests. 512 lines wake it too, each time
 /// after the log was drained, and fewer don't; with 5,120 the log is filling, and with 7,168 nearly full, also if a
-/// drain left some of them. An exchange takes all at once.
+/// drain left some of them. An exchange takes all at once, and says which link it is.
 #[test]
 fn each_call_makes_its_step(rt: HostRuntime) -> Result<(), Fail> {
     let words =
@@ -298,7 +314,8 @@ fn messages_are_held_back(rt: HostRuntime) -> Result<(), Fail> {
 /// was sent; and by one that couldn't be sent, which ends the link; without them it sleeps on, also after a second. One
 /// that sleeps until the link is quiet is woken when the last parcel was sent, alone or in the hold that picks the next
 /// one, and by the last turn: one that is given, also if its request is dropped, or one that is put back, alone or with
-/// others, or one that is served in its place.
+/// others, or one that is served in its place. One that sleeps for a time at most is woken, too, and says that there is
+/// room; if none comes, it sleeps for that time, and says so.
 #[test]
 fn waiting_threads_are_woken(rt: HostRuntime) -> Result<(), Fail> {
     let words =
@@ -311,7 +328,15 @@ fn waiting_threads_are_woken(rt: HostRuntime) -> Result<(), Fail> {
     for looks in [Looks::FEW, Looks::MANY] {
         assert_walk(&rt, rt.alloc(), looks, Walk::Wakes, words, totals)?;
     }
-    Ok(())
+    let words =
+        "opened silent accepted accepted accepted accepted woken silent accepted in vain held back ";
+    let totals = Totals {
+        accepted: 80,
+        served: 17,
+        sent: 0,
+    };
+    let walk = Walk::WakesInTime;
+    assert_walk(&rt, rt.alloc(), Looks::FEW, walk, words, totals)
 }
 
 /// A thread that sleeps until there is room, or the link is quiet, is woken when the link goes down.

@@ -51,7 +51,9 @@ impl<A: Ledger, B: Ledger, C: Ledger> Hub<A, B, C> {
         if worked.stopped == Stopped::NoRoom {
             self.lacks_room.store(true, Ordering::SeqCst);
         }
-        self.release(hold, brings_room);
+        if brings_room {
+            self.release_and_wake(hold);
+        }
         worked
     }
 
@@ -69,11 +71,6 @@ impl<A: Ledger, B: Ledger, C: Ledger> Hub<A, B, C> {
         }
         self.release_and_wake(hold);
         worked
-    }
-
-    /// Wakes the sending thread: there may be a parcel to pick.
-    pub fn tell_sender(&self) {
-        self.notify();
     }
 
     /// Takes back the parcel that was sent, and then hands out what is sent next, as [`Kept::sent_and_next`]: the seat

@@ -1,6 +1,6 @@
 //! Calls of a link's book that make several steps, a bounded number of them.
 
-ghost use Rattle.std.specs.Prelude.{◌≡◌, ◌↔◌, ◌||◌, false, IfErr, IfOk, IsOk, length};
+ghost use Rattle.std.specs.Prelude.{◌≡◌, ◌↔◌, false, IfErr, IfOk, IsOk, length};
 ghost use Rattle.std.specs.VecDeque.{deque_capacity};
 ghost use Rattle.fp_book.specs.Calls.{IsOut};
 ghost use Rattle.fp_book.specs.Shelf.{Sound};
@@ -36,13 +36,6 @@ fn is_queued(given: Given) -> bool
     matches!(given, Given::Queued(_))
 }
 
-/// Whether one of the two holds.
-fn either(one: bool, other: bool) -> bool
-    ensures { result ≡ (one || other) }
-{
-    one || other
-}
-
 impl<A: Ledger, B: Ledger, C: Ledger> Kept<A, B, C> {
     /// Posts messages from the front of a list in their order, each as [`Kept::post_unless_held_back`]: 64 at most, and
     /// none from the first on that is held back. That one goes back to the front, for which the list has room, and the
@@ -64,7 +57,7 @@ impl<A: Ledger, B: Ledger, C: Ledger> Kept<A, B, C> {
                 return has_aborted;
             };
             match self.post_unless_held_back(alloc, seat, next) {
-                Ok(answer) => has_aborted = either(has_aborted, is_aborted(answer)),
+                Ok(answer) => has_aborted = has_aborted | is_aborted(answer),
                 Err(held_back) => {
                     came.push_front_reserved(held_back);
                     return has_aborted;
@@ -113,7 +106,7 @@ impl<A: Ledger, B: Ledger, C: Ledger> Kept<A, B, C> {
                 return has_queued;
             };
             let queues = self.return_one(seat, first);
-            has_queued = either(has_queued, queues);
+            has_queued = has_queued | queues;
         }
         has_queued
     }
@@ -126,7 +119,8 @@ impl<A: Ledger, B: Ledger, C: Ledger> Kept<A, B, C> {
             (share (length self.old.ready) workers most) (deque_capacity work.old) result }
         ensures sound { Sound self.new }
     {
-        let most = (self.ready_count() / workers.max(1))
+        self.say_sound();
+        let most = (self.book.ready_count() / workers.max(1))
             .max(1)
             .min(most.min(MOST_TURNS));
         for _count in 0..most {
@@ -161,7 +155,7 @@ impl<A: Ledger, B: Ledger, C: Ledger> Kept<A, B, C> {
         Worked {
             is_queued,
             stopped,
-            ready_count: self.ready_count(),
+            ready_count: self.book.ready_count(),
         }
     }
 
@@ -195,7 +189,7 @@ impl<A: Ledger, B: Ledger, C: Ledger> Kept<A, B, C> {
         self.say_sound();
         for _count in 0..most {
             match self.serve_one(seat) {
-                Ok(queues) => *has_queued = either(*has_queued, queues),
+                Ok(queues) => *has_queued = *has_queued | queues,
                 Err(stopped) => return stopped,
             }
         }
@@ -215,7 +209,7 @@ impl<A: Ledger, B: Ledger, C: Ledger> Kept<A, B, C> {
         Worked {
             is_queued,
             stopped,
-            ready_count: self.ready_count(),
+            ready_count: self.book.ready_count(),
         }
     }
 

@@ -327,13 +327,13 @@ impl<R: Wait + Clock, A: Ledger, B: Ledger, C: Ledger> Caller<'_, R, A, B, C> {
         }
     }
 
-    /// Exchanges the log of link 0, which has so many lines, for an empty one.
+    /// Exchanges the log of link 3, which has so many lines, for an empty one.
     pub(super) fn exchange(&self, line_count: usize) -> &'static str {
         let Ok(mut log) = Log::new(self.alloc) else {
             return "no memory";
         };
         let link = self.hub.exchange_log(self.rt, &mut log);
-        if link == 0 && log.len() == line_count {
+        if link == 3 && log.len() == line_count {
             "exchanged"
         } else {
             "else"
@@ -399,6 +399,7 @@ pub(crate) fn make_walk<
         Walk::SendsAnswer => caller = caller.wake_sender(false, &mut words),
         Walk::Holds => caller.hold_back(&mut words),
         Walk::Wakes => caller = caller.wake(&mut words),
+        Walk::WakesInTime => caller = caller.wake_in_time(&mut words),
         Walk::Downs(sleep) => caller = caller.go_down(sleep, &mut words),
     }
     let Caller { seat, .. } = caller;

@@ -96,23 +96,33 @@ pub(super) enum Sleep {
     ForRoom(&'static str),
     /// The same, after a while.
     ForRoomLater(&'static str),
+    /// Until a message of this text isn't held back, for this number of milliseconds at most.
+    ForRoomWithin(&'static str, u64),
     /// Until the link is quiet.
     ForQuiet,
     /// Until there is something to be sent, which can't be sent then: so it takes the link down.
     ForParcel,
 }
 
-/// Sleeps until a message of this text isn't held back.
+/// Sleeps until a message of this text isn't held back, for a time at most if there is one. `false`: it still is.
 fn await_room<R: Wait + Clock, A: Ledger, B: Ledger, C: Ledger>(
     rt: &R,
     alloc: Global,
     hub: &Hub<A, B, C>,
     table: &Table,
     text: &str,
-) {
-    if let (Some(frame), Some(moment)) = (frame_of(alloc, text), Moment::new(NOON)) {
-        let came = Prepared::read(alloc, table, &[], frame, moment);
-        hub.await_room(rt, &came);
+    most: Option<Duration>,
+) -> bool {
+    let (Some(frame), Some(moment)) = (frame_of(alloc, text), Moment::new(NOON)) else {
+        return false;
+    };
+    let came = Prepared::read(alloc, table, &[], frame, moment);
+    match most {
+        Some(most) => hub.await_room_within(rt, &came, most),
+        None => {
+            hub.await_room(rt, &came);
+            true
+        }
     }
 }
 
@@ -130,8 +140,15 @@ fn sleep_for<R: Wait + Clock, A: Ledger, B: Ledger, C: Ledger>(
     let Ok(start) = Instant::now(rt) else {
         return "no clock";
     };
+    let mut has_room = true;
     match sleep {
-        Sleep::ForRoom(text) | Sleep::ForRoomLater(text) => await_room(rt, alloc, hub, table, text),
+        Sleep::ForRoom(text) | Sleep::ForRoomLater(text) => {
+            has_room = await_room(rt, alloc, hub, table, text, None);
+        }
+        Sleep::ForRoomWithin(text, milliseconds) => {
+            let most = Duration::from_millis(milliseconds);
+            has_room = await_room(rt, alloc, hub, table, text, Some(most));
+        }
         Sleep::ForQuiet => {
             let _is_quiet = hub.await_quiet(rt, Duration::from_millis(LATE));
         }
@@ -144,6 +161,8 @@ fn sleep_for<R: Wait + Clock, A: Ledger, B: Ledger, C: Ledger>(
         }
     }
     match start.elapsed(rt) {
+        Ok(spent) if !has_room && spent < Duration::from_millis(PAUSE) => "too soon",
+        Ok(_) if !has_room => "in vain",
         Ok(spent) if spent < Duration::from_millis(WOKEN) => "woken",
         Ok(_) => "waited",
         Err(_) => "no clock",
@@ -177,13 +196,10 @@ impl<
         };
         let came = Prepared::read(self.alloc, self.table, &[], frame, moment);
         let (rt, alloc) = (self.rt, self.alloc);
-        match self
-            .hub
-            .post_unless_held_back(rt, alloc, &mut self.seat, came)
-        {
-            Ok(posted) => word_of(posted),
-            Err(_) => "held back",
+        if !self.hub.await_room_within(rt, &came, Duration::ZERO) {
+            return "held back";
         }
+        word_of(self.hub.post(rt, alloc, &mut self.seat, came))
     }
 
     /// Posts a message of this text, unless it is held back.
@@ -388,6 +404,21 @@ impl<
         let mut caller = caller.act_while(Sleep::ForRoom(REJECT), Act::Unsends, words);
         words.say(await_quiet(caller.rt, caller.hub, 0));
         words.say(caller.offer_text(STRANGE));
+        caller
+    }
+
+    /// Lets another thread sleep until there is room, for a second at most, in which a turn is given; and then sleeps for
+    /// a while, in which there is none.
+    pub(super) fn wake_in_time(self, words: &mut Words) -> Self {
+        let mut caller = self;
+        let alloc = caller.alloc;
+        caller.open_full_dialogue(words);
+        let sleep = Sleep::ForRoomWithin(REJECT, LATE);
+        let mut caller = caller.act_while(sleep, Act::Gives, words);
+        words.say(caller.offer(rejects(alloc)));
+        let sleep = Sleep::ForRoomWithin(REJECT, PAUSE);
+        words.say(sleep_for(caller.rt, alloc, caller.hub, caller.table, sleep));
+        words.say(caller.offer_text(REJECT));
         caller
     }
 

@@ -1,4 +1,4 @@
-use Rattle.std.proofs.Common.{◌||◌, refl, sym, ◌∙◌, ap, arith}
+use Rattle.std.proofs.Common.{◌||◌, refl, sym, ap, arith}
 use Rattle.fp_hub.proofs.Chains.{all_posted, held_front, none_left, posting_more, posts_front}
 use Rattle.fp_hub.proofs.kept.Kept.post_front.Goals as goal
 
@@ -16,7 +16,7 @@ returns-in-Err-clause-posts g c =
 
 pub loop-count-preserved : goal.loop-count-preserved
 loop-count-preserved g c = record {
-  posting = rw (c.either-has_aborted.ensures ∙ ap (λ b. c.loop-count.has_aborted || b) c.is_aborted.ensures)
+  posting = rw (ap (λ b. c.loop-count.has_aborted || b) c.is_aborted-has_aborted.ensures)
       (posting_more c.loop-count._count c.args.self.now c.loop-count.self c.post_unless_held_back.new.self _ c.loop-count.came.items c.pop_front.new.self.items _ _ _ _ c.in-Some.next c.in-Ok.answer c.loop-count.invariant.posting
       c.in-Some.ensures.items (c.in-Ok.ensures.known.0 refl) c.in-Ok.ensures.ok c.in-Ok.ensures.grows);
   sound = c.post_unless_held_back.ensures.sound;

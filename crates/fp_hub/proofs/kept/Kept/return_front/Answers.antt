@@ -10,9 +10,9 @@ returns-in_default-clause-returns g c =
 
 pub loop-count-preserved : goal.loop-count-preserved
 loop-count-preserved g c = record {
-  returning = rw c.either-has_queued.ensures
-      (returning_more c.loop-count._count c.args.self.now c.loop-count.self c.return_one-queues.new.self _ c.loop-count.work.items c.pop_front.new.self.items _ _ _ _ _ c.in-Some.first c.loop-count.invariant.returning c.in-Some.ensures.items
-      c.return_one-queues.ensures.returns);
+  returning =
+      returning_more c.loop-count._count c.args.self.now c.loop-count.self c.return_one-queues.new.self _ c.loop-count.work.items c.pop_front.new.self.items _ _ _ _ _ c.in-Some.first c.loop-count.invariant.returning c.in-Some.ensures.items
+      c.return_one-queues.ensures.returns;
   capacity = c.pop_front.ensures.capacity ∙ c.loop-count.invariant.capacity;
   sound = c.return_one-queues.ensures.sound;
 }
