@@ -139,13 +139,11 @@ impl ArrivalQueue {
         if self.is_over {
             return Ok(());
         }
-        match self.frames.push_back(frame) {
-            Ok(()) => Ok(()),
-            Err(_) => {
-                self.is_over = true;
-                Err(AllocError)
-            }
+        if self.frames.push_back(frame).is_err() {
+            self.is_over = true;
+            return Err(AllocError);
         }
+        Ok(())
     }
 
     /// Drops the frames that aren't prepared, and each that comes from now on.
