@@ -62,9 +62,7 @@ impl<
 
     /// Notes why a thread wasn't started, unless there was a fault before.
     fn fail(&mut self, fault: ServeFault) {
-        if self.fault.is_none() {
-            self.fault = Some(fault);
-        }
+        self.fault = self.fault.or(Some(fault));
     }
 
     /// A part of the seat, for a thread.
@@ -102,47 +100,26 @@ impl<
         self.keep(handle);
     }
 
-    /// Starts the sending thread.
-    fn start_sender(&mut self) {
-        let Some(seat) = self.split() else {
-            return;
-        };
+    /// Starts the workers, the sending thread, the clock, which has no seat, and, if these were started, the receiving
+    /// thread, which passes this gate too. Returns the clock.
+    fn start_all<G: Gate + Sync>(&mut self, gate: &'s G) -> Option<JoinHandle<()>> {
         let link = self.link;
-        let handle = self.scope.spawn(move || link.send_all(seat)).ok();
-        self.keep(handle);
-    }
-
-    /// Starts the receiving thread, which passes this gate with each turn that it serves.
-    fn start_receiver<G: Gate + Sync>(&mut self, gate: &'s G) {
-        let Some(seat) = self.split() else {
-            return;
-        };
-        let link = self.link;
-        let run = move || link.receive_all(gate, seat);
-        let handle = self.scope.spawn(run).ok();
-        self.keep(handle);
-    }
-
-    /// Starts the clock, which has no seat.
-    fn start_clock(&mut self) -> Option<JoinHandle<()>> {
-        let link = self.link;
+        for _ in 0..link.run.settings.workers {
+            self.start_worker(gate);
+        }
+        if let Some(seat) = self.split() {
+            let handle = self.scope.spawn(move || link.send_all(seat)).ok();
+            self.keep(handle);
+        }
         let clock = self.scope.spawn(move || link.keep_time()).ok();
         if clock.is_none() {
             self.fail(ServeFault::NoThread);
         }
-        clock
-    }
-
-    /// Starts the workers, the sending thread, the clock, and, if these were started, the receiving thread. Returns the
-    /// clock.
-    fn start_all<G: Gate + Sync>(&mut self, gate: &'s G) -> Option<JoinHandle<()>> {
-        for _ in 0..self.link.run.settings.workers {
-            self.start_worker(gate);
-        }
-        self.start_sender();
-        let clock = self.start_clock();
-        if self.fault.is_none() {
-            self.start_receiver(gate);
+        if self.fault.is_none()
+            && let Some(seat) = self.split()
+        {
+            let handle = self.scope.spawn(move || link.receive_all(gate, seat)).ok();
+            self.keep(handle);
         }
         clock
     }

@@ -30,29 +30,13 @@ impl fmt::Display for Peer {
 }
 
 impl Peer {
-    /// The text of an address.
-    fn address_text(alloc: Global, address: SocketAddr) -> Result<String, AllocError>
-        ensures { IfOk result (λ text. string_bytes text ≡ peer_text (Self.Client address)) }
-    {
-        format!(in alloc; "{address}")
-    }
-
-    /// A name as a text.
-    fn name_text(alloc: Global, name: PeerName) -> Result<String, AllocError>
-        ensures { IfOk result (λ text. string_bytes text ≡ peer_text (Self.Named name)) }
-    {
-        let mut text = String::new(alloc);
-        text.push_str(name.as_str())?;
-        Ok(text)
-    }
-
     /// Its text: the address, or the name.
     pub(crate) fn text(self, alloc: Global) -> Result<String, AllocError>
         ensures { IfOk result (λ text. string_bytes text ≡ peer_text self) }
     {
         match self {
-            Peer::Client(address) => Peer::address_text(alloc, address),
-            Peer::Named(name) => Peer::name_text(alloc, name),
+            Peer::Client(address) => format!(in alloc; "{address}"),
+            Peer::Named(name) => String::from_str(alloc, name.as_str()),
         }
     }
 }

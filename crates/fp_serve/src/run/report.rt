@@ -4,7 +4,7 @@ ghost use Rattle.std.specs.Prelude.{◌≡◌, ◌≤◌, ◌+◌, IfOk, OnOk, s
 ghost use Rattle.std.specs.Io.KnownBytes.{Appends};
 ghost use Rattle.std.specs.Net.Text.{socket_text};
 ghost use Rattle.fp_replay.specs.Replayed.{report_line};
-ghost use Rattle.fp_serve.specs.Report.{beginning, counts, lines_by, links_answer, links_line, listening_line, reloaded_line, status_line, with_links_below};
+ghost use Rattle.fp_serve.specs.Report.{beginning, counts, lines_by, links_answer, listening_line, reloaded_line, status_line, with_links_below};
 
 use crate::run::{LinkStatus, ServeFault};
 use fp_book::Totals;
@@ -22,7 +22,7 @@ pub(crate) fn write_address<W: LinkWrite>(
 ) -> Result<(), ServeFault>
     ensures { OnOk result (Appends (W.contents output.old) (W.contents output.new) (listening_line address)) }
 {
-    let text = listening(alloc, address)?;
+    let text = format!(in alloc; "listening {address}\n")?;
     write_flushed(text.as_str(), output)
 }
 
@@ -39,13 +39,6 @@ pub(crate) fn write_report<W: LinkWrite>(
     let all = with_links_below(alloc, first_link, totals)?;
     let text = report(alloc, all.as_slice())?;
     write_flushed(text.as_str(), output)
-}
-
-/// `listening A` and a line feed.
-fn listening(alloc: Global, address: SocketAddr) -> Result<String, AllocError>
-    ensures { IfOk result (λ text. string_bytes text ≡ listening_line address) }
-{
-    format!(in alloc; "listening {address}\n")
 }
 
 /// What a link counted that never came, or that the run doesn't have.
@@ -116,13 +109,6 @@ fn status_line(alloc: Global, link: usize, known: LinkStatus) -> Result<String, 
     Ok(line)
 }
 
-/// `links N` and a line feed.
-fn links_line(alloc: Global, count: usize) -> Result<String, AllocError>
-    ensures { IfOk result (λ text. string_bytes text ≡ links_line count) }
-{
-    format!(in alloc; "links {count}\n")
-}
-
 /// The status line of each of these links, in their order, whose numbers begin with this one.
 fn status_lines(alloc: Global, first_link: u8, links: &[LinkStatus]) -> Result<String, AllocError>
     ensures { IfOk result (λ text. string_bytes text ≡ lines_by (λ place. status_line (first_link + place)) 0 links.now) }
@@ -144,7 +130,8 @@ pub(crate) fn answer_of(
     ensures { IfOk result (λ text. string_bytes text ≡ links_answer first_link links.now) }
 {
     let mut text = status_lines(alloc, first_link, links)?;
-    let line = links_line(alloc, links.len())?;
+    let count = links.len();
+    let line = format!(in alloc; "links {count}\n")?;
     text.push_str(line.as_str())?;
     Ok(text)
 }

@@ -73,10 +73,8 @@ impl Statuses {
 
     /// The peer of the link in this place, which was accepted.
     pub(crate) fn peer<R: Wait>(&self, rt: &R, place: u8) -> Option<Peer> {
-        match self.links.lock(rt).get(usize::from(place)) {
-            Some(known) => Some(known.peer),
-            None => None,
-        }
+        let links = self.links.lock(rt);
+        links.get(usize::from(place)).map(|known| known.peer)
     }
 
     /// Notes the status of the link in this place, which was accepted.

@@ -27,50 +27,26 @@ const ENOPROTOOPT: i32 = 92;
 /// The operation isn't supported.
 const EOPNOTSUPP: i32 = 95;
 
-/// The network is down.
-const ENETDOWN: i32 = 100;
-
-/// The network can't be reached.
-const ENETUNREACH: i32 = 101;
-
 /// No room for the buffers of a connection.
 const ENOBUFS: i32 = 105;
 
 /// The host of the client is down.
 const EHOSTDOWN: i32 = 112;
 
-/// The host of the client can't be reached.
-const EHOSTUNREACH: i32 = 113;
-
-/// What looking for a connection brought.
-#[derive(Drop)]
-enum Look {
-    /// One, and the address of its client.
-    Came(TcpStream, SocketAddr),
-    /// None, or one that was gone before it was accepted.
-    Nothing,
-    /// None can be had any more.
-    Failed(ServeFault),
-}
-
 /// Whether an error says that no connection waits, or is one that a connection had while it waited: the system hands
 /// such an error out when the connection is accepted, and the next one may be fine.
 fn is_of_one_connection(error: &io::Error) -> bool {
     match error.kind() {
-        ErrorKind::WouldBlock | ErrorKind::Interrupted | ErrorKind::ConnectionAborted => true,
-        _ => match error.raw_os_error() {
-            Some(
-                ENONET
-                | EPROTO
-                | ENOPROTOOPT
-                | EOPNOTSUPP
-                | ENETDOWN
-                | ENETUNREACH
-                | EHOSTDOWN
-                | EHOSTUNREACH,
-            ) => true,
-            Some(_) | None => false,
-        },
+        ErrorKind::WouldBlock
+        | ErrorKind::Interrupted
+        | ErrorKind::ConnectionAborted
+        | ErrorKind::NetworkDown
+        | ErrorKind::NetworkUnreachable
+        | ErrorKind::HostUnreachable => true,
+        _ => matches!(
+            error.raw_os_error(),
+            Some(ENONET | EPROTO | ENOPROTOOPT | EOPNOTSUPP | EHOSTDOWN)
+        ),
     }
 }
 
@@ -80,8 +56,12 @@ fn is_of_memory(error: &io::Error) -> bool {
     error.kind() == ErrorKind::OutOfMemory || error.raw_os_error() == Some(ENOBUFS)
 }
 
-/// Accepts the connection that came next, if one waits within some time.
-fn look_for_one<R: Wait + Clock>(rt: &R, listener: &TcpListener) -> Look {
+/// Accepts the connection that came next, if one waits within some time, and gives it with the address of its client.
+/// `None`: none came, or it was gone before it was accepted. The error: none can be had any more.
+fn look_for_one<R: Wait + Clock>(
+    rt: &R,
+    listener: &TcpListener,
+) -> Result<Option<(TcpStream, SocketAddr)>, ServeFault> {
     let mut asked = [pollfd {
         fd: listener.as_raw_fd(),
         events: POLLIN,
@@ -89,7 +69,7 @@ fn look_for_one<R: Wait + Clock>(rt: &R, listener: &TcpListener) -> Look {
     }];
     let ready_count = poll(&mut asked, LOOK_MILLISECONDS);
     if ready_count == 0 {
-        return Look::Nothing;
+        return Ok(None);
     }
     if ready_count < 0 {
         // The listener doesn't block, so that the call below returns at once; without this the loop above would spin.
@@ -99,10 +79,10 @@ fn look_for_one<R: Wait + Clock>(rt: &R, listener: &TcpListener) -> Look {
         );
     }
     match listener.accept() {
-        Ok((stream, peer)) => Look::Came(stream, peer),
-        Err(error) if is_of_one_connection(&error) => Look::Nothing,
-        Err(error) if is_of_memory(&error) => Look::Failed(ServeFault::Memory),
-        Err(_) => Look::Failed(ServeFault::NoConnection),
+        Ok(came) => Ok(Some(came)),
+        Err(error) if is_of_one_connection(&error) => Ok(None),
+        Err(error) if is_of_memory(&error) => Err(ServeFault::Memory),
+        Err(_) => Err(ServeFault::NoConnection),
     }
 }
 
@@ -125,7 +105,7 @@ pub(crate) fn connection<R: Wait + Clock>(
             return None;
         }
         match look_for_one(rt, listener) {
-            Look::Came(stream, peer) => {
+            Ok(Some((stream, peer))) => {
                 // A fault, or the command to end, may have come while the connection was awaited.
                 if stop.refuses_connections(rt) {
                     return None;
@@ -137,8 +117,8 @@ pub(crate) fn connection<R: Wait + Clock>(
                 watch_peer(&stream);
                 return Some((stream, peer));
             }
-            Look::Nothing => {}
-            Look::Failed(fault) => stop.ask_for(rt, fault),
+            Ok(None) => {}
+            Err(fault) => stop.ask_for(rt, fault),
         }
     }
     None
