@@ -4,7 +4,8 @@ ghost use Rattle.std.specs.Prelude.{◌≡◌, ◌≤◌, List, [], ◌∷◌, �
 ghost use Rattle.fp_adaptor.specs.declared.setting.Setting.{Setting};
 ghost use Rattle.fp_adaptor.specs.Adaptor.{Comes, HandedOnAt, Led, Manages, Receives, Refuses, Replies, Sends, Takes, abort_octets, what_became};
 ghost use Rattle.fp_adaptor.specs.Counted.{count_after, refused_as, sent_as};
-ghost use Rattle.fp_adaptor.specs.History.{Event, IsRead, Message, ended, managed, refused, said};
+ghost use Rattle.fp_adaptor.specs.Connections.{IsFirst};
+ghost use Rattle.fp_adaptor.specs.History.{Event, IsRead, Message, connection_after, ended, managed, refused, said};
 ghost use Rattle.fp_sccp.specs.View.{unit_data_value};
 
 use crate::connections::Connections;
@@ -251,6 +252,14 @@ impl Adaptor {
             return self.take(octets);
         }
         Ok(Outcome::Nothing)
+    }
+
+    /// The connection by which a message of the link goes now: that of the first unit that has one.
+    pub fn sends_by(&self) -> Option<usize>
+        ensures { (setting : Setting) (history : List Event) → Led self.now setting history
+            → IsFirst (connection_after history) result }
+    {
+        self.connections.first()
     }
 
     /// What becomes of a message of the link.
