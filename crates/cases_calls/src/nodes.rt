@@ -2,17 +2,22 @@
 //!
 //! | Case | What it gives |
 //! |---|---|
-//! | `node OWN EXCHANGE NAME,.. EVENT ..` | what a node with these units comes to after each event: what happened, the octets that are to be written (`K<HEX` to the connection in place K, `link<HEX`), all of which are written before the next event |
+//! | `node OWN EXCHANGE NAME,.. EVENT ..` | what a node with these units comes to after each event: what happened, the octets that are to be written (`K<HEX` to the connection in place K, `link<HEX`), and the connections whose writing side is to be shut (`K|`); all of that is done before the next event |
 //!
 //! | Event | What it is |
 //! |---|---|
 //! | `came:AT` | a connection comes at this time; it gets the first free place |
 //! | `received:K:HEX` | octets come by the connection in place K |
 //! | `over:K` | the peer of the connection in place K closed it |
+//! | `failed:K` | a read or a write of the connection in place K failed |
 //! | `link:HEX` | octets come from the link |
+//! | `links:N:HEX` | they come N times |
 //! | `tick:AT` | time goes by |
-//! | `drain` | the node is to drain |
+//! | `drain:AT` | the node is to drain, from this time on |
+//! | `down` | the link is down |
 //! | `counts` | nothing happens, and the numbers are written |
+//!
+//! More than 10,000 octets for a connection are written as their number, `K<#N`.
 
 use anyhow::bail;
 use cases::{first_word, octets_of, push_octets};
@@ -22,6 +27,9 @@ use fp_sccp::Address;
 use std::alloc::Global;
 use std::fmt::Write;
 use std::net::{Ipv4Addr, SocketAddr};
+
+/// How many octets for a connection are written.
+const MOST_WRITTEN: usize = 10_000;
 
 /// The two parts of a text at its first colon.
 fn parts(text: &str) -> (&str, &str) {
@@ -58,10 +66,13 @@ fn receive(alloc: Global, node: &mut Node, place: &str, text: &str) -> anyhow::R
     Ok(node.received(place.parse()?, octets.as_slice())?)
 }
 
-/// A node receives octets of its link.
-fn receive_from_link(alloc: Global, node: &mut Node, text: &str) -> anyhow::Result<()> {
+/// A node receives octets of its link this number of times.
+fn receive_from_link(alloc: Global, node: &mut Node, text: &str, times: u32) -> anyhow::Result<()> {
     let octets = octets_of(alloc, text)?;
-    Ok(node.received_from_link(octets.as_slice())?)
+    for _ in 0..times {
+        node.received_from_link(octets.as_slice())?;
+    }
+    Ok(())
 }
 
 /// Lets an event happen.
@@ -75,9 +86,12 @@ fn happen(alloc: Global, node: &mut Node, event: &str) -> anyhow::Result<()> {
         }
         "received" => receive(alloc, node, first, second)?,
         "over" => node.close(first.parse()?, Closing::PeerClosed),
-        "link" => receive_from_link(alloc, node, first)?,
+        "failed" => node.close(first.parse()?, Closing::Failed),
+        "link" => receive_from_link(alloc, node, first, 1)?,
+        "links" => receive_from_link(alloc, node, second, first.parse()?)?,
+        "down" => node.close_all(),
         "tick" => node.tick(first.parse()?),
-        "drain" => node.drain(),
+        "drain" => node.drain(first.parse()?),
         "counts" => {}
         _ => bail!("no such event"),
     }
@@ -95,7 +109,16 @@ fn push_events(out: &mut String, node: &mut Node) -> anyhow::Result<()> {
     Ok(())
 }
 
-/// Writes what waits for the connection in a place, and clears the place if its connection is to be closed.
+/// Writes octets, or their number if there are many.
+fn push_many(out: &mut String, octets: &[u8]) -> anyhow::Result<()> {
+    if octets.len() > MOST_WRITTEN {
+        return Ok(write!(out, "#{}", octets.len())?);
+    }
+    Ok(push_octets(out, octets)?)
+}
+
+/// Writes what waits for the connection in a place, and whether its writing side is to be shut, and clears the place if its
+/// connection is to be closed.
 fn push_waiting(out: &mut String, node: &mut Node, place: usize) -> anyhow::Result<()> {
     if node.is_over(place) {
         node.clear(place);
@@ -104,8 +127,12 @@ fn push_waiting(out: &mut String, node: &mut Node, place: usize) -> anyhow::Resu
     let count = node.waiting(place).len();
     if count > 0 {
         write!(out, " {place}<")?;
-        push_octets(out, node.waiting(place))?;
+        push_many(out, node.waiting(place))?;
         node.written(place, count);
+    }
+    if node.is_to_shut(place) {
+        write!(out, " {place}|")?;
+        node.shut(place);
     }
     Ok(())
 }

@@ -1,1 +1,6 @@
+mod Changing
+mod Ending
 mod Growing
+mod Leaves
+mod Ticking
+mod Waits

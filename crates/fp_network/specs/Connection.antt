@@ -1,15 +1,13 @@
 -- What becomes of a message on a connection: the states of a connection of IPA, except that a node that drains closes
 -- one that names the common unit. The common unit is the last one.
-use Rattle.std.specs.Prelude.{◌≡◌, ℕ, ◌-◌, Bool, false, ◌&&◌, ◌==◌, nat_lt, if◌then◌else◌, List, ◌++◌, length}
+use Rattle.std.specs.Prelude.{ℕ, ◌-◌, Bool, false, ◌&&◌, ◌==◌, nat_lt, if◌then◌else◌}
 use Rattle.fp_ipa.specs.declared.connection.State.{State}
 use Rattle.fp_ipa.specs.declared.connection.State.TheVariants.{Asked, Named, Active, Closed}
 use Rattle.fp_ipa.specs.declared.connection.Action.{Action}
 use Rattle.fp_ipa.specs.declared.connection.Action.TheVariants as actions
 use Rattle.fp_ipa.specs.declared.received.Received.{Received}
 use Rattle.fp_ipa.specs.declared.received.Received.TheVariants as received
-use Rattle.fp_ipa.specs.declared.stream_identifier.StreamIdentifier.{StreamIdentifier}
-use Rattle.fp_ipa.specs.Connection.{action_for, next, sent}
-use Rattle.fp_ipa.specs.Received.{Says}
+use Rattle.fp_ipa.specs.Connection.{action_for, next}
 use Rattle.fp_network.specs.declared.connection.Arrival.{Arrival}
 use Rattle.fp_network.specs.declared.connection.Arrival.TheVariants as arrivals
 use Rattle.fp_network.specs.declared.event.Closing.{Closing}
@@ -73,12 +71,3 @@ arrival_by state actions.Acknowledge why = arrivals.Nothing
 arrival_by state actions.Activate why = activated state
 arrival_by state actions.Deliver why = arrivals.UnitData
 arrival_by state actions.Close why = arrivals.Close why
-
--- A message of a stream came: the state after it, what waits to be written after it, and what it comes to.
-pub record Stepped (names : List (List ℕ)) (drains : Bool) (stream : StreamIdentifier) (octets : List ℕ)
-    (old new : State) (waited waits : List ℕ) (arrival : Arrival) : Type 0 where
-  pub what : Received
-  pub says : Says names stream octets what
-  pub state : new ≡ state_for drains (length names) old what
-  pub writes : waits ≡ waited ++ sent (step_action drains (length names) old what)
-  pub comes_to : arrival ≡ arrival_by new (step_action drains (length names) old what) (why_closed drains (length names) what)

@@ -1,4 +1,9 @@
+pub mod Changes
 pub mod Connection
+pub mod Course
+pub mod Forwarding
 pub mod Frames
 pub mod Node
+pub mod Stepping
+pub mod Tally
 pub mod Units

@@ -1,9 +1,17 @@
 //! A connection of a transfer point.
 
-ghost use Rattle.std.specs.Prelude.{◌≡◌, ◌≤◌, ◌<◌, ◌+◌, ◌^◌, [], ◌++◌, drop, is_some, true, IfOk, OnOk, OnErr, length};
+ghost use Rattle.std.specs.Prelude.{◌≡◌, ◌<◌, ◌-◌, ◌^◌, [], ◌++◌, drop, nat_le, IfErr, IfOk, IfSome, OnErr, OnOk, length};
+ghost use Rattle.std.specs.Option.{option_map};
 ghost use Rattle.fp_ipa.specs.declared.connection.State.TheVariants.{Asked};
 ghost use Rattle.fp_ipa.specs.Message.{head_of};
-ghost use Rattle.fp_network.specs.Connection.{Stepped, activated, arrival_by, fault_of, is_last, is_of_common, is_refused, names_common, state_for, step_action, why_closed};
+ghost use Rattle.fp_ipa.specs.Stream.{FaultSays, HandsOut};
+ghost use Rattle.fp_ipa.specs.StreamIdentifier.{IsByName};
+ghost use Rattle.fp_ipa.specs.View.{message_value};
+ghost use Rattle.fp_network.specs.Connection.{activated, arrival_by, fault_of, is_last, is_of_common, is_refused, names_common, state_for, step_action, why_closed};
+ghost use Rattle.fp_network.specs.declared.connection.Course.TheVariants.{Open};
+ghost use Rattle.fp_network.specs.Course.{closed, closing_of, drained, is_drained, is_draining, is_unnamed, is_written, octets_for, overdue, shut};
+ghost use Rattle.fp_network.specs.Changes.{IsLonger, is_slow, refusal, sending};
+ghost use Rattle.fp_network.specs.Stepping.{Stepped};
 
 use crate::Closing;
 use crate::waiting::Waiting;
@@ -15,6 +23,12 @@ use std::alloc::{AllocError, Global};
 
 /// For how many milliseconds a connection may be there without being active.
 const MILLISECONDS_TO_NAME: u64 = 5_000;
+
+/// For how many milliseconds a connection is read once its node drains, if its peer doesn't close it.
+const MILLISECONDS_TO_DRAIN: u64 = 2_000;
+
+/// How many octets may wait for a connection.
+const MOST_WAITING: usize = 1_048_576;
 
 /// What a message of a connection comes to.
 #[derive(Clone, Copy, Debug, PartialEq, Eq)]
@@ -123,6 +137,120 @@ fn arrival_by(step: Step, why: Closing) -> Arrival
     }
 }
 
+/// How far a connection is from its end. Moments are milliseconds.
+#[derive(Clone, Copy, Debug, PartialEq, Eq)]
+pub(crate) enum Course {
+    /// It is read and written.
+    Open,
+    /// Its node drains since this moment, and its writing side is to be shut. It is read and written.
+    Draining(u64),
+    /// Its node drains since this moment, and its writing side is shut. It is read.
+    Shut(u64),
+    /// It is to be closed for this reason.
+    Over(Closing),
+}
+
+/// Whether so many milliseconds went by since a moment.
+fn went_by(milliseconds: u64, since: u64, at: u64) -> bool
+    ensures { result ≡ nat_le milliseconds (at - since) }
+{
+    at.saturating_sub(since) >= milliseconds
+}
+
+/// Whether a connection isn't active yet at this time, although five seconds went by since it came.
+fn is_unnamed(state: State, came_at: u64, at: u64) -> bool
+    ensures { result ≡ is_unnamed state came_at at }
+{
+    match state {
+        State::Active(_) => false,
+        State::Named(_) => went_by(MILLISECONDS_TO_NAME, came_at, at),
+        State::Asked => went_by(MILLISECONDS_TO_NAME, came_at, at),
+        State::Closed => went_by(MILLISECONDS_TO_NAME, came_at, at),
+    }
+}
+
+/// Whether two seconds went by at this time since a node began to drain.
+fn is_drained(since: u64, at: u64) -> bool
+    ensures { result ≡ is_drained since at }
+{
+    went_by(MILLISECONDS_TO_DRAIN, since, at)
+}
+
+/// Why a connection is to be closed at this time, if time is over for it.
+fn overdue(course: Course, state: State, came_at: u64, at: u64) -> Option<Closing>
+    ensures { result ≡ overdue course state came_at at }
+{
+    match course {
+        Course::Open => is_unnamed(state, came_at, at).then_some(Closing::Silent),
+        Course::Draining(since) => is_drained(since, at).then_some(Closing::Draining),
+        Course::Shut(since) => is_drained(since, at).then_some(Closing::Draining),
+        Course::Over(_) => None,
+    }
+}
+
+/// Why a connection is to be closed, if it is.
+fn closing_of(course: Course) -> Option<Closing>
+    ensures { result ≡ closing_of course }
+{
+    match course {
+        Course::Over(why) => Some(why),
+        Course::Open => None,
+        Course::Draining(_) => None,
+        Course::Shut(_) => None,
+    }
+}
+
+/// The course of a connection that is to be closed for this reason, unless it was for another one.
+fn closed(why: Closing, course: Course) -> Course
+    ensures { result ≡ closed why course }
+{
+    match course {
+        Course::Open => Course::Over(why),
+        Course::Draining(_) => Course::Over(why),
+        Course::Shut(_) => Course::Over(why),
+        Course::Over(first) => Course::Over(first),
+    }
+}
+
+/// The course of a connection, of the common unit or of another one, whose node drains since this time.
+fn drained(is_common: bool, at: u64, course: Course) -> Course
+    ensures { result ≡ drained is_common at course }
+{
+    if !is_common {
+        return course;
+    }
+    match course {
+        Course::Open => Course::Draining(at),
+        Course::Draining(since) => Course::Draining(since),
+        Course::Shut(since) => Course::Shut(since),
+        Course::Over(why) => Course::Over(why),
+    }
+}
+
+/// The course of a connection whose writing side was shut, if it was to be.
+fn shut(course: Course) -> Course
+    ensures { result ≡ shut course }
+{
+    match course {
+        Course::Draining(since) => Course::Shut(since),
+        Course::Open => Course::Open,
+        Course::Shut(since) => Course::Shut(since),
+        Course::Over(why) => Course::Over(why),
+    }
+}
+
+/// The octets that are sent for an action, unless nothing is sent any more.
+fn octets_for(course: Course, action: Action) -> &'static [u8]
+    ensures { result.now ≡ octets_for course action }
+{
+    match course {
+        Course::Open => action.octets(),
+        Course::Draining(_) => action.octets(),
+        Course::Shut(_) => &[],
+        Course::Over(_) => &[],
+    }
+}
+
 /// A connection of a transfer point.
 #[derive(Drop)]
 pub(crate) struct Connection {
@@ -134,16 +262,18 @@ pub(crate) struct Connection {
     waiting: Waiting,
     // When it came, in milliseconds.
     came_at: u64,
-    // Why it is to be closed, if it is.
-    closing: Option<Closing>,
+    course: Course,
 }
 
 impl Connection {
     /// A connection of this number that came at this time. It is asked for a unit. `Err`: memory ran out.
     pub(crate) fn new(alloc: Global, number: u64, came_at: u64) -> Result<Connection, AllocError>
+        ensures number { IfOk result (λ own. own.number ≡ number) }
         ensures state { IfOk result (λ own. own.state ≡ Asked) }
         ensures asks { IfOk result (λ own. own.waiting ≡ ASKS) }
         ensures reader { IfOk result (λ own. own.reader ≡ []) }
+        ensures came { IfOk result (λ own. own.came_at ≡ came_at) }
+        ensures open { IfOk result (λ own. own.course ≡ Open) }
     {
         let mut waiting = Waiting::new(alloc);
         waiting.push(&ASKS)?;
@@ -153,37 +283,75 @@ impl Connection {
             reader: IpaReader::new(alloc),
             waiting,
             came_at,
-            closing: None,
+            course: Course::Open,
         })
     }
 
     /// Its number.
-    pub(crate) fn number(&self) -> u64 {
+    pub(crate) fn number(&self) -> u64
+        ensures { result ≡ self.now.number }
+    {
         self.number
     }
 
     /// Why it is to be closed, if it is.
     pub(crate) fn closing(&self) -> Option<Closing>
-        ensures { result ≡ self.now.closing }
+        ensures { result ≡ closing_of self.now.course }
     {
-        self.closing
+        closing_of(self.course)
     }
 
-    /// It is to be closed for this reason, unless it was for another one. `false`: it was.
-    pub(crate) fn close(&mut self, why: Closing) -> bool
-        ensures { is_some self.new.closing ≡ true }
+    /// Whether it is written.
+    pub(crate) fn is_written(&self) -> bool
+        ensures { result ≡ is_written self.now.course }
     {
-        if self.closing.is_some() {
-            return false;
+        match self.course {
+            Course::Open => true,
+            Course::Draining(_) => true,
+            Course::Shut(_) => false,
+            Course::Over(_) => false,
         }
-        self.closing = Some(why);
-        true
     }
 
-    /// Whether it isn't active yet at this time, although five seconds went by.
-    pub(crate) fn is_late(&self, at: u64) -> bool {
-        let is_active = matches!(self.state, State::Active(_));
-        !is_active && at.saturating_sub(self.came_at) >= MILLISECONDS_TO_NAME
+    /// Whether its writing side is to be shut once nothing waits for it.
+    pub(crate) fn is_draining(&self) -> bool
+        ensures { result ≡ is_draining self.now.course }
+    {
+        match self.course {
+            Course::Draining(_) => true,
+            Course::Open => false,
+            Course::Shut(_) => false,
+            Course::Over(_) => false,
+        }
+    }
+
+    /// It is to be closed for this reason, unless it was for another one.
+    pub(crate) fn close(&mut self, why: Closing)
+        ensures { self.new ≡ record self.old { course = closed why self.old.course } }
+    {
+        self.course = closed(why, self.course);
+    }
+
+    /// Its node, with this number of units, drains since this time. If it is that of the common one, its writing side is to
+    /// be shut.
+    pub(crate) fn drain(&mut self, units: usize, at: u64)
+        ensures { self.new ≡ record self.old { course = drained (is_of_common units self.old.state) at self.old.course } }
+    {
+        self.course = drained(self.is_of_common(units), at, self.course);
+    }
+
+    /// Its writing side was shut, if it was to be.
+    pub(crate) fn shut(&mut self)
+        ensures { self.new ≡ record self.old { course = shut self.old.course } }
+    {
+        self.course = shut(self.course);
+    }
+
+    /// Why it is to be closed at this time, if time is over for it.
+    pub(crate) fn overdue(&self, at: u64) -> Option<Closing>
+        ensures { result ≡ overdue self.now.course self.now.state self.now.came_at at }
+    {
+        overdue(self.course, self.state, self.came_at, at)
     }
 
     /// Whether it is that of the last of this number of units, which several nodes have in common.
@@ -199,44 +367,104 @@ impl Connection {
     }
 
     /// Takes the next piece of its stream. `Err`: memory ran out.
-    pub(crate) fn feed(&mut self, octets: &[u8]) -> Result<(), AllocError> {
-        self.reader.feed(octets)
+    pub(crate) fn feed(&mut self, octets: &[u8]) -> Result<(), AllocError>
+        ensures ok { OnOk result (self.new ≡ record self.old { reader = self.old.reader ++ octets.now }) }
+    {
+        self.reader.feed(octets)?;
+        Ok(())
     }
 
-    /// The next message that is there whole, if there is one and the connection isn't to be closed.
-    pub(crate) fn next_message(&mut self) -> Result<Option<IpaMessage>, IpaFault> {
-        if self.closing.is_some() {
-            return Ok(None);
-        }
+    /// The next message that is there whole, if there is one.
+    pub(crate) fn next_message(&mut self) -> Result<Option<IpaMessage>, IpaFault>
+        ensures next { IfOk result (λ message. HandsOut self.old.reader self.new.reader (option_map message_value message)) }
+        ensures named { IfOk result (λ message. IfSome message (λ message. IsByName message.stream)) }
+        ensures fault { IfErr result (FaultSays self.old.reader) }
+        ensures same { self.new ≡ record self.old { reader = self.new.reader } }
+        ensures kept { OnErr result (self.new.reader ≡ self.old.reader) }
+    {
         self.reader.next()
     }
 
     /// A message came, of a node that drains or doesn't. `Err`: memory ran out for an answer.
-    pub(crate) fn take(
+    fn take(
         &mut self,
         names: &[UnitName],
         drains: bool,
         stream: StreamIdentifier,
         octets: &[u8],
     ) -> Result<Arrival, AllocError>
-        ensures { IfOk result (Stepped names.now drains stream octets.now
-            self.old.state self.new.state self.old.waiting self.new.waiting) }
+        ensures stepped { IfOk result (Stepped names.now drains stream octets.now self.old self.new) }
     {
         let received = received_of(names, stream, octets);
         let step = step_of(drains, names.len(), self.state, received);
-        self.waiting.push(step.action.octets())?;
+        self.waiting.push(octets_for(self.course, step.action))?;
         self.state = step.state;
         Ok(arrival_by(step, why_closed(drains, names.len(), received)))
     }
 
+    /// Whether so much waits for it that nothing more is to be sent.
+    pub(crate) fn is_slow(&self) -> bool
+        ensures { result ≡ is_slow self.now }
+    {
+        self.waiting.count() >= MOST_WAITING
+    }
+
+    /// Why it takes no message of the link, if it doesn't: too much waits for it already, or its writing side is shut.
+    pub(crate) fn refusal(&self) -> Option<Closing>
+        ensures { result ≡ refusal self.now }
+    {
+        if !self.is_written() {
+            return Some(Closing::Draining);
+        }
+        if self.is_slow() {
+            return Some(Closing::Slow);
+        }
+        None
+    }
+
+    /// What a message comes to, of a node that drains or doesn't. If too much waits to be written already, the connection is
+    /// to be closed, since the message may have to be answered. `Err`: memory ran out for an answer.
+    pub(crate) fn arrival(
+        &mut self,
+        names: &[UnitName],
+        drains: bool,
+        stream: StreamIdentifier,
+        octets: &[u8],
+    ) -> Result<Arrival, AllocError>
+        ensures { OnOk result (IsLonger self.old.waiting self.new.waiting) }
+    {
+        if self.is_slow() {
+            return Ok(Arrival::Close(Closing::Slow));
+        }
+        let arrival = self.take(names, drains, stream, octets)?;
+        Ok(arrival)
+    }
+
     /// A message of SCCP, at most 65,535 octets, waits to be written. `Err`: memory ran out, and the network must end.
-    pub(crate) fn send(&mut self, octets: &[u8]) -> Result<(), AllocError>
+    fn push(&mut self, octets: &[u8]) -> Result<(), AllocError>
         requires { length octets.now < 2 ^ 16 }
-        ensures ok { OnOk result (self.new.waiting ≡ self.old.waiting ++ (head_of 253 (length octets.now) ++ octets.now)) }
+        ensures { OnOk result (self.new
+            ≡ record self.old { waiting = self.old.waiting ++ (head_of 253 (length octets.now) ++ octets.now) }) }
     {
         let head = message_head(StreamIdentifier::Sccp, octets.len() as u16);
         self.waiting.push(&head)?;
-        self.waiting.push(octets)
+        self.waiting.push(octets)?;
+        Ok(())
+    }
+
+    /// A message of SCCP waits to be written, if it is written and the message has at most 65,535 octets. `Err`: memory ran
+    /// out, and the network must end.
+    pub(crate) fn send(&mut self, octets: &[u8]) -> Result<(), AllocError>
+        ensures { OnOk result (self.new ≡ sending octets.now self.old) }
+    {
+        if octets.len() > usize::from(u16::MAX) {
+            return Ok(());
+        }
+        if !self.is_written() {
+            return Ok(());
+        }
+        self.push(octets)?;
+        Ok(())
     }
 
     /// What waits to be written.
@@ -248,7 +476,7 @@ impl Connection {
 
     /// This number of octets was written.
     pub(crate) fn written(&mut self, count: usize)
-        ensures { self.new.waiting ≡ drop count self.old.waiting }
+        ensures { self.new ≡ record self.old { waiting = drop count self.old.waiting } }
     {
         self.waiting.take(count);
     }

@@ -1,5 +1,7 @@
 //! Whether a node drains.
 
+ghost use Rattle.std.specs.Prelude.{◌≡◌};
+
 use std::sync::atomic::{AtomicBool, Ordering};
 
 /// Whether a node is to drain: it asks the network for no new dialogues from then on, and serves those that are open.
@@ -7,19 +9,29 @@ use std::sync::atomic::{AtomicBool, Ordering};
 #[derive(Drop)]
 pub struct Drain {
     is_set: AtomicBool,
+    has_own_unit: bool,
 }
 
 impl Drain {
-    /// The node doesn't drain.
-    pub fn new() -> Drain {
+    /// The node doesn't drain. It has a unit of its own, or the common one alone.
+    pub fn new(has_own_unit: bool) -> Drain
+        ensures { result.has_own_unit ≡ has_own_unit }
+    {
         Drain {
             is_set: AtomicBool::new(false),
+            has_own_unit,
         }
     }
 
-    /// The node is to drain, from now on until it ends.
-    pub fn set(&self) {
-        self.is_set.store(true, Ordering::SeqCst);
+    /// The node is to drain, from now on until it ends. `false`: it has no unit of its own, so that no way would be left for
+    /// its answers, and nothing changes.
+    pub fn set(&self) -> bool
+        ensures { result ≡ self.now.has_own_unit }
+    {
+        if self.has_own_unit {
+            self.is_set.store(true, Ordering::SeqCst);
+        }
+        self.has_own_unit
     }
 
     /// Whether it is to drain.

@@ -1,6 +1,7 @@
 //! What happened on a network.
 
-ghost use Rattle.std.specs.Prelude.{◌<◌};
+ghost use Rattle.std.specs.Prelude.{◌≡◌, ◌<◌};
+ghost use Rattle.fp_network.specs.Tally.{AreListed, place_of};
 
 use crate::Tally;
 use fp_ipa::UnitName;
@@ -52,7 +53,8 @@ impl Closing {
 
     /// Its place among the numbers of a [`Tally`].
     pub(crate) fn place(self) -> usize
-        ensures { result < Tally.REASONS }
+        ensures value { result ≡ place_of self }
+        ensures range { place_of self < Tally.REASONS }
     {
         match self {
             Closing::PeerClosed => 0,
@@ -92,6 +94,11 @@ impl fmt::Display for Closing {
         f.write_str(self.word())
     }
 }
+
+/// Each reason has the place in [`Closing::ALL`] that its number has among those of a [`Tally`].
+pub fn reasons_are_listed()
+    ensures { AreListed Closing.ALL }
+{}
 
 /// What happened on a network. Connections are numbered from 1 in the order in which they came.
 #[derive(Clone, Copy, Debug, PartialEq, Eq)]

@@ -7,6 +7,10 @@
 //! | doesn't acknowledge octets that were sent | 110 seconds after they were sent first |
 //! | acknowledges, but has no room for the octets that wait | after 110 seconds without room |
 //!
+//! A transfer point's connection is given up sooner, since another transfer point may be there for what it doesn't take: in the
+//! last two rows after 10 seconds, and in the first once a probe was 10 seconds without an acknowledgement, 70 seconds after
+//! its last octet or acknowledgement. An answer that is sent to a transfer point that is gone is such an octet.
+//!
 //! The probes are sent 60, 70, 80, 90 and 100 seconds after the last octet or acknowledgement that came. On Linux
 //! `TCP_USER_TIMEOUT` decides all rows: it takes the place of `TCP_KEEPCNT`, so that a connection is given up when that
 //! time is over and a probe is due, however many were lost. So it is as long as five probes take.
@@ -30,6 +34,9 @@ const MOST_PROBES: i32 = 6;
 /// For how many milliseconds octets that were sent may stay unacknowledged, octets that wait may find no room at the
 /// peer, or a peer that is probed may be silent.
 const USER_TIMEOUT_MILLISECONDS: i32 = 110_000;
+
+/// The same for what is sent to a transfer point.
+const TRANSFER_POINT_MILLISECONDS: i32 = 10_000;
 
 /// How many octets the value of an option has.
 const OCTETS_OF_A_NUMBER: u32 = 4;
@@ -74,6 +81,23 @@ pub fn watch_peer<S: AsRawFd>(stream: &S) {
             IPPROTO_TCP,
             TCP_USER_TIMEOUT,
             &value(USER_TIMEOUT_MILLISECONDS),
+            OCTETS_OF_A_NUMBER,
+        );
+    }
+}
+
+/// Lets reads and writes of a transfer point's connection fail once it is gone, or takes nothing of what waits, within ten
+/// seconds of the first octets that it doesn't acknowledge or take. If the system refuses that, the limits of [`watch_peer`]
+/// hold.
+pub(crate) fn watch_transfer_point<S: AsRawFd>(stream: &S) {
+    watch_peer(stream);
+    // SAFETY: it is an option of its level whose value is a number.
+    unsafe {
+        setsockopt(
+            stream.as_raw_fd(),
+            IPPROTO_TCP,
+            TCP_USER_TIMEOUT,
+            &value(TRANSFER_POINT_MILLISECONDS),
             OCTETS_OF_A_NUMBER,
         );
     }

@@ -26,9 +26,9 @@
 //! | 5 seconds go by in which it isn't active | it is closed |
 //! | it names a unit and acknowledges that | the earlier connection of the unit is closed |
 //! | it sends something that its state doesn't allow | it is closed |
-//! | a megabyte waits for it, and more is to be sent | it is closed |
+//! | a megabyte waits for it, and more is to be sent | it is closed, and that goes by the next one |
 //! | it ends | the link stays; what the link sends while no connection is there is dropped, and counted |
-//! | the node drains | connections of the common unit are closed, and none is accepted for it |
+//! | the node drains | the connection of the common unit is shut for sending once others are there to send by; it is read until its peer closes it, two seconds at most; and none is accepted for the unit |
 //! | the link ends | what waits is written, the sending side is shut, and what comes is dropped until the peer closes; two seconds later at most all are closed |
 //!
 //! While 64 kilobytes wait for the link no connection is read. The layer above may rely on this: what waits for the link
@@ -50,7 +50,7 @@ mod tally;
 mod waiting;
 
 pub use drain::Drain;
-pub use event::{Closing, NetworkEvent, Observer};
+pub use event::{Closing, NetworkEvent, Observer, reasons_are_listed};
 pub use fault::NetworkFault;
 pub use keep_alive::watch_peer;
 pub use network::{Network, Opened};

@@ -1,7 +1,8 @@
 //! The thread that drives a node: it waits until a socket is ready, reads, and writes what waits.
 
-use crate::keep_alive::watch_peer;
+use crate::keep_alive::watch_transfer_point;
 use crate::{Closing, Drain, NetworkEvent, NetworkFault, Node, Observer};
+use mio::event::Event;
 use mio::net::{TcpListener, TcpStream, UnixStream};
 use mio::{Events, Interest, Poll, Registry, Token};
 use std::alloc::{AllocError, Global};
@@ -31,11 +32,18 @@ const LOOK_MILLISECONDS: u64 = 200;
 /// For how many milliseconds at most connections stay once the link is down.
 const MILLISECONDS_TO_END: u64 = 2_000;
 
-/// A socket among the sources.
+/// A socket among the sources. It is watched for input from when it came, and for room for output only while it had none for
+/// what waits. The system says once that it is ready: so that is noted until a read or a write finds that it isn't any more.
 #[derive(Drop)]
 struct Source<S: mio::event::Source + Drop> {
     stream: S,
-    is_registered: bool,
+    watched: Option<Interest>,
+    // Whether there may be something to be read.
+    has_input: bool,
+    // Whether its peer sends no more, or it failed: a read will say so.
+    is_ended: bool,
+    // Whether it had no room for output that waits.
+    is_full: bool,
 }
 
 impl<S: mio::event::Source + Drop> Source<S> {
@@ -43,31 +51,52 @@ impl<S: mio::event::Source + Drop> Source<S> {
     fn new(stream: S) -> Source<S> {
         Source {
             stream,
-            is_registered: false,
+            watched: None,
+            has_input: false,
+            is_ended: false,
+            is_full: false,
         }
     }
 
-    /// Watches it for this, also for what is ready already; for nothing, if there is nothing to watch for. `false`: the
-    /// system refuses.
-    fn watch(&mut self, registry: &Registry, place: usize, wanted: Option<Interest>) -> bool {
-        let answer = match (wanted, self.is_registered) {
-            (Some(interest), true) => registry.reregister(&mut self.stream, Token(place), interest),
-            (Some(interest), false) => registry.register(&mut self.stream, Token(place), interest),
-            (None, true) => registry.deregister(&mut self.stream),
-            (None, false) => Ok(()),
+    /// Watches it for what is to be known of it. `false`: the system refuses.
+    fn watch(&mut self, registry: &Registry, place: usize) -> bool {
+        let wanted = if self.is_full {
+            Interest::READABLE | Interest::WRITABLE
+        } else {
+            Interest::READABLE
         };
-        self.is_registered = wanted.is_some();
+        if self.watched == Some(wanted) {
+            return true;
+        }
+        let answer = if self.watched.is_some() {
+            registry.reregister(&mut self.stream, Token(place), wanted)
+        } else {
+            registry.register(&mut self.stream, Token(place), wanted)
+        };
+        self.watched = Some(wanted);
         answer.is_ok()
+    }
+
+    /// It is ready for what an event says.
+    fn note(&mut self, event: &Event) {
+        self.has_input |= event.is_readable() || event.is_read_closed() || event.is_error();
+        self.is_ended |= event.is_read_closed() || event.is_error();
+        self.is_full &= !event.is_writable();
+    }
+
+    /// A read gave less than it had room for, so that nothing more is there, unless its peer ended.
+    fn has_no_more(&mut self) {
+        self.has_input = self.is_ended;
     }
 }
 
-/// What to watch a socket for.
-fn interest(reads: bool, writes: bool) -> Option<Interest> {
-    match (reads, writes) {
-        (true, true) => Some(Interest::READABLE | Interest::WRITABLE),
-        (true, false) => Some(Interest::READABLE),
-        (false, true) => Some(Interest::WRITABLE),
-        (false, false) => None,
+/// The connection in a place, if there is one, is ready for what an event says.
+fn note_at(sockets: &mut [Option<Source<TcpStream>>], place: usize, event: &Event) {
+    let Some(slot) = sockets.get_mut(place) else {
+        return;
+    };
+    if let Some(socket) = slot.as_mut() {
+        socket.note(event);
     }
 }
 
@@ -77,6 +106,11 @@ fn is_again(error: &io::Error) -> bool {
         ErrorKind::WouldBlock | ErrorKind::Interrupted => true,
         _ => false,
     }
+}
+
+/// Whether a signal ended a call, so that the socket may be ready still.
+fn is_interrupted(error: &io::Error) -> bool {
+    matches!(error.kind(), ErrorKind::Interrupted)
 }
 
 /// A network that was opened, and its link.
@@ -230,35 +264,42 @@ impl Network {
         }
     }
 
+    /// Shuts the sending side of the connection in a place, if that is due since the node drains.
+    fn shut_if_drained(&mut self, place: usize) {
+        if !self.node.is_to_shut(place) {
+            return;
+        }
+        self.node.shut(place);
+        let Some(slot) = self.sockets.get(place) else {
+            return;
+        };
+        if let Some(socket) = slot {
+            // One that fails is closed in the end all the same.
+            let _ = socket.stream.shutdown(Shutdown::Write);
+        }
+    }
+
     /// Watches the connection in a place, if there is one.
-    fn watch(&mut self, place: usize, reads: bool) {
-        let writes = !self.node.waiting(place).is_empty();
+    fn watch(&mut self, place: usize) {
         let Some(slot) = self.sockets.get_mut(place) else {
             return;
         };
         let Some(socket) = slot.as_mut() else {
             return;
         };
-        if !socket.watch(self.poll.registry(), place, interest(reads, writes)) {
+        if !socket.watch(self.poll.registry(), place) {
             self.node.close(place, Closing::Failed);
         }
     }
 
-    /// Watches all sources for what is wanted of them now.
+    /// Watches all sources.
     fn watch_all(&mut self) -> Result<(), NetworkFault> {
-        let is_up = self.link_ended_at.is_none();
-        let reads = self.reads();
         for place in 0..Node::PLACES {
-            self.watch(place, reads);
+            self.watch(place);
         }
         let registry = self.poll.registry();
-        let writes = is_up && !self.node.waiting_for_link().is_empty();
-        let accepts = is_up && !self.is_refused;
-        let has_listener = self
-            .listener
-            .watch(registry, LISTENER, interest(accepts, false));
-        let has_link = self.link.watch(registry, LINK, interest(is_up, writes));
-        self.is_refused = false;
+        let has_listener = self.listener.watch(registry, LISTENER);
+        let has_link = self.link.watch(registry, LINK);
         if has_listener && has_link {
             Ok(())
         } else {
@@ -266,43 +307,80 @@ impl Network {
         }
     }
 
-    /// Waits until a source is ready, and says which are there to be read.
-    fn await_ready(&mut self) -> Result<[bool; SOURCES], NetworkFault> {
-        let most = Duration::from_millis(LOOK_MILLISECONDS);
+    /// Whether the connection in a place is to be read.
+    fn is_to_read(&self, place: usize) -> bool {
+        let Some(slot) = self.sockets.get(place) else {
+            return false;
+        };
+        let Some(socket) = slot.as_ref() else {
+            return false;
+        };
+        socket.has_input && self.reads()
+    }
+
+    /// Whether connections are to be accepted.
+    fn is_to_accept(&self) -> bool {
+        self.listener.has_input && !self.is_refused && self.link_ended_at.is_none()
+    }
+
+    /// Whether the link is to be read.
+    fn is_to_read_link(&self) -> bool {
+        self.link.has_input && self.link_ended_at.is_none()
+    }
+
+    /// How long sources are awaited: not at all, if one is to be read that was found ready before.
+    fn rest(&self) -> Duration {
+        let mut is_ready = self.is_to_accept() || self.is_to_read_link();
+        for place in 0..Node::PLACES {
+            is_ready |= self.is_to_read(place);
+        }
+        if is_ready {
+            Duration::from_millis(0)
+        } else {
+            Duration::from_millis(LOOK_MILLISECONDS)
+        }
+    }
+
+    /// Waits until a source is ready, and notes which are.
+    fn await_ready(&mut self) -> Result<(), NetworkFault> {
+        let most = self.rest();
         self.poll
             .poll(&mut self.events, Some(most))
             .map_err(no_readiness)?;
-        let mut ready = [false; SOURCES];
         for event in self.events.iter() {
-            let place = usize::from(event.token());
-            if place < SOURCES {
-                ready[place] |= event.is_readable() || event.is_read_closed() || event.is_error();
+            match usize::from(event.token()) {
+                LISTENER => self.listener.note(&event),
+                LINK => self.link.note(&event),
+                place => note_at(self.sockets.as_mut_slice(), place, &event),
             }
         }
-        Ok(ready)
+        Ok(())
     }
 
     /// Waits until a source is ready, reads what is, and writes what waits.
     fn turn(&mut self, at: u64) -> Result<(), NetworkFault> {
-        let ready = self.await_ready()?;
-        if ready[LISTENER] {
+        self.await_ready()?;
+        if self.is_to_accept() {
             self.accept(at)?;
+        } else {
+            self.is_refused = false;
         }
         for place in 0..Node::PLACES {
-            if ready[place] && self.reads() {
+            if self.is_to_read(place) {
                 self.read(place)?;
             }
         }
-        if ready[LINK] {
+        if self.is_to_read_link() {
             self.read_link(at)?;
         }
         if self.drain.is_set() {
-            self.node.drain();
+            self.node.drain(at);
         }
         self.node.tick(at);
         self.write_link(at);
         for place in 0..Node::PLACES {
             self.write(place);
+            self.shut_if_drained(place);
         }
         self.shut_if_quiet();
         self.clear_places();
@@ -315,8 +393,12 @@ impl Network {
         for _ in 0..Node::PLACES {
             match self.listener.stream.accept() {
                 Ok((stream, peer)) => self.came(stream, peer, at)?,
-                Err(error) => {
-                    self.is_refused = !is_again(&error);
+                Err(error) if is_again(&error) => {
+                    self.listener.has_input = is_interrupted(&error);
+                    return Ok(());
+                }
+                Err(_) => {
+                    self.is_refused = true;
                     return Ok(());
                 }
             }
@@ -331,7 +413,7 @@ impl Network {
         };
         // Each message goes out at once. If the system refuses that, it goes out all the same.
         let _ = stream.set_nodelay(true);
-        watch_peer(&stream);
+        watch_transfer_point(&stream);
         if place < self.sockets.len() {
             self.sockets[place] = Some(Source::new(stream));
         }
@@ -340,22 +422,26 @@ impl Network {
 
     /// Reads the connection in a place once.
     fn read(&mut self, place: usize) -> Result<(), AllocError> {
-        let Some(slot) = self.sockets.get(place) else {
+        let Some(slot) = self.sockets.get_mut(place) else {
             return Ok(());
         };
-        let Some(socket) = slot.as_ref() else {
+        let Some(socket) = slot.as_mut() else {
             return Ok(());
         };
         let mut stream = &socket.stream;
         match stream.read(self.room.as_mut_slice()) {
             Ok(0) => self.node.close(place, Closing::PeerClosed),
-            // Nothing is made of what comes after the link ended.
-            Ok(_) if self.link_ended_at.is_some() => {}
             Ok(count) => {
-                let octets = self.room.get(..count).unwrap_or_default();
-                self.node.received(place, octets)?;
+                if count < MOST_READ {
+                    socket.has_no_more();
+                }
+                // Nothing is made of what comes after the link ended.
+                if self.link_ended_at.is_none() {
+                    let octets = self.room.get(..count).unwrap_or_default();
+                    self.node.received(place, octets)?;
+                }
             }
-            Err(error) if is_again(&error) => {}
+            Err(error) if is_again(&error) => socket.has_input = is_interrupted(&error),
             Err(_) => self.node.close(place, Closing::Failed),
         }
         Ok(())
@@ -367,10 +453,13 @@ impl Network {
         match stream.read(self.room.as_mut_slice()) {
             Ok(0) => self.link_ended_at = Some(at),
             Ok(count) => {
+                if count < MOST_READ {
+                    self.link.has_no_more();
+                }
                 let octets = self.room.get(..count).unwrap_or_default();
                 self.node.received_from_link(octets)?;
             }
-            Err(error) if is_again(&error) => {}
+            Err(error) if is_again(&error) => self.link.has_input = is_interrupted(&error),
             Err(_) => self.link_ended_at = Some(at),
         }
         Ok(())
@@ -379,13 +468,17 @@ impl Network {
     /// Writes to the link what waits for it, as much as it takes.
     fn write_link(&mut self, at: u64) {
         let octets = self.node.waiting_for_link();
-        if octets.is_empty() || self.link_ended_at.is_some() {
+        if octets.is_empty() || self.link.is_full || self.link_ended_at.is_some() {
             return;
         }
+        let most = octets.len();
         let mut stream = &self.link.stream;
         match stream.write(octets) {
-            Ok(count) => self.node.written_to_link(count),
-            Err(error) if is_again(&error) => {}
+            Ok(count) => {
+                self.link.is_full = count < most;
+                self.node.written_to_link(count);
+            }
+            Err(error) if is_again(&error) => self.link.is_full = true,
             Err(_) => self.link_ended_at = Some(at),
         }
     }
@@ -396,16 +489,23 @@ impl Network {
         if octets.is_empty() {
             return;
         }
-        let Some(slot) = self.sockets.get(place) else {
+        let Some(slot) = self.sockets.get_mut(place) else {
             return;
         };
-        let Some(socket) = slot.as_ref() else {
+        let Some(socket) = slot.as_mut() else {
             return;
         };
+        if socket.is_full {
+            return;
+        }
+        let most = octets.len();
         let mut stream = &socket.stream;
         match stream.write(octets) {
-            Ok(count) => self.node.written(place, count),
-            Err(error) if is_again(&error) => {}
+            Ok(count) => {
+                socket.is_full = count < most;
+                self.node.written(place, count);
+            }
+            Err(error) if is_again(&error) => socket.is_full = true,
             Err(_) => self.node.close(place, Closing::Failed),
         }
     }

@@ -1,6 +1,9 @@
 //! The numbers of a network.
 
-ghost use Rattle.std.specs.Prelude.{◌≡◌, ◌<◌};
+ghost use Rattle.std.specs.Prelude.{◌≡◌};
+ghost use Rattle.fp_adaptor.specs.Counted.{one_more};
+ghost use Rattle.fp_network.specs.declared.event.Closing.{Closing};
+ghost use Rattle.fp_network.specs.Tally.{closed_once_more, closings_of};
 
 use crate::Closing;
 use fp_adaptor::{Adaptor, Counted};
@@ -51,7 +54,11 @@ impl Tally {
     pub const REASONS: usize = 11;
 
     /// Nothing was counted.
-    pub(crate) fn new() -> Tally {
+    pub(crate) fn new() -> Tally
+        ensures closings { (why : Closing) → closings_of result why ≡ 0 }
+        ensures connections { result.connections ≡ 0 }
+        ensures skipped { result.skipped ≡ 0 }
+    {
         Tally {
             messages: [0; 10],
             connections: 0,
@@ -61,19 +68,27 @@ impl Tally {
     }
 
     /// One more connection came. Returns its number.
-    pub(crate) fn connection(&mut self) -> u64 {
+    pub(crate) fn connection(&mut self) -> u64
+        ensures number { result ≡ one_more self.old.connections }
+        ensures counted { self.new ≡ record self.old { connections = result } }
+    {
         self.connections = self.connections.saturating_add(1);
         self.connections
     }
 
     /// One more connection was closed for this reason.
-    pub(crate) fn closing(&mut self, why: Closing) {
+    pub(crate) fn closing(&mut self, why: Closing)
+        ensures { (other : Closing) → closings_of self.new other
+            ≡ closed_once_more why other (closings_of self.old other) }
+    {
         let place = why.place();
         self.closings[place] = self.closings[place].saturating_add(1);
     }
 
     /// One more message of IPA was skipped.
-    pub(crate) fn skip(&mut self) {
+    pub(crate) fn skip(&mut self)
+        ensures { self.new ≡ record self.old { skipped = one_more self.old.skipped } }
+    {
         self.skipped = self.skipped.saturating_add(1);
     }
 
@@ -87,7 +102,9 @@ impl Tally {
     }
 
     /// The number of connections that were closed for this reason.
-    pub fn closed(&self, why: Closing) -> u64 {
+    pub fn closed(&self, why: Closing) -> u64
+        ensures { result ≡ closings_of self.now why }
+    {
         self.closings[why.place()]
     }
 }

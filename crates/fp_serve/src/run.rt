@@ -24,7 +24,7 @@ mod settings;
 mod status;
 mod stop;
 
-pub use commands::{Commands, Operator};
+pub use commands::{Commands, Operator, Refusal};
 pub(crate) use context::Run;
 pub use events::{Event, Events, Wanted};
 pub use fault::ServeFault;

@@ -6,7 +6,7 @@ use crate::fault::RunFault;
 use crate::run::records_in;
 use fp_hub::Tables;
 use fp_records::Table;
-use fp_serve::{Event, Events, Operator, ServeFault};
+use fp_serve::{Event, Events, Operator, Refusal, ServeFault};
 use sha2::{Digest, Sha256};
 use std::fmt;
 use std::io::Write;
@@ -61,8 +61,8 @@ impl<H: Files + AllocGlobal + Wait + Clock, E: Write> Operator for Console<'_, H
         }
     }
 
-    fn refuse(&mut self) {
-        self.say("command: unknown");
+    fn refuse(&mut self, refusal: Refusal) {
+        self.say(refusal);
     }
 
     fn fail(&mut self, fault: ServeFault) {

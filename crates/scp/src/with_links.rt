@@ -198,7 +198,7 @@ fn side_of<H: AllocGlobal + Net<Listener = TcpListener, Stream = TcpStream>>(
     let Ok(address) = listener.local_addr() else {
         return Err(RunFault::Serve(ServeFault::NoConnection));
     };
-    let Ok(drain) = Arc::new(alloc, Drain::new()) else {
+    let Ok(drain) = Arc::new(alloc, Drain::new(asked.units.len() > 1)) else {
         return Err(RunFault::Serve(ServeFault::Memory));
     };
     let plan = Plan {

@@ -16,6 +16,7 @@ use std::rt::Clock;
 use std::sync::{Arc, Wait};
 use std::time::{Duration, Instant};
 use std::{str, thread};
+use thiserror::Error;
 
 /// How many octets one read of the commands may give.
 const MOST_READ: usize = 512;
@@ -35,11 +36,23 @@ const REST_SECONDS: u64 = 1;
 /// How many milliseconds go by between two looks whether the thread of the links runs, until it does.
 const LOOK_MILLISECONDS: u64 = 200;
 
-/// How many seconds after the command to drain it is looked first whether dialogues are held.
-const SECONDS_TO_DRAIN: u64 = 2;
+/// How many seconds after the command to drain it is looked first whether dialogues are held: the network sees it a fifth
+/// of a second later, for two seconds new ones may still come, and what the links hold is known a second later.
+const SECONDS_TO_DRAIN: u64 = 4;
 
 /// How many seconds it may take to run.
 const SECONDS_AT_THE_START: u64 = 10;
+
+/// Why a command isn't followed.
+#[derive(Clone, Copy, Debug, PartialEq, Eq, Error)]
+pub enum Refusal {
+    /// It isn't known.
+    #[error("command: unknown")]
+    Unknown,
+    /// The node has no unit of its own, so without the common one there is no way for its answers.
+    #[error("command: drain: no unit but the common one")]
+    NoOwnUnit,
+}
 
 /// What reads the records of a run again, and says what is wrong with a command.
 pub trait Operator {
@@ -48,8 +61,8 @@ pub trait Operator {
     fn reload(&mut self, tables: &Tables) -> Option<u32>
         ensures { IfSome result (λ index. (1 ≤ index) × (index ≤ tables.now)) };
 
-    /// Says that a command isn't known.
-    fn refuse(&mut self);
+    /// Says why a command isn't followed.
+    fn refuse(&mut self, refusal: Refusal);
 
     /// Says why a command that was followed got no answer.
     fn fail(&mut self, fault: ServeFault);
@@ -209,15 +222,19 @@ fn links_text<R: Wait>(run: &Run<'_, R>) -> Result<String, AllocError>
     answer_of(alloc, run.settings.first_link, links.as_slice())
 }
 
-/// The node whose network carries the link is to drain.
-fn drain<R>(run: &Run<'_, R>) {
-    if let Some(drain) = run.drain {
-        drain.set();
+/// The node whose network carries the link is to drain. If it can't, it is said why.
+fn drain<R, O: Operator>(run: &Run<'_, R>, operator: &mut O) {
+    let Some(drain) = run.drain else {
+        operator.refuse(Refusal::Unknown);
+        return;
+    };
+    if !drain.set() {
+        operator.refuse(Refusal::NoOwnUnit);
     }
 }
 
 /// Ends the links if the node drains and none of their dialogues is held. What they hold is as new as their last tick, a
-/// second ago at most. So it is looked at from two seconds after the command on (`since`).
+/// second ago at most. So it is looked at from four seconds after the command on (`since`).
 fn end_if_drained<R: System>(run: &Run<'_, R>, since: &mut Option<Instant>) {
     let rt = run.rt;
     let Some(drain) = run.drain else {
@@ -265,12 +282,12 @@ fn obey<R: System, O: Operator, W: LinkWrite>(
         },
         // The thread that read it has ended the links.
         Some(Command::Quit) if has_commands => Ok(()),
-        Some(Command::Drain) if has_commands && run.drain.is_some() => {
-            drain(run);
+        Some(Command::Drain) if has_commands => {
+            drain(run, operator);
             Ok(())
         }
         Some(Command::Links | Command::Quit | Command::Drain | Command::Unknown) => {
-            operator.refuse();
+            operator.refuse(Refusal::Unknown);
             Ok(())
         }
     }

@@ -8,7 +8,9 @@ use fp_apdu::Name;
 use fp_hub::{Gate, Tables};
 use fp_records::Table;
 use fp_replay::{ReplayFault, replay};
-use fp_serve::{Commands, Events, Links, Operator, ServeFault, Server, Service, Settings, Wanted};
+use fp_serve::{
+    Commands, Events, Links, Operator, Refusal, ServeFault, Server, Service, Settings, Wanted,
+};
 use fp_streams::Counted;
 use std::alloc::{AllocError, Global};
 use std::net::{SocketAddr, TcpListener};
@@ -68,7 +70,7 @@ impl Operator for NoOperator {
         None
     }
 
-    fn refuse(&mut self) {}
+    fn refuse(&mut self, _refusal: Refusal) {}
 
     fn fail(&mut self, _fault: ServeFault) {}
 }

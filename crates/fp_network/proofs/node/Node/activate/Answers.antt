@@ -1,0 +1,20 @@
+use Rattle.std.proofs.Common.{◌++◌, sym, subst}
+use Rattle.fp_adaptor.specs.declared.adaptor.Adaptor.{Adaptor}
+use Rattle.fp_adaptor.specs.Adaptor.{Led}
+use Rattle.fp_network.specs.Node.{ended_at}
+use Rattle.fp_network.proofs.Waits.{stays_more, waits_same}
+use Rattle.fp_network.proofs.node.Node.activate.Goals as goal
+
+pub returns-clause-came : goal.returns-clause-came
+returns-clause-came c setting history led =
+    let r = c.replace.ensures.came setting history led in (
+      r.0,
+      r.1,
+      r.2,
+      subst (λ (own : Adaptor). Led own setting (ended_at c.args.self.now r.0 ++ (r.1 ++ history))) (sym c.note_active.ensures.adaptor) r.3,
+    )
+
+pub returns-clause-rest : goal.returns-clause-rest
+returns-clause-rest c =
+    stays_more _ _ _ c.replace.ensures.rest
+    (waits_same c.replace.new.self c.note_active.new.self (λ place. rw c.note_active.ensures.places))

@@ -1,0 +1,66 @@
+use Rattle.std.proofs.Common.{◌∷◌, ◌++◌, refl, sym, subst}
+use Rattle.fp_adaptor.specs.declared.adaptor.Adaptor.{Adaptor}
+use Rattle.fp_adaptor.specs.declared.adaptor.Sending.TheVariants as sendings
+use Rattle.fp_adaptor.specs.Adaptor.{Led, what_became}
+use Rattle.fp_adaptor.specs.History.{said}
+use Rattle.fp_network.proofs.Waits.{sending_adds, stays_more, waits_change}
+use Rattle.fp_network.proofs.node.Node.forward.Goals as goal
+
+pub returns-in_ok-send-in-By-clause-forwards : goal.returns-in_ok-send-in-By-clause-forwards
+returns-in_ok-send-in-By-clause-forwards c setting history led =
+    let way = c.make_way.ensures.ended setting history led in
+    let sent = c.in_ok-unit_data.ensures.sent setting (way.0 ++ history) way.2 in
+    let send = c.in_ok-send-in-By.ensures in
+    record {
+      closed = way.0;
+      are_ended = way.1;
+      between = c.make_way.new.self;
+      rest = c.make_way.ensures.rest;
+      sent = sendings.By c.in-By.unit_data;
+      sends = (rw c.in-By.is at sent.0);
+      puts = ((rw c.as_slice.ensures.value at send.here), send.others);
+      read = sent.1.0;
+      is_read = sent.1.1;
+      led = subst (λ (own : Adaptor). Led own setting (said sent.1.0 (what_became (sendings.By c.in-By.unit_data)) ∷ (way.0 ++ history)))
+          (sym send.adaptor) (rw c.in-By.is at sent.1.2);
+    }
+
+pub returns-in_ok-send-in-By-clause-rest : goal.returns-in_ok-send-in-By-clause-rest
+returns-in_ok-send-in-By-clause-rest c =
+    let send = c.in_ok-send-in-By.ensures in
+    stays_more _ _ _ c.make_way.ensures.rest
+    (waits_change _ (sending_adds _) _ c.make_way.new.self c.send-in-By.new.self send.here send.others)
+
+pub returns-in-NoConnection-clause-forwards : goal.returns-in-NoConnection-clause-forwards
+returns-in-NoConnection-clause-forwards c setting history led =
+    let way = c.make_way.ensures.ended setting history led in
+    let sent = c.in_ok-unit_data.ensures.sent setting (way.0 ++ history) way.2 in
+    record {
+      closed = way.0;
+      are_ended = way.1;
+      between = c.make_way.new.self;
+      rest = c.make_way.ensures.rest;
+      sent = sendings.NoConnection;
+      sends = (rw c.in-NoConnection.is at sent.0);
+      puts = λ place. refl;
+      read = sent.1.0;
+      is_read = sent.1.1;
+      led = (rw c.in-NoConnection.is at sent.1.2);
+    }
+
+pub returns-in-TooLong-clause-forwards : goal.returns-in-TooLong-clause-forwards
+returns-in-TooLong-clause-forwards c setting history led =
+    let way = c.make_way.ensures.ended setting history led in
+    let sent = c.in_ok-unit_data.ensures.sent setting (way.0 ++ history) way.2 in
+    record {
+      closed = way.0;
+      are_ended = way.1;
+      between = c.make_way.new.self;
+      rest = c.make_way.ensures.rest;
+      sent = sendings.TooLong;
+      sends = (rw c.in-TooLong.is at sent.0);
+      puts = λ place. refl;
+      read = sent.1.0;
+      is_read = sent.1.1;
+      led = (rw c.in-TooLong.is at sent.1.2);
+    }

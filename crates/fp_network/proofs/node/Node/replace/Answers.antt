@@ -1,0 +1,27 @@
+use Rattle.std.proofs.Common.{Some, None}
+use Rattle.fp_network.specs.declared.event.Closing.TheVariants.{Replaced}
+use Rattle.fp_network.proofs.Ending.{closed_led}
+use Rattle.fp_network.proofs.Waits.{stays_same, waits_closed}
+use Rattle.fp_network.proofs.node.Node.replace.Goals as goal
+
+pub returns-in_default-clause-came : goal.returns-in_default-clause-came
+returns-in_default-clause-came c setting history led =
+    let r = c.in_default.ensures.came setting history led in
+    (None, r.0, r.1, r.2)
+
+pub returns-in_default-clause-rest : goal.returns-in_default-clause-rest
+returns-in_default-clause-rest c = stays_same _
+
+-- the earlier connection is over after that, unless it was before
+pub returns-clause-came : goal.returns-clause-came
+returns-clause-came c setting history led =
+    let r = c.in-Some.ensures.came setting history led in (
+      Some c.in-Some.earlier,
+      r.0,
+      r.1,
+      closed_led _ _ _ _ _ _ c.close.ensures.stays (λ lives led. c.close.ensures.ended lives setting _ led) r.2,
+    )
+
+pub returns-clause-rest : goal.returns-clause-rest
+returns-clause-rest c =
+    waits_closed Replaced c.in-Some.earlier c.args.self.now c.close.new.self c.close.ensures.here c.close.ensures.others
