@@ -71,7 +71,7 @@ mod system;
 
 pub use fp_linkstate::Why;
 pub use run::{
-    Commands, Event, Events, LinkStatus, Links, Operator, Peer, PeerName, Refusal, ServeFault, Server,
-    Service, Settings, StandingLink, Wanted, WhenLogFails,
+    Commands, Event, Events, LinkStatus, Links, Operator, Peer, PeerName, Refusal, ServeFault,
+    Server, Service, Settings, StandingLink, Wanted, WhenLogFails,
 };
 pub use system::System;
