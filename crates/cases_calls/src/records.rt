@@ -298,7 +298,8 @@ fn push_split(list: &Destinations, out: &mut String) -> anyhow::Result<()> {
     out.push('[')?;
     push_destinations(out, list)?;
     out.push_str("]: ")?;
-    push_digits(out, split.first.as_slice())?;
+    let digits = split.first.digits();
+    push_digits(out, digits.as_slice())?;
     push_left(&split.left, out)
 }
 

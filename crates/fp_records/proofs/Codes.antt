@@ -1,15 +1,15 @@
 -- The codes of digits: their order, and that digits come back.
-use Rattle.std.proofs.Common.{◌≡◌, ℕ, zero, suc, ◌+◌, ◌-◌, ◌*◌, ◌/◌, ◌^◌, ◌<◌, ◌≤◌, ◌==◌, false, List, [], ◌∷◌, drop, length, slice_index, refl, ap, ◌∙◌, arith}
+use Rattle.std.proofs.Common.{◌≡◌, ℕ, zero, suc, ◌+◌, ◌-◌, ◌*◌, ◌/◌, ◌%◌, ◌^◌, ◌<◌, ◌≤◌, ◌==◌, Bool, true, false, List, [], ◌∷◌, drop, length, slice_index, if◌then◌else◌, refl, ap, ◌∙◌, arith}
 use Rattle.std.specs.Cmp.Lexicographic.{slice_cmp}
 use Rattle.std.specs.List.{All}
 use Rattle.std.specs.Ordering.{nat_cmp, ordering_then}
 use Rattle.std.specs.declared.cmp.Ordering.{Ordering}
 use Rattle.std.specs.declared.cmp.Ordering.TheVariants.{Less, Equal, Greater}
-use Rattle.std.proofs.Math.Nat.{one-le-pow, pow-suc}
+use Rattle.std.proofs.Math.Nat.{mod-lt, mul_assoc, one-le-pow, pow-suc}
 use Rattle.std.proofs.lemmas.Bool.Decides.{nat_tests}
 use Rattle.std.proofs.lemmas.List.{drop_more}
 use Rattle.std.proofs.lemmas.List.Elements.{All-rest}
-use Rattle.std.proofs.lemmas.Nat.{div-mul-add, mod-mul-add, mul-add-lt}
+use Rattle.std.proofs.lemmas.Nat.{div-add-mod', div-mul-add, mod-mul-add, mul-add-lt}
 use Rattle.fp_records.specs.Code.{AreDigits, code_of, digits_of_code}
 
 -- a code fits into its places
@@ -114,3 +114,57 @@ next_digit digits i code fits few so_far =
     let left : 15 - i ≡ suc (15 - (i + 1)) = omega (arith, fits, few) in
     let one = rw (left, drop_more digits i 0 fits) at so_far in
     omega (arith, rw (code_of_more (15 - (i + 1)) (slice_index digits i) (drop (i + 1) digits)) at one)
+
+-- no more digits than places
+pub few_digits : (places code : ℕ) → length (digits_of_code places code) ≤ places
+unfolding digits_of_code
+few_digits zero code = omega arith
+few_digits (suc places) code = by (code / 16 ^ places == 0) (few_digits places (code % 16 ^ places))
+  where
+    by : (none : Bool) → length (digits_of_code places (code % 16 ^ places)) ≤ places
+        → length (if none then [] else (code / 16 ^ places - 1) ∷ digits_of_code places (code % 16 ^ places)) ≤ suc places
+    by true more = omega arith
+    by false more = omega (arith, more)
+
+-- with one more place
+are-more : (places : ℕ) (digits : List ℕ) → AreDigits places digits → AreDigits (suc places) digits
+unfolding AreDigits
+are-more places [] are = tt
+are-more zero (digit ∷ digits) are = absurd are
+are-more (suc places) (digit ∷ digits) are = (are.0, are-more places digits are.1)
+
+-- a code that is moved up by one place has the same digits
+moved : (places code : ℕ) → code < 16 ^ places → digits_of_code (suc places) (16 * code) ≡ digits_of_code places code
+unfolding digits_of_code
+moved zero code fits =
+    let none : code ≡ 0 = omega (arith, fits) in
+    rw none refl
+moved (suc places) code fits =
+    let width : ℕ = 16 ^ places in
+    let low : code % width < width = mod-lt code (omega (arith, one-le-pow places 16 (omega arith))) in
+    let parts = div-add-mod' code width in
+    let wide : 16 ^ suc places ≡ width * 16 = pow-suc 16 places in
+    let product = mul_assoc (code / width) width 16 in
+    let split : 16 * code ≡ (code / width) * (width * 16) + 16 * (code % width) = omega (arith, product, parts) in
+    let below : 16 * (code % width) < width * 16 = omega (arith, low) in
+    let high = rw (← split) at (div-mul-add (code / width) (width * 16) (16 * (code % width)) below) in
+    let rest = rw (← split) at (mod-mul-add (code / width) (width * 16) (16 * (code % width)) below) in
+    rw (wide, high, rest, moved places (code % width) low) refl
+
+-- the first digit of a code, and the code of the others
+pub first_digit : (code : ℕ) → (code / 72057594037927936 == 0) ≡ false
+    → digits_of_code 15 code ≡ (code / 72057594037927936 - 1) ∷ digits_of_code 15 (16 * (code % 72057594037927936))
+unfolding digits_of_code
+first_digit code some =
+    let low : code % 16 ^ 14 < 16 ^ 14 = mod-lt code (omega (arith, one-le-pow 14 16 (omega arith))) in
+    rw (some, moved 14 (code % 16 ^ 14) low) refl
+
+-- there is none
+pub no_digit : (code : ℕ) → (code / 72057594037927936 == 0) ≡ true → digits_of_code 15 code ≡ []
+unfolding digits_of_code
+no_digit code none = rw none refl
+
+-- what is so of the first digit, and of the others
+pub parts_are : (digit : ℕ) (digits : List ℕ) → AreDigits 15 (digit ∷ digits) → (digit < 10) × AreDigits 15 digits
+unfolding AreDigits
+parts_are digit digits are = (are.0, are-more 14 digits are.1)

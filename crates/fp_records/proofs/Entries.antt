@@ -70,6 +70,35 @@ seen-rewritten shown test (entry ∷ entries) old new found same = by (test entr
         rw (same, was) refl
     by false is more = rw (more (rw is at found)) refl
 
+-- digits are equal to themselves
+itself : (key : List ℕ) → slice_cmp nat_cmp key key ≡ Equal
+itself key = by (slice_cmp nat_cmp key key) (nat_list_cmp_total.antisymm key key)
+  where
+    by : (order : Ordering) → order ≡ ordering_reverse order → order ≡ Equal
+    by Less is = cc
+    by Equal is = refl
+    by Greater is = cc
+
+-- of two values that are inserted at a key the second one is there
+pub inserted_again : {X : Type 0} (entries : List (List ℕ × X)) (key : List ℕ) (first second : X)
+    → insert_entry (slice_cmp nat_cmp) (insert_entry (slice_cmp nat_cmp) entries key first) key second ≡ insert_entry (slice_cmp nat_cmp) entries key second
+inserted_again [] key first second = rw (itself key) refl
+inserted_again {X} (entry ∷ entries) key first second = by (slice_cmp nat_cmp key entry.0) refl (inserted_again entries key first second)
+  where
+    by : (order : Ordering) → slice_cmp nat_cmp key entry.0 ≡ order
+        → insert_entry (slice_cmp nat_cmp) (insert_entry (slice_cmp nat_cmp) entries key first) key second ≡ insert_entry (slice_cmp nat_cmp) entries key second
+        → insert_entry (slice_cmp nat_cmp) (match_ordering order ((key, first) ∷ entry ∷ entries) ((entry.0, first) ∷ entries) (entry ∷ insert_entry (slice_cmp nat_cmp) entries key first)) key second
+        ≡ match_ordering order ((key, second) ∷ entry ∷ entries) ((entry.0, second) ∷ entries) (entry ∷ insert_entry (slice_cmp nat_cmp) entries key second)
+    by Less is more = rw (itself key) refl
+    by Equal is more = rw is refl
+    by Greater is more = rw (is, more) refl
+
+-- a value that looks as the one at its key changes nothing there
+pub inserted_same : {X Y : Type 0} (shown : X → Y) (entries : List (List ℕ × X)) (key : List ℕ) (old new : X) → IsStrictlySortedBy (slice_cmp nat_cmp) (keys_of entries)
+    → lookup (is_at (slice_cmp nat_cmp key)) entries ≡ Some old → shown new ≡ shown old → insert_entry (slice_cmp nat_cmp) (seen shown entries) key (shown new) ≡ seen shown entries
+inserted_same shown entries key old new sorted found same =
+    sym (seen-written shown entries key old new sorted found) ∙ seen-rewritten shown (is_at (slice_cmp nat_cmp key)) entries old new found same
+
 -- equal digits are the same digits
 pub same_digits : (a b : List ℕ) → bytes_eq a b ≡ true → a ≡ b
 same_digits a b equal = by (slice_cmp nat_cmp a b) refl (sym (texts_ties a b) ∙ equal)

@@ -1,5 +1,5 @@
 -- The rules by their numbers, rule by rule.
-use Rattle.std.proofs.Common.{◌≡◌, ◌+◌, ◌<◌, ◌≤◌, ℕ, List, [], ◌∷◌, ◌++◌, Bool, true, false, ◌&&◌, Some, nat_le, nat_lt, filter, length, map, if◌then◌else◌, refl, sym, ap, ◌∙◌, arith}
+use Rattle.std.proofs.Common.{◌≡◌, ◌+◌, ◌<◌, ◌≤◌, ℕ, List, [], ◌∷◌, ◌++◌, Bool, true, false, ◌&&◌, Option, Some, None, nat_le, nat_lt, filter, is_some, length, map, if◌then◌else◌, refl, sym, ap, ◌∙◌, arith}
 use Rattle.std.specs.Prelude.{bytes_eq}
 use Rattle.std.specs.Cmp.Lexicographic.{slice_cmp}
 use Rattle.std.specs.List.{list_all}
@@ -67,17 +67,40 @@ adds-value old new numbered count groups once = record {
 
 -- and they stay within the limits where there was room
 pub limits-value : (old new : Grouped) (numbered : NumberedRule) → new.count ≡ old.count + 1 → new.groups ≡ with_value old.groups numbered.number numbered.rule
+    → length new.groups ≡ length old.groups + (if is_some (lookup (bytes_eq numbered.number) old.groups) then 0 else 1)
     → IsGrouped old → has_room old numbered.number ≡ true → is_decimal numbered.number ≡ true → IsGrouped new
-limits-value old new numbered count groups limits room decimal =
+limits-value old new numbered count groups size limits room decimal =
     let longer = length-insert_entry numbered.number (group_of numbered.number old ++ numbered.rule ∷ []) old.groups in
     let below : old.count < 100000 = grind (arith, nat_tests, room) in
     let short : few (group_of numbered.number old ++ numbered.rule ∷ []) ≡ true = rw (length-append (group_of numbered.number old) (numbered.rule ∷ [])) (grind (arith, nat_tests, room)) in
     record {
       rules = omega (arith, count);
       numbers = rw groups (omega (arith, count, limits.numbers, longer));
+      others = λ digits.
+          let found = ap (lookup (bytes_eq digits)) groups ∙ lookup-insert_entry digits numbered.number (group_of numbered.number old ++ numbered.rule ∷ []) old.groups in
+          rw (found, count) (by digits (bytes_eq digits numbered.number) refl (lookup (bytes_eq numbered.number) old.groups) refl);
       of_number = rw groups (list_all-insert_entry (λ group. few group.1) numbered.number (group_of numbered.number old ++ numbered.rule ∷ []) old.groups short limits.of_number);
       decimal = rw groups (list_all-insert_entry (λ group. is_decimal group.0) numbered.number (group_of numbered.number old ++ numbered.rule ∷ []) old.groups decimal limits.decimal);
     }
+  where
+    own : (found : Option (List Rule)) → lookup (bytes_eq numbered.number) old.groups ≡ found
+        → length (unwrap_or found []) + length new.groups ≤ old.count + 1
+    own None is =
+        let more : length new.groups ≡ length old.groups + 1 = rw is at size in
+        omega (arith, more, limits.numbers)
+    own (Some rules) is =
+        let same : length new.groups ≡ length old.groups + 0 = rw is at size in
+        let room_for : length rules + length old.groups ≤ old.count + 1 = rw is at (limits.others numbered.number) in
+        omega (arith, same, room_for)
+
+    by : (digits : List ℕ) (here : Bool) → bytes_eq digits numbered.number ≡ here → (found : Option (List Rule)) → lookup (bytes_eq numbered.number) old.groups ≡ found
+        → length (unwrap_or (if here then Some (group_of numbered.number old ++ numbered.rule ∷ []) else lookup (bytes_eq digits) old.groups) []) + length new.groups ≤ old.count + 1 + 1
+    by digits true equal found is =
+        let before : length (group_of numbered.number old) + length new.groups ≤ old.count + 1 = rw (← is) at (own found is) in
+        rw (length-append (group_of numbered.number old) (numbered.rule ∷ [])) (omega (arith, before))
+    by digits false equal found is =
+        let more : length new.groups ≤ length old.groups + 1 = rw (← groups) at (length-insert_entry numbered.number (group_of numbered.number old ++ numbered.rule ∷ []) old.groups) in
+        omega (arith, more, limits.others digits)
 
 -- the first group, and the others
 pub few-parts : (group : List ℕ × List Rule) (groups : List (List ℕ × List Rule)) → list_all (λ each. few each.1) (group ∷ groups) ≡ true
@@ -89,3 +112,9 @@ few-parts group groups all = by (nat_lt 0 (length group.1)) refl (nat_le (length
     by true is_some true is_most rest = (grind (arith, nat_tests), grind (arith, nat_tests), rest)
     by true is_some false is_most rest = cc
     by false is_some most is_most rest = cc
+
+-- while there are few more rules than numbers, no number has many
+pub few-others : (digits : List ℕ) (grouped : Grouped) → IsGrouped grouped → grouped.count + 1 < length grouped.groups + 1000 → nat_lt (length (group_of digits grouped)) 1000 ≡ true
+few-others digits grouped limits few =
+    let all = limits.others digits in
+    grind (arith, nat_tests, all, few)

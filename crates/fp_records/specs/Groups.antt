@@ -22,10 +22,16 @@ pub record Grouped : Type 0 where
 abbrev pub few : List Rule → Bool
 few rules = nat_lt 0 (length rules) && nat_le (length rules) 1000
 
--- the limits on a file, and the numbers' digits
+-- the rules of a number
+abbrev pub group_of : List ℕ → Grouped → List Rule
+group_of digits grouped = unwrap_or (lookup (bytes_eq digits) grouped.groups) []
+
+-- the limits on a file, and the numbers' digits; each number has a rule, so those of one and one for each other number
+-- are at most all rules
 pub record IsGrouped (grouped : Grouped) : Type 0 where
   pub rules : grouped.count ≤ 100000
   pub numbers : length grouped.groups ≤ grouped.count
+  pub others : (digits : List ℕ) → length (group_of digits grouped) + length grouped.groups ≤ grouped.count + 1
   pub of_number : list_all (λ group. few group.1) grouped.groups ≡ true
   pub decimal : list_all (λ group. is_decimal group.0) grouped.groups ≡ true
 
@@ -39,10 +45,6 @@ pub record Groups (before : List NumberedRule) (grouped : Grouped) : Type 0 wher
   pub count : grouped.count ≡ length before
   pub each : (digits : List ℕ) → lookup (bytes_eq digits) grouped.groups ≡ some_rules (rules_of digits before)
   pub once : IsStrictlySortedBy (slice_cmp nat_cmp) (keys_of grouped.groups)
-
--- the rules of a number
-abbrev pub group_of : List ℕ → Grouped → List Rule
-group_of digits grouped = unwrap_or (lookup (bytes_eq digits) grouped.groups) []
 
 -- there is room for a rule of this number
 abbrev pub has_room : Grouped → List ℕ → Bool

@@ -7,6 +7,7 @@ pub mod Code
 pub mod Date
 pub mod Days
 pub mod Digits
+pub mod Drafts
 pub mod Fields
 pub mod File
 pub mod Gathered

@@ -5,6 +5,7 @@ ghost use Rattle.fp_records.specs.Closings.{listed_days, with_day};
 ghost use Rattle.fp_records.specs.declared.fault.RecordsFault.TheVariants.{Memory};
 
 use crate::closed::ClosedDay;
+use crate::day_set::DaySet;
 use crate::fault::RecordsFault;
 use crate::number_key::NumberKey;
 use std::alloc::Global;
@@ -72,17 +73,13 @@ impl ClosedDays {
     }
 
     /// The days of a number, in a set of their own.
-    pub(crate) fn of(
-        &self,
-        alloc: Global,
-        number: &NumberKey,
-    ) -> Result<BTreeSet<i32>, RecordsFault>
-        ensures days { IfOk result (λ days. days.keys ≡ at_number number.now self.now.days) }
+    pub(crate) fn of(&self, alloc: Global, number: &NumberKey) -> Result<DaySet, RecordsFault>
+        ensures days { IfOk result (λ days. days ≡ at_number number.now self.now.days) }
         ensures fault { IfErr result (λ fault. fault ≡ Memory) }
     {
         match self.days.get(number) {
-            Some(days) => Ok(days.clone()?),
-            None => Ok(BTreeSet::new(alloc)),
+            Some(days) => DaySet::of(alloc, days.clone()?),
+            None => Ok(DaySet::none()),
         }
     }
 }

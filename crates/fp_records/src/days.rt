@@ -45,6 +45,10 @@ impl Days {
     pub(crate) fn from_text(text: &[u8]) -> Option<Days>
         ensures { result ≡ days_of text.now }
     {
+        // Most rules have every day.
+        if text == b"1234567".as_slice() {
+            return Some(Days { held: [true; 7] });
+        }
         if !is_days(text) {
             return None;
         }

@@ -58,6 +58,15 @@ impl DecimalDigits {
         self.digits.as_slice()
     }
 
+    /// No digit.
+    pub(crate) fn none() -> DecimalDigits
+        ensures { result ≡ [] }
+    {
+        DecimalDigits {
+            digits: Octets::new(),
+        }
+    }
+
     /// The digits that a text writes, where it is at most 15 decimal digits and nothing else.
     pub(crate) fn from_text(text: &[u8]) -> Option<DecimalDigits>
         ensures { result ≡ digits_of text.now }
@@ -65,9 +74,7 @@ impl DecimalDigits {
         if text.len() > Self::MOST {
             return None;
         }
-        let mut digits = DecimalDigits {
-            digits: Octets::new(),
-        };
+        let mut digits = DecimalDigits::none();
         for octet in text {
             if !octet.is_ascii_digit() {
                 return None;
@@ -84,9 +91,7 @@ impl DecimalDigits {
         if digits.len() > Self::MOST {
             return None;
         }
-        let mut decimal = DecimalDigits {
-            digits: Octets::new(),
-        };
+        let mut decimal = DecimalDigits::none();
         for digit in digits {
             if *digit >= 10 {
                 return None;
@@ -97,7 +102,7 @@ impl DecimalDigits {
     }
 
     /// Puts a digit after the others, if there is room for it.
-    fn push(&mut self, digit: u8)
+    pub(crate) fn push(&mut self, digit: u8)
         requires room { length self.old < Self.MOST }
         requires digit { digit < 10 }
         ensures { self.new ≡ self.old ++ digit ∷ [] }

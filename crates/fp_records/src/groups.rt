@@ -1,9 +1,9 @@
 //! The rules of a file by their numbers, while it is read.
 
-ghost use Rattle.std.specs.Prelude.{◌≡◌, ◌≤◌, ◌≤ℤ◌, pos, neg_ℤ, IsTrue, [], IfErr, IfOk, OnErr, OnOk, length, map};
+ghost use Rattle.std.specs.Prelude.{◌≡◌, ◌+◌, ◌≤◌, ◌≤ℤ◌, pos, neg_ℤ, IsTrue, [], IfErr, IfOk, OnErr, OnOk, bytes_eq, is_some, length, map, if◌then◌else◌};
 ghost use Rattle.std.specs.Cmp.Lexicographic.{slice_cmp};
 ghost use Rattle.std.specs.List.Sorted.{IsStrictlySortedBy};
-ghost use Rattle.std.specs.Map.{keys_of};
+ghost use Rattle.std.specs.Map.{keys_of, lookup};
 ghost use Rattle.std.specs.Ordering.{nat_cmp};
 ghost use Rattle.fp_records.specs.Digits.{is_decimal};
 ghost use Rattle.fp_records.specs.Listed.{listed, with_value};
@@ -67,11 +67,14 @@ impl Groups {
         self.count
     }
 
-    /// Whether a rule of this number is within the limits.
+    /// Whether a rule of this number is within the limits. Each number has a rule, so none has many while there are few
+    /// more rules than numbers.
     pub(crate) fn has_room(&self, number: &NumberKey) -> bool
         ensures { result ≡ has_room self.now number.now }
     {
-        self.count < MOST_RULES && self.count_of(number) < MOST_OF_NUMBER
+        self.count < MOST_RULES
+            && (self.count + 1 < self.groups.len() + MOST_OF_NUMBER
+                || self.count_of(number) < MOST_OF_NUMBER)
     }
 
     /// How many rules a number has.
@@ -125,25 +128,27 @@ impl Groups {
     }
 }
 
-/// Puts a value after the others of the list at a number.
-fn push_at<T: Drop>(
+/// Puts a value after the others of the list at a number. Most numbers have one rule: so a list of this one is put there at
+/// first.
+fn push_at<T: Copy + Drop>(
     lists: &mut BTreeMap<NumberKey, Vec<T>>,
     alloc: Global,
     number: &NumberKey,
     value: T,
 ) -> Result<(), RecordsFault>
     ensures entries { OnOk result (listed lists.new.entries ≡ with_value (listed lists.old.entries) number.now value) }
+    ensures numbers { OnOk result (length (listed lists.new.entries) ≡ length (listed lists.old.entries) + (if is_some (lookup (bytes_eq number.now) (listed lists.old.entries)) then 0 else 1)) }
     ensures refused { OnErr result (listed lists.new.entries ≡ listed lists.old.entries) }
     ensures once { OnOk result (IsStrictlySortedBy (slice_cmp nat_cmp) (keys_of (listed lists.new.entries))) }
     ensures fault { IfErr result (λ fault. fault ≡ Memory) }
 {
-    match lists.get_mut(number) {
-        Some(list) => list.push(value)?,
-        None => {
-            let mut list = Vec::with_capacity(alloc, 1)?;
-            list.push(value)?;
-            drop(lists.insert(*number, list)?);
-        }
-    }
+    let mut list = Vec::with_capacity(alloc, 1)?;
+    list.push(value)?;
+    let Some(mut earlier) = lists.insert(*number, list)? else {
+        return Ok(());
+    };
+    let pushed = earlier.push(value);
+    drop(lists.insert(*number, earlier)?);
+    pushed?;
     Ok(())
 }

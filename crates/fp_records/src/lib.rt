@@ -9,7 +9,8 @@
 //! The layer is handed the text of the file, an allocator, a called and a calling number and a
 //! moment. It never asks the system for a file, the time or anything else.
 //!
-//! - [`Table`] is the records of a file. [`Table::read`] reads it, and [`Table::find`] finds the
+//! - [`Table`] is the records of a file. [`Table::read`] reads it, [`Table::read_and_free`] frees the
+//!   text before it makes the table, and [`Table::find`] finds the
 //!   [`Record`] of a called number by its digits. It has an index among the tables of a run, 0 as
 //!   it is read: [`Table::numbered`] gives it another one, and [`Table::index`] says it.
 //! - [`Record`] is the rules of one number, and [`Record::choose`] is the [`Rule`] that a call gets:
@@ -24,7 +25,7 @@
 //! The layer above may rely on this: a table is what the text says and nothing else (`IsTable` of
 //! `specs/Table.antt` and `IsFile` of `specs/File.antt`), a fault names the first faulty record
 //! (`FirstFault`), a choice is `choice` of `specs/Choice.antt`, a record has a rule at least, and only
-//! [`Table::read`] and [`migrate`] take memory. Six types of the reader are `pub` in their private modules, so that
+//! [`Table::read`], [`Table::read_and_free`] and [`migrate`] take memory. Six types of the reader are `pub` in their private modules, so that
 //! the contracts of other crates can name what these definitions name: `Version`, `Head`, `Item`, `ClosedDay`,
 //! `NumberedRule` and `Verb`.
 #![tactic(auto)]
@@ -34,9 +35,11 @@ mod call;
 mod closed;
 mod closed_days;
 mod date;
+mod day_set;
 mod days;
 mod decimal_digits;
 mod destination;
+mod draft;
 mod fault;
 mod fields;
 mod gathering;

@@ -5,34 +5,41 @@ ghost use Rattle.std.specs.Cmp.{partial_equiv_from_equiv, partial_order_from_agr
 ghost use Rattle.std.specs.Cmp.Lexicographic.{pointwise, nat_list_cmp_total, nat_list_eq_equiv, slice_cmp, texts_ties};
 ghost use Rattle.std.specs.List.{All};
 ghost use Rattle.std.specs.Ordering.{as_partial_cmp, nat_cmp};
-ghost use Rattle.fp_records.specs.Code.{code_of};
+ghost use Rattle.fp_records.specs.Code.{AreDigits, code_of};
 
 use crate::decimal_digits::DecimalDigits;
 use std::cmp::Ordering;
 use std::marker::Model;
 
-/// The digits of a number, by which records are found: two are compared as one machine word each. Contracts see them
-/// as a list. Their order is that of [`DecimalDigits`].
+/// What the highest place of a code counts.
+const FIRST_PLACE: u64 = 1 << 56;
+
+/// What the lowest bit of the higher half of a code counts.
+const HALF: u64 = 1 << 32;
+
+/// At most 15 decimal digits in eight octets: two are compared as one machine word each. Contracts see them as a list.
+/// Their order is that of [`DecimalDigits`].
 #[derive(Clone, Copy, Debug)]
 pub struct NumberKey {
     // Four bits for each of 15 places: one more than the digit, the first digit in the highest place, and 0 after the
-    // last one.
-    code: u64,
+    // last one. They are in two halves, so that a rule with destinations has no octets left out.
+    low: u32,
+    high: u32,
 }
 
 impl Model for NumberKey {
-    ghost use Rattle.std.specs.Prelude.{ℕ, List};
-    ghost use Rattle.fp_records.specs.Code.{IsCode, code_of, digits_of_code};
+    ghost use Rattle.std.specs.Prelude.{ℕ, List, ◌/◌, ◌%◌};
+    ghost use Rattle.fp_records.specs.Code.{IsHalved, code_of, digits_of_code, high-again, low-again, whole};
 
     ghost Value = { List ℕ };
 
-    ghost view = { λ key. digits_of_code 15 key.code };
+    ghost view = { λ key. digits_of_code 15 (whole key.high key.low) };
 
-    ghost invariant = { λ key. IsCode key.code };
+    ghost invariant = { λ key. IsHalved key.high key.low };
 
-    ghost inverse = { λ digits. record { code = code_of 15 digits } };
+    ghost inverse = { λ digits. record { low = code_of 15 digits % 4294967296; high = code_of 15 digits / 4294967296 } };
 
-    ghost inverse_ok = { λ key is i. record { code = is.exact i } };
+    ghost inverse_ok = { λ key is i. record { low = low-again key.high key.low is i; high = high-again key.high key.low is i } };
 }
 
 /// Two are equal exactly where they have the same digits.
@@ -71,7 +78,22 @@ impl Ord for NumberKey {
     ghost matches_eq = { texts_ties };
 
     fn cmp(&self, other: &Self) -> Ordering {
-        self.code.cmp(&other.code)
+        order_of(self.code(), other.code())
+    }
+}
+
+/// The order of two numbers. Whether the first is above is tested first: that is all that a search through the keys of a
+/// map asks at most of them.
+#[inline(always)]
+fn order_of(one: u64, other: u64) -> Ordering
+    ensures { result ≡ nat_cmp one other }
+{
+    if one > other {
+        Ordering::Greater
+    } else if one == other {
+        Ordering::Equal
+    } else {
+        Ordering::Less
     }
 }
 
@@ -95,8 +117,31 @@ impl NumberKey {
     pub(crate) fn new(number: &DecimalDigits) -> NumberKey
         ensures { result ≡ number.now }
     {
+        let code = code_in(number.as_slice());
         NumberKey {
-            code: code_in(number.as_slice()),
+            low: (code % HALF) as u32,
+            high: (code / HALF) as u32,
         }
+    }
+
+    /// The code of the digits.
+    fn code(self) -> u64
+        ensures value { result ≡ code_of 15 self }
+        ensures digits { AreDigits 15 self }
+    {
+        HALF * u64::from(self.high) + u64::from(self.low)
+    }
+
+    /// The digits, each in an octet of its own.
+    pub(crate) fn digits(self) -> DecimalDigits
+        ensures { result ≡ self }
+    {
+        let mut digits = DecimalDigits::none();
+        let mut rest = self.code();
+        while rest / FIRST_PLACE != 0 {
+            digits.push((rest / FIRST_PLACE - 1) as u8);
+            rest = 16 * (rest % FIRST_PLACE);
+        }
+        digits
     }
 }

@@ -6,10 +6,10 @@ ghost use Rattle.fp_records.specs.Choice.{IsRules, by_share, calling_digits, cho
 ghost use Rattle.fp_records.specs.Share.{total_with};
 
 use crate::call::Call;
+use crate::day_set::DaySet;
 use crate::local_time::local_time;
 use crate::rule::{KeptRule, Rule};
 use fp_digits::{Moment, Number};
-use std::collections::BTreeSet;
 use std::marker::Model;
 
 /// The rules of one number, at least one and at most 1,000, in the order of the file, and the days on which
@@ -18,7 +18,7 @@ use std::marker::Model;
 pub struct Record {
     offset: i16,
     rules: Vec<KeptRule>,
-    closed: BTreeSet<i32>,
+    closed: DaySet,
 }
 
 impl Model for Record {
@@ -26,9 +26,9 @@ impl Model for Record {
 
     ghost Value = { Rules };
 
-    ghost view = { λ record_of. record { offset = record_of.offset; rules = record_of.rules.items; closed = record_of.closed.keys } };
+    ghost view = { λ record_of. record { offset = record_of.offset; rules = record_of.rules.items; closed = record_of.closed } };
 
-    ghost invariant = { λ record_of. IsRules (record { offset = record_of.offset; rules = record_of.rules.items; closed = record_of.closed.keys }) };
+    ghost invariant = { λ record_of. IsRules (record { offset = record_of.offset; rules = record_of.rules.items; closed = record_of.closed }) };
 }
 
 /// Two are equal exactly if they say the same: the same offset, the same closed days, and the same rules in
@@ -43,7 +43,7 @@ impl PartialEq for Record {
 
     fn eq(&self, other: &Self) -> bool {
         self.offset == other.offset
-            && self.closed == other.closed
+            && self.closed.is_same(&other.closed)
             && self.rules.as_slice() == other.rules.as_slice()
     }
 }
@@ -64,9 +64,9 @@ struct Share {
 impl Record {
     /// The record of these rules, at most 1,000, with local time this number of minutes east of UTC, and
     /// closed on these days.
-    pub(crate) fn new(offset: i16, rules: Vec<KeptRule>, closed: BTreeSet<i32>) -> Record
-        requires { IsRules (record { offset = offset; rules = rules.items; closed = closed.keys }) }
-        ensures { result ≡ record { offset = offset; rules = rules.items; closed = closed.keys } }
+    pub(crate) fn new(offset: i16, rules: Vec<KeptRule>, closed: DaySet) -> Record
+        requires { IsRules (record { offset = offset; rules = rules.items; closed = closed }) }
+        ensures { result ≡ record { offset = offset; rules = rules.items; closed = closed } }
     {
         Record {
             offset,
@@ -101,7 +101,7 @@ impl Record {
         ensures { option_map (λ rule. rule.now) result ≡ choice self.now (calling_digits calling.entry) moment birth }
     {
         let time = local_time(moment, self.offset);
-        if self.closed.contains(&time.day) {
+        if self.closed.has(&time.day) {
             return None;
         }
         let call = Call {

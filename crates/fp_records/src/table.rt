@@ -1,18 +1,15 @@
 //! The table of the records.
 
-ghost use Rattle.std.specs.Prelude.{◌≡◌, ◌≤◌, ◌⊎◌, ℕ, List, IsErrAnd, MatchResult, length, option_map};
+ghost use Rattle.std.specs.Prelude.{◌≡◌, ◌≤◌, ◌≤ℤ◌, ◌⊎◌, ℕ, List, IfErr, IfOk, IsErrAnd, MatchResult, length, neg_ℤ, option_map, pos};
 ghost use Rattle.std.specs.Arc.{arc_value};
 ghost use Rattle.fp_records.specs.declared.fault.Reason.{Reason};
 
 use crate::decimal_digits::DecimalDigits;
-use crate::fault::{Reason, RecordsFault};
+use crate::draft::{Draft, draft_of};
+use crate::fault::RecordsFault;
 use crate::gathering::Gathering;
-use crate::head::head_of;
 use crate::number_key::NumberKey;
-use crate::reading::RecordReader;
 use crate::record::Record;
-use crate::version::read_start;
-use csv::ByteRecord;
 use fp_digits::Number;
 use std::alloc::Global;
 use std::marker::Model;
@@ -49,6 +46,7 @@ impl Model for Table {
 
 impl Table {
     ghost use Rattle.fp_records.specs.File.{File, FirstFault, IsFile, records_of};
+    ghost use Rattle.fp_records.specs.Drafts.{IsDraft};
     ghost use Rattle.fp_records.specs.Table.{IsTable, Reads, record_at};
 
     /// The last index among the tables of a run with a tag: 65,535.
@@ -85,20 +83,40 @@ impl Table {
         Table::read_in_turn(alloc, text)
     }
 
-    /// Reads the records of a text one after another.
+    /// Reads a text as [`Table::read`] does, and frees it before the table is made, which takes as much memory again.
+    pub fn read_and_free(alloc: Global, text: Vec<u8>) -> Result<Table, RecordsFault>
+        ensures answer { Reads result (records_of text.items) }
+        ensures file { (file : File) → IsFile (records_of text.items) file → MatchResult result (λ table. IsTable file table) (λ fault. fault ≡ RecordsFault.Memory) }
+        ensures fault { (at : ℕ) (reason : Reason) → FirstFault (records_of text.items) at reason → IsErrAnd result (λ fault. (fault ≡ RecordsFault.Record at reason) ⊎ (fault ≡ RecordsFault.Memory)) }
+    {
+        Table::read_then_free(alloc, text)
+    }
+
+    /// Reads a text, and makes the table of it.
     fn read_in_turn(alloc: Global, text: &[u8]) -> Result<Table, RecordsFault>
         ensures { Reads result (records_of text.now) }
     {
-        let mut records = RecordReader::new(alloc, text);
-        let mut row = ByteRecord::new(alloc);
-        let version = read_start(&mut records, &mut row)?;
-        let Some(head) = head_of(&row) else {
-            return Err(RecordsFault::Record {
-                at: records.place(),
-                reason: Reason::BadHead,
-            });
-        };
-        let gathering = Gathering::read(alloc, version, &mut records, &mut row)?;
+        let draft = draft_of(alloc, text)?;
+        Table::of(alloc, draft)
+    }
+
+    /// Reads a text, frees it, and makes the table.
+    fn read_then_free(alloc: Global, text: Vec<u8>) -> Result<Table, RecordsFault>
+        ensures { Reads result (records_of text.items) }
+    {
+        let draft = draft_of(alloc, text.as_slice());
+        drop(text);
+        Table::of(alloc, draft?)
+    }
+
+    /// The table of what was read.
+    fn of(alloc: Global, draft: Draft) -> Result<Table, RecordsFault>
+        requires west { neg_ℤ (pos 720) ≤ℤ draft.head.offset }
+        requires east { draft.head.offset ≤ℤ pos 840 }
+        ensures table { IfOk result (λ table. (file : File) → IsDraft file draft → IsTable file table × (table.index ≡ 0)) }
+        ensures fault { IfErr result (λ fault. fault ≡ RecordsFault.Memory) }
+    {
+        let Draft { head, gathering } = draft;
         let Gathering { rules, closed } = gathering;
         Ok(Table {
             index: 0,

@@ -19,7 +19,10 @@ fn write_argument(instruction: &Instruction, out: &mut Writer) -> Result<(), All
     ensures argument { OnOk result (IsArgument instruction.now) }
 {
     match instruction {
-        Instruction::Connect(destination) => write_connect(destination.as_slice(), out),
+        Instruction::Connect(destination) => {
+            let digits = destination.digits();
+            write_connect(digits.as_slice(), out)
+        }
         Instruction::ReleaseCall(cause) => write_release(*cause, out),
         Instruction::RequestReportBcsmEvent => write_request_report(out),
         Instruction::Continue | Instruction::ActivityTest => Ok(()),

@@ -75,7 +75,8 @@ pub(crate) fn push_destinations(
         if place > 0 {
             out.push(' ')?;
         }
-        push_digits(out, destination.as_slice())?;
+        let digits = destination.digits();
+        push_digits(out, digits.as_slice())?;
     }
     Ok(())
 }

@@ -165,7 +165,8 @@ fn push_invoke(identifier: i8, instruction: &Instruction, out: &mut String) -> a
 /// Writes a Connect.
 fn push_connect(destination: &Destination, out: &mut String) -> anyhow::Result<()> {
     out.push_str("Connect ")?;
-    push_digits(out, destination.as_slice())
+    let digits = destination.digits();
+    push_digits(out, digits.as_slice())
 }
 
 /// Writes a ReleaseCall.

@@ -15,4 +15,4 @@ pub invariant_of-self-2 : goal.invariant_of-self-2
 invariant_of-self-2 c =
     let groups = rw c.new.ensures at c.in_ok-push_at.ensures.entries in
     let room = rw (← c.self.view_is) at c.requires.room in
-    limits-value (record { count = c.self.inside.count; groups = listed c.self.inside.groups.entries }) (record { count = c.self.inside.count + 1; groups = listed c.push_at.new.lists.entries }) c.args.numbered.now refl groups c.self.invariant room c.requires.decimal
+    limits-value (record { count = c.self.inside.count; groups = listed c.self.inside.groups.entries }) (record { count = c.self.inside.count + 1; groups = listed c.push_at.new.lists.entries }) c.args.numbered.now refl groups c.in_ok-push_at.ensures.numbers c.self.invariant room c.requires.decimal

@@ -1,9 +1,8 @@
 use Rattle.std.proofs.Common.{◌∙◌}
 use Rattle.fp_records.proofs.Codes.{code_order}
-use Rattle.fp_records.specs.Code.{digits_of_code}
 use Rattle.fp_records.proofs.number_key.NumberKeyOrd.cmp.Goals as goal
 
 pub returns : goal.returns
 returns c =
-    let order = code_order 15 (digits_of_code 15 c.self.inside.code) (digits_of_code 15 c.other.inside.code) c.self.invariant.digits c.other.invariant.digits in
-    rw (← c.self.view_is, ← c.other.view_is) (c.cmp.ensures ∙ rw (c.self.invariant.exact, c.other.invariant.exact) at order)
+    let order = rw (c.code.ensures.value, c.code-2.ensures.value) at c.order_of.ensures in
+    order ∙ code_order 15 c.args.self.now c.args.other.now c.code.ensures.digits c.code-2.ensures.digits

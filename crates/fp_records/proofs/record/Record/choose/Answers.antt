@@ -10,5 +10,5 @@ returns c =
     let day = simp to_z-of_z at c.local_time-time.ensures.day in
     let weekday = simp to_z-of_z at c.local_time-time.ensures.weekday in
     let minute = simp to_z-of_z at c.local_time-time.ensures.minute in
-    let open_then : is_closed_on (day_of (local_minutes c.args.moment c.self.inside.offset)) c.self.inside.closed.keys ≡ false = rw day at (sym c.contains.ensures ∙ c.if-contains.false) in
+    let open_then : is_closed_on (day_of (local_minutes c.args.moment c.self.inside.offset)) c.self.inside.closed ≡ false = rw day at (sym c.has.ensures ∙ c.if-has.false) in
     rw (← c.self.view_is, open_then) (rw (weekday, minute, c.as_slice.ensures.value, c.calling_digits.ensures) at c.chosen.ensures)
