@@ -32,8 +32,9 @@
 //! that identifier (`specs/Dialogues.antt`).
 //!
 //! Holding messages back, and refusing those that wait for too long, is the part of the layer in which they wait: the
-//! adaptor keeps no message. To drain a node, the thread that drives the adaptor closes the connection of the unit that
-//! several nodes have in common, calls [`Adaptor::ended`], and accepts no other connection for that unit.
+//! adaptor keeps no message. To drain a node, the thread that drives the adaptor shuts the sending side of the connection
+//! of the unit that several nodes have in common, once messages go by another one ([`Adaptor::sends_by`]), calls
+//! [`Adaptor::ended`] when that connection is closed, and accepts no other one for that unit.
 #![tactic(auto)]
 
 mod adaptor;

@@ -31,11 +31,11 @@
 //! | the node drains | the connection of the common unit is shut for sending once others are there to send by; it is read until its peer closes it, two seconds at most; and none is accepted for the unit |
 //! | the link ends | what waits is written, the sending side is shut, and what comes is dropped until the peer closes; two seconds later at most all are closed |
 //!
-//! While 64 kilobytes wait for the link no connection is read. The layer above may rely on this: what waits for the link
-//! and isn't taken yet grows at its end by frames of what [`fp_adaptor`] hands on (`specs/Frames.antt`), a connection goes
-//! through the states of [`fp_ipa`] (`specs/Connection.antt`), and octets that wait leave from the front, as many as were
-//! written ([`Node::written`]). No contract says what the sockets hold; the tests of `tests_serve` show that, and
-//! `tools/sccp` against a transfer point.
+//! While 64 kilobytes wait for the link no connection is read, unless the link has ended. The layer above may rely on
+//! this: what waits for the link and isn't taken yet grows at its end by frames of what [`fp_adaptor`] hands on
+//! (`specs/Frames.antt`), a connection goes through the states of [`fp_ipa`] (`specs/Connection.antt`), and octets
+//! that wait leave from the front, as many as were written ([`Node::written`]). No contract says what the sockets
+//! hold; the tests of `tests_serve` show that, and `tools/sccp` against a transfer point.
 #![tactic(auto)]
 
 mod connection;
