@@ -1,7 +1,8 @@
 -- The text that a scrape gets, in the text format of Prometheus: for each counter, in the order of their places, the
 -- comments of its family if it is the first of it, and a line for each link; then the same of what each link has now.
 -- Before all of that come the version, the digest of the records, and the times of answers.
-use Rattle.std.specs.Prelude.{ℕ, List, [], ◌∷◌, ◌++◌, codes, decimal}
+use Rattle.std.specs.Prelude.{ℕ, ◌==◌, List, [], ◌∷◌, ◌++◌, Bool, ◌||◌, codes, decimal, if◌then◌else◌}
+use Rattle.std.specs.List.{list_any}
 use Rattle.fp_counters.specs.Counted.{number_of}
 use Rattle.fp_counters.specs.Counter.{all_counters}
 use Rattle.fp_counters.specs.declared.counter.Counter.{Counter}
@@ -61,9 +62,20 @@ build_line version records =
 abbrev pub reloads_line : ℕ → List ℕ
 reloads_line reloads = codes "freephone_scp_reloads_total " ++ (decimal reloads ++ codes "\n")
 
+abbrev pub has_octet : List ℕ → ℕ → Bool
+has_octet text octet = list_any (λ other. other == octet) text
+
+-- a quotation mark, a backslash and a line feed can't be in the value of a label as they are
+abbrev pub needs_escapes : List ℕ → Bool
+needs_escapes text = has_octet text 34 || (has_octet text 92 || has_octet text 10)
+
+-- the value of a label: a text with one of them is left out
+abbrev pub label : List ℕ → List ℕ
+label text = if needs_escapes text then [] else text
+
 -- which program runs, and by which records
 abbrev pub build_text : RunNumbers → List ℕ
-build_text run = build_heading ++ build_line run.version.now run.records.now
+build_text run = build_heading ++ build_line (label run.version.now) (label run.records.now)
 
 -- how often these were replaced
 abbrev pub reloads_text : ℕ → List ℕ

@@ -1,6 +1,6 @@
 -- A histogram of times, in the text format of Prometheus: for each bound how many times aren't above it, the sum of all
 -- times, in seconds, and their number.
-use Rattle.std.specs.Prelude.{ℕ, zero, suc, ◌+◌, ◌==◌, List, [], ◌∷◌, ◌++◌, codes, decimal, if◌then◌else◌}
+use Rattle.std.specs.Prelude.{ℕ, zero, suc, ◌+◌, ◌==◌, List, [], ◌++◌, codes, decimal, if◌then◌else◌}
 use Rattle.fp_counters.specs.Counted.{capped}
 use Rattle.fp_counters.specs.Histogram.{number_in, sum_in}
 use Rattle.fp_counters.specs.declared.histogram.Histogram.{Histogram}

@@ -8,12 +8,12 @@ ghost use Rattle.fp_metrics.specs.Gauge.{all_gauges, gauge_front, gauge_heading,
 pub struct Gauges {
     /// Whether it is up.
     pub is_up: bool,
+    /// When it came up, in seconds since 1970-01-01T00:00:00Z, 0 if it never did.
+    pub up_since: u64,
     /// How many dialogues it holds.
     pub dialogues: u64,
     /// The most that it held.
     pub most_dialogues: u64,
-    /// The most places for frames that were held.
-    pub most_places: u64,
     /// How many of its log lines aren't written yet.
     pub lines: u64,
     /// The most that weren't.
@@ -25,12 +25,12 @@ pub struct Gauges {
 pub(crate) enum Gauge {
     /// Whether the link is up.
     Up,
+    /// When it came up.
+    UpSince,
     /// The dialogues that it holds.
     Dialogues,
     /// The most that it held.
     MostDialogues,
-    /// The most places for frames.
-    MostPlaces,
     /// Its log lines.
     Lines,
     /// The most that waited.
@@ -44,9 +44,9 @@ impl Gauge {
     {
         [
             Gauge::Up,
+            Gauge::UpSince,
             Gauge::Dialogues,
             Gauge::MostDialogues,
-            Gauge::MostPlaces,
             Gauge::Lines,
             Gauge::MostLines,
         ]
@@ -58,9 +58,9 @@ impl Gauge {
     {
         match self {
             Gauge::Up => "freephone_scp_link_up{link=\"",
+            Gauge::UpSince => "freephone_scp_link_start_time_seconds{link=\"",
             Gauge::Dialogues => "freephone_scp_dialogues{link=\"",
             Gauge::MostDialogues => "freephone_scp_dialogues_most{link=\"",
-            Gauge::MostPlaces => "freephone_scp_places_most{link=\"",
             Gauge::Lines => "freephone_scp_log_lines_waiting{link=\"",
             Gauge::MostLines => "freephone_scp_log_lines_waiting_most{link=\"",
         }
@@ -74,14 +74,14 @@ impl Gauge {
             Gauge::Up => {
                 "# HELP freephone_scp_link_up Whether the link is up.\n# TYPE freephone_scp_link_up gauge\n"
             }
+            Gauge::UpSince => {
+                "# HELP freephone_scp_link_start_time_seconds When the link came up, in seconds since 1970, 0 if it never did.\n# TYPE freephone_scp_link_start_time_seconds gauge\n"
+            }
             Gauge::Dialogues => {
                 "# HELP freephone_scp_dialogues Dialogues that the link holds.\n# TYPE freephone_scp_dialogues gauge\n"
             }
             Gauge::MostDialogues => {
                 "# HELP freephone_scp_dialogues_most The most dialogues that the link held.\n# TYPE freephone_scp_dialogues_most gauge\n"
-            }
-            Gauge::MostPlaces => {
-                "# HELP freephone_scp_places_most The most places for frames that were held.\n# TYPE freephone_scp_places_most gauge\n"
             }
             Gauge::Lines => {
                 "# HELP freephone_scp_log_lines_waiting Log lines of the link that aren't written yet.\n# TYPE freephone_scp_log_lines_waiting gauge\n"
@@ -107,9 +107,9 @@ impl Gauges {
     {
         match gauge {
             Gauge::Up => one_if(self.is_up),
+            Gauge::UpSince => self.up_since,
             Gauge::Dialogues => self.dialogues,
             Gauge::MostDialogues => self.most_dialogues,
-            Gauge::MostPlaces => self.most_places,
             Gauge::Lines => self.lines,
             Gauge::MostLines => self.most_lines,
         }

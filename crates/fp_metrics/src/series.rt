@@ -124,10 +124,10 @@ pub(crate) fn heading(counter: Counter) -> &'static str
             "# HELP freephone_scp_messages_total Messages that came, by kind.\n# TYPE freephone_scp_messages_total counter\n"
         }
         Counter::Opened => {
-            "# HELP freephone_scp_message_results_total Messages that came and were not answered by an Abort of the provider, by what became of them.\n# TYPE freephone_scp_message_results_total counter\n"
+            "# HELP freephone_scp_message_results_total Messages that came and for which no Abort of the provider was to be sent, by what became of them.\n# TYPE freephone_scp_message_results_total counter\n"
         }
         Counter::RefusedUnknownMessage => {
-            "# HELP freephone_scp_messages_refused_total Messages that an Abort of the provider answers, by its cause (Q.773).\n# TYPE freephone_scp_messages_refused_total counter\n"
+            "# HELP freephone_scp_messages_refused_total Messages that were refused, for which an Abort of the provider was to be sent, by its cause (Q.773).\n# TYPE freephone_scp_messages_refused_total counter\n"
         }
         Counter::OutOfMemory => {
             "# HELP freephone_scp_messages_out_of_memory_total Messages for which memory ran out.\n# TYPE freephone_scp_messages_out_of_memory_total counter\n"
@@ -136,7 +136,7 @@ pub(crate) fn heading(counter: Counter) -> &'static str
             "# HELP freephone_scp_dialogues_ended_by_peer_total Dialogues that an End or an Abort of the peer ended.\n# TYPE freephone_scp_dialogues_ended_by_peer_total counter\n"
         }
         Counter::ClockEntries => {
-            "# HELP freephone_scp_clock_entries_total Dialogues that were due at a tick of the clock.\n# TYPE freephone_scp_clock_entries_total counter\n"
+            "# HELP freephone_scp_clock_entries_total Dialogues that were due at a tick of the clock and were given its entry.\n# TYPE freephone_scp_clock_entries_total counter\n"
         }
         Counter::ClockEntriesLeftOut => {
             "# HELP freephone_scp_clock_entries_left_out_total Dialogues that were due and for which memory ran out.\n# TYPE freephone_scp_clock_entries_left_out_total counter\n"
@@ -157,7 +157,7 @@ pub(crate) fn heading(counter: Counter) -> &'static str
             "# HELP freephone_scp_frames_total Frames of requests and Aborts of the provider, by what became of them.\n# TYPE freephone_scp_frames_total counter\n"
         }
         Counter::LinesLost => {
-            "# HELP freephone_scp_log_lines_lost_total Log lines that found no place.\n# TYPE freephone_scp_log_lines_lost_total counter\n"
+            "# HELP freephone_scp_log_lines_lost_total Log lines that found no place. What their steps would count is missing in all other numbers.\n# TYPE freephone_scp_log_lines_lost_total counter\n"
         }
         Counter::SentContinue => {
             "# HELP freephone_scp_messages_sent_total Messages of the service that were sent, by kind.\n# TYPE freephone_scp_messages_sent_total counter\n"

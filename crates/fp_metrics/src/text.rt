@@ -1,7 +1,7 @@
 //! The text that a scrape gets.
 
 ghost use Rattle.std.specs.Prelude.{◌≡◌, ◌++◌, IfOk, OnOk, string_bytes};
-ghost use Rattle.fp_metrics.specs.Text.{block, counter_lines, counters_text, each, gauge_block, gauge_line, gauges_text, links_text, metrics_text, build_heading, build_line, build_text, reloads_heading, reloads_line, reloads_text, sample};
+ghost use Rattle.fp_metrics.specs.Text.{block, counter_lines, counters_text, each, gauge_block, gauge_line, gauges_text, links_text, metrics_text, build_heading, build_line, build_text, label, needs_escapes, reloads_heading, reloads_line, reloads_text, sample};
 
 use crate::gauge::{Gauge, Gauges};
 use crate::series::{front, heading};
@@ -23,15 +23,15 @@ pub struct LinkNumbers {
 /// What a run has.
 #[derive(Clone, Copy, Debug)]
 pub struct RunNumbers<'a> {
-    /// The version of the program.
+    /// The version of the program. One with a quotation mark, a backslash or a line feed isn't told.
     pub version: &'a str,
-    /// The SHA-256 digest of the records from which calls are answered, in hexadecimal digits.
+    /// The SHA-256 digest of the records from which calls are answered, in hexadecimal digits. The same holds of it.
     pub records: &'a str,
     /// How often the records were replaced.
     pub reloads: u64,
     /// From the read of a message to the write of its answer, of a sample.
     pub answer_times: Histogram,
-    /// What its links have.
+    /// What its links have, each link once: Prometheus refuses a text that has two lines of one name and link.
     pub links: &'a [LinkNumbers],
 }
 
@@ -145,6 +145,21 @@ fn push_links(alloc: Global, out: &mut String, links: &[LinkNumbers]) -> Result<
     push_gauges(alloc, out, links)
 }
 
+/// Whether a text can't be the value of a label as it is, since it has a quotation mark, a backslash or a line feed.
+fn needs_escapes(text: &str) -> bool
+    ensures { result ≡ needs_escapes text.now }
+{
+    let octets = text.as_bytes();
+    octets.contains(&b'"') || octets.contains(&b'\\') || octets.contains(&b'\n')
+}
+
+/// A text as the value of a label: no text, if it can't be that as it is.
+fn label(text: &str) -> &str
+    ensures { result.now ≡ label text.now }
+{
+    if needs_escapes(text) { "" } else { text }
+}
+
 /// The line of the version.
 fn build_line(alloc: Global, version: &str, records: &str) -> Result<String, AllocError>
     ensures { IfOk result (λ text. string_bytes text ≡ build_line version.now records.now) }
@@ -163,7 +178,7 @@ fn reloads_line(alloc: Global, reloads: u64) -> Result<String, AllocError>
 fn push_build(alloc: Global, out: &mut String, run: &RunNumbers<'_>) -> Result<(), AllocError>
     ensures { OnOk result (string_bytes out.new ≡ string_bytes out.old ++ build_text run.now) }
 {
-    let line = build_line(alloc, run.version, run.records)?;
+    let line = build_line(alloc, label(run.version), label(run.records))?;
     out.push_str(build_heading())?;
     out.push_str(line.as_str())?;
     Ok(())
