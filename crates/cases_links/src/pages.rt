@@ -3,6 +3,7 @@
 //! | Case | What it gives |
 //! |---|---|
 //! | `page METHOD PATH HEALTH` | the status and the body, where HEALTH is `live`, `ready`, `both` or `none` |
+//! | `build VERSION RECORDS` | the line that says which program runs |
 //! | `metrics LINK ..` | the lines of the counters that aren't 0, each link having counted one Begin; in the run an answer took 20 seconds |
 
 use cases::first_word;
@@ -14,9 +15,9 @@ use std::fmt::Write;
 /// What each link has in a case.
 const GAUGES: Gauges = Gauges {
     is_up: true,
+    up_since: 4,
     dialogues: 5,
     most_dialogues: 6,
-    most_places: 7,
     lines: 8,
     most_lines: 9,
 };
@@ -33,6 +34,25 @@ fn page(words: &str, out: &mut String) -> anyhow::Result<()> {
     let status = answer.status().as_u16();
     let body = answer.body("numbers\n").trim_end();
     write!(out, "{status} {body}")?;
+    Ok(())
+}
+
+/// The line that says which program runs, in a run without links.
+fn build(alloc: Global, words: &str, out: &mut String) -> anyhow::Result<()> {
+    let (version, records) = first_word(words);
+    let run = RunNumbers {
+        version,
+        records,
+        reloads: 0,
+        answer_times: Histogram::new(),
+        links: &[],
+    };
+    let text = metrics_text(alloc, &run)?;
+    for line in text.as_str().lines() {
+        if line.ends_with("} 1") {
+            out.push_str(line)?;
+        }
+    }
     Ok(())
 }
 
@@ -79,6 +99,7 @@ pub(crate) fn answer(
 ) -> anyhow::Result<bool> {
     let written = match kind {
         "page" => page(rest, out),
+        "build" => build(alloc, rest, out),
         "metrics" => metrics(alloc, rest, out),
         _ => return Ok(false),
     };

@@ -7,6 +7,8 @@ use Rattle.std.specs.Net.Text.{socket_text}
 use Rattle.std.specs.declared.net.socket_addr.SocketAddr.{SocketAddr}
 use Rattle.fp_book.specs.Shelf.{no_totals}
 use Rattle.fp_book.specs.declared.totals.Totals.{Totals}
+use Rattle.fp_metrics.specs.Text.{metrics_text}
+use Rattle.fp_metrics.specs.declared.text.RunNumbers.{RunNumbers}
 use Rattle.fp_replay.specs.Replayed.{report_line}
 use Rattle.fp_serve.specs.declared.run.peer.Peer.{Peer}
 use Rattle.fp_serve.specs.declared.run.peer.Peer.TheVariants.{Client, Named}
@@ -62,9 +64,17 @@ IsReloaded last text = (index : ℕ) × (1 ≤ index) × (index ≤ last) × (te
 abbrev pub TellsOfLinks : ℕ → List ℕ → Type 0
 TellsOfLinks first_link text = (links : List LinkStatus) × (text ≡ links_answer first_link links)
 
--- the answer to a command: the second only if more commands are known
+-- the numbers of a run
+abbrev pub TellsNumbers : List ℕ → Type 0
+TellsNumbers text = (run : RunNumbers) × (text ≡ metrics_text run)
+
+-- the answer to `counters`: the numbers, and a line that ends them
+abbrev pub TellsOfCounters : List ℕ → Type 0
+TellsOfCounters text = (numbers : List ℕ) × TellsNumbers numbers × (text ≡ numbers ++ codes "# EOF\n")
+
+-- the answer to a command: the second and the third only if more commands are known
 abbrev pub IsAnswer : ℕ → ℕ → Bool → List ℕ → Type 0
-IsAnswer last first_link has_commands text = IsReloaded last text ⊎ ((has_commands ≡ true) × TellsOfLinks first_link text)
+IsAnswer last first_link has_commands text = IsReloaded last text ⊎ ((has_commands ≡ true) × (TellsOfLinks first_link text ⊎ TellsOfCounters text))
 
 -- the answers to commands were written, and nothing else
 abbrev pub TellsAnswers : ℕ → ℕ → Bool → Option (List ℕ) → Option (List ℕ) → Type 0

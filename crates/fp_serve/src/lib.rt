@@ -12,7 +12,8 @@
 //!   link has, how many entries its dialogues may keep, how many turns its receiver serves, what is done when the log
 //!   can't be written ([`WhenLogFails`]), and which commands are known.
 //! * [`Commands`] are what is asked of the run while it lasts: to read its records again, which an [`Operator`] does; to
-//!   print the status of its links ([`LinkStatus`]); and to end.
+//!   print the status of its links ([`LinkStatus`]), or what is counted; and to end.
+//! * [`Watched`] is what is counted ([`Metrics`]), and where the run is asked for it.
 //! * [`ServeFault`] says why a run failed.
 //! * [`Events`] are lines on which link came or went and why, if they are asked for.
 //!
@@ -49,6 +50,7 @@
 //! | `link/` | a link: its threads, what they share, and its end |
 //! | `socket/` | connections: how they are awaited, watched, read and written |
 //! | `log/` | the log, from the lines that a book hands out to the device |
+//! | `watch/` | what is counted for those who watch a run, and the thread that answers them |
 //! | `moment.rt`, `system.rt` | the time; what is asked of the system, and how a thread of no scope is started |
 //!
 //! The links of a run have the numbers from its first link on. Inside, a link is known by its place among them, from 0;
@@ -68,10 +70,12 @@ mod moment;
 mod run;
 mod socket;
 mod system;
+mod watch;
 
 pub use fp_linkstate::Why;
 pub use run::{
     Commands, Event, Events, LinkStatus, Links, Operator, Peer, PeerName, Refusal, ServeFault,
-    Server, Service, Settings, StandingLink, Wanted, WhenLogFails,
+    Server, Service, Settings, StandingLink, Version, Wanted, WhenLogFails,
 };
 pub use system::System;
+pub use watch::{Metrics, MetricsListener, Watched};

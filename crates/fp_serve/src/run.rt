@@ -26,7 +26,7 @@ mod stop;
 
 pub use commands::{Commands, Operator, Refusal};
 pub(crate) use context::Run;
-pub use events::{Event, Events, Wanted};
+pub use events::{Event, Events, Version, Wanted};
 pub use fault::ServeFault;
 pub use peer::{Peer, PeerName};
 pub use service::Service;

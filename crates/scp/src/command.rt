@@ -65,6 +65,8 @@ pub enum Asked<'a> {
         settings: Settings,
         /// The path of the log that is written.
         log: &'a str,
+        /// The text of the address where it is asked for what is counted, which has not been read, if there is one.
+        metrics: Option<&'a str>,
         /// Which events are written, if any are.
         events: Option<Wanted>,
         /// The text of the list of application contexts, which has not been read, if there is one.
@@ -80,7 +82,7 @@ pub enum Asked<'a> {
 const PROGRAM: &str = "scp";
 
 /// The version of the program.
-const VERSION: &str = "0.9.0";
+pub(crate) const VERSION: &str = "0.9.0";
 
 /// The name of the subcommand that counts.
 const CHECK: &str = "check";

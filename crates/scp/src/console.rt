@@ -6,12 +6,12 @@ use crate::fault::RunFault;
 use crate::run::records_in;
 use fp_hub::Tables;
 use fp_records::Table;
-use fp_serve::{Event, Events, Operator, Refusal, ServeFault};
+use fp_serve::{Event, Events, Metrics, Operator, Refusal, ServeFault};
 use sha2::{Digest, Sha256};
 use std::fmt;
 use std::io::Write;
 use std::rt::{Clock, Files};
-use std::sync::Wait;
+use std::sync::{Arc, Wait};
 
 /// Reads the records of a run again from their file, and writes what is wrong with a command, a line each.
 #[derive(Drop)]
@@ -20,6 +20,8 @@ pub(crate) struct Console<'a, H, E> {
     // The path of the records.
     pub(crate) records: &'a str,
     pub(crate) events: &'a Events,
+    // What is counted, if somebody asked for that.
+    pub(crate) metrics: &'a Option<Arc<Metrics>>,
     pub(crate) errors: &'a mut E,
 }
 
@@ -39,13 +41,16 @@ impl<H: Files + AllocGlobal + Wait + Clock, E: Write> Console<'_, H, E> {
         ensures { IfOk result (λ index. (1 ≤ index) × (index ≤ tables.now)) }
     {
         let text = records_in(self.rt, self.records)?;
-        let table = Table::read(self.rt.alloc(), text.as_slice())?;
+        let digest = Sha256::digest(text.as_slice());
+        let table = Table::read_and_free(self.rt.alloc(), text)?;
         let Some(index) = tables.reload(self.rt, table) else {
             return Err(RunFault::RefusedReload);
         };
-        let digest = Sha256::digest(text.as_slice());
         self.events
             .report(self.rt, Event::Reloaded { index, digest });
+        if let Some(metrics) = self.metrics {
+            metrics.note_reload(self.rt, digest);
+        }
         Ok(index)
     }
 }

@@ -41,6 +41,9 @@ pub enum RunFault {
     /// The links were not all served to their end.
     #[error("{0}")]
     Serve(ServeFault),
+    /// No connections can be awaited where the run is to be asked for its counters.
+    #[error("metrics: cannot listen")]
+    NoMetrics,
     /// The network of a node ended before its link did.
     #[error("{0}")]
     Network(NetworkFault),

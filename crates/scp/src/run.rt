@@ -244,7 +244,7 @@ pub(crate) fn accepted(
 /// The table in a file.
 fn table_in<H: Files + AllocGlobal>(rt: &H, path: &str) -> Result<Table, RunFault> {
     let text = records_in(rt, path)?;
-    Ok(Table::read(rt.alloc(), text.as_slice())?)
+    Ok(Table::read_and_free(rt.alloc(), text)?)
 }
 
 /// The tables in the file with which a run began and in those that were loaded later, in that order. Each is numbered by

@@ -5,7 +5,7 @@ ghost use Rattle.fp_serve.specs.Report.{TellsLinks};
 ghost use Rattle.fp_serve.specs.declared.run.fault.ServeFault.TheVariants.{Memory, NoConnection, UnwrittenLog};
 ghost use Rattle.scp.specs.declared.fault.RunFault.TheVariants.{Serve, UnopenedLog};
 
-use crate::command::{Asked, asked_by};
+use crate::command::{Asked, VERSION, asked_by};
 use crate::console::Console;
 use crate::fault::RunFault;
 use crate::network::NetworkWords;
@@ -14,15 +14,18 @@ use fp_hub::Tables;
 use fp_network::{Drain, Network, NetworkEvent, NetworkFault, Node, Observer, Opened, Plan};
 use fp_records::Table;
 use fp_serve::{
-    Commands, Event, Events, Links, Operator, ServeFault, Server, Service, Settings, StandingLink,
-    System, Wanted,
+    Commands, Event, Events, Links, Metrics, MetricsListener, Operator, ServeFault, Server,
+    Service, Settings, StandingLink, System, Version, Wanted, Watched,
 };
 use fp_streams::Counted;
 use sha2::{Digest, Sha256};
+use std::alloc::AllocError;
 use std::fs::{File, OpenFile, OpenOptions, TryLockError};
+use std::hash::RandomState;
 use std::io::{ErrorKind, Read, Write};
 use std::net::{IpAddr, Net, SocketAddr, TcpListener, TcpStream};
 use std::os::unix::fs::{MetadataExt, OpenOptionsExt};
+use std::random::RandomSource;
 use std::rt::Files;
 use std::sync::Arc;
 use std::thread::JoinHandle;
@@ -30,20 +33,20 @@ use std::{fs, thread};
 
 /// Runs the program as [`program`](crate::program) does, and serves links if the words ask for that. Faults of `serve`
 /// are found in this order: the words, the application contexts, the records, the opening of the log, the address, the
-/// lock and the emptying of the log, then those of the run.
+/// address of `--metrics`, the lock and the emptying of the log, then those of the run.
 ///
 /// A log that can't be opened, or that is the records file, is reported before the address is looked at, as `log:
 /// cannot be opened`. So is, after it, one that another run holds. One that can't be emptied is reported as one that
 /// can't be written: `log: cannot be written`. A text that is no address, and an address where no connections can be
-/// awaited, are `listen: cannot listen`.
+/// awaited, are `listen: cannot listen`, and for `--metrics` they are `metrics: cannot listen`.
 ///
 /// The events of the run that the words ask for go to `event_lines`, by a thread that may still wait there when this
 /// returns. So may a thread that reads commands from `input`, if the run ended after a fault or with its links.
 ///
 /// A command `reload` reads the file of the records again. If it is faulty, or can't be read, its fault is a line on
 /// `errors`, and the records of before are kept. So they are after `reload: refused`: 999 files replaced others, or
-/// 65,535 in a run with a tag, or memory ran out once it was read. `links` and `quit` are what [`serve`] says, if the
-/// words ask for them. Any other line of the input gets the line `command: unknown`.
+/// 65,535 in a run with a tag, or memory ran out once it was read. `links`, `counters` and `quit` are what [`serve`] says,
+/// if the words ask for them. Any other line of the input gets the line `command: unknown`.
 pub fn program_with_links<H, R, W, E, V>(
     rt: &H,
     words: &[String],
@@ -56,6 +59,7 @@ where
     H: Files<File = File>
         + AllocGlobal
         + Net<Listener = TcpListener, Stream = TcpStream>
+        + RandomSource
         + System
         + Copy
         + Send
@@ -75,6 +79,7 @@ where
                 network,
                 settings,
                 log,
+                metrics,
                 events,
                 contexts,
             },
@@ -84,6 +89,7 @@ where
                 listen,
                 settings,
                 log,
+                metrics,
                 events,
                 contexts,
             };
@@ -101,24 +107,26 @@ struct Run<'a> {
     listen: &'a str,
     settings: Settings,
     log: &'a str,
+    metrics: Option<&'a str>,
     events: Option<Wanted>,
     contexts: Option<&'a str>,
 }
 
 /// Serves links from the records of a file.
-fn serve_file<H, R, W, E, V>(
-    rt: &H,
-    asked: Run<'_>,
+fn serve_file<'x, H, R, W, E, V>(
+    rt: &'x H,
+    asked: Run<'x>,
     network: Option<NetworkWords<'_>>,
     input: R,
     output: &mut W,
-    errors: &mut E,
+    errors: &'x mut E,
     event_lines: V,
 ) -> Result<(), RunFault>
 where
     H: Files<File = File>
         + AllocGlobal
         + Net<Listener = TcpListener, Stream = TcpStream>
+        + RandomSource
         + System
         + Copy
         + Send
@@ -133,23 +141,30 @@ where
         return Err(RunFault::NoContexts);
     };
     let text = records_in(rt, asked.records)?;
-    let table = Table::read(rt.alloc(), text.as_slice())?;
+    let digest = digest_of(&asked, text.as_slice());
+    let table = Table::read_and_free(rt.alloc(), text)?;
     let file = opened_log(rt, asked.log, asked.records)?;
     let listener = listener_at(rt, asked.listen)?;
+    let metrics_listener = metrics_listener_at(rt, asked.metrics)?;
     lock(&file)?;
     empty(&file)?;
-    let events = started_events(rt, asked.events, text.as_slice(), event_lines)?;
-    drop(text);
+    let events = started_events(rt, asked.events, digest, event_lines)?;
+    let watched = watched(rt, &asked, digest, metrics_listener)?;
     let tables = Tables::with_last_index(rt.alloc(), table, asked.settings.last_index())?;
     let service = Service {
         alloc: rt.alloc(),
         tables: &tables,
         contexts: contexts.as_slice(),
     };
+    let metrics = match &watched {
+        Some(watched) => Some(Arc::try_clone(&watched.metrics)?),
+        None => None,
+    };
     let operator = Console {
         rt,
         records: asked.records,
         events: &events,
+        metrics: &metrics,
         errors,
     };
     let Side { links, network } = side_of(rt, network, listener)?;
@@ -159,8 +174,15 @@ where
         links,
         commands: Commands { input, operator },
         log: Counted::new(file),
+        watched,
     };
-    let outcome = serve_links(rt, service, server, &events, &mut Counted::new(output));
+    let outcome = serve_links(
+        rt,
+        service,
+        server,
+        &events,
+        &mut Counted::new(&mut *output),
+    );
     let driven = match network {
         Some(network) => network.join(rt),
         None => Ok(()),
@@ -260,11 +282,27 @@ fn started<H: System + Copy + Send + Sync + 'static>(
     }
 }
 
-/// The events that are asked for, of which the first has the digest of the records.
+/// The digest of the records, if an event, a page or a command has it.
+fn digest_of(asked: &Run<'_>, records: &[u8]) -> Option<[u8; 32]> {
+    let has_metrics = asked.metrics.is_some() || asked.settings.has_commands;
+    if has_metrics || asked.events == Some(Wanted::All) {
+        Some(Sha256::digest(records))
+    } else {
+        None
+    }
+}
+
+/// The version of this program.
+fn version() -> Version {
+    Version::from(VERSION).unwrap_or_default()
+}
+
+/// The events that are asked for, of which the first has the version of the program, and the next the digest of the
+/// records.
 fn started_events<H, V>(
     rt: &H,
     wanted: Option<Wanted>,
-    records: &[u8],
+    digest: Option<[u8; 32]>,
     event_lines: V,
 ) -> Result<Events, ServeFault>
 where
@@ -276,7 +314,9 @@ where
     };
     let events = Events::start(rt, rt.alloc(), wanted, event_lines)?;
     if wanted == Wanted::All {
-        let digest = Sha256::digest(records);
+        events.report(rt, Event::Program { version: version() });
+    }
+    if let (Wanted::All, Some(digest)) = (wanted, digest) {
         events.report(rt, Event::Records { digest });
     }
     Ok(events)
@@ -356,6 +396,37 @@ fn listener_at<H: Net<Listener = TcpListener, Stream = TcpStream>>(
         Err(error) if error.kind() == ErrorKind::OutOfMemory => Err(ServeFault::Memory),
         Err(_) => Err(ServeFault::NoConnection),
     }
+}
+
+/// A listener where the run is asked for what it counts, at the IP address and port that a text gives, if it is to be.
+fn metrics_listener_at<H: Net<Listener = TcpListener, Stream = TcpStream> + RandomSource>(
+    rt: &H,
+    address: Option<&str>,
+) -> Result<Option<MetricsListener>, RunFault> {
+    let Some(address) = address else {
+        return Ok(None);
+    };
+    let (Ok(listener), Ok(keys)) = (listener_at(rt, address), RandomState::new(rt)) else {
+        return Err(RunFault::NoMetrics);
+    };
+    Ok(Some(MetricsListener { listener, keys }))
+}
+
+/// What a run with these words counts, if it is to be asked for that: by commands or over HTTP. Its records have this digest.
+fn watched<H: AllocGlobal>(
+    rt: &H,
+    asked: &Run<'_>,
+    digest: Option<[u8; 32]>,
+    listener: Option<MetricsListener>,
+) -> Result<Option<Watched>, AllocError> {
+    if listener.is_none() && !asked.settings.has_commands {
+        return Ok(None);
+    }
+    let Some(digest) = digest else {
+        return Ok(None);
+    };
+    let metrics = Metrics::new(rt.alloc(), asked.settings, version(), digest)?;
+    Ok(Some(Watched { metrics, listener }))
 }
 
 /// Empties the log if it holds something. A device such as `/dev/null` holds nothing, and can't be emptied. A log that

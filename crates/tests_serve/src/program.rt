@@ -16,6 +16,7 @@ use std::fs::File;
 use std::io::Read;
 use std::net::{Net, SocketAddr, TcpListener, TcpStream};
 use std::os::unix::fs::MetadataExt;
+use std::random::RandomSource;
 use std::rt::{Clock, Files};
 use std::sync::{Mutex, Wait};
 use std::test::Fail;
@@ -50,6 +51,7 @@ link 1 up 127.0.0.1
 link 2 down bad frame length
 link 2 up 127.0.0.1
 records 1e925dc5549ebae979bccbac61d9898176e6dd0be9560b9f692eaca6e69a4bdc
+scp 0.9.0
 ";
 
 /// What the run of these three links reports of them.
@@ -173,6 +175,7 @@ where
     H: Files<File = File>
         + AllocGlobal
         + Net<Listener = TcpListener, Stream = TcpStream>
+        + RandomSource
         + Threads
         + Wait
         + Clock
@@ -280,6 +283,7 @@ where
     H: Files<File = File>
         + AllocGlobal
         + Net<Listener = TcpListener, Stream = TcpStream>
+        + RandomSource
         + Threads
         + Wait
         + Clock
@@ -304,6 +308,7 @@ where
     H: Files<File = File>
         + AllocGlobal
         + Net<Listener = TcpListener, Stream = TcpStream>
+        + RandomSource
         + Threads
         + Wait
         + Clock
@@ -337,6 +342,7 @@ where
     H: Files<File = File>
         + AllocGlobal
         + Net<Listener = TcpListener, Stream = TcpStream>
+        + RandomSource
         + Threads
         + Wait
         + Clock
@@ -359,6 +365,7 @@ where
     H: Files<File = File>
         + AllocGlobal
         + Net<Listener = TcpListener, Stream = TcpStream>
+        + RandomSource
         + Threads
         + Wait
         + Clock
@@ -386,6 +393,7 @@ where
     H: Files<File = File>
         + AllocGlobal
         + Net<Listener = TcpListener, Stream = TcpStream>
+        + RandomSource
         + Threads
         + Wait
         + Clock

@@ -24,6 +24,9 @@ use std::sync::ledger::Ledger;
 /// How many reads a link may make.
 const MOST_READS: u64 = 1 << 40;
 
+/// Of how many reads one brings the message of which it is measured how soon it is answered.
+const READS_OF_A_SAMPLE: u8 = 16;
+
 /// An allocation for frames failed.
 const OUT_OF_MEMORY: LinkEvent = LinkEvent::LoopFault { why: Why::Memory };
 
@@ -47,6 +50,10 @@ struct Arrivals<'x, R, G: Gate, A: Ledger, B: Ledger, C: Ledger> {
     log_wait: LogWait,
     // For how long messages are held back, if a network carries the link.
     hold_back: Option<HoldBack>,
+    // Whether the message that is first was held back and counted as such.
+    is_held: bool,
+    // How many reads go by until the answer to a message is awaited, to measure how long it takes.
+    reads_to_the_sample: u8,
 }
 
 impl<R: System, G: Gate, A: Ledger, B: Ledger, C: Ledger> Arrivals<'_, R, G, A, B, C> {
@@ -99,6 +106,9 @@ impl<R: System, G: Gate, A: Ledger, B: Ledger, C: Ledger> Arrivals<'_, R, G, A, 
         let alloc = run.service.alloc;
         let count = self.came.len();
         let is_aborted = hub.post_front(run.rt, alloc, &mut self.seat, &mut self.came);
+        if self.came.len() < count {
+            self.is_held = false;
+        }
         let Some(hold_back) = &mut self.hold_back else {
             return is_aborted;
         };
@@ -109,16 +119,42 @@ impl<R: System, G: Gate, A: Ledger, B: Ledger, C: Ledger> Arrivals<'_, R, G, A, 
         if hold_back.is_over {
             if let Some(late) = self.came.pop_front() {
                 hub.post(run.rt, alloc, &mut self.seat, late);
+                self.is_held = false;
                 hold_back.late = hold_back.late.saturating_add(1);
             }
         }
         is_aborted
     }
 
+    /// Counts the message that is held back, once, if somebody asked for that.
+    fn count_held_back(&mut self) {
+        if self.is_held || self.came.is_empty() {
+            return;
+        }
+        self.is_held = true;
+        if let Some(metrics) = self.link.metrics {
+            metrics.count_held_back(self.link.run.rt);
+        }
+    }
+
+    /// Awaits the answer to a message that was just read, to measure how long it takes: of one read in 16, if somebody
+    /// asked for that.
+    fn sample(&mut self, frame: &Frame) {
+        let Some(metrics) = self.link.metrics else {
+            return;
+        };
+        if self.reads_to_the_sample == 0 {
+            // If that is no Begin, or another answer is awaited, the next read is looked at.
+            let is_awaited = metrics.sample.open(self.link.run.rt, frame);
+            self.reads_to_the_sample = if is_awaited { READS_OF_A_SAMPLE } else { 1 };
+        }
+    }
+
     /// If a message is held back, waits until there is room, for as long as it is held back. Takes it and those after it
     /// back to be prepared again.
     fn await_room(&mut self) {
         let Link { run, hub, .. } = self.link;
+        self.count_held_back();
         if let Some(first) = self.came.front() {
             match &mut self.hold_back {
                 None => hub.await_room(run.rt, first),
@@ -156,6 +192,7 @@ impl<R: System, G: Gate, A: Ledger, B: Ledger, C: Ledger> Arrivals<'_, R, G, A, 
 
 impl<R: System, G: Gate, A: Ledger, B: Ledger, C: Ledger> Inbox for Arrivals<'_, R, G, A, B, C> {
     fn frame(&mut self, frame: Frame) {
+        self.sample(&frame);
         if self.queue.feed(frame).is_err() {
             self.link.meet(OUT_OF_MEMORY);
         }
@@ -167,6 +204,7 @@ impl<R: System, G: Gate, A: Ledger, B: Ledger, C: Ledger> Inbox for Arrivals<'_,
     fn end_of_read(&mut self) {
         self.post_frames();
         self.log_wait.renew(self.link.run.log);
+        self.reads_to_the_sample = self.reads_to_the_sample.saturating_sub(1);
         if let Some(hold_back) = &mut self.hold_back {
             hold_back.is_new_read = true;
         }
@@ -242,6 +280,8 @@ impl<'x, R: System, A: Ledger, B: Ledger, C: Ledger> Link<'x, R, A, B, C> {
             } else {
                 None
             },
+            is_held: false,
+            reads_to_the_sample: 0,
         };
         let mut reader = Counted::new(link.traced_stream());
         let ended = receive(alloc, &mut reader, MOST_READS, &mut arrivals);

@@ -3,15 +3,18 @@
 ghost use Rattle.std.specs.Prelude.{◌≡◌, IfErr};
 
 use crate::link::Link;
+use crate::moment::time_since;
 use crate::socket::TracedStream;
 use crate::system::System;
+use crate::watch::{LinkMetrics, SentCounts};
 use fp_book::{Parcel, Picked};
 use fp_hub::{Next, Seat, SentAndNext};
 use fp_linkio::{Counted, DeviceFault, Ended, Gathered, LinkWrite, Outlet, send_loop};
 use fp_linkstate::{LinkEvent, Why};
 use std::alloc::{AllocError, Global};
-use std::sync::MutexGuard;
 use std::sync::ledger::Ledger;
+use std::sync::{MutexGuard, Wait};
+use std::time::Instant;
 
 /// How many parcels a link may send.
 const MOST_PARCELS: u64 = 1 << 40;
@@ -75,6 +78,21 @@ struct Departures<'x, R, A: Ledger, B: Ledger, C: Ledger> {
     left: u64,
     // No more are.
     is_done: bool,
+    // Where they are counted, if somebody asked for that.
+    counts: Option<MutexGuard<'x, SentCounts>>,
+    // When the message was read whose answer is among those that were sent, if that is measured.
+    answered: Option<Instant>,
+}
+
+/// Where the parcels of a link are counted, if somebody asked for that.
+fn counts_of<'x, R: Wait>(
+    rt: &R,
+    metrics: Option<&'x LinkMetrics>,
+) -> Option<MutexGuard<'x, SentCounts>> {
+    match metrics {
+        Some(metrics) => Some(metrics.sending.lock(rt)),
+        None => None,
+    }
 }
 
 impl<R: System, A: Ledger, B: Ledger, C: Ledger> Departures<'_, R, A, B, C> {
@@ -83,6 +101,19 @@ impl<R: System, A: Ledger, B: Ledger, C: Ledger> Departures<'_, R, A, B, C> {
         if let Some(other) = self.next.replace(parcel) {
             let link = self.link;
             link.take_back(other);
+        }
+    }
+
+    /// Counts a parcel that is sent, if somebody asked for that.
+    fn count(&mut self, parcel: &Parcel) {
+        let Link { run, metrics, .. } = self.link;
+        if let Some(counts) = &mut self.counts {
+            counts.count(parcel);
+        }
+        if let Some(metrics) = metrics {
+            if let Some(read_at) = metrics.close_sample(run.rt, parcel) {
+                self.answered = Some(read_at);
+            }
         }
     }
 
@@ -125,6 +156,7 @@ impl<R: System, A: Ledger, B: Ledger, C: Ledger> Outlet for Departures<'_, R, A,
     fn sent(&mut self, parcel: Parcel) -> Result<(), Parcel> {
         let Link { run, hub, .. } = self.link;
         self.left = self.left.saturating_sub(1);
+        self.count(&parcel);
         // Each parcel adds two lines to the log, and lines are moved only before the next run of parcels.
         let sent = if self.left == 0 || hub.is_log_nearly_full() {
             self.sent_last(parcel)
@@ -148,6 +180,24 @@ impl<'x, R: System, A: Ledger, B: Ledger, C: Ledger> Link<'x, R, A, B, C> {
         }
     }
 
+    /// A run of this number of parcels was sent, after which this is counted, if somebody asked for that.
+    fn note_sent(&self, counts: Option<MutexGuard<'x, SentCounts>>, count: u64) {
+        let Some(mut counts) = counts else {
+            return;
+        };
+        if let Some(metrics) = self.metrics {
+            metrics.note_sent(self.run.rt, &mut counts, count);
+        }
+    }
+
+    /// The answer to a message that was read then is written.
+    fn note_answer(&self, read_at: Option<Instant>) {
+        let run = self.run;
+        if let (Some(watch), Some(time)) = (run.watch, time_since(run.rt, read_at)) {
+            watch.metrics.note_answer(run.rt, time);
+        }
+    }
+
     /// Writes what waits to be sent, after a parcel that was handed out already if there is one, and hands it on to the
     /// socket, under the lock of what goes out. At most 1,024 parcels, and no more once the log is nearly full: then the
     /// sending thread is woken for the rest. The error: the link is to go down, for this reason.
@@ -157,23 +207,20 @@ impl<'x, R: System, A: Ledger, B: Ledger, C: Ledger> Link<'x, R, A, B, C> {
         seat: &'x mut Seat<A, B, C>,
         first: Option<Parcel>,
     ) -> Result<(), Why> {
-        let mut writer = GatheringSocket {
-            outgoing,
-            socket: Counted::new(self.traced_stream()),
-        };
+        let socket = Counted::new(self.traced_stream());
+        let mut writer = GatheringSocket { outgoing, socket };
         // What a failed write left is never written, so nothing is sent after it.
         let has_failed = !writer.outgoing.gathered.is_empty();
-        let most = if has_failed {
-            0
-        } else {
-            writer.outgoing.left.min(MOST_AT_ONCE)
-        };
+        let most_at_once = if has_failed { 0 } else { MOST_AT_ONCE };
+        let most = writer.outgoing.left.min(most_at_once);
         let mut departures = Departures {
             link: self,
             seat,
             next: first,
             left: most,
             is_done: most == 0,
+            counts: counts_of(self.run.rt, self.metrics),
+            answered: None,
         };
         let ended = send_loop(&mut writer, most, &mut departures);
         let Departures {
@@ -182,15 +229,20 @@ impl<'x, R: System, A: Ledger, B: Ledger, C: Ledger> Link<'x, R, A, B, C> {
             next,
             left,
             is_done: _,
+            counts,
+            answered,
         } = departures;
         if let Some(parcel) = next {
             self.take_back(parcel);
         }
         let count = most.saturating_sub(left);
         writer.outgoing.left = writer.outgoing.left.saturating_sub(count);
+        self.note_sent(counts, count);
         if has_failed || ended == Ended::WriteFault || writer.flush().is_err() {
-            Err(writer.why(Ended::WriteFault))
-        } else if writer.outgoing.left == 0 {
+            return Err(writer.why(Ended::WriteFault));
+        }
+        self.note_answer(answered);
+        if writer.outgoing.left == 0 {
             Err(Why::Limit)
         } else {
             Ok(())

@@ -9,8 +9,9 @@ use crate::moment::time_since;
 use crate::run::{Event, Run, ServeFault};
 use crate::socket::TracedStream;
 use crate::system::System;
+use crate::watch::LinkMetrics;
 use crossbeam_utils::CachePadded;
-use fp_book::Totals;
+use fp_book::{Status, Totals};
 use fp_hub::{Gate, Hub, Looks, PARTS, finish};
 use fp_linkstate::{Action, LinkEnd, LinkEvent, Why};
 use std::marker::Brand;
@@ -45,6 +46,8 @@ pub(crate) struct Link<'x, R, A: Ledger, B: Ledger, C: Ledger> {
     pub(crate) lines: &'x LinkLog,
     // What goes out to its socket.
     pub(crate) outgoing: &'x Mutex<Outgoing>,
+    // What is counted on it, if somebody asked for that.
+    pub(crate) metrics: Option<&'x LinkMetrics>,
 }
 
 impl<'x, R: System, A: Ledger, B: Ledger, C: Ledger> Link<'x, R, A, B, C> {
@@ -77,6 +80,9 @@ impl<'x, R: System, A: Ledger, B: Ledger, C: Ledger> Link<'x, R, A, B, C> {
             why,
         };
         self.run.events.report(rt, down);
+        if let Some(metrics) = self.metrics {
+            metrics.count_end(rt, why);
+        }
         self.hub.down(rt);
         let _ = self.stream.shutdown(how);
         self.hub.close(rt);
@@ -86,10 +92,17 @@ impl<'x, R: System, A: Ledger, B: Ledger, C: Ledger> Link<'x, R, A, B, C> {
     /// Reports that the link came up.
     fn note_up(&self) {
         let Plan { place, link, .. } = *self.plan;
-        if let Some(peer) = self.run.statuses.peer(self.run.rt, place) {
-            self.run
-                .events
-                .report(self.run.rt, Event::Up { link, peer });
+        let Run {
+            rt,
+            statuses,
+            stop,
+            ..
+        } = *self.run;
+        if let Some(peer) = statuses.peer(rt, place) {
+            self.run.events.report(rt, Event::Up { link, peer });
+        }
+        if let Some(metrics) = self.metrics {
+            metrics.note_up(rt, stop.time(rt));
         }
     }
 
@@ -111,11 +124,25 @@ impl<'x, R: System, A: Ledger, B: Ledger, C: Ledger> Link<'x, R, A, B, C> {
         (end, Duration::from_millis(left))
     }
 
+    /// Notes what its book says.
+    pub(crate) fn note(&self, status: Status) {
+        let rt = self.run.rt;
+        self.run.statuses.note(rt, self.plan.place, status);
+        if let Some(metrics) = self.metrics {
+            metrics.note_status(rt, status);
+        }
+    }
+
     /// Notes its status.
     pub(crate) fn note_status(&self) {
-        let rt = self.run.rt;
-        let status = self.hub.status(rt);
-        self.run.statuses.note(rt, self.plan.place, status);
+        self.note(self.hub.status(self.run.rt));
+    }
+
+    /// Its clock ticks.
+    pub(crate) fn note_tick(&self) {
+        if let Some(metrics) = self.metrics {
+            metrics.note_tick(self.run.stop.time(self.run.rt));
+        }
     }
 
     /// Waits until nothing is left to be served or sent and all was handed on to the socket, or the link is down; at
@@ -140,6 +167,14 @@ impl<'x, R: System, A: Ledger, B: Ledger, C: Ledger> Link<'x, R, A, B, C> {
     /// Whether no more messages are posted: it is down, or the links are to end.
     pub(crate) fn is_ending(&self) -> bool {
         self.run.stop.is_quitting() || self.hub.is_down(self.run.rt)
+    }
+}
+
+/// What is counted on a link, if somebody asked for that.
+fn metrics_of<'x, R>(run: &'x Run<'x, R>, plan: &Plan) -> Option<&'x LinkMetrics> {
+    match run.watch {
+        Some(watch) => watch.metrics.link(plan.place),
+        None => None,
     }
 }
 
@@ -181,6 +216,7 @@ impl<
             end: &end,
             lines,
             outgoing: &*outgoing,
+            metrics: metrics_of(run, plan),
         };
         link.note_up();
         let seat = link.run_threads(gate, seat);

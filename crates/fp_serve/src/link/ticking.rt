@@ -44,7 +44,8 @@ impl<R: System, A: Ledger, B: Ledger, C: Ledger> Link<'_, R, A, B, C> {
                 last = Instant::now(rt).ok();
                 let after = hub.tick_and_look(rt, now(rt));
                 hub.hint(rt);
-                run.statuses.note(rt, self.plan.place, after.status);
+                self.note(after.status);
+                self.note_tick();
                 if let Some(fault) = run.stop.fault(rt) {
                     self.meet(LinkEvent::RunFault { why: fault.why() });
                 } else if after.entry_count > run.settings.most_entries {

@@ -3,11 +3,13 @@
 use crate::link::Link;
 use crate::run::{Event, Run, ServeFault};
 use crate::system::System;
+use crate::watch::{LinkMetrics, StepCounts};
 use fp_book::{Line, Log, LoggedStep};
 use fp_logtext::{MadeText, UnwrittenText, WaitingLines};
 use std::alloc::{AllocError, Global};
+use std::sync::atomic::{AtomicU64, Ordering};
 use std::sync::ledger::Ledger;
-use std::sync::{Mutex, Wait};
+use std::sync::{Mutex, MutexGuard, Wait};
 use std::thread;
 use std::time::Duration;
 
@@ -56,6 +58,24 @@ fn report_gap<R: System>(run: &Run<'_, R>, link: u8, step: &LoggedStep) {
     }
 }
 
+/// Where the lines of a link are counted, if somebody asked for that.
+fn steps_of<'x, R: Wait>(
+    rt: &R,
+    metrics: Option<&'x LinkMetrics>,
+) -> Option<MutexGuard<'x, StepCounts>> {
+    match metrics {
+        Some(metrics) => Some(metrics.steps.lock(rt)),
+        None => None,
+    }
+}
+
+/// Counts a line, if somebody asked for that.
+fn count(steps: &mut Option<MutexGuard<'_, StepCounts>>, step: &LoggedStep) {
+    if let Some(steps) = steps {
+        steps.count(step);
+    }
+}
+
 /// Lines that left the book of a link.
 #[derive(Drop)]
 struct Moved {
@@ -92,6 +112,8 @@ pub(crate) struct LinkLog {
     // Taken before the lock of the lines that wait.
     making: Mutex<MadeText>,
     waiting: Mutex<Moved>,
+    // How many lines the device took.
+    written: AtomicU64,
 }
 
 impl LinkLog {
@@ -100,6 +122,7 @@ impl LinkLog {
         Ok(LinkLog {
             making: Mutex::new(MadeText::new(alloc)?),
             waiting: Mutex::new(Moved::new(alloc)?),
+            written: AtomicU64::new(0),
         })
     }
 
@@ -111,6 +134,16 @@ impl LinkLog {
         }
     }
 
+    /// The device took this number of lines.
+    pub(crate) fn note_written(&self, lines: u64) {
+        self.written.fetch_add(lines, Ordering::SeqCst);
+    }
+
+    /// How many lines the device took.
+    pub(crate) fn written(&self) -> u64 {
+        self.written.load(Ordering::SeqCst)
+    }
+
     /// Hands all text that waits to the writing thread, once the device took all that this has.
     pub(crate) fn take<R: Wait>(&self, rt: &R, text: &mut UnwrittenText) {
         text.take(&mut self.making.lock(rt));
@@ -118,14 +151,29 @@ impl LinkLog {
 }
 
 impl<R: System, A: Ledger, B: Ledger, C: Ledger> Link<'_, R, A, B, C> {
-    /// Moves the next lines of the book to those that are moved at once, and reports the gaps among them.
+    /// Lines of the book were counted, this number of them: notes that, and the status of the book.
+    fn note_counted(&self, count: usize) {
+        let Some(metrics) = self.metrics else {
+            return;
+        };
+        let rt = self.run.rt;
+        metrics.note_lines(rt, count, self.lines.written());
+        metrics.note_status(rt, self.hub.status(rt));
+    }
+
+    /// Moves the next lines of the book to those that are moved at once, counts them, and reports the gaps among them.
     fn drain(&self, lines: &mut Moved) {
         self.hub.drain(self.run.rt, &mut lines.moved);
-        for line in lines.moved.iter() {
-            if let Line::Step { link, step } = line {
-                report_gap(self.run, *link, step);
+        {
+            let mut steps = steps_of(self.run.rt, self.metrics);
+            for line in lines.moved.iter() {
+                if let Line::Step { link, step } = line {
+                    report_gap(self.run, *link, step);
+                    count(&mut steps, step);
+                }
             }
         }
+        self.note_counted(lines.moved.len());
     }
 
     /// Moves lines of the book here, `most` times at most, while there is room. If memory runs out, they stay where
@@ -147,15 +195,21 @@ impl<R: System, A: Ledger, B: Ledger, C: Ledger> Link<'_, R, A, B, C> {
         Ok(())
     }
 
-    /// Exchanges the log of the book for an empty one, to make the text of its lines, and reports the gaps among them.
+    /// Exchanges the log of the book for an empty one, to make the text of its lines, counts them, and reports the gaps
+    /// among them.
     fn exchange(&self, lines: &mut Moved, making: &mut MadeText) {
         lines.exchanged.clear();
         let link = self.hub.exchange_log(self.run.rt, &mut lines.exchanged);
-        for place in 0..lines.exchanged.len() {
-            if let Some(step) = lines.exchanged.get(place) {
-                report_gap(self.run, link, step);
+        {
+            let mut steps = steps_of(self.run.rt, self.metrics);
+            for place in 0..lines.exchanged.len() {
+                if let Some(step) = lines.exchanged.get(place) {
+                    report_gap(self.run, link, step);
+                    count(&mut steps, step);
+                }
             }
         }
+        self.note_counted(lines.exchanged.len());
         making.take_log(link, &mut lines.exchanged);
     }
 

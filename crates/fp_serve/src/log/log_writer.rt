@@ -6,8 +6,8 @@
 ghost use Rattle.std.specs.Prelude.{◌≡◌, ◌+◌};
 ghost use Rattle.fp_book.specs.declared.line.Line.TheVariants.{Head};
 
-use crate::log::Log;
 use crate::log::run_log::WriterEnds;
+use crate::log::{LinkLog, Log};
 use crate::run::{Event, Events, ServeFault, Settings, Stop, WhenLogFails};
 use crate::system::{System, start_thread};
 use fp_book::Line;
@@ -46,24 +46,35 @@ struct LogWriter<L: LinkWrite + Drop> {
     // What the device hasn't taken yet.
     text: UnwrittenText,
     when_log_fails: WhenLogFails,
+    // The place of the link whose text it is. None: the head.
+    place: Option<usize>,
 }
 
 impl<L: LinkWrite + Drop> LogWriter<L> {
+    /// Where the lines of the link wait whose text it is.
+    fn lines(&self) -> Option<&LinkLog> {
+        self.log.lines_of(self.place?)
+    }
+
     /// Writes what the device hasn't taken yet, or a part of it, and counts off the lines whose end it took. `false`: a
     /// write failed.
-    fn write_part(&mut self) -> bool {
+    fn write_part<R: Clock>(&mut self, rt: &R) -> bool {
         let part = self.text.write_part(&mut self.device);
         self.log.take_off(part.octets, part.lines);
+        if let Some(lines) = self.lines() {
+            lines.note_written(u64::try_from(part.lines).unwrap_or(u64::MAX));
+        }
+        self.log.note_moved(self.stop.time(rt));
         part.is_all
     }
 
     /// Writes what the device hasn't taken yet. `false`: a write failed.
-    fn try_to_write<R: Wait>(&mut self, rt: &R) -> bool {
+    fn try_to_write<R: Wait + Clock>(&mut self, rt: &R) -> bool {
         for _ in rt.forever() {
             if self.text.is_empty() {
                 break;
             }
-            if !self.write_part() {
+            if !self.write_part(rt) {
                 return false;
             }
         }
@@ -104,6 +115,7 @@ impl<L: LinkWrite + Drop> LogWriter<L> {
                 break;
             };
             waiting.take(rt, &mut self.text);
+            self.place = Some(place);
             if !self.write(rt) {
                 return false;
             }
@@ -120,6 +132,7 @@ impl<L: LinkWrite + Drop> LogWriter<L> {
         for _ in rt.forever() {
             // Asked before the lines are taken, so that those that came before the end are among them.
             let is_over = self.log.is_over();
+            self.log.note_moved(self.stop.time(rt));
             if !self.write_waiting(rt) || is_over {
                 break;
             }
@@ -148,6 +161,7 @@ pub(crate) fn start_log<R: System + Copy + Send + 'static, L: LinkWrite + Send +
         device,
         text,
         when_log_fails: settings.when_log_fails,
+        place: None,
     };
     let own = *rt;
     start_thread(rt, move || {

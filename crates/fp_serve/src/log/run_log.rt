@@ -51,6 +51,8 @@ pub(crate) struct Log {
     unwritten: AtomicU64,
     // How many octets the device took.
     written: AtomicU64,
+    // When the writing thread moved last, in milliseconds since the run began.
+    moved_at: AtomicU64,
     // How long a receiving thread waits for the device at most before it reads on.
     pub(crate) patience: Duration,
     // Wakes the writing thread: text waits for it, or no more comes.
@@ -88,6 +90,7 @@ impl Log {
             links,
             unwritten: AtomicU64::new(1),
             written: AtomicU64::new(0),
+            moved_at: AtomicU64::new(0),
             patience: Duration::from_millis(patience_of(settings)),
             came,
             is_over: AtomicBool::new(false),
@@ -125,6 +128,16 @@ impl Log {
         self.unwritten.fetch_sub(lines, Ordering::SeqCst);
         let octets = u64::try_from(octets).unwrap_or(u64::MAX);
         self.written.fetch_add(octets, Ordering::SeqCst);
+    }
+
+    /// The writing thread looked for text, or the device took some, at this time of the run.
+    pub(crate) fn note_moved(&self, time: u64) {
+        self.moved_at.store(time, Ordering::SeqCst);
+    }
+
+    /// When the writing thread moved last.
+    pub(crate) fn moved_at(&self) -> u64 {
+        self.moved_at.load(Ordering::SeqCst)
     }
 
     /// How many octets the device took.

@@ -1,12 +1,13 @@
 //! The commands of a run: lines of a reader, of which the run follows one after another until it is over.
 
 ghost use Rattle.std.specs.Prelude.{◌≤◌, IfOk, IfSome, OnOk, string_bytes};
-ghost use Rattle.fp_serve.specs.Report.{TellsAnswers, TellsOfLinks};
+ghost use Rattle.fp_serve.specs.Report.{TellsAnswers, TellsOfCounters, TellsOfLinks};
 
 use crate::moment::time_since;
 use crate::run::report::{answer_of, write_flushed, write_reloaded};
 use crate::run::{Run, ServeFault, Statuses, Stop};
 use crate::system::{System, start_thread};
+use crate::watch::Watch;
 use crossbeam_channel::{Receiver, Sender};
 use fp_hub::Tables;
 use fp_streams::LinkWrite;
@@ -29,6 +30,9 @@ const MOST_READS: u64 = 1 << 40;
 
 /// How many commands that were read wait to be followed.
 pub(crate) const MOST_WAITING: usize = 16;
+
+/// What comes after the numbers.
+const END_OF_COUNTERS: &str = "# EOF\n";
 
 /// How many seconds go by between two looks whether tables that were replaced can be freed.
 const REST_SECONDS: u64 = 1;
@@ -84,6 +88,8 @@ pub(crate) enum Command {
     Reload,
     /// `links`: the status of each link.
     Links,
+    /// `counters`: what is counted.
+    Counters,
     /// `drain`: the node is to ask for no new dialogues, and all links are to end once none is held.
     Drain,
     /// `quit`: all links are to end.
@@ -136,6 +142,7 @@ impl CommandLine {
         match str::from_utf8(octets) {
             Ok("reload") => Command::Reload,
             Ok("links") => Command::Links,
+            Ok("counters") => Command::Counters,
             Ok("drain") => Command::Drain,
             Ok("quit") => Command::Quit,
             Ok(_) | Err(_) => Command::Unknown,
@@ -222,6 +229,43 @@ fn links_text<R: Wait>(run: &Run<'_, R>) -> Result<String, AllocError>
     answer_of(alloc, run.settings.first_link, links.as_slice())
 }
 
+/// The answer to `counters`.
+fn counters_text<R: Wait>(run: &Run<'_, R>, watch: &Watch) -> Result<String, AllocError>
+    ensures { IfOk result (λ text. TellsOfCounters (string_bytes text)) }
+{
+    let alloc = run.service.alloc;
+    let mut text = watch.metrics.text(run.rt, alloc, &watch.log)?;
+    text.push_str(END_OF_COUNTERS)?;
+    Ok(text)
+}
+
+/// Writes what is counted, if more commands are known and it is counted; else the command isn't known. If memory runs out
+/// for the text, it is said, and nothing is written.
+fn answer_counters<R: System, O: Operator, W: LinkWrite>(
+    run: &Run<'_, R>,
+    operator: &mut O,
+    output: &mut W,
+) -> Result<(), ServeFault>
+    ensures { OnOk result (TellsAnswers run.entry.now.service.tables.now run.entry.now.settings.first_link run.entry.now.settings.has_commands
+        (W.contents output.old) (W.contents output.new)) }
+{
+    let Some(watch) = run.watch else {
+        operator.refuse(Refusal::Unknown);
+        return Ok(());
+    };
+    if !run.settings.has_commands {
+        operator.refuse(Refusal::Unknown);
+        return Ok(());
+    }
+    match counters_text(run, watch) {
+        Ok(text) => write_flushed(text.as_str(), output),
+        Err(_) => {
+            operator.fail(ServeFault::Memory);
+            Ok(())
+        }
+    }
+}
+
 /// The node whose network carries the link is to drain. If it can't, it is said why.
 fn drain<R, O: Operator>(run: &Run<'_, R>, operator: &mut O) {
     let Some(drain) = run.drain else {
@@ -280,6 +324,7 @@ fn obey<R: System, O: Operator, W: LinkWrite>(
                 Ok(())
             }
         },
+        Some(Command::Counters) => answer_counters(run, operator, output),
         // The thread that read it has ended the links.
         Some(Command::Quit) if has_commands => Ok(()),
         Some(Command::Drain) if has_commands => {

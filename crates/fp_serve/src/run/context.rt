@@ -2,6 +2,7 @@
 
 use crate::log::Log;
 use crate::run::{Events, Service, Settings, Statuses, Stop};
+use crate::watch::Watch;
 use fp_network::Drain;
 use std::sync::Arc;
 
@@ -15,6 +16,8 @@ pub(crate) struct Run<'x, R> {
     pub(crate) events: &'x Events,
     pub(crate) stop: &'x Stop,
     pub(crate) log: &'x Log,
+    // What is counted, if somebody asked for that.
+    pub(crate) watch: &'x Option<Watch>,
     // Whether the node of the link drains, if a network carries the link.
     pub(crate) drain: &'x Option<Arc<Drain>>,
 }

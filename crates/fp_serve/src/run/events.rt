@@ -7,6 +7,7 @@
 use crate::moment::now;
 use crate::run::{Peer, ServeFault};
 use crate::system::{System, start_thread};
+use arrayvec::ArrayString;
 use crossbeam_channel::{Receiver, Sender, bounded};
 use fp_digits::Moment;
 use fp_linkstate::Why;
@@ -25,9 +26,17 @@ const MOST_EVENTS: usize = 1_024;
 /// How many seconds the end of a run waits for a place in a channel that is full, and for its last events to be written.
 const PATIENCE_SECONDS: u64 = 1;
 
+/// The version of a program, in at most 20 octets.
+pub type Version = ArrayString<20>;
+
 /// What happened in a run.
 #[derive(Clone, Copy, Debug, PartialEq, Eq)]
 pub enum Event {
+    /// The run began, of a program of this version.
+    Program {
+        /// The version.
+        version: Version,
+    },
     /// The records were read from a file of this SHA-256 digest.
     Records {
         /// The digest.
@@ -92,6 +101,7 @@ fn write_digest<W: fmt::Write>(digest: &[u8; 32], f: &mut fmt::Formatter<W>) -> 
 impl fmt::Display for Event {
     fn fmt<W: fmt::Write>(&self, f: &mut fmt::Formatter<W>) -> fmt::Result {
         match self {
+            Event::Program { version } => write!(f, "scp {}", version.as_str()),
             Event::Records { digest } => {
                 f.write_str("records ")?;
                 write_digest(digest, f)

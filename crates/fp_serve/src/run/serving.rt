@@ -6,7 +6,7 @@ ghost use Rattle.fp_replay.specs.Replayed.{report_line};
 ghost use Rattle.fp_serve.specs.Report.{TellsAnswers, TellsLinks, lines_by, with_links_below};
 
 use crate::link::{Plan, run_link};
-use crate::log::start_log;
+use crate::log::{Log, start_log};
 use crate::moment::{await_next_second, now, tag_of};
 use crate::run::commands::{Commands, MOST_WAITING, Notice, Operator, follow, start_reading};
 use crate::run::report::{NOTHING, write_address, write_report};
@@ -15,6 +15,7 @@ use crate::run::{
 };
 use crate::socket::{connection, look_often};
 use crate::system::System;
+use crate::watch::{Watch, Watched, start_listening};
 use crossbeam_channel::{Receiver, Sender, bounded};
 use fp_book::Totals;
 use fp_hub::{Gate, Looks, OpenGate};
@@ -119,6 +120,8 @@ pub struct Server<I: Drop, O: Drop, L: Drop> {
     pub commands: Commands<I, O>,
     /// The device of the log.
     pub log: L,
+    /// What is counted, if somebody asks for that.
+    pub watched: Option<Watched>,
 }
 
 impl<
@@ -144,9 +147,10 @@ impl<
     /// waiting for their end, and the thread that reads them is left to itself.
     ///
     /// If the settings say so ([`Settings::with_commands`]), the run ends with its links, without waiting for the end of
-    /// the commands, and two more are known. `links` writes, for each link that came, in order, `link L up P accepted A
+    /// the commands, and three more are known. `links` writes, for each link that came, in order, `link L up P accepted A
     /// served S sent T held H`, or `down` in the place of `up`: with the address of its client, what it had counted and how
     /// many dialogues it held at its last tick, a second ago at most, or in the end; and then `links N`, how many came.
+    /// `counters` writes what is counted, in the text format of Prometheus, and `# EOF`, if it is ([`Watched`]).
     /// `quit` ends all links: nothing more is accepted, what was is served and sent, two seconds after the command at most,
     /// and then each link goes down. A link that never came has counted nothing.
     ///
@@ -203,12 +207,14 @@ impl<
             links,
             commands,
             log,
+            watched,
         } = self;
         let tagged = Server {
             settings: with_tag_of_run(rt, settings),
             links,
             commands,
             log,
+            watched,
         };
         tagged.serve_tagged(rt, service, gate, events, output)
     }
@@ -233,6 +239,7 @@ impl<
                 mut operator,
             },
             log: device,
+            watched,
         } = self;
         let alloc = service.alloc;
         let address = links.address()?;
@@ -246,6 +253,7 @@ impl<
         if let Err(fault) = start_reading(rt, input, &stop, settings.has_commands, of_commands) {
             stop.ask_for(rt, fault);
         }
+        let watch = start_watch(rt, alloc, watched, &log, &stop, &drain)?;
         let run = Run {
             rt,
             service,
@@ -254,10 +262,45 @@ impl<
             events,
             stop: &stop,
             log: &log,
+            watch: &watch,
             drain: &drain,
         };
         let counted = run.serve_and_follow(gate, links, &sender, &notices, &mut operator, output)?;
         run.report(counted.as_slice(), output)
+    }
+}
+
+/// Shares what is counted with those who ask for it, and starts the thread that answers them, if there is one.
+fn start_watch<R: System + Copy + Send + 'static>(
+    rt: &R,
+    alloc: Global,
+    watched: Option<Watched>,
+    log: &Arc<Log>,
+    stop: &Arc<Stop>,
+    drain: &Option<Arc<Drain>>,
+) -> Result<Option<Watch>, ServeFault> {
+    let Some(Watched { metrics, listener }) = watched else {
+        return Ok(None);
+    };
+    let watch = Watch {
+        metrics,
+        log: Arc::try_clone(log)?,
+        stop: Arc::try_clone(stop)?,
+        drain: match drain {
+            Some(drain) => Some(Arc::try_clone(drain)?),
+            None => None,
+        },
+    };
+    if let Some(place) = listener {
+        start_listening(rt, alloc, place, watch.share()?)?;
+    }
+    Ok(Some(watch))
+}
+
+/// Nobody is answered any more who asks for what is counted.
+fn end_watch(watch: &Option<Watch>) {
+    if let Some(watch) = watch {
+        watch.metrics.end();
     }
 }
 
@@ -281,7 +324,8 @@ impl<'x, R: System + Sync> Run<'x, R> {
             self.rt,
             &mut || {
                 self.statuses.begin();
-                let counted = run_links(self, gate, links.take());
+                let taken = links.take();
+                let counted = run_links(self, gate, taken);
                 if counted.is_err() {
                     self.stop.ask_for(self.rt, ServeFault::Memory);
                 }
@@ -291,6 +335,7 @@ impl<'x, R: System + Sync> Run<'x, R> {
             &mut || follow(self, notices, operator, output),
         );
         self.finish_log();
+        end_watch(self.watch);
         let counted = counted?;
         if let Err(fault) = followed {
             let Settings {

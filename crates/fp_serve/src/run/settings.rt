@@ -37,7 +37,7 @@ pub struct Settings {
     pub most_helped: usize,
     /// What is done when the log can't be written.
     pub when_log_fails: WhenLogFails,
-    /// Whether the commands `links` and `quit` are known, and the run ends with its links.
+    /// Whether the commands `links`, `counters` and `quit` are known, and the run ends with its links.
     pub has_commands: bool,
     ghost some_link: { 1 ≤ links },
     ghost few_links: { first_link + links ≤ 8 },
@@ -158,7 +158,7 @@ impl Settings {
         settings
     }
 
-    /// The same settings, of a run that knows the commands `links` and `quit` too, and ends with its links.
+    /// The same settings, of a run that knows the commands `links`, `counters` and `quit` too, and ends with its links.
     pub fn with_commands(self) -> Settings
         ensures { result ≡ record self { has_commands = true } }
     {

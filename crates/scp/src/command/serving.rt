@@ -58,6 +58,7 @@ pub(super) fn serve_asked<'a>(
             settings
         },
         log: chosen.get_str("log").unwrap_or(""),
+        metrics: chosen.get_str("metrics"),
         events: wanted_events(chosen.get_flag("events"), has_log_gaps),
         contexts,
     })
@@ -160,9 +161,10 @@ const SERVE_EXAMPLE: &str = "Example:
 
 Prints the address where it listens, answers each connection as one link, and prints what each link did
 once all of them are down and standard input has ended. Each line of that is a command: reload reads
-RECORDS again. With --commands, links prints the status of each link, quit ends the run once what was
-accepted is served and sent, and the run ends with its links. Each message follows its length, which
-has four octets. FILE is emptied first, and gets each step of the links: scp replay replays them.";
+RECORDS again. With --commands, links prints the status of each link, counters what --metrics gives,
+quit ends the run once what was accepted is served and sent, and the run ends with its links. Each
+message follows its length, which has four octets. FILE is emptied first, and gets each step of the
+links: scp replay replays them.";
 
 /// An option that takes a number from 1 to 8.
 fn up_to_eight<'a>(alloc: Global, name: &'a str, default: &'a str, help: &'a str) -> Arg<'a> {
@@ -234,6 +236,12 @@ pub(super) fn serve_command<'a>(alloc: Global) -> Result<Command<'a>, AllocError
         .value_name("FILE")
         .required(true)
         .help("The file that the log is written to, which is emptied first");
+    let metrics = Arg::new(alloc, "metrics")
+        .long("metrics")
+        .value_name("ADDRESS")
+        .help(
+            "The IP address and the port where HTTP gives the run's counters at /metrics, and at /live and /ready how it is",
+        );
     let first_link = Arg::new(alloc, "first-link")
         .long("first-link")
         .value_name("N")
@@ -262,6 +270,7 @@ pub(super) fn serve_command<'a>(alloc: Global) -> Result<Command<'a>, AllocError
         .arg(tag_option(alloc)?)?;
     with_network_options(alloc, command)?
         .arg(contexts(alloc))?
+        .arg(metrics)?
         .arg(flag(
             alloc,
             "events",
@@ -270,7 +279,7 @@ pub(super) fn serve_command<'a>(alloc: Global) -> Result<Command<'a>, AllocError
         .arg(flag(
             alloc,
             "commands",
-            "Know the commands links and quit too, and end with the links, whatever standard input does",
+            "Know the commands links, counters and quit too, and end with the links, whatever standard input does",
         ))?
         .arg(flag(
             alloc,

@@ -197,6 +197,7 @@ impl Trial {
                 operator: NoOperator,
             },
             log: Counted::new(Device::new(rt, &self.log, &self.mood).ok()?),
+            watched: None,
         };
         let mut output = Counted::new(Shared::new(rt, alloc, &self.output));
         let result = server.serve_through(rt, service, gate, &self.events, &mut output);

@@ -10,6 +10,7 @@ use std::alloc::Global;
 use std::fs::File;
 use std::io::{ErrorKind, Write};
 use std::net::{Net, TcpListener, TcpStream};
+use std::random::RandomSource;
 use std::rt::{Clock, Files};
 use std::sync::{Mutex, Wait};
 use std::test::Fail;
@@ -125,6 +126,7 @@ where
     H: Files<File = File>
         + AllocGlobal
         + Net<Listener = TcpListener, Stream = TcpStream>
+        + RandomSource
         + Threads
         + Wait
         + Clock

@@ -8,6 +8,7 @@ use std::env::Env;
 use std::fs::File;
 use std::io::{Read, Write};
 use std::net::{Net, TcpListener, TcpStream};
+use std::random::RandomSource;
 use std::rt::{Clock, Files};
 use std::sync::{Mutex, Wait};
 use std::test::Fail;
@@ -81,6 +82,7 @@ where
     H: Files<File = File>
         + AllocGlobal
         + Net<Listener = TcpListener, Stream = TcpStream>
+        + RandomSource
         + Threads
         + Wait
         + Clock
@@ -123,6 +125,7 @@ where
     H: Files<File = File>
         + AllocGlobal
         + Net<Listener = TcpListener, Stream = TcpStream>
+        + RandomSource
         + Threads
         + Wait
         + Clock
@@ -146,6 +149,7 @@ where
     H: Files<File = File>
         + AllocGlobal
         + Net<Listener = TcpListener, Stream = TcpStream>
+        + RandomSource
         + Threads
         + Wait
         + Clock

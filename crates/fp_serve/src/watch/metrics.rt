@@ -1,0 +1,138 @@
+//! What is counted in a run.
+
+ghost use Rattle.std.specs.Prelude.{IfOk, string_bytes};
+ghost use Rattle.fp_serve.specs.Report.{TellsNumbers};
+
+use crate::log::Log;
+use crate::run::{Settings, Version};
+use crate::watch::LinkMetrics;
+use fp_counters::Histogram;
+use fp_metrics::{RunNumbers, metrics_text};
+use std::alloc::{AllocError, Global};
+use std::sync::atomic::{AtomicBool, Ordering};
+use std::sync::{Arc, Mutex, Wait};
+use std::time::Duration;
+
+/// The records from which calls are answered.
+#[derive(Clone, Copy)]
+struct Records {
+    // The SHA-256 digest of their file.
+    digest: [u8; 32],
+    reloads: u64,
+}
+
+/// What is counted in a run, for those who watch it: on each of its links, in the order of their numbers, and how long
+/// answers took.
+#[derive(Drop)]
+pub struct Metrics {
+    version: Version,
+    first_link: u8,
+    records: Mutex<Records>,
+    answer_times: Mutex<Histogram>,
+    links: Vec<LinkMetrics>,
+    // Nobody is answered any more.
+    is_over: AtomicBool,
+}
+
+/// A digest in hexadecimal digits.
+fn hexadecimal(alloc: Global, digest: &[u8; 32]) -> Result<String, AllocError> {
+    let mut text = String::new(alloc);
+    for octet in digest {
+        let digits = format!(in alloc; "{octet:02x}")?;
+        text.push_str(digits.as_str())?;
+    }
+    Ok(text)
+}
+
+/// The numbers of a run in the text format of Prometheus.
+fn numbers_text(alloc: Global, run: &RunNumbers<'_>) -> Result<String, AllocError>
+    ensures { IfOk result (λ text. TellsNumbers (string_bytes text)) }
+{
+    metrics_text(alloc, run)
+}
+
+impl Metrics {
+    /// Nothing was counted in a run with these settings, by a program of this version, which answers from the records of
+    /// a file of this SHA-256 digest.
+    pub fn new(
+        alloc: Global,
+        settings: Settings,
+        version: Version,
+        digest: [u8; 32],
+    ) -> Result<Arc<Metrics>, AllocError> {
+        let mut links = Vec::with_capacity(alloc, usize::from(settings.links))?;
+        for _ in 0..settings.links {
+            links.push(LinkMetrics::new())?;
+        }
+        let metrics = Metrics {
+            version,
+            first_link: settings.first_link,
+            records: Mutex::new(Records { digest, reloads: 0 }),
+            answer_times: Mutex::new(Histogram::new()),
+            links,
+            is_over: AtomicBool::new(false),
+        };
+        Ok(Arc::new(alloc, metrics)?)
+    }
+
+    /// The records were replaced by those of a file of this digest.
+    pub fn note_reload<R: Wait>(&self, rt: &R, digest: [u8; 32]) {
+        let mut records = self.records.lock(rt);
+        records.digest = digest;
+        records.reloads = records.reloads.saturating_add(1);
+    }
+
+    /// What is counted on the link in this place. `None`: the run has no such link.
+    pub(crate) fn link(&self, place: u8) -> Option<&LinkMetrics> {
+        self.links.get(usize::from(place))
+    }
+
+    /// What is counted on each link.
+    pub(crate) fn links(&self) -> &[LinkMetrics] {
+        self.links.as_slice()
+    }
+
+    /// It took this long from the read of a message to the write of its answer.
+    pub(crate) fn note_answer<R: Wait>(&self, rt: &R, time: Duration) {
+        let microseconds = u64::try_from(time.as_micros()).unwrap_or(u64::MAX);
+        self.answer_times.lock(rt).observe(microseconds);
+    }
+
+    /// The run ends, and nobody is answered any more.
+    pub(crate) fn end(&self) {
+        self.is_over.store(true, Ordering::SeqCst);
+    }
+
+    /// Whether nobody is answered any more.
+    pub(crate) fn is_over(&self) -> bool {
+        self.is_over.load(Ordering::SeqCst)
+    }
+
+    /// All of it in the text format of Prometheus, of a run with this log.
+    pub(crate) fn text<R: Wait>(
+        &self,
+        rt: &R,
+        alloc: Global,
+        log: &Log,
+    ) -> Result<String, AllocError>
+        ensures { IfOk result (λ text. TellsNumbers (string_bytes text)) }
+    {
+        let mut links = Vec::with_capacity(alloc, self.links.len())?;
+        let mut number = self.first_link;
+        for (place, link) in self.links.iter().enumerate() {
+            let written = log.lines_of(place).map_or(0, |lines| lines.written());
+            links.push(link.numbers(rt, number, written))?;
+            number = number.saturating_add(1);
+        }
+        let Records { digest, reloads } = *self.records.lock(rt);
+        let digest = hexadecimal(alloc, &digest)?;
+        let run = RunNumbers {
+            version: self.version.as_str(),
+            records: digest.as_str(),
+            reloads,
+            answer_times: *self.answer_times.lock(rt),
+            links: links.as_slice(),
+        };
+        numbers_text(alloc, &run)
+    }
+}

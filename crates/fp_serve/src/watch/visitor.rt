@@ -1,0 +1,154 @@
+//! A connection over which somebody asks how a run is.
+
+use crate::moment::time_since;
+use fp_metrics::Pages;
+use http_server::{Config, Connection};
+use libc::net::{POLLIN, POLLOUT};
+use libc::types::pollfd;
+use std::alloc::Global;
+use std::hash::RandomState;
+use std::io;
+use std::io::{ErrorKind, Read};
+use std::net::{Shutdown, TcpStream};
+use std::os::fd::AsRawFd;
+use std::rt::Clock;
+use std::time::{Duration, Instant};
+
+/// How many seconds a connection may go on without an answer.
+const MOST_SECONDS: u64 = 4;
+
+/// How many writes one step makes at most.
+const MOST_WRITES: usize = 16;
+
+/// The longest body of a request, which nothing looks at.
+const MOST_OCTETS_OF_A_BODY: usize = 4_096;
+
+/// How many octets are dropped at once that come after the last answer.
+const MOST_DROPPED: usize = 4_096;
+
+/// A connection over which somebody asks how a run is.
+#[derive(Drop)]
+pub(crate) struct Visitor {
+    stream: TcpStream,
+    connection: Connection,
+    // When it came, or its last answer was written.
+    since: Option<Instant>,
+    // Its last answer was written, and what comes is dropped until the client closes.
+    is_closing: bool,
+}
+
+/// Whether a call that failed so is made again.
+fn is_passing(error: &io::Error) -> bool {
+    match error.kind() {
+        ErrorKind::WouldBlock | ErrorKind::Interrupted => true,
+        _ => false,
+    }
+}
+
+impl Visitor {
+    /// A connection that came just now. `None`: it can't be served without waiting for it.
+    pub(crate) fn new<R: Clock>(
+        rt: &R,
+        alloc: Global,
+        keys: RandomState,
+        stream: TcpStream,
+    ) -> Option<Visitor> {
+        if stream.set_nonblocking(true).is_err() {
+            return None;
+        }
+        let config = Config {
+            max_body_len: MOST_OCTETS_OF_A_BODY,
+            ..Config::default()
+        };
+        Some(Visitor {
+            stream,
+            connection: Connection::new(alloc, keys, config),
+            since: Instant::now(rt).ok(),
+            is_closing: false,
+        })
+    }
+
+    /// What the system is asked of it.
+    pub(crate) fn asked(&self) -> pollfd {
+        let reads = if self.is_closing || self.connection.wants_read() {
+            POLLIN
+        } else {
+            0
+        };
+        let writes = if !self.is_closing && self.connection.wants_write() {
+            POLLOUT
+        } else {
+            0
+        };
+        pollfd {
+            fd: self.stream.as_raw_fd(),
+            events: reads | writes,
+            revents: 0,
+        }
+    }
+
+    /// Whether its time is over. It is, if the clock gives none.
+    pub(crate) fn is_late<R: Clock>(&self, rt: &R) -> bool {
+        let most = Duration::from_secs(MOST_SECONDS);
+        time_since(rt, self.since).unwrap_or(most) >= most
+    }
+
+    /// Drops what comes. `false`: nothing comes any more.
+    fn drop_input(&self) -> bool {
+        let mut room = [0; MOST_DROPPED];
+        let mut stream = &self.stream;
+        match stream.read(&mut room) {
+            Ok(count) => count > 0,
+            Err(error) => is_passing(&error),
+        }
+    }
+
+    /// Reads once, if it may. `false`: that failed.
+    fn read(&mut self) -> bool {
+        if !self.connection.wants_read() {
+            return true;
+        }
+        let mut stream = &self.stream;
+        match self.connection.read_from(&mut stream) {
+            Ok(_) => true,
+            Err(error) => is_passing(&error),
+        }
+    }
+
+    /// Answers what came, and writes as much as the system takes. `false`: a write failed.
+    fn answer<R: Clock>(&mut self, rt: &R, pages: &mut Pages<'_>) -> bool {
+        self.connection.advance(pages);
+        for _ in 0..MOST_WRITES {
+            if !self.connection.wants_write() {
+                break;
+            }
+            let mut stream = &self.stream;
+            match self.connection.write_to(&mut stream) {
+                Ok(0) => return false,
+                Ok(_) => {}
+                Err(error) => return is_passing(&error),
+            }
+            if !self.connection.wants_write() {
+                self.since = Instant::now(rt).ok();
+            }
+            self.connection.advance(pages);
+        }
+        true
+    }
+
+    /// Reads, answers and writes as far as that goes without waiting. `false`: the connection is to be closed.
+    pub(crate) fn step<R: Clock>(&mut self, rt: &R, pages: &mut Pages<'_>) -> bool {
+        if self.is_closing {
+            return self.drop_input();
+        }
+        if !self.read() || !self.answer(rt, pages) {
+            return false;
+        }
+        if self.connection.is_done() {
+            // A connection that is closed while octets come is reset, and the answer may be lost on its way.
+            let _ = self.stream.shutdown(Shutdown::Write);
+            self.is_closing = true;
+        }
+        true
+    }
+}
