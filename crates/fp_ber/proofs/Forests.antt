@@ -1,8 +1,8 @@
 -- What holds of all elements holds of each.
-use Rattle.std.proofs.Common.{◌≡◌, ℕ, zero, suc, ◌+◌, ◌<◌, ◌≤◌, List, [], ◌∷◌, length, length-append, get_or, take, drop, sym, subst, arith}
+use Rattle.std.proofs.Common.{◌≡◌, ℕ, zero, suc, ◌+◌, ◌<◌, ◌≤◌, List, [], ◌∷◌, ◌++◌, length, length-append, get_or, take, drop, refl, sym, ◌∙◌, ap, subst, arith}
 use Rattle.std.proofs.lemmas.List.{take_more}
 use Rattle.fp_ber.specs.declared.element.Element.{Element}
-use Rattle.fp_ber.specs.Tree.{HasTags, AllHaveTags, trees_with}
+use Rattle.fp_ber.specs.Tree.{Tree, Trees, none, more, HasTags, AllHaveTags, trees_with}
 use Rattle.fp_ber.specs.View.{tree_of, forest_of}
 use Rattle.fp_ber.specs.Canon.{HasLengths, AllHaveLengths, canon, canon_of_all}
 use Rattle.fp_ber.proofs.Parts.{forest_of-push}
@@ -38,3 +38,31 @@ pub size_at : (es : List Element) (i n : ℕ) (e : Element) → i < length es �
 size_at es i n e h is =
     let P : ℕ → Type 0 = λ k. length (canon (tree_of (get_or es i e))) + length (canon_of_all (forest_of (drop k es))) ≤ length (canon_of_all (forest_of es)) in
     subst P (sym is) (size_from es i e h)
+
+-- elements, and others behind them
+abbrev pub trees_and : Trees → Trees → Trees
+trees_and none others = others
+trees_and (more t ts) others = more t (trees_and ts others)
+
+-- none behind them
+trees_and-none : (ts : Trees) → trees_and ts none ≡ ts
+trees_and-none none = refl
+trees_and-none (more t ts) = ap (λ rest. more t rest) (trees_and-none ts)
+
+-- one behind them, and then the others
+trees_and-push : (ts : Trees) (t : Tree) (others : Trees) → trees_and ts (more t others) ≡ trees_and (trees_with ts t) others
+trees_and-push none t others = refl
+trees_and-push (more first ts) t others = ap (λ rest. more first rest) (trees_and-push ts t others)
+
+-- one copy more
+pub one_copied : (all left rest : Trees) (copies : List Element) (copy : Element) (t : Tree) → all ≡ trees_and (forest_of copies) left → left ≡ more t rest
+    → tree_of copy ≡ t → all ≡ trees_and (forest_of (copies ++ copy ∷ [])) rest
+one_copied all left rest copies copy t whole is same =
+    whole
+    ∙ ap (λ ts. trees_and (forest_of copies) ts) (is ∙ ap (λ u. more u rest) (sym same))
+    ∙ trees_and-push (forest_of copies) (tree_of copy) rest
+    ∙ ap (λ ts. trees_and ts rest) (sym (forest_of-push copies copy))
+
+-- all are copied
+pub all_copied : (all left : Trees) (copies : List Element) → all ≡ trees_and (forest_of copies) left → left ≡ none → forest_of copies ≡ all
+all_copied all left copies whole is = sym (whole ∙ ap (λ ts. trees_and (forest_of copies) ts) is ∙ trees_and-none (forest_of copies))

@@ -1,8 +1,11 @@
 pub mod Canonical
 pub mod Exclusive
 pub mod Forests
+pub mod Heads
 pub mod Octets
 pub mod Parts
+pub mod Placed
 pub mod Puts
+pub mod Stopping
 pub mod Unique
 pub mod Whole

@@ -3,6 +3,9 @@ pub mod Extents
 pub mod Faults
 pub mod Integer
 pub mod Laws
+pub mod Lent
+pub mod Nodes
+pub mod NodesFaults
 pub mod Putting
 pub mod Spelling
 pub mod Tree

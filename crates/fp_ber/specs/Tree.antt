@@ -1,5 +1,5 @@
 -- An element without where it lies in memory.
-use Rattle.std.specs.Prelude.{ℕ, ◌+◌, max, ◌≤◌, ◌<◌, List, ⊤}
+use Rattle.std.specs.Prelude.{ℕ, ◌+◌, max, ◌≤◌, ◌<◌, Bool, true, false, List, ⊤}
 use Rattle.fp_ber.specs.declared.element.Class.{Class}
 use Rattle.fp_ber.specs.declared.element.Class.TheVariants.{Universal, Application, Context, Private}
 
@@ -12,6 +12,26 @@ mutual
   pub data Trees : Type 0 where
     none : Trees
     more : Tree → Trees → Trees
+
+-- the class of an element's tag
+abbrev pub class_of : Tree → Class
+class_of (primitive class number octets) = class
+class_of (constructed class number children) = class
+
+-- the number of an element's tag
+abbrev pub number_of : Tree → ℕ
+number_of (primitive class number octets) = number
+number_of (constructed class number children) = number
+
+-- whether there is no element
+abbrev pub are_none : Trees → Bool
+are_none none = true
+are_none (more t ts) = false
+
+-- how many elements there are, those in them not counted
+abbrev pub how_many : Trees → ℕ
+how_many none = 0
+how_many (more t ts) = 1 + how_many ts
 
 -- ts with t behind them
 abbrev pub trees_with : Trees → Tree → Trees

@@ -2,6 +2,7 @@
 
 ghost use Rattle.std.specs.Prelude.{◌≡◌};
 ghost use Rattle.fp_ber.specs.declared.fault.BerFault.TheVariants.{Memory};
+ghost use Rattle.fp_ber.specs.declared.fault.NodesFault.TheVariants.{Fault};
 
 use std::alloc::{AllocError, AllocFailed};
 use thiserror::Error;
@@ -44,5 +45,24 @@ impl<T: Drop> From<AllocFailed<T>> for BerFault {
 
     fn from(_error: AllocFailed<T>) -> BerFault {
         BerFault::Memory
+    }
+}
+
+/// Why octets aren't read as nodes.
+#[derive(Clone, Copy, Debug, PartialEq, Eq, Error)]
+pub enum NodesFault {
+    /// The octets don't spell an element in range, and this is their first fault.
+    #[error("{0}")]
+    Fault(BerFault),
+    /// Their nodes take more places.
+    #[error("more nodes than places")]
+    Full,
+}
+
+impl From<BerFault> for NodesFault {
+    ghost from_gives = { λ fault stop. stop ≡ Fault fault };
+
+    fn from(fault: BerFault) -> NodesFault {
+        NodesFault::Fault(fault)
     }
 }

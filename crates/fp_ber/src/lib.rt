@@ -3,6 +3,10 @@
 //! The layer is handed octets and gives an [`Element`], or is handed an [`Element`] and gives octets.
 //! It never asks the system for anything but memory.
 //!
+//! Octets that are only looked at need no element: [`read_nodes`] reads them into places for [`Node`]s, which lend the
+//! octets, by the same rules and without memory. An [`ElementRef`] is an element in either form, and its contracts speak of
+//! the same tree, so a reader of messages is written once.
+//!
 //! * [`read`] takes all three forms of a length (X.690, 8.1.3), minimal or not, and tags in one to three
 //!   octets (8.1.2). What it can't read it refuses by the first fault from left to right, a [`BerFault`].
 //! * [`write`] appends the canonical spelling: definite lengths in as few octets as they take (10.1). A [`Writer`]
@@ -20,10 +24,15 @@
 
 mod cloning;
 mod element;
+mod element_ref;
 mod fault;
 mod integer;
 mod laws;
 mod length;
+mod lent_copy;
+mod node;
+mod node_reading;
+mod nodes;
 mod placing;
 mod reading;
 mod tag;
@@ -32,13 +41,16 @@ mod writer;
 mod writing;
 
 pub use element::{Body, Class, Element};
-pub use fault::BerFault;
+pub use element_ref::{ElementRef, Elements, Split};
+pub use fault::{BerFault, NodesFault};
 pub use integer::{integer_of, octet_of, signed_of};
 pub use laws::{
     canonical_lengths_are_shortest, canonical_spelling_spells, faults_are_one,
     no_spelling_begins_another, spelled_octets_have_no_fault,
 };
 pub use length::length_at;
+pub use node::Node;
+pub use nodes::read_nodes;
 pub use reading::read;
 pub use writer::Writer;
 pub use writing::write;

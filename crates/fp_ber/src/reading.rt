@@ -17,7 +17,7 @@ use crate::tag::tag_at;
 use std::alloc::Global;
 
 /// How many elements may lie inside each other, the outermost counted.
-const DEPTH: u8 = 16;
+pub(crate) const DEPTH: u8 = 16;
 
 /// For how many elements that contents hold there is room at first.
 const FIRST_ROOM: usize = 8;

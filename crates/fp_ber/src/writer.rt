@@ -7,12 +7,14 @@
 ghost use Rattle.std.specs.Prelude.{◌≡◌, ◌<◌, ◌≤◌, ◌^◌, ◌++◌, ℕ, List, [], IfOk, OnOk, OnErr, length, vec_len};
 ghost use Rattle.std.specs.Prelude as lists;
 ghost use Rattle.fp_ber.specs.Canon.{HasLengths, canon, canon_of_all, length_octets, tag_octets};
+ghost use Rattle.fp_ber.specs.Lent.{lent_tree};
 ghost use Rattle.fp_ber.specs.Putting.{EndsWith, HasRoom};
 ghost use Rattle.fp_ber.specs.Tree as tree;
 ghost use Rattle.fp_ber.specs.Tree.{HasTags, IsTagNumber};
 ghost use Rattle.fp_ber.specs.View.{tree_of};
 
 use crate::element::{Class, Element};
+use crate::element_ref::ElementRef;
 use crate::placing::put;
 use crate::tag::Tag;
 use crate::writing::{header_size, put_element, put_header, size_of};
@@ -193,6 +195,25 @@ impl Writer {
         let end = make_room(&mut self.room, self.start, size_of(element))?;
         self.start = put_element(element, self.room.as_mut_slice(), end);
         Ok(())
+    }
+
+    /// Puts the canonical spelling of an element that is lent before the octets that are there. More than 2^32 - 1 octets
+    /// in all count as out of memory.
+    pub fn put_lent(&mut self, element: &ElementRef<'_>) -> Result<(), AllocError>
+        requires tags { HasTags (lent_tree element.now) }
+        requires lengths { HasLengths (lent_tree element.now) }
+        ensures ok { OnOk result (self.new ≡ canon (lent_tree element.now) ++ self.old) }
+        ensures err { OnErr result (self.new ≡ self.old) }
+        ensures stays { EndsWith self.new self.old }
+    {
+        match element {
+            ElementRef::Owned(element) => self.put_element(element),
+            ElementRef::Node { .. } => {
+                let alloc = *self.room.allocator();
+                let element = element.to_element(alloc)?;
+                self.put_element(&element)
+            }
+        }
     }
 
     /// The octets, the first one first. Takes no memory.
