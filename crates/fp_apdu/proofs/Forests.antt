@@ -1,20 +1,18 @@
--- The elements behind a list of trees, and which of them are user information.
-use Rattle.std.proofs.Common.{◌≡◌, ◌↔◌, ◌==◌, true, false, IsTrue, List, [], ◌∷◌, length, refl, arith, is_some, Option, Some, None, MatchOption}
+-- The elements behind others, and which of them are user information.
+use Rattle.std.proofs.Common.{◌≡◌, ◌↔◌, true, false, IsTrue, refl, is_some, Option, Some, None, MatchOption}
 use Rattle.fp_ber.specs.declared.element.Class.TheVariants.{Context}
-use Rattle.fp_ber.specs.declared.element.Element.{Element}
-use Rattle.fp_ber.specs.Tree.{Tree, Trees, constructed, none, more}
-use Rattle.fp_ber.specs.View.{forest_of}
+use Rattle.fp_ber.specs.Tree.{Tree, Trees, constructed, none, more, are_none}
 use Rattle.fp_apdu.specs.Aarq.{user_information}
 
 -- where there are elements, there are trees
-pub some_behind : (rest : List Element) → false ≡ (length rest == 0) → forest_of rest ≡ none → ⊥
-some_behind [] some h = cc
-some_behind (e ∷ es) some h = cc
+pub some_behind : (rest : Trees) → false ≡ are_none rest → rest ≡ none → ⊥
+some_behind none some h = cc
+some_behind (more t ts) some h = cc
 
 -- where there is no element behind the first, there is no tree behind it
-pub none_from_empty : (rest : List Element) {members : Trees} {t : Tree} → true ≡ (length rest == 0) → members ≡ more t (forest_of rest) → members ≡ more t none
-none_from_empty [] empty is = is
-none_from_empty (e ∷ es) empty is = absurd (grind (arith, empty))
+pub none_from_empty : (rest : Trees) {members : Trees} {t : Tree} → true ≡ are_none rest → members ≡ more t rest → members ≡ more t none
+none_from_empty none empty is = is
+none_from_empty (more first ts) empty is = absurd (cc empty)
 
 -- user information is one element
 pub none_behind_information : (members : Trees) (t : Tree) (rest : Trees) → members ≡ more t rest

@@ -2,15 +2,14 @@
 
 ghost use Rattle.std.specs.Prelude.{◌≡◌, ◌↔◌, ℕ, List, Option, IsTrue, MatchOption};
 ghost use Rattle.fp_ber.specs.Tree.{Trees, more};
-ghost use Rattle.fp_ber.specs.View.{tree_of, forest_of};
+ghost use Rattle.fp_ber.specs.Lent.{lent_tree, lent_trees};
 ghost use Rattle.fp_apdu.specs.Aarq.{IsAarq, user_information};
 ghost use Rattle.fp_apdu.specs.Name.{IsName, application_context_name};
 ghost use Rattle.fp_apdu.specs.ProtocolVersion.{OffersVersion1};
 
 use crate::bit_string::first_bit;
-use crate::members::split_first;
 use crate::{Name, context_name, protocol_version};
-use fp_ber::{Class, Element};
+use fp_ber::{Class, ElementRef, Elements};
 
 /// The number of the application tag of an AARQ.
 const AARQ: u16 = 0;
@@ -27,56 +26,57 @@ pub(crate) struct Aarq {
 }
 
 /// Whether these are user information, or nothing. What user information holds isn't looked at.
-fn is_user_information(members: &[Element]) -> bool
-    ensures { IsTrue result ↔ ((information : Option Trees) × (forest_of members.now ≡ user_information information)) }
+fn is_user_information(members: &Elements<'_>) -> bool
+    ensures { IsTrue result ↔ ((information : Option Trees) × (lent_trees members.now ≡ user_information information)) }
 {
-    let Some((information, rest)) = split_first(members) else {
+    let Some(split) = members.split_first() else {
         return true;
     };
-    if !rest.is_empty() {
+    if !split.rest.is_empty() {
         return false;
     }
-    information
+    split
+        .first
         .children_with_tag(Class::Context, USER_INFORMATION)
         .is_some()
 }
 
 /// The name in the members of an AARQ after its protocol version.
-fn name_in(members: &[Element]) -> Option<Name>
+fn name_in(members: &Elements<'_>) -> Option<Name>
     ensures { MatchOption result
         ((name : List ℕ) (information : Option Trees) → IsName name
-        → forest_of members.now ≡ more (application_context_name name) (user_information information) → ⊥)
+        → lent_trees members.now ≡ more (application_context_name name) (user_information information) → ⊥)
         (λ name. IsName name × ((information : Option Trees)
-        × (forest_of members.now ≡ more (application_context_name name) (user_information information)))) }
+        × (lent_trees members.now ≡ more (application_context_name name) (user_information information)))) }
 {
-    let (name, rest) = split_first(members)?;
-    let name = context_name::read(name)?;
-    if !is_user_information(rest) {
+    let split = members.split_first()?;
+    let name = context_name::read(&split.first)?;
+    if !is_user_information(&split.rest) {
         return None;
     }
     Some(name)
 }
 
 /// What an AARQ asks for; `None` for any other element.
-pub(crate) fn read(apdu: &Element) -> Option<Aarq>
+pub(crate) fn read(apdu: &ElementRef<'_>) -> Option<Aarq>
     ensures { MatchOption result
-        ((version : Option (List ℕ)) (name : List ℕ) → IsAarq (tree_of apdu.now) version name → ⊥)
-        (λ aarq. (version : Option (List ℕ)) × IsAarq (tree_of apdu.now) version aarq.name
+        ((version : Option (List ℕ)) (name : List ℕ) → IsAarq (lent_tree apdu.now) version name → ⊥)
+        (λ aarq. (version : Option (List ℕ)) × IsAarq (lent_tree apdu.now) version aarq.name
         × (IsTrue aarq.offers_version_1 ↔ OffersVersion1 version)) }
 {
     let members = apdu.children_with_tag(Class::Application, AARQ)?;
-    let (first, rest) = split_first(members)?;
-    match protocol_version::read(first) {
+    let split = members.split_first()?;
+    match protocol_version::read(&split.first) {
         Some(version) => {
             let offers_version_1 = first_bit(version)?;
-            let name = name_in(rest)?;
+            let name = name_in(&split.rest)?;
             Some(Aarq {
                 offers_version_1,
                 name,
             })
         }
         None => {
-            let name = name_in(members)?;
+            let name = name_in(&members)?;
             Some(Aarq {
                 offers_version_1: true,
                 name,

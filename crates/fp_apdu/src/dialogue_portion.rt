@@ -4,13 +4,13 @@ ghost use Rattle.std.specs.Prelude.{◌≡◌, ◌++◌, ℕ, List, MatchOption,
 ghost use Rattle.fp_ber.specs.Canon.{canon};
 ghost use Rattle.fp_ber.specs.Putting.{EndsWith};
 ghost use Rattle.fp_ber.specs.Tree.{Tree};
-ghost use Rattle.fp_ber.specs.View.{tree_of};
+ghost use Rattle.fp_ber.specs.Lent.{lent_tree};
 ghost use Rattle.fp_apdu.specs.DialoguePortion.{external, dialogue_portion};
 
-use crate::members::{only, only_in, split_first};
+use crate::members::{only, only_in};
 use crate::object_identifier;
 use fp_ber::universal::EXTERNAL;
-use fp_ber::{Class, Element, Writer};
+use fp_ber::{Class, ElementRef, Writer};
 use std::alloc::AllocError;
 
 /// The number of the application tag of a dialogue portion.
@@ -23,27 +23,27 @@ const SINGLE_ASN1_TYPE: u16 = 0;
 const DIALOGUE_AS: [u8; 7] = [0x00, 0x11, 0x86, 0x05, 0x01, 0x01, 0x01];
 
 /// The APDU in an EXTERNAL (X.690, 8.18).
-fn in_external(element: &Element) -> Option<&Element>
-    ensures { MatchOption result ((apdu : Tree) → tree_of element.now ≡ external apdu → ⊥)
-        (λ apdu. tree_of element.now ≡ external (tree_of apdu.now)) }
+fn in_external<'a>(element: &ElementRef<'a>) -> Option<ElementRef<'a>>
+    ensures { MatchOption result ((apdu : Tree) → lent_tree element.now ≡ external apdu → ⊥)
+        (λ apdu. lent_tree element.now ≡ external (lent_tree apdu)) }
 {
     let members = element.children_with_tag(Class::Universal, EXTERNAL)?;
-    let (reference, encodings) = split_first(members)?;
-    let reference = object_identifier::read(reference)?;
+    let split = members.split_first()?;
+    let reference = object_identifier::read(&split.first)?;
     if reference != DIALOGUE_AS.as_slice() {
         return None;
     }
-    let encoding = only(encodings)?;
-    only_in(encoding, Class::Context, SINGLE_ASN1_TYPE)
+    let encoding = only(&split.rest)?;
+    only_in(&encoding, Class::Context, SINGLE_ASN1_TYPE)
 }
 
 /// The APDU in a dialogue portion of structured dialogue.
-pub(crate) fn read(portion: &Element) -> Option<&Element>
-    ensures { MatchOption result ((apdu : Tree) → tree_of portion.now ≡ dialogue_portion apdu → ⊥)
-        (λ apdu. tree_of portion.now ≡ dialogue_portion (tree_of apdu.now)) }
+pub(crate) fn read<'a>(portion: &ElementRef<'a>) -> Option<ElementRef<'a>>
+    ensures { MatchOption result ((apdu : Tree) → lent_tree portion.now ≡ dialogue_portion apdu → ⊥)
+        (λ apdu. lent_tree portion.now ≡ dialogue_portion (lent_tree apdu)) }
 {
     let external = only_in(portion, Class::Application, DIALOGUE_PORTION)?;
-    in_external(external)
+    in_external(&external)
 }
 
 /// Puts tags, lengths and the name of the abstract syntax before an APDU, so that with the APDU after them they are a

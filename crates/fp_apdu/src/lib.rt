@@ -5,7 +5,8 @@
 //! nothing but the memory of what is written; reading takes none.
 //!
 //! * [`Name`] is an application context name: 1 to 64 octets of an object identifier, in a value of fixed size.
-//! * [`opening_of`] reads the request for a dialogue, AARQ, and gives an [`Opening`].
+//! * [`opening_in`] reads the request for a dialogue, AARQ, and gives an [`Opening`]; [`opening_of`] reads it from an
+//!   [`Element`](fp_ber::Element) in memory.
 //! * [`write_aare`] puts the answer to it, AARE, by a [`Verdict`]; [`write_abrt`] puts the abort, ABRT. Both
 //!   put the whole dialogue portion, tag 6B.
 //!
@@ -36,5 +37,5 @@ pub use aare::write_aare;
 pub use abrt::write_abrt;
 pub use laws::openings_are_one;
 pub use name::Name;
-pub use opening::{Badly, Opening, opening_of};
+pub use opening::{Badly, Opening, opening_in, opening_of};
 pub use verdict::Verdict;

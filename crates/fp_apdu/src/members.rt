@@ -2,35 +2,31 @@
 
 ghost use Rattle.std.specs.Prelude.{◌≡◌, MatchOption};
 ghost use Rattle.fp_ber.specs.Tree.{Tree, constructed, none, more};
-ghost use Rattle.fp_ber.specs.View.{tree_of, forest_of};
+ghost use Rattle.fp_ber.specs.Lent.{lent_tree, lent_trees};
 
-use fp_ber::{Class, Element};
-
-/// The first of the elements and the others; `None` where there is none.
-pub(crate) fn split_first(elements: &[Element]) -> Option<(&Element, &[Element])>
-    ensures { MatchOption result (forest_of elements.now ≡ none)
-        (λ x. forest_of elements.now ≡ more (tree_of x.0.now) (forest_of x.1.now)) }
-{
-    elements.split_first()
-}
+use fp_ber::{Class, ElementRef, Elements};
 
 /// The one element of these; `None` for none and for several.
-pub(crate) fn only(elements: &[Element]) -> Option<&Element>
-    ensures { MatchOption result ((t : Tree) → forest_of elements.now ≡ more t none → ⊥)
-        (λ element. forest_of elements.now ≡ more (tree_of element.now) none) }
+pub(crate) fn only<'a>(elements: &Elements<'a>) -> Option<ElementRef<'a>>
+    ensures { MatchOption result ((t : Tree) → lent_trees elements.now ≡ more t none → ⊥)
+        (λ element. lent_trees elements.now ≡ more (lent_tree element) none) }
 {
-    let (element, rest) = split_first(elements)?;
-    if !rest.is_empty() {
+    let split = elements.split_first()?;
+    if !split.rest.is_empty() {
         return None;
     }
-    Some(element)
+    Some(split.first)
 }
 
 /// The one element in a constructed element of this tag; `None` for any other element.
-pub(crate) fn only_in(parent: &Element, class: Class, number: u16) -> Option<&Element>
-    ensures { MatchOption result ((t : Tree) → tree_of parent.now ≡ constructed class number (more t none) → ⊥)
-        (λ child. tree_of parent.now ≡ constructed class number (more (tree_of child.now) none)) }
+pub(crate) fn only_in<'a>(
+    parent: &ElementRef<'a>,
+    class: Class,
+    number: u16,
+) -> Option<ElementRef<'a>>
+    ensures { MatchOption result ((t : Tree) → lent_tree parent.now ≡ constructed class number (more t none) → ⊥)
+        (λ child. lent_tree parent.now ≡ constructed class number (more (lent_tree child) none)) }
 {
     let children = parent.children_with_tag(class, number)?;
-    only(children)
+    only(&children)
 }

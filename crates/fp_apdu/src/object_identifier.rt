@@ -3,17 +3,17 @@
 ghost use Rattle.std.specs.Prelude.{◌≡◌, ◌++◌, List, ℕ, MatchOption, OnOk};
 ghost use Rattle.fp_ber.specs.Canon.{canon};
 ghost use Rattle.fp_ber.specs.Putting.{EndsWith};
-ghost use Rattle.fp_ber.specs.View.{tree_of};
+ghost use Rattle.fp_ber.specs.Lent.{lent_tree};
 ghost use Rattle.fp_apdu.specs.ObjectIdentifier.{object_identifier};
 
 use fp_ber::universal::OBJECT_IDENTIFIER;
-use fp_ber::{Class, Element, Writer};
+use fp_ber::{Class, ElementRef, Writer};
 use std::alloc::AllocError;
 
 /// The octets of an object identifier.
-pub(crate) fn read(element: &Element) -> Option<&[u8]>
-    ensures { MatchOption result ((octets : List ℕ) → tree_of element.now ≡ object_identifier octets → ⊥)
-        (λ octets. tree_of element.now ≡ object_identifier octets.now) }
+pub(crate) fn read<'a>(element: &ElementRef<'a>) -> Option<&'a [u8]>
+    ensures { MatchOption result ((octets : List ℕ) → lent_tree element.now ≡ object_identifier octets → ⊥)
+        (λ octets. lent_tree element.now ≡ object_identifier octets.now) }
 {
     element.octets_with_tag(Class::Universal, OBJECT_IDENTIFIER)
 }

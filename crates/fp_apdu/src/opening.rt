@@ -1,12 +1,13 @@
 //! What the dialogue portion of a Begin opens.
 
 ghost use Rattle.std.specs.Prelude.{◌≡◌, ◌↔◌, IsTrue, IfOk, Ok, Contains, option_map};
+ghost use Rattle.fp_ber.specs.Lent.{lent_tree};
 ghost use Rattle.fp_ber.specs.View.{tree_of};
 ghost use Rattle.fp_apdu.specs.declared.opening.Opening.{Opening};
 ghost use Rattle.fp_apdu.specs.Opening.{Opens};
 
 use crate::{Name, aarq, dialogue_portion};
-use fp_ber::Element;
+use fp_ber::{Element, ElementRef};
 use thiserror::Error;
 
 /// What a Begin opens by its dialogue portion (Q.773, 4.2.3).
@@ -39,21 +40,21 @@ fn is_among(contexts: &[Name], name: &Name) -> bool
 /// A request whose protocol version is there and lacks version 1 is a [`Opening::BadVersion`], whatever its
 /// name. A dialogue portion that holds anything but one AARQ is [`Badly`], and so is one whose version is no
 /// bit string or whose name has no octets or more than 64. User information is skipped.
-pub fn opening_of(portion: Option<&Element>, contexts: &[Name]) -> Result<Opening, Badly>
+pub fn opening_in(portion: Option<ElementRef<'_>>, contexts: &[Name]) -> Result<Opening, Badly>
     // What is answered is what the dialogue portion opens.
-    ensures opens { IfOk result (Opens (option_map (λ element. tree_of element.now) portion.entry) contexts.now) }
+    ensures opens { IfOk result (Opens (option_map lent_tree portion.entry) contexts.now) }
 
     // What the dialogue portion opens is answered.
     ensures only { (opening : Opening)
-        → Opens (option_map (λ element. tree_of element.now) portion.entry) contexts.now opening → result ≡ Ok opening }
+        → Opens (option_map lent_tree portion.entry) contexts.now opening → result ≡ Ok opening }
 {
     let Some(portion) = portion else {
         return Ok(Opening::None);
     };
-    let Some(apdu) = dialogue_portion::read(portion) else {
+    let Some(apdu) = dialogue_portion::read(&portion) else {
         return Err(Badly);
     };
-    let Some(request) = aarq::read(apdu) else {
+    let Some(request) = aarq::read(&apdu) else {
         return Err(Badly);
     };
     if !request.offers_version_1 {
@@ -64,4 +65,19 @@ pub fn opening_of(portion: Option<&Element>, contexts: &[Name]) -> Result<Openin
     } else {
         Ok(Opening::Unknown(request.name))
     }
+}
+
+/// What the dialogue portion of a Begin, an element in memory of its own, opens, as [`opening_in`] says it.
+pub fn opening_of(portion: Option<&Element>, contexts: &[Name]) -> Result<Opening, Badly>
+    // What is answered is what the dialogue portion opens.
+    ensures opens { IfOk result (Opens (option_map (λ element. tree_of element.now) portion.entry) contexts.now) }
+
+    // What the dialogue portion opens is answered.
+    ensures only { (opening : Opening)
+        → Opens (option_map (λ element. tree_of element.now) portion.entry) contexts.now opening → result ≡ Ok opening }
+{
+    let Some(portion) = portion else {
+        return opening_in(None, contexts);
+    };
+    opening_in(Some(ElementRef::Owned(portion)), contexts)
 }

@@ -3,10 +3,10 @@
 ghost use Rattle.std.specs.Prelude.{◌≡◌, ◌++◌, ℕ, List, MatchOption, OnOk};
 ghost use Rattle.fp_ber.specs.Canon.{canon};
 ghost use Rattle.fp_ber.specs.Putting.{EndsWith};
-ghost use Rattle.fp_ber.specs.View.{tree_of};
+ghost use Rattle.fp_ber.specs.Lent.{lent_tree};
 ghost use Rattle.fp_apdu.specs.ProtocolVersion.{protocol_version, version_1};
 
-use fp_ber::{Class, Element, Writer};
+use fp_ber::{Class, ElementRef, Writer};
 use std::alloc::AllocError;
 
 /// The number of the context tag of a protocol version.
@@ -16,9 +16,9 @@ const PROTOCOL_VERSION: u16 = 0;
 const VERSION_1: [u8; 2] = [7, 0x80];
 
 /// The contents octets of a protocol version.
-pub(crate) fn read(element: &Element) -> Option<&[u8]>
-    ensures { MatchOption result ((octets : List ℕ) → tree_of element.now ≡ protocol_version octets → ⊥)
-        (λ octets. tree_of element.now ≡ protocol_version octets.now) }
+pub(crate) fn read<'a>(element: &ElementRef<'a>) -> Option<&'a [u8]>
+    ensures { MatchOption result ((octets : List ℕ) → lent_tree element.now ≡ protocol_version octets → ⊥)
+        (λ octets. lent_tree element.now ≡ protocol_version octets.now) }
 {
     element.octets_with_tag(Class::Context, PROTOCOL_VERSION)
 }

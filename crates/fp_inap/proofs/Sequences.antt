@@ -1,29 +1,17 @@
 -- The members of a sequence: the one that has a number, and that a sequence has one meaning.
-use Rattle.std.proofs.Common.{◌≡◌, ℕ, ◌+◌, ◌<◌, ◌==◌, List, ◌∷◌, length, get_or, drop, Bool, true, false, if◌then◌else◌, Option, Some, None, refl, sym, ◌∙◌, arith, rules}
+use Rattle.std.proofs.Common.{◌≡◌, ℕ, ◌==◌, List, ◌∷◌, Bool, true, false, if◌then◌else◌, Option, Some, None, refl, sym, subst, ◌∙◌, arith}
 use Rattle.fp_ber.specs.declared.element.Class.TheVariants.{Context}
-use Rattle.std.proofs.lemmas.List.{drop_more}
 use Rattle.std.proofs.lemmas.Bool.Decides.{nat_tests}
-use Rattle.fp_ber.specs.declared.element.Element.{Element, the_lemmas}
 use Rattle.fp_ber.specs.Tree.{Tree, Trees, none, more}
-use Rattle.fp_ber.specs.View.{tree_of, forest_of}
 use Rattle.fp_inap.specs.Members.{AllContext, IsSequence, HoldsOctets, HoldsMembers, IsOctet, class_of, number_of, with_number}
 
--- the class of an element's tree
-class_of-tree : (e : Element) → class_of (tree_of e) ≡ e.class
-class_of-tree e = search (rules, the_lemmas)
-
 -- all members have context tags if the first one and the others have
-pub context_step : (es : List Element) (i : ℕ) (e : Element) → i < length es → e ≡ get_or es i e → e.class ≡ Context
-    → AllContext (forest_of (drop (i + 1) es)) → AllContext (forest_of (drop i es))
-context_step es i e h is class rest =
-    rw (drop_more es i e h, ← is) (class_of-tree e ∙ class, rest)
+pub context_all : (all rest : Trees) (first : Tree) → all ≡ more first rest → class_of first ≡ Context → AllContext rest → AllContext all
+context_all all rest first is class others = subst (λ ts. AllContext ts) (sym is) (class, others)
 
--- if all members have context tags, so does the one at an index, and so do those after it
-pub context_at : (es : List Element) (i : ℕ) (e : Element) → i < length es → e ≡ get_or es i e → AllContext (forest_of (drop i es))
-    → (e.class ≡ Context) × AllContext (forest_of (drop (i + 1) es))
-context_at es i e h is all =
-    let here : AllContext (forest_of (e ∷ drop (i + 1) es)) = rw (drop_more es i e h, ← is) at all in
-    (sym (class_of-tree e) ∙ here.0, here.1)
+-- if all members have context tags, so does the first, and so do those after it
+pub context_first : (all rest : Trees) (first : Tree) → all ≡ more first rest → AllContext all → (class_of first ≡ Context) × AllContext rest
+context_first all rest first is every = subst (λ ts. AllContext ts) is every
 
 -- a member that has a number, first among those that have it
 pub record HasTag (number : ℕ) (t : Tree) : Type 0 where

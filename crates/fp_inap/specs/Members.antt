@@ -1,19 +1,9 @@
 -- A sequence whose members have tags of the context class, in any order: the members that have a number, and the
 -- contents of the one that has it.
 use Rattle.std.specs.Prelude.{◌≡◌, ℕ, ◌==◌, List, [], ◌∷◌, Option, Some, None, ⊤, if◌then◌else◌}
-use Rattle.fp_ber.specs.declared.element.Class.{Class}
 use Rattle.fp_ber.specs.declared.element.Class.TheVariants.{Universal, Context}
 use Rattle.fp_ber.specs.Tree.{Tree, Trees, primitive, constructed, none, more}
-
--- the class of an element's tag
-abbrev pub class_of : Tree → Class
-class_of (primitive class number octets) = class
-class_of (constructed class number children) = class
-
--- the number of an element's tag
-abbrev pub number_of : Tree → ℕ
-number_of (primitive class number octets) = number
-number_of (constructed class number children) = number
+pub use Rattle.fp_ber.specs.Tree.{class_of, number_of}
 
 -- each tag is of the context class
 abbrev pub AllContext : Trees → Type 0

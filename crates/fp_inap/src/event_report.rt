@@ -2,6 +2,7 @@
 
 ghost use Rattle.std.specs.Prelude.{◌≡◌, ◌∷◌, [], ℕ, Bool, List, Option, Some, Ok, IfOk, IfErr};
 ghost use Rattle.fp_ber.specs.Tree as tree;
+ghost use Rattle.fp_ber.specs.Lent.{lent_tree};
 ghost use Rattle.fp_ber.specs.View.{tree_of};
 ghost use Rattle.fp_inap.specs.declared.event_report.EventReport.{EventReport};
 ghost use Rattle.fp_inap.specs.declared.leg.Leg.{Leg};
@@ -13,7 +14,7 @@ use crate::event::Event;
 use crate::leg::Leg;
 use crate::members::{Members, octet_in};
 use crate::mistyped::Mistyped;
-use fp_ber::{Class, Element};
+use fp_ber::{Class, Element, ElementRef, Elements};
 
 // The numbers of the context tags of the members.
 
@@ -52,18 +53,27 @@ pub struct EventReport {
 /// with one octet; miscCallInfo, A4, of members with context tags, among them at most one messageType, 80, with 0
 /// (request) or 1 (notification). Without messageType it is a request. Members with other context tags are skipped. Any
 /// other element is [`Mistyped`]. An event that has a name is returned by its name.
-pub fn read_event_report(argument: &Element) -> Result<EventReport, Mistyped>
-    ensures ok { IfOk result (IsEventReport (tree_of argument.now)) }
-    ensures only { (report : EventReport) → IsEventReport (tree_of argument.now) report → result ≡ Ok report }
+pub fn event_report_in(argument: &ElementRef<'_>) -> Result<EventReport, Mistyped>
+    ensures ok { IfOk result (IsEventReport (lent_tree argument.now)) }
+    ensures only { (report : EventReport) → IsEventReport (lent_tree argument.now) report → result ≡ Ok report }
     ensures named { IfOk result (λ report. IsByName report.event) }
 {
     event_report_of(argument)
 }
 
-/// Reads the argument of EventReportBCSM, as [`read_event_report`] does.
-fn event_report_of(argument: &Element) -> Result<EventReport, Mistyped>
+/// Reads the argument of EventReportBCSM, an element in memory of its own, as [`event_report_in`] does.
+pub fn read_event_report(argument: &Element) -> Result<EventReport, Mistyped>
     ensures ok { IfOk result (IsEventReport (tree_of argument.now)) }
-    ensures err { IfErr result (λ _. (report : EventReport) → IsEventReport (tree_of argument.now) report → ⊥) }
+    ensures only { (report : EventReport) → IsEventReport (tree_of argument.now) report → result ≡ Ok report }
+    ensures named { IfOk result (λ report. IsByName report.event) }
+{
+    event_report_in(&ElementRef::Owned(argument))
+}
+
+/// Reads the argument of EventReportBCSM, as [`event_report_in`] does.
+fn event_report_of(argument: &ElementRef<'_>) -> Result<EventReport, Mistyped>
+    ensures ok { IfOk result (IsEventReport (lent_tree argument.now)) }
+    ensures err { IfErr result (λ _. (report : EventReport) → IsEventReport (lent_tree argument.now) report → ⊥) }
     ensures named { IfOk result (λ report. IsByName report.event) }
 {
     let members = Members::of_sequence(argument)?;
@@ -81,26 +91,26 @@ fn event_report_of(argument: &Element) -> Result<EventReport, Mistyped>
 }
 
 /// The leg in these members, if they are there.
-fn leg_in(members: Option<&[Element]>) -> Result<Option<Leg>, Mistyped>
+fn leg_in(members: Option<Elements<'_>>) -> Result<Option<Leg>, Mistyped>
     ensures ok { IfOk result (IsLeg (forest_in members.entry)) }
     ensures err { IfErr result (λ _. (leg : Option Leg) → IsLeg (forest_in members.entry) leg → ⊥) }
 {
     let Some(members) = members else {
         return Ok(None);
     };
-    let [side, rest @ ..] = members else {
+    let Some(side) = members.split_first() else {
         return Err(Mistyped);
     };
-    if !rest.is_empty() {
+    if !side.rest.is_empty() {
         return Err(Mistyped);
     }
-    Ok(Some(leg_of(side)?))
+    Ok(Some(leg_of(&side.first)?))
 }
 
 /// The leg in a member.
-fn leg_of(side: &Element) -> Result<Leg, Mistyped>
-    ensures ok { IfOk result (λ leg. tree.more (tree_of side.now) tree.none ≡ leg_members leg) }
-    ensures err { IfErr result (λ _. (leg : Leg) → tree.more (tree_of side.now) tree.none ≡ leg_members leg → ⊥) }
+fn leg_of(side: &ElementRef<'_>) -> Result<Leg, Mistyped>
+    ensures ok { IfOk result (λ leg. tree.more (lent_tree side.now) tree.none ≡ leg_members leg) }
+    ensures err { IfErr result (λ _. (leg : Leg) → tree.more (lent_tree side.now) tree.none ≡ leg_members leg → ⊥) }
 {
     if let Some(octets) = side.octets_with_tag(Class::Context, SENDING_SIDE) {
         let [octet] = octets else {
@@ -118,7 +128,7 @@ fn leg_of(side: &Element) -> Result<Leg, Mistyped>
 }
 
 /// Whether the messageType in these members, if they are there, is notification.
-fn is_notification(members: Option<&[Element]>) -> Result<bool, Mistyped>
+fn is_notification(members: Option<Elements<'_>>) -> Result<bool, Mistyped>
     ensures ok { IfOk result (IsCallInfo (forest_in members.entry)) }
     ensures err { IfErr result (λ _. (notification : Bool) → IsCallInfo (forest_in members.entry) notification → ⊥) }
 {

@@ -1,6 +1,7 @@
 //! InitialDP: the argument that is read.
 
 ghost use Rattle.std.specs.Prelude.{◌≡◌, ◌∷◌, [], ℕ, List, Option, pos, Ok, IfOk, IfErr, IfSome};
+ghost use Rattle.fp_ber.specs.Lent.{lent_tree};
 ghost use Rattle.fp_ber.specs.View.{tree_of};
 ghost use Rattle.fp_inap.specs.declared.initial_dp.InitialDp.{InitialDp};
 ghost use Rattle.fp_inap.specs.Event.{IsByName};
@@ -10,7 +11,7 @@ ghost use Rattle.fp_inap.specs.View.{octets_in};
 use crate::event::Event;
 use crate::members::{Members, octet_in};
 use crate::mistyped::Mistyped;
-use fp_ber::{Element, integer_of};
+use fp_ber::{Element, ElementRef, integer_of};
 use fp_digits::{Number, read_called, read_calling};
 
 // The numbers of the context tags of the members.
@@ -47,18 +48,27 @@ pub struct InitialDp {
 /// callingPartyNumber, tag 3; callingPartysCategory, tag 5, one octet; eventTypeBCSM, tag 28, one octet. Members with
 /// other context tags are skipped. Any other element is [`Mistyped`]. A number whose octets hold none (see
 /// [`read_called`]) is no error: it is absent. An event that has a name is returned by its name.
-pub fn read_initial_dp(argument: &Element) -> Result<InitialDp, Mistyped>
-    ensures ok { IfOk result (IsInitialDp (tree_of argument.now)) }
-    ensures only { (dp : InitialDp) → IsInitialDp (tree_of argument.now) dp → result ≡ Ok dp }
+pub fn initial_dp_in(argument: &ElementRef<'_>) -> Result<InitialDp, Mistyped>
+    ensures ok { IfOk result (IsInitialDp (lent_tree argument.now)) }
+    ensures only { (dp : InitialDp) → IsInitialDp (lent_tree argument.now) dp → result ≡ Ok dp }
     ensures named { IfOk result (λ dp. IfSome dp.event IsByName) }
 {
     initial_dp_of(argument)
 }
 
-/// Reads the argument of InitialDP, as [`read_initial_dp`] does.
-fn initial_dp_of(argument: &Element) -> Result<InitialDp, Mistyped>
+/// Reads the argument of InitialDP, an element in memory of its own, as [`initial_dp_in`] does.
+pub fn read_initial_dp(argument: &Element) -> Result<InitialDp, Mistyped>
     ensures ok { IfOk result (IsInitialDp (tree_of argument.now)) }
-    ensures err { IfErr result (λ _. (dp : InitialDp) → IsInitialDp (tree_of argument.now) dp → ⊥) }
+    ensures only { (dp : InitialDp) → IsInitialDp (tree_of argument.now) dp → result ≡ Ok dp }
+    ensures named { IfOk result (λ dp. IfSome dp.event IsByName) }
+{
+    initial_dp_in(&ElementRef::Owned(argument))
+}
+
+/// Reads the argument of InitialDP, as [`initial_dp_in`] does.
+fn initial_dp_of(argument: &ElementRef<'_>) -> Result<InitialDp, Mistyped>
+    ensures ok { IfOk result (IsInitialDp (lent_tree argument.now)) }
+    ensures err { IfErr result (λ _. (dp : InitialDp) → IsInitialDp (lent_tree argument.now) dp → ⊥) }
     ensures named { IfOk result (λ dp. IfSome dp.event IsByName) }
 {
     let members = Members::of_sequence(argument)?;

@@ -2,13 +2,13 @@
 //!
 //! The layer takes the operation codes and the arguments in the components of a dialogue and returns operations and
 //! values; or it takes values and puts arguments into a [`Writer`](fp_ber::Writer). It reads an argument from an
-//! [`Element`](fp_ber::Element) and never sees the octets of a received message. It asks the system for nothing but the
-//! memory of what it writes; reading takes none.
+//! [`ElementRef`](fp_ber::ElementRef), which lends the elements of a received message. It asks the system for nothing but
+//! the memory of what it writes; reading takes none.
 //!
 //! * [`Operation`] and [`OperationError`] name the operations and their errors, and are the one place of their codes
 //!   and classes; [`Event`] and [`Leg`] name the events and legs in the arguments.
 //! * [`InitialDp`] and [`EventReport`] are the contents of the arguments of InitialDP and EventReportBCSM;
-//!   [`read_initial_dp`] and [`read_event_report`] read them.
+//!   [`initial_dp_in`] and [`event_report_in`] read them.
 //! * [`write_connect`], [`write_release`] and [`write_request_report`] put arguments; [`write_continue`] and
 //!   [`write_activity_test`] put the whole Invoke of Continue and of ActivityTest, which have none.
 //!
@@ -40,8 +40,8 @@ pub use activity_test::write_activity_test;
 pub use connect::write_connect;
 pub use continuing::write_continue;
 pub use event::Event;
-pub use event_report::{EventReport, read_event_report};
-pub use initial_dp::{InitialDp, read_initial_dp};
+pub use event_report::{EventReport, event_report_in, read_event_report};
+pub use initial_dp::{InitialDp, initial_dp_in, read_initial_dp};
 pub use laws::{event_reports_are_one, initial_dps_are_one};
 pub use leg::Leg;
 pub use mistyped::Mistyped;

@@ -2,27 +2,27 @@
 
 ghost use Rattle.std.specs.Prelude.{◌≡◌, ◌≤◌, ℕ, List, [], ◌∷◌, Option, Some, None, IfOk, IfErr, IfSome, IfNone, IsTrue, length, option_map};
 ghost use Rattle.fp_ber.specs.Tree.{Trees};
-ghost use Rattle.fp_ber.specs.View.{tree_of, forest_of};
+ghost use Rattle.fp_ber.specs.Lent.{lent_tree, lent_trees};
 ghost use Rattle.fp_inap.specs.Members.{AllContext, IsSequence, HoldsOctets, HoldsMembers, IsOctet, with_number};
 ghost use Rattle.fp_inap.specs.View.{octets_in, forest_in, found_in};
 
 use crate::mistyped::Mistyped;
 use fp_ber::universal::SEQUENCE;
-use fp_ber::{Class, Element};
+use fp_ber::{Class, ElementRef, Elements};
 
 /// The members of a sequence, each with a tag of the context class.
 #[derive(Clone, Copy)]
 pub(crate) struct Members<'a> {
-    pub(crate) elements: &'a [Element],
+    pub(crate) elements: Elements<'a>,
 }
 
 impl<'a> Members<'a> {
     /// The members, if every element has a tag of the context class.
-    pub(crate) fn new(elements: &'a [Element]) -> Result<Members<'a>, Mistyped>
-        ensures ok { IfOk result (λ members. (members.elements.now ≡ elements.now) × AllContext (forest_of elements.now)) }
-        ensures err { IfErr result (λ _. AllContext (forest_of elements.now) → ⊥) }
+    pub(crate) fn new(elements: Elements<'a>) -> Result<Members<'a>, Mistyped>
+        ensures ok { IfOk result (λ members. (members.elements ≡ elements.entry) × AllContext (lent_trees elements.entry)) }
+        ensures err { IfErr result (λ _. AllContext (lent_trees elements.entry) → ⊥) }
     {
-        if are_context(elements) {
+        if are_context(&elements) {
             Ok(Members { elements })
         } else {
             Err(Mistyped)
@@ -30,9 +30,9 @@ impl<'a> Members<'a> {
     }
 
     /// The members of a sequence.
-    pub(crate) fn of_sequence(argument: &'a Element) -> Result<Members<'a>, Mistyped>
-        ensures ok { IfOk result (λ members. IsSequence (tree_of argument.now) (forest_of members.elements.now)) }
-        ensures err { IfErr result (λ _. (members : Trees) → IsSequence (tree_of argument.now) members → ⊥) }
+    pub(crate) fn of_sequence(argument: &ElementRef<'a>) -> Result<Members<'a>, Mistyped>
+        ensures ok { IfOk result (λ members. IsSequence (lent_tree argument.now) (lent_trees members.elements)) }
+        ensures err { IfErr result (λ _. (members : Trees) → IsSequence (lent_tree argument.now) members → ⊥) }
     {
         let Some(elements) = argument.children_with_tag(Class::Universal, SEQUENCE) else {
             return Err(Mistyped);
@@ -41,28 +41,30 @@ impl<'a> Members<'a> {
     }
 
     /// The one member with this number, if there is one. Two are a fault.
-    fn only(&self, number: u16) -> Result<Option<&'a Element>, Mistyped>
-        ensures ok { IfOk result (λ found. with_number number (forest_of self.now.elements.now) ≡ found_in found) }
-        ensures err { IfErr result (λ _. 2 ≤ length (with_number number (forest_of self.now.elements.now))) }
+    fn only(&self, number: u16) -> Result<Option<ElementRef<'a>>, Mistyped>
+        ensures ok { IfOk result (λ found. with_number number (lent_trees self.now.elements) ≡ found_in found) }
+        ensures err { IfErr result (λ _. 2 ≤ length (with_number number (lent_trees self.now.elements))) }
     {
         let mut found = None;
-        for element in self.elements {
-            if element.number == number {
+        let mut left = self.elements;
+        'members: while let Some(split) = left.split_first() {
+            if split.first.number() == number {
                 if found.is_some() {
                     return Err(Mistyped);
                 }
-                found = Some(element);
+                found = Some(split.first);
             }
+            left = split.rest;
         }
         Ok(found)
     }
 
     /// The octets of the one member with this number, if there is one. Two are a fault, and so is a constructed one.
     pub(crate) fn octets(&self, number: u16) -> Result<Option<&'a [u8]>, Mistyped>
-        requires { AllContext (forest_of self.now.elements.now) }
-        ensures ok { IfOk result (λ octets. HoldsOctets (forest_of self.now.elements.now) number (octets_in octets)) }
+        requires { AllContext (lent_trees self.now.elements) }
+        ensures ok { IfOk result (λ octets. HoldsOctets (lent_trees self.now.elements) number (octets_in octets)) }
         ensures err { IfErr result (λ _. (octets : Option (List ℕ))
-            → HoldsOctets (forest_of self.now.elements.now) number octets → ⊥) }
+            → HoldsOctets (lent_trees self.now.elements) number octets → ⊥) }
     {
         let Some(element) = self.only(number)? else {
             return Ok(None);
@@ -74,11 +76,11 @@ impl<'a> Members<'a> {
     }
 
     /// The elements in the one member with this number, if there is one. Two are a fault, and so is a primitive one.
-    pub(crate) fn members(&self, number: u16) -> Result<Option<&'a [Element]>, Mistyped>
-        requires { AllContext (forest_of self.now.elements.now) }
-        ensures ok { IfOk result (λ members. HoldsMembers (forest_of self.now.elements.now) number (forest_in members)) }
+    pub(crate) fn members(&self, number: u16) -> Result<Option<Elements<'a>>, Mistyped>
+        requires { AllContext (lent_trees self.now.elements) }
+        ensures ok { IfOk result (λ members. HoldsMembers (lent_trees self.now.elements) number (forest_in members)) }
         ensures err { IfErr result (λ _. (members : Option Trees)
-            → HoldsMembers (forest_of self.now.elements.now) number members → ⊥) }
+            → HoldsMembers (lent_trees self.now.elements) number members → ⊥) }
     {
         let Some(element) = self.only(number)? else {
             return Ok(None);
@@ -91,14 +93,16 @@ impl<'a> Members<'a> {
 }
 
 /// Whether every element has a tag of the context class.
-fn are_context(elements: &[Element]) -> bool
-    ensures yes { IsTrue result → AllContext (forest_of elements.now) }
-    ensures no { AllContext (forest_of elements.now) → IsTrue result }
+fn are_context(elements: &Elements<'_>) -> bool
+    ensures yes { IsTrue result → AllContext (lent_trees elements.now) }
+    ensures no { AllContext (lent_trees elements.now) → IsTrue result }
 {
-    for element in elements {
-        if element.class != Class::Context {
+    let mut left = *elements;
+    'members: while let Some(split) = left.split_first() {
+        if split.first.class() != Class::Context {
             return false;
         }
+        left = split.rest;
     }
     true
 }

@@ -1,13 +1,11 @@
 -- What stands first among elements, and what can't stand there.
-use Rattle.std.proofs.Common.{◌≡◌, ℕ, ℤ, List, [], length, ◌<◌, Option, Some, None, IfSome, IfNone, sym, subst}
-use Rattle.fp_ber.specs.declared.element.Element.{Element}
+use Rattle.std.proofs.Common.{◌≡◌, ℕ, ℤ, false, List, [], Option, Some, None, IfSome, IfNone, sym, subst}
 use Rattle.fp_ber.specs.declared.element.Class.TheVariants.{Universal}
-use Rattle.fp_ber.specs.Tree.{Tree, Trees, primitive, constructed, none, more}
-use Rattle.fp_ber.specs.View.{forest_of}
+use Rattle.fp_ber.specs.Tree.{Tree, Trees, primitive, constructed, none, more, are_none}
 use Rattle.fp_q773.specs.declared.coded.Coded.{Coded}
 use Rattle.fp_q773.specs.Value.{CodeValue, ResultValue, ReasonValue, local, global, returned, provider, user}
 use Rattle.fp_q773.specs.Grammar.{IsIdentifier, IsLinked, IsCode, IsCoded, IsAsked, IsReturned, IsRejected, IsReason}
-use Rattle.fp_q773.proofs.Forests.{some_forest}
+use Rattle.fp_q773.proofs.Forests.{some_trees}
 
 -- what isn't first doesn't stand first
 pub not_first : (P : Tree → Type 0) (ts us : Trees) (a : Tree) → ts ≡ more a us → (P a → ⊥) → (first : Tree) (rest : Trees) → ts ≡ more first rest → P first → ⊥
@@ -29,35 +27,35 @@ pub no_linked : (ts us : Trees) (a : Tree) → ts ≡ more a us → ((identifier
 no_linked ts us a is isnt first rest identifier same h = not_first (λ t. IsLinked t identifier) ts us a is (isnt identifier) first rest same h
 
 -- three elements are not two
-pub three_are_not_two : (ts us : Trees) (a b x y : Tree) (es : List Element) → ts ≡ more a us → us ≡ more b (forest_of es) → 0 < length es
+pub three_are_not_two : (ts us : Trees) (a b x y : Tree) (others : Trees) → ts ≡ more a us → us ≡ more b others → are_none others ≡ false
     → ts ≡ more x (more y none) → ⊥
-three_are_not_two ts us a b x y es one two some is =
-    let empty : forest_of es ≡ none = cc in some_forest es some empty
+three_are_not_two ts us a b x y others one two some is =
+    let empty : others ≡ none = cc in some_trees others some empty
 
 -- three elements are no code with a parameter
-pub three_are_not_coded : (ts us : Trees) (a b : Tree) (es : List Element) (code : CodeValue) (parameter : Option Tree) → ts ≡ more a us
-    → us ≡ more b (forest_of es) → 0 < length es → IsCoded ts code parameter → ⊥
-three_are_not_coded ts us a b es code None one two some h = cc (h.2, h.4)
-three_are_not_coded ts us a b es code (Some p) one two some h =
-    let whole : ts ≡ more h.0 (more p none) = cc (h.2, h.4) in three_are_not_two ts us a b h.0 p es one two some whole
+pub three_are_not_coded : (ts us : Trees) (a b : Tree) (others : Trees) (code : CodeValue) (parameter : Option Tree) → ts ≡ more a us
+    → us ≡ more b others → are_none others ≡ false → IsCoded ts code parameter → ⊥
+three_are_not_coded ts us a b others code None one two some h = cc (h.2, h.4)
+three_are_not_coded ts us a b others code (Some p) one two some h =
+    let whole : ts ≡ more h.0 (more p none) = cc (h.2, h.4) in three_are_not_two ts us a b h.0 p others one two some whole
 
 -- two elements are not what is returned
-pub two_are_not_returned : (us : Trees) (b : Tree) (es : List Element) (value : Option ResultValue) → us ≡ more b (forest_of es) → 0 < length es
+pub two_are_not_returned : (us : Trees) (b : Tree) (others : Trees) (value : Option ResultValue) → us ≡ more b others → are_none others ≡ false
     → IsReturned us value → ⊥
-two_are_not_returned us b es None two some h = cc
-two_are_not_returned us b es (Some (returned code parameter)) two some h =
+two_are_not_returned us b others None two some h = cc
+two_are_not_returned us b others (Some (returned code parameter)) two some h =
     let is = h.1 in
-    let empty : forest_of es ≡ none = cc in some_forest es some empty
+    let empty : others ≡ none = cc in some_trees others some empty
 
 -- two elements are no reason
-pub two_are_no_reason : (us : Trees) (b : Tree) (es : List Element) (value : Option ReasonValue) → us ≡ more b (forest_of es) → 0 < length es
+pub two_are_no_reason : (us : Trees) (b : Tree) (others : Trees) (value : Option ReasonValue) → us ≡ more b others → are_none others ≡ false
     → IsReason us value → ⊥
-two_are_no_reason us b es None two some h = cc
-two_are_no_reason us b es (Some (provider cause)) two some h =
-    let empty : forest_of es ≡ none = cc in some_forest es some empty
-two_are_no_reason us b es (Some (user dialogue)) two some h =
+two_are_no_reason us b others None two some h = cc
+two_are_no_reason us b others (Some (provider cause)) two some h =
+    let empty : others ≡ none = cc in some_trees others some empty
+two_are_no_reason us b others (Some (user dialogue)) two some h =
     let is = h.0 in
-    let empty : forest_of es ≡ none = cc in some_forest es some empty
+    let empty : others ≡ none = cc in some_trees others some empty
 
 -- a code is no linked identifier
 pub code_not_linked : (t : Tree) (code : CodeValue) (linked : ℤ) → IsCode t code → IsLinked t linked → ⊥

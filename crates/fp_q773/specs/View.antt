@@ -1,9 +1,8 @@
 -- What a message of the program says.
 use Rattle.std.specs.Prelude.{Option, map, option_map}
-use Rattle.std.specs.Borrow.{Bor}
 use Rattle.fp_ber.specs.Tree.{Tree}
-use Rattle.fp_ber.specs.View.{tree_of}
-use Rattle.fp_ber.specs.declared.element.Element.{Element}
+use Rattle.fp_ber.specs.Lent.{lent_tree}
+use Rattle.fp_ber.specs.declared.element_ref.ElementRef.{ElementRef}
 use Rattle.fp_q773.specs.declared.coded.Code.{Code}
 use Rattle.fp_q773.specs.declared.coded.Code.TheVariants.{Local, Global}
 use Rattle.fp_q773.specs.declared.coded.Coded.{Coded}
@@ -25,8 +24,8 @@ use Rattle.fp_q773.specs.Tid.{octets_of}
 use Rattle.fp_q773.specs.Value.{CodeValue, ResultValue, ComponentValue, ReasonValue, MessageValue, local, global, returned, invoke, return_result_last, return_error, reject, return_result_not_last, faulty, provider, user, unidirectional, begin, end, continuing, abort}
 
 -- an element that may be there
-abbrev pub tree_in : Option (Bor Element) → Option Tree
-tree_in = option_map (λ element. tree_of element.now)
+abbrev pub tree_in : Option ElementRef → Option Tree
+tree_in = option_map lent_tree
 
 abbrev pub code_of : Code → CodeValue
 code_of (Local number) = local number
@@ -54,7 +53,7 @@ component_of (components.Faulty identifier problem) = faulty identifier problem
 
 abbrev pub reason_of : AbortReason → ReasonValue
 reason_of (reasons.Provider cause) = provider cause
-reason_of (reasons.User dialogue) = user (tree_of dialogue.now)
+reason_of (reasons.User dialogue) = user (lent_tree dialogue)
 
 abbrev pub begin_of : Begin → MessageValue
 begin_of b = begin (octets_of b.originating) (tree_in b.dialogue) (map component_of b.components.items)

@@ -5,7 +5,7 @@ ghost use Rattle.fp_ber.specs.Canon.{canon, canon_of_all};
 ghost use Rattle.fp_ber.specs.Putting.{EndsWith};
 ghost use Rattle.fp_ber.specs.declared.element.Class.TheVariants as classes;
 ghost use Rattle.fp_ber.specs.Tree as tree;
-ghost use Rattle.fp_ber.specs.View.{tree_of, forest_of};
+ghost use Rattle.fp_ber.specs.Lent.{lent_tree, lent_trees};
 ghost use Rattle.fp_q773.specs.Copied.{CopiesHaveTags, ReasonHasTags};
 ghost use Rattle.fp_q773.specs.Room.{message_room, reason_room};
 ghost use Rattle.fp_q773.specs.Value as value;
@@ -15,11 +15,10 @@ ghost use Rattle.fp_q773.specs.Grammar.{IsReason, IsAbort, IsMessage};
 ghost use Rattle.fp_q773.specs.Writable.{IsWritableMessage, IsWritableReason};
 ghost use Rattle.fp_q773.specs.Written.{reason_trees, written};
 
-use crate::members::split_first;
 use crate::portions::DIALOGUE_PORTION;
 use crate::tid::Tid;
 use crate::transaction::{DESTINATION, transaction_at, write_transaction};
-use fp_ber::{Class, Element, Writer};
+use fp_ber::{Class, ElementRef, Elements, Writer};
 use std::alloc::AllocError;
 
 /// The number of the application tag of an Abort.
@@ -33,7 +32,7 @@ pub enum AbortReason<'a> {
     /// A cause of the provider.
     Provider(u8),
     /// The dialogue portion of the user, an element with the tag 6B.
-    User(&'a Element),
+    User(ElementRef<'a>),
 }
 
 /// A dialogue is cut off.
@@ -46,9 +45,9 @@ pub struct Abort<'a> {
 }
 
 /// The cause of the provider that an element is.
-fn cause_of(element: &Element) -> Option<u8>
-    ensures some { IfSome result (λ cause. tree_of element.now ≡ tree.primitive classes.Application 10 (cause ∷ [])) }
-    ensures none { IfNone result ((cause : ℕ) → tree_of element.now ≡ tree.primitive classes.Application 10 (cause ∷ []) → ⊥) }
+fn cause_of(element: &ElementRef<'_>) -> Option<u8>
+    ensures some { IfSome result (λ cause. lent_tree element.now ≡ tree.primitive classes.Application 10 (cause ∷ [])) }
+    ensures none { IfNone result ((cause : ℕ) → lent_tree element.now ≡ tree.primitive classes.Application 10 (cause ∷ []) → ⊥) }
 {
     let Some(octets) = element.octets_with_tag(Class::Application, CAUSE) else {
         return None;
@@ -61,10 +60,10 @@ fn cause_of(element: &Element) -> Option<u8>
 
 impl<'a> AbortReason<'a> {
     /// The reason that an element is.
-    fn read(element: &'a Element) -> Option<AbortReason<'a>>
-        ensures some { IfSome result (λ r. IsReason (tree.more (tree_of element.now) tree.none) (Some (reason_of r))) }
+    fn read(element: &ElementRef<'a>) -> Option<AbortReason<'a>>
+        ensures some { IfSome result (λ r. IsReason (tree.more (lent_tree element.now) tree.none) (Some (reason_of r))) }
         ensures none { IfNone result ((r : value.ReasonValue)
-            → IsReason (tree.more (tree_of element.now) tree.none) (Some r) → ⊥) }
+            → IsReason (tree.more (lent_tree element.now) tree.none) (Some r) → ⊥) }
     {
         if let Some(cause) = cause_of(element) {
             return Some(AbortReason::Provider(cause));
@@ -75,7 +74,7 @@ impl<'a> AbortReason<'a> {
         {
             return None;
         }
-        Some(AbortReason::User(element))
+        Some(AbortReason::User(*element))
     }
 
     /// Writes a reason.
@@ -89,23 +88,23 @@ impl<'a> AbortReason<'a> {
             AbortReason::Provider(cause) => {
                 out.put_primitive(Class::Application, CAUSE, &[*cause])
             }
-            AbortReason::User(dialogue) => out.put_element(dialogue),
+            AbortReason::User(dialogue) => out.put_lent(dialogue),
         }
     }
 }
 
 impl<'a> Abort<'a> {
     /// The Abort that holds these elements.
-    pub(crate) fn read(members: &'a [Element]) -> Option<Abort<'a>>
-        ensures some { IfSome result (λ a. IsAbort (forest_of members.now) (octets_of a.destination)
+    pub(crate) fn read(members: &Elements<'a>) -> Option<Abort<'a>>
+        ensures some { IfSome result (λ a. IsAbort (lent_trees members.now) (octets_of a.destination)
             (option_map reason_of a.reason)) }
         ensures none { IfNone result ((destination : List ℕ) (r : Option value.ReasonValue)
-            → IsAbort (forest_of members.now) destination r → ⊥) }
+            → IsAbort (lent_trees members.now) destination r → ⊥) }
     {
         let Some(destination) = transaction_at(members, DESTINATION) else {
             return None;
         };
-        let Some(last) = split_first(destination.rest) else {
+        let Some(last) = destination.rest.split_first() else {
             return Some(Abort {
                 destination: destination.identifier,
                 reason: None,
@@ -114,7 +113,7 @@ impl<'a> Abort<'a> {
         if !last.rest.is_empty() {
             return None;
         }
-        let Some(reason) = AbortReason::read(last.first) else {
+        let Some(reason) = AbortReason::read(&last.first) else {
             return None;
         };
         Some(Abort {

@@ -4,7 +4,7 @@ ghost use Rattle.std.specs.Prelude.{◌≡◌, ◌<◌, ◌^◌, ◌++◌, All, 
 ghost use Rattle.fp_ber.specs.Canon.{canon};
 ghost use Rattle.fp_ber.specs.Putting.{EndsWith};
 ghost use Rattle.fp_ber.specs.Tree.{Tree};
-ghost use Rattle.fp_ber.specs.View.{forest_of};
+ghost use Rattle.fp_ber.specs.Lent.{lent_trees};
 ghost use Rattle.fp_q773.specs.Value as value;
 ghost use Rattle.fp_q773.specs.View.{component_of, tree_in, begin_of};
 ghost use Rattle.fp_q773.specs.Tid.{octets_of};
@@ -21,7 +21,7 @@ use crate::fault::MessageFault;
 use crate::portions::{Portions, write_portions};
 use crate::tid::Tid;
 use crate::transaction::{ORIGINATING, transaction_at, write_transaction};
-use fp_ber::{Class, Element, Writer};
+use fp_ber::{Class, ElementRef, Elements, Writer};
 use std::alloc::{AllocError, Global};
 
 /// The number of the application tag of a Begin.
@@ -33,24 +33,24 @@ pub struct Begin<'a> {
     /// By which its sender knows the dialogue.
     pub originating: Tid,
     /// Its dialogue portion, an element with the tag 6B.
-    pub dialogue: Option<&'a Element>,
+    pub dialogue: Option<ElementRef<'a>>,
     /// Its components, in their order.
     pub components: Vec<Component<'a>>,
 }
 
 impl<'a> Begin<'a> {
     /// The Begin that holds these elements.
-    pub(crate) fn read(alloc: Global, members: &'a [Element]) -> Result<Begin<'a>, MessageFault>
-        ensures found { IfOk result (λ b. IsBegin (forest_of members.now) (octets_of b.originating) (tree_in b.dialogue)
+    pub(crate) fn read(alloc: Global, members: &Elements<'a>) -> Result<Begin<'a>, MessageFault>
+        ensures found { IfOk result (λ b. IsBegin (lent_trees members.now) (octets_of b.originating) (tree_in b.dialogue)
             (map component_of b.components.items)) }
         ensures named { IfOk result (λ b. All HasNamedProblem b.components.items) }
         ensures fault { IfErr result (λ fault. Refused fault ((originating : List ℕ) (dialogue : Option Tree)
-            (components : List value.ComponentValue) → IsBegin (forest_of members.now) originating dialogue components → ⊥)) }
+            (components : List value.ComponentValue) → IsBegin (lent_trees members.now) originating dialogue components → ⊥)) }
     {
         let Some(originating) = transaction_at(members, ORIGINATING) else {
             return Err(MessageFault::Badly);
         };
-        let portions = Portions::read(alloc, originating.rest)?;
+        let portions = Portions::read(alloc, &originating.rest)?;
         Ok(Begin {
             originating: originating.identifier,
             dialogue: portions.dialogue,

@@ -4,7 +4,7 @@ ghost use Rattle.std.specs.Prelude.{◌≡◌, ◌<◌, ◌^◌, ◌++◌, Optio
 ghost use Rattle.fp_ber.specs.Canon.{canon, canon_of_all};
 ghost use Rattle.fp_ber.specs.Putting.{EndsWith};
 ghost use Rattle.fp_ber.specs.Tree.{Tree};
-ghost use Rattle.fp_ber.specs.View.{tree_of, forest_of};
+ghost use Rattle.fp_ber.specs.Lent.{lent_tree, lent_trees};
 ghost use Rattle.fp_ber.specs.Integer.{signed};
 ghost use Rattle.fp_q773.specs.TwosComplement.{is_within};
 ghost use Rattle.fp_q773.specs.Copied.{ResultHasTags};
@@ -15,9 +15,9 @@ ghost use Rattle.fp_q773.specs.View.{code_of, result_of, tree_in};
 ghost use Rattle.fp_q773.specs.Grammar.{IsCode, IsCoded};
 ghost use Rattle.fp_q773.specs.Written.{code_tree, coded_trees};
 
-use crate::members::{split_first, write_optional};
+use crate::members::write_optional;
 use fp_ber::universal::{INTEGER, OBJECT_IDENTIFIER};
-use fp_ber::{Class, Element, Writer, integer_of, octet_of};
+use fp_ber::{Class, ElementRef, Elements, Writer, integer_of, octet_of};
 use std::alloc::AllocError;
 
 /// The code of an operation or of an error.
@@ -35,7 +35,7 @@ pub struct Coded<'a> {
     /// The operation or the error.
     pub code: Code<'a>,
     /// What goes with it.
-    pub parameter: Option<&'a Element>,
+    pub parameter: Option<ElementRef<'a>>,
 }
 
 /// A number without its last eight bits, and these.
@@ -96,9 +96,9 @@ fn write_integer(number: i32, out: &mut Writer) -> Result<(), AllocError>
 
 impl<'a> Code<'a> {
     /// The code that an element is: an integer of one to four octets, or an object identifier.
-    pub(crate) fn read(element: &'a Element) -> Option<Code<'a>>
-        ensures some { IfSome result (λ code. IsCode (tree_of element.now) (code_of code)) }
-        ensures none { IfNone result ((code : CodeValue) → IsCode (tree_of element.now) code → ⊥) }
+    pub(crate) fn read(element: &ElementRef<'a>) -> Option<Code<'a>>
+        ensures some { IfSome result (λ code. IsCode (lent_tree element.now) (code_of code)) }
+        ensures none { IfNone result ((code : CodeValue) → IsCode (lent_tree element.now) code → ⊥) }
     {
         if let Some(octets) = element.octets_with_tag(Class::Universal, OBJECT_IDENTIFIER) {
             return Some(Code::Global(octets));
@@ -129,18 +129,18 @@ impl<'a> Code<'a> {
 
 impl<'a> Coded<'a> {
     /// The code and the parameter that elements are.
-    pub(crate) fn read(members: &'a [Element]) -> Option<Coded<'a>>
-        ensures some { IfSome result (λ c. IsCoded (forest_of members.now) (code_of c.code) (tree_in c.parameter)) }
+    pub(crate) fn read(members: &Elements<'a>) -> Option<Coded<'a>>
+        ensures some { IfSome result (λ c. IsCoded (lent_trees members.now) (code_of c.code) (tree_in c.parameter)) }
         ensures none { IfNone result ((code : CodeValue) (parameter : Option Tree)
-            → IsCoded (forest_of members.now) code parameter → ⊥) }
+            → IsCoded (lent_trees members.now) code parameter → ⊥) }
     {
-        let Some(members) = split_first(members) else {
+        let Some(members) = members.split_first() else {
             return None;
         };
-        let Some(code) = Code::read(members.first) else {
+        let Some(code) = Code::read(&members.first) else {
             return None;
         };
-        let Some(last) = split_first(members.rest) else {
+        let Some(last) = members.rest.split_first() else {
             return Some(Coded {
                 code,
                 parameter: None,

@@ -6,7 +6,7 @@ ghost use Rattle.fp_ber.specs.Putting.{EndsWith};
 ghost use Rattle.fp_ber.specs.declared.element.Class.TheVariants as classes;
 ghost use Rattle.fp_ber.specs.Tree as tree;
 ghost use Rattle.fp_ber.specs.Tree.{Tree};
-ghost use Rattle.fp_ber.specs.View.{tree_of, forest_of};
+ghost use Rattle.fp_ber.specs.Lent.{lent_tree, lent_trees};
 ghost use Rattle.fp_q773.specs.declared.problem.GeneralProblem.TheVariants as general;
 ghost use Rattle.fp_q773.specs.Value as value;
 ghost use Rattle.fp_q773.specs.View.{invoke_of, component_of};
@@ -19,12 +19,11 @@ ghost use Rattle.fp_q773.specs.Written.{component_tree, IsReadBack};
 
 use crate::identifier::identifier_of;
 use crate::invoke::{INVOKE, Invoke};
-use crate::members::split_first;
 use crate::problem::GeneralProblem;
 use crate::reject::{REJECT, Reject};
 use crate::return_error::{RETURN_ERROR, ReturnError};
 use crate::return_result::ReturnResult;
-use fp_ber::{Class, Element, Writer};
+use fp_ber::{Class, ElementRef, Elements, Writer};
 use std::alloc::AllocError;
 
 /// The number of the context tag of a ReturnResultLast.
@@ -55,21 +54,21 @@ pub enum Component<'a> {
 }
 
 /// The invoke identifier that comes first, if one does.
-fn first_identifier(members: &[Element]) -> Option<i8>
-    ensures { BeginsWith (forest_of members.now) result }
+fn first_identifier(members: &Elements<'_>) -> Option<i8>
+    ensures { BeginsWith (lent_trees members.now) result }
 {
-    let Some(members) = split_first(members) else {
+    let Some(members) = members.split_first() else {
         return None;
     };
-    let Some(identifier) = identifier_of(members.first) else {
+    let Some(identifier) = identifier_of(&members.first) else {
         return None;
     };
     Some(identifier)
 }
 
 /// A component with a tag of the table and with these elements, which are not its own.
-fn mistyped(members: &[Element]) -> Component<'_>
-    ensures found { (identifier : Option ℤ) × BeginsWith (forest_of members.now) identifier
+fn mistyped<'a>(members: &Elements<'a>) -> Component<'a>
+    ensures found { (identifier : Option ℤ) × BeginsWith (lent_trees members.now) identifier
         × (component_of result ≡ value.faulty identifier general.MistypedComponent) }
     ensures named { HasNamedProblem result }
 {
@@ -80,8 +79,8 @@ fn mistyped(members: &[Element]) -> Component<'_>
 }
 
 /// The component that holds these elements under the tag of an Invoke.
-fn invoke_in(members: &[Element]) -> Component<'_>
-    ensures found { IsComponent (tree.constructed classes.Context 1 (forest_of members.now)) (component_of result) }
+fn invoke_in<'a>(members: &Elements<'a>) -> Component<'a>
+    ensures found { IsComponent (tree.constructed classes.Context 1 (lent_trees members.now)) (component_of result) }
     ensures named { HasNamedProblem result }
 {
     let Some(invoke) = Invoke::read(members) else {
@@ -91,8 +90,8 @@ fn invoke_in(members: &[Element]) -> Component<'_>
 }
 
 /// The component that holds these elements under the tag of a ReturnResultLast.
-fn return_result_last_in(members: &[Element]) -> Component<'_>
-    ensures found { IsComponent (tree.constructed classes.Context 2 (forest_of members.now)) (component_of result) }
+fn return_result_last_in<'a>(members: &Elements<'a>) -> Component<'a>
+    ensures found { IsComponent (tree.constructed classes.Context 2 (lent_trees members.now)) (component_of result) }
     ensures named { HasNamedProblem result }
 {
     let Some(result) = ReturnResult::read(members) else {
@@ -102,8 +101,8 @@ fn return_result_last_in(members: &[Element]) -> Component<'_>
 }
 
 /// The component that holds these elements under the tag of a ReturnError.
-fn return_error_in(members: &[Element]) -> Component<'_>
-    ensures found { IsComponent (tree.constructed classes.Context 3 (forest_of members.now)) (component_of result) }
+fn return_error_in<'a>(members: &Elements<'a>) -> Component<'a>
+    ensures found { IsComponent (tree.constructed classes.Context 3 (lent_trees members.now)) (component_of result) }
     ensures named { HasNamedProblem result }
 {
     let Some(error) = ReturnError::read(members) else {
@@ -113,8 +112,8 @@ fn return_error_in(members: &[Element]) -> Component<'_>
 }
 
 /// The component that holds these elements under the tag of a Reject.
-fn reject_in(members: &[Element]) -> Component<'_>
-    ensures found { IsComponent (tree.constructed classes.Context 4 (forest_of members.now)) (component_of result) }
+fn reject_in<'a>(members: &Elements<'a>) -> Component<'a>
+    ensures found { IsComponent (tree.constructed classes.Context 4 (lent_trees members.now)) (component_of result) }
     ensures named { HasNamedProblem result }
 {
     let Some(reject) = Reject::read(members) else {
@@ -124,8 +123,8 @@ fn reject_in(members: &[Element]) -> Component<'_>
 }
 
 /// The component that holds these elements under the tag of a ReturnResultNotLast.
-fn return_result_not_last_in(members: &[Element]) -> Component<'_>
-    ensures found { IsComponent (tree.constructed classes.Context 7 (forest_of members.now)) (component_of result) }
+fn return_result_not_last_in<'a>(members: &Elements<'a>) -> Component<'a>
+    ensures found { IsComponent (tree.constructed classes.Context 7 (lent_trees members.now)) (component_of result) }
     ensures named { HasNamedProblem result }
 {
     let Some(result) = ReturnResult::read(members) else {
@@ -159,24 +158,24 @@ impl<'a> Component<'a> {
     }
 
     /// The component that an element is, if only a faulty one.
-    pub(crate) fn read(element: &'a Element) -> Component<'a>
-        ensures found { IsComponent (tree_of element.now) (component_of result) }
+    pub(crate) fn read(element: &ElementRef<'a>) -> Component<'a>
+        ensures found { IsComponent (lent_tree element.now) (component_of result) }
         ensures named { HasNamedProblem result }
     {
         if let Some(members) = element.children_with_tag(Class::Context, INVOKE) {
-            return invoke_in(members);
+            return invoke_in(&members);
         }
         if let Some(members) = element.children_with_tag(Class::Context, RETURN_RESULT_LAST) {
-            return return_result_last_in(members);
+            return return_result_last_in(&members);
         }
         if let Some(members) = element.children_with_tag(Class::Context, RETURN_ERROR) {
-            return return_error_in(members);
+            return return_error_in(&members);
         }
         if let Some(members) = element.children_with_tag(Class::Context, REJECT) {
-            return reject_in(members);
+            return reject_in(&members);
         }
         if let Some(members) = element.children_with_tag(Class::Context, RETURN_RESULT_NOT_LAST) {
-            return return_result_not_last_in(members);
+            return return_result_not_last_in(&members);
         }
         Component::Faulty {
             identifier: None,

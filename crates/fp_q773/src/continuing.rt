@@ -4,7 +4,7 @@ ghost use Rattle.std.specs.Prelude.{◌≡◌, ◌<◌, ◌≤◌, ◌^◌, ◌+
 ghost use Rattle.fp_ber.specs.Canon.{canon, canon_of_all};
 ghost use Rattle.fp_ber.specs.Putting.{EndsWith};
 ghost use Rattle.fp_ber.specs.Tree.{Tree};
-ghost use Rattle.fp_ber.specs.View.{forest_of};
+ghost use Rattle.fp_ber.specs.Lent.{lent_trees};
 ghost use Rattle.fp_q773.specs.Value as value;
 ghost use Rattle.fp_q773.specs.View.{component_of, tree_in, continue_of};
 ghost use Rattle.fp_q773.specs.Tid.{octets_of};
@@ -21,7 +21,7 @@ use crate::fault::MessageFault;
 use crate::portions::{Portions, write_portions};
 use crate::tid::Tid;
 use crate::transaction::{DESTINATION, ORIGINATING, transaction_at, write_transaction};
-use fp_ber::{Class, Element, Writer};
+use fp_ber::{Class, ElementRef, Elements, Writer};
 use std::alloc::{AllocError, Global};
 
 /// The number of the application tag of a Continue.
@@ -35,28 +35,28 @@ pub struct Continue<'a> {
     /// By which its receiver knows the dialogue.
     pub destination: Tid,
     /// Its dialogue portion, an element with the tag 6B.
-    pub dialogue: Option<&'a Element>,
+    pub dialogue: Option<ElementRef<'a>>,
     /// Its components, in their order.
     pub components: Vec<Component<'a>>,
 }
 
 impl<'a> Continue<'a> {
     /// The Continue that holds these elements.
-    pub(crate) fn read(alloc: Global, members: &'a [Element]) -> Result<Continue<'a>, MessageFault>
-        ensures found { IfOk result (λ c. IsContinue (forest_of members.now) (octets_of c.originating) (octets_of c.destination)
+    pub(crate) fn read(alloc: Global, members: &Elements<'a>) -> Result<Continue<'a>, MessageFault>
+        ensures found { IfOk result (λ c. IsContinue (lent_trees members.now) (octets_of c.originating) (octets_of c.destination)
             (tree_in c.dialogue)
             (map component_of c.components.items)) }
         ensures named { IfOk result (λ c. All HasNamedProblem c.components.items) }
         ensures fault { IfErr result (λ fault. Refused fault ((originating destination : List ℕ) (dialogue : Option Tree)
-            (components : List value.ComponentValue) → IsContinue (forest_of members.now) originating destination dialogue components → ⊥)) }
+            (components : List value.ComponentValue) → IsContinue (lent_trees members.now) originating destination dialogue components → ⊥)) }
     {
         let Some(originating) = transaction_at(members, ORIGINATING) else {
             return Err(MessageFault::Badly);
         };
-        let Some(destination) = transaction_at(originating.rest, DESTINATION) else {
+        let Some(destination) = transaction_at(&originating.rest, DESTINATION) else {
             return Err(MessageFault::Badly);
         };
-        let portions = Portions::read(alloc, destination.rest)?;
+        let portions = Portions::read(alloc, &destination.rest)?;
         Ok(Continue {
             originating: originating.identifier,
             destination: destination.identifier,

@@ -4,7 +4,7 @@ ghost use Rattle.std.specs.Prelude.{◌≡◌, ◌<◌, ◌≤◌, ◌^◌, ◌+
 ghost use Rattle.fp_ber.specs.Canon.{canon, canon_of_all};
 ghost use Rattle.fp_ber.specs.Putting.{EndsWith};
 ghost use Rattle.fp_ber.specs.Tree.{Tree};
-ghost use Rattle.fp_ber.specs.View.{forest_of};
+ghost use Rattle.fp_ber.specs.Lent.{lent_trees};
 ghost use Rattle.fp_q773.specs.Value as value;
 ghost use Rattle.fp_q773.specs.View.{component_of, tree_in, end_of};
 ghost use Rattle.fp_q773.specs.Tid.{octets_of};
@@ -21,7 +21,7 @@ use crate::fault::MessageFault;
 use crate::portions::{Portions, write_portions};
 use crate::tid::Tid;
 use crate::transaction::{DESTINATION, transaction_at, write_transaction};
-use fp_ber::{Class, Element, Writer};
+use fp_ber::{Class, ElementRef, Elements, Writer};
 use std::alloc::{AllocError, Global};
 
 /// The number of the application tag of an End.
@@ -33,24 +33,24 @@ pub struct End<'a> {
     /// By which its receiver knows the dialogue.
     pub destination: Tid,
     /// Its dialogue portion, an element with the tag 6B.
-    pub dialogue: Option<&'a Element>,
+    pub dialogue: Option<ElementRef<'a>>,
     /// Its components, in their order.
     pub components: Vec<Component<'a>>,
 }
 
 impl<'a> End<'a> {
     /// The End that holds these elements.
-    pub(crate) fn read(alloc: Global, members: &'a [Element]) -> Result<End<'a>, MessageFault>
-        ensures found { IfOk result (λ b. IsEnd (forest_of members.now) (octets_of b.destination) (tree_in b.dialogue)
+    pub(crate) fn read(alloc: Global, members: &Elements<'a>) -> Result<End<'a>, MessageFault>
+        ensures found { IfOk result (λ b. IsEnd (lent_trees members.now) (octets_of b.destination) (tree_in b.dialogue)
             (map component_of b.components.items)) }
         ensures named { IfOk result (λ b. All HasNamedProblem b.components.items) }
         ensures fault { IfErr result (λ fault. Refused fault ((destination : List ℕ) (dialogue : Option Tree)
-            (components : List value.ComponentValue) → IsEnd (forest_of members.now) destination dialogue components → ⊥)) }
+            (components : List value.ComponentValue) → IsEnd (lent_trees members.now) destination dialogue components → ⊥)) }
     {
         let Some(destination) = transaction_at(members, DESTINATION) else {
             return Err(MessageFault::Badly);
         };
-        let portions = Portions::read(alloc, destination.rest)?;
+        let portions = Portions::read(alloc, &destination.rest)?;
         Ok(End {
             destination: destination.identifier,
             dialogue: portions.dialogue,

@@ -3,21 +3,21 @@
 ghost use Rattle.std.specs.Prelude.{◌≡◌, ◌++◌, ℤ, MatchOption, OnOk, OnErr};
 ghost use Rattle.fp_ber.specs.Canon.{canon};
 ghost use Rattle.fp_ber.specs.Putting.{EndsWith};
-ghost use Rattle.fp_ber.specs.View.{tree_of};
+ghost use Rattle.fp_ber.specs.Lent.{lent_tree};
 ghost use Rattle.fp_q773.specs.Grammar.{IsIdentifier, IsLinked};
 ghost use Rattle.fp_q773.specs.Written.{identifier_tree, linked_tree};
 
 use fp_ber::universal::INTEGER;
-use fp_ber::{Class, Element, Writer, octet_of, signed_of};
+use fp_ber::{Class, ElementRef, Writer, octet_of, signed_of};
 use std::alloc::AllocError;
 
 /// The number of the context tag of a linked identifier.
 const LINKED: u16 = 0;
 
 /// The invoke identifier that an element is.
-pub fn identifier_of(element: &Element) -> Option<i8>
-    ensures { MatchOption result ((identifier : ℤ) → IsIdentifier (tree_of element.now) identifier → ⊥)
-        (IsIdentifier (tree_of element.now)) }
+pub fn identifier_of(element: &ElementRef<'_>) -> Option<i8>
+    ensures { MatchOption result ((identifier : ℤ) → IsIdentifier (lent_tree element.now) identifier → ⊥)
+        (IsIdentifier (lent_tree element.now)) }
 {
     let Some(octets) = element.octets_with_tag(Class::Universal, INTEGER) else {
         return None;
@@ -39,9 +39,9 @@ pub fn write_identifier(identifier: i8, out: &mut Writer) -> Result<(), AllocErr
 }
 
 /// The linked identifier that an element is.
-pub fn linked_of(element: &Element) -> Option<i8>
-    ensures { MatchOption result ((identifier : ℤ) → IsLinked (tree_of element.now) identifier → ⊥)
-        (IsLinked (tree_of element.now)) }
+pub fn linked_of(element: &ElementRef<'_>) -> Option<i8>
+    ensures { MatchOption result ((identifier : ℤ) → IsLinked (lent_tree element.now) identifier → ⊥)
+        (IsLinked (lent_tree element.now)) }
 {
     let Some(octets) = element.octets_with_tag(Class::Context, LINKED) else {
         return None;

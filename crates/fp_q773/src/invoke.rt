@@ -5,7 +5,7 @@ ghost use Rattle.fp_ber.specs.Canon.{canon, canon_of_all};
 ghost use Rattle.fp_ber.specs.Putting.{EndsWith};
 ghost use Rattle.fp_ber.specs.Tree as tree;
 ghost use Rattle.fp_ber.specs.Tree.{Tree};
-ghost use Rattle.fp_ber.specs.View.{tree_of, forest_of};
+ghost use Rattle.fp_ber.specs.Lent.{lent_trees};
 ghost use Rattle.fp_q773.specs.Copied.{ComponentHasTags};
 ghost use Rattle.fp_q773.specs.Room.{component_room};
 ghost use Rattle.fp_q773.specs.Value as value;
@@ -17,8 +17,8 @@ ghost use Rattle.fp_q773.specs.Written.{asked_trees, component_tree, IsReadBack}
 
 use crate::coded::{Code, Coded};
 use crate::identifier::{identifier_of, linked_of, write_identifier, write_linked};
-use crate::members::{split_first, write_optional};
-use fp_ber::{Class, Element, Writer};
+use crate::members::write_optional;
+use fp_ber::{Class, ElementRef, Elements, Writer};
 use std::alloc::AllocError;
 
 /// The number of the context tag of an Invoke.
@@ -34,34 +34,34 @@ pub struct Invoke<'a> {
     /// The operation.
     pub code: Code<'a>,
     /// What is handed to the operation.
-    pub parameter: Option<&'a Element>,
+    pub parameter: Option<ElementRef<'a>>,
 }
 
 /// A linked identifier, if there is one, and what follows it.
 #[derive(Clone, Copy)]
 struct Linked<'a> {
     identifier: Option<i8>,
-    rest: &'a [Element],
+    rest: Elements<'a>,
 }
 
 /// Takes off a linked identifier, if one comes first.
-fn linked_at(members: &[Element]) -> Linked<'_>
+fn linked_at<'a>(members: &Elements<'a>) -> Linked<'a>
     ensures some { IfSome result.identifier (λ identifier. (first : Tree)
-        × (forest_of members.now ≡ tree.more first (forest_of result.rest.now)) × IsLinked first identifier) }
-    ensures none { IfNone result.identifier ((forest_of result.rest.now ≡ forest_of members.now)
+        × (lent_trees members.now ≡ tree.more first (lent_trees result.rest)) × IsLinked first identifier) }
+    ensures none { IfNone result.identifier ((lent_trees result.rest ≡ lent_trees members.now)
         × ((first : Tree) (rest : tree.Trees) (identifier : ℤ)
-        → forest_of members.now ≡ tree.more first rest → IsLinked first identifier → ⊥)) }
+        → lent_trees members.now ≡ tree.more first rest → IsLinked first identifier → ⊥)) }
 {
-    let Some(split) = split_first(members) else {
+    let Some(split) = members.split_first() else {
         return Linked {
             identifier: None,
-            rest: members,
+            rest: *members,
         };
     };
-    let Some(identifier) = linked_of(split.first) else {
+    let Some(identifier) = linked_of(&split.first) else {
         return Linked {
             identifier: None,
-            rest: members,
+            rest: *members,
         };
     };
     Linked {
@@ -72,20 +72,20 @@ fn linked_at(members: &[Element]) -> Linked<'_>
 
 impl<'a> Invoke<'a> {
     /// The Invoke that holds these elements.
-    pub(crate) fn read(members: &'a [Element]) -> Option<Invoke<'a>>
-        ensures some { IfSome result (λ i. IsInvoke (forest_of members.now) i.identifier i.linked
+    pub(crate) fn read(members: &Elements<'a>) -> Option<Invoke<'a>>
+        ensures some { IfSome result (λ i. IsInvoke (lent_trees members.now) i.identifier i.linked
             (code_of i.code) (tree_in i.parameter)) }
         ensures none { IfNone result ((identifier : ℤ) (linked : Option ℤ) (code : CodeValue) (parameter : Option Tree)
-            → IsInvoke (forest_of members.now) identifier linked code parameter → ⊥) }
+            → IsInvoke (lent_trees members.now) identifier linked code parameter → ⊥) }
     {
-        let Some(members) = split_first(members) else {
+        let Some(members) = members.split_first() else {
             return None;
         };
-        let Some(identifier) = identifier_of(members.first) else {
+        let Some(identifier) = identifier_of(&members.first) else {
             return None;
         };
-        let linked = linked_at(members.rest);
-        let Some(operation) = Coded::read(linked.rest) else {
+        let linked = linked_at(&members.rest);
+        let Some(operation) = Coded::read(&linked.rest) else {
             return None;
         };
         Some(Invoke {

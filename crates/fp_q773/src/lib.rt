@@ -9,7 +9,7 @@
 //! * [`Component`] is an Invoke, a ReturnResult, a ReturnError or a Reject, which has a [`Problem`]. What is
 //!   none of these is a faulty component, which tells what a Reject of it has.
 //! * [`OperationClass`] is what the far end reports of an operation.
-//! * [`message_of`] reads a message and borrows all parameters from the element; [`write_message`] puts the
+//! * [`message_in`] reads a message and borrows all parameters from the element; [`write_message`] puts the
 //!   octets of a message into a [`Writer`](fp_ber::Writer).
 //! * [`write_invoke`], [`write_return_error`], [`write_component_portion`], [`write_continue_message`],
 //!   [`write_end_message`] and [`write_abort_message`] put what stands before the octets of their contents, which are
@@ -66,7 +66,7 @@ pub use laws::{
     codes_are_least, components_are_one, identifiers_are_those_of_the_message, ids_are_one,
     messages_are_one, numbers_are_four_octets, written_messages_are_elements,
 };
-pub use message::{Message, message_of, write_message};
+pub use message::{Message, message_in, message_of, write_message};
 pub use operation_class::OperationClass;
 pub use portions::write_component_portion;
 pub use problem::{

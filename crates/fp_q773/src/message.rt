@@ -5,7 +5,8 @@ ghost use Rattle.fp_ber.specs.declared.element.Class.TheVariants as classes;
 ghost use Rattle.fp_ber.specs.Tree as tree;
 ghost use Rattle.fp_ber.specs.Canon.{canon};
 ghost use Rattle.fp_ber.specs.Putting.{EndsWith};
-ghost use Rattle.fp_ber.specs.View.{tree_of, forest_of};
+ghost use Rattle.fp_ber.specs.Lent.{lent_tree, lent_trees};
+ghost use Rattle.fp_ber.specs.View.{tree_of};
 ghost use Rattle.fp_q773.specs.declared.fault.MessageFault.{MessageFault};
 ghost use Rattle.fp_q773.specs.declared.fault.MessageFault.TheVariants as faults;
 ghost use Rattle.fp_q773.specs.Grammar.{IsMessage};
@@ -23,7 +24,7 @@ use crate::begin::{BEGIN, Begin};
 use crate::continuing::{CONTINUE, Continue};
 use crate::end::{END, End};
 use crate::fault::MessageFault;
-use fp_ber::{Class, Element, Writer};
+use fp_ber::{Class, Element, ElementRef, Elements, Writer};
 use std::alloc::{AllocError, Global};
 
 /// The number of the application tag of a Unidirectional.
@@ -45,48 +46,48 @@ pub enum Message<'a> {
 }
 
 /// The message that holds these elements under the tag of a Begin.
-fn begin_in(alloc: Global, members: &[Element]) -> Result<Message<'_>, MessageFault>
+fn begin_in<'a>(alloc: Global, members: &Elements<'a>) -> Result<Message<'a>, MessageFault>
     ensures found { IfOk result (λ message.
-        IsMessage (tree.constructed classes.Application 2 (forest_of members.now)) (message_value message)) }
+        IsMessage (tree.constructed classes.Application 2 (lent_trees members.now)) (message_value message)) }
     ensures named { IfOk result HasNamedProblems }
     ensures fault { IfErr result (λ fault. fault ≢ faults.Memory
-        → IsFault (tree.constructed classes.Application 2 (forest_of members.now)) fault) }
+        → IsFault (tree.constructed classes.Application 2 (lent_trees members.now)) fault) }
 {
     let begin = Begin::read(alloc, members)?;
     Ok(Message::Begin(begin))
 }
 
 /// The message that holds these elements under the tag of an End.
-fn end_in(alloc: Global, members: &[Element]) -> Result<Message<'_>, MessageFault>
+fn end_in<'a>(alloc: Global, members: &Elements<'a>) -> Result<Message<'a>, MessageFault>
     ensures found { IfOk result (λ message.
-        IsMessage (tree.constructed classes.Application 4 (forest_of members.now)) (message_value message)) }
+        IsMessage (tree.constructed classes.Application 4 (lent_trees members.now)) (message_value message)) }
     ensures named { IfOk result HasNamedProblems }
     ensures fault { IfErr result (λ fault. fault ≢ faults.Memory
-        → IsFault (tree.constructed classes.Application 4 (forest_of members.now)) fault) }
+        → IsFault (tree.constructed classes.Application 4 (lent_trees members.now)) fault) }
 {
     let end = End::read(alloc, members)?;
     Ok(Message::End(end))
 }
 
 /// The message that holds these elements under the tag of a Continue.
-fn continue_in(alloc: Global, members: &[Element]) -> Result<Message<'_>, MessageFault>
+fn continue_in<'a>(alloc: Global, members: &Elements<'a>) -> Result<Message<'a>, MessageFault>
     ensures found { IfOk result (λ message.
-        IsMessage (tree.constructed classes.Application 5 (forest_of members.now)) (message_value message)) }
+        IsMessage (tree.constructed classes.Application 5 (lent_trees members.now)) (message_value message)) }
     ensures named { IfOk result HasNamedProblems }
     ensures fault { IfErr result (λ fault. fault ≢ faults.Memory
-        → IsFault (tree.constructed classes.Application 5 (forest_of members.now)) fault) }
+        → IsFault (tree.constructed classes.Application 5 (lent_trees members.now)) fault) }
 {
     let continuing = Continue::read(alloc, members)?;
     Ok(Message::Continue(continuing))
 }
 
 /// The message that holds these elements under the tag of an Abort.
-fn abort_in(members: &[Element]) -> Result<Message<'_>, MessageFault>
+fn abort_in<'a>(members: &Elements<'a>) -> Result<Message<'a>, MessageFault>
     ensures found { IfOk result (λ message.
-        IsMessage (tree.constructed classes.Application 7 (forest_of members.now)) (message_value message)) }
+        IsMessage (tree.constructed classes.Application 7 (lent_trees members.now)) (message_value message)) }
     ensures named { IfOk result HasNamedProblems }
     ensures fault { IfErr result (λ fault. fault ≢ faults.Memory
-        → IsFault (tree.constructed classes.Application 7 (forest_of members.now)) fault) }
+        → IsFault (tree.constructed classes.Application 7 (lent_trees members.now)) fault) }
 {
     let Some(abort) = Abort::read(members) else {
         return Err(MessageFault::Badly);
@@ -95,22 +96,22 @@ fn abort_in(members: &[Element]) -> Result<Message<'_>, MessageFault>
 }
 
 /// The message that an element is.
-fn read_message(alloc: Global, element: &Element) -> Result<Message<'_>, MessageFault>
-    ensures found { IfOk result (λ message. IsMessage (tree_of element.now) (message_value message)) }
+fn read_message<'a>(alloc: Global, element: &ElementRef<'a>) -> Result<Message<'a>, MessageFault>
+    ensures found { IfOk result (λ message. IsMessage (lent_tree element.now) (message_value message)) }
     ensures named { IfOk result HasNamedProblems }
-    ensures fault { IfErr result (λ fault. fault ≢ faults.Memory → IsFault (tree_of element.now) fault) }
+    ensures fault { IfErr result (λ fault. fault ≢ faults.Memory → IsFault (lent_tree element.now) fault) }
 {
     if let Some(members) = element.children_with_tag(Class::Application, BEGIN) {
-        return begin_in(alloc, members);
+        return begin_in(alloc, &members);
     }
     if let Some(members) = element.children_with_tag(Class::Application, CONTINUE) {
-        return continue_in(alloc, members);
+        return continue_in(alloc, &members);
     }
     if let Some(members) = element.children_with_tag(Class::Application, END) {
-        return end_in(alloc, members);
+        return end_in(alloc, &members);
     }
     if let Some(members) = element.children_with_tag(Class::Application, ABORT) {
-        return abort_in(members);
+        return abort_in(&members);
     }
     let Some(_) = element.children_with_tag(Class::Application, UNIDIRECTIONAL) else {
         return Err(MessageFault::UnknownMessage);
@@ -123,6 +124,26 @@ fn read_message(alloc: Global, element: &Element) -> Result<Message<'_>, Message
 /// An element whose tag is that of no message is [`MessageFault::UnknownMessage`]; one whose contents are
 /// not those of its message is [`MessageFault::Badly`]. A component with other contents than its own makes
 /// no fault: it is a faulty component. What a Unidirectional holds isn't looked at.
+pub fn message_in<'a>(alloc: Global, element: &ElementRef<'a>) -> Result<Message<'a>, MessageFault>
+    // What is read is what the element says.
+    ensures found { IfOk result (λ message. IsMessage (lent_tree element.now) (message_value message)) }
+
+    // A problem that has a name goes by it.
+    ensures named { IfOk result HasNamedProblems }
+
+    // What the element says is read, unless memory runs out.
+    ensures only { (value : MessageValue) → IsMessage (lent_tree element.now) value → Reads result value }
+
+    // A fault is the element's.
+    ensures fault { IfErr result (λ fault. fault ≢ faults.Memory → IsFault (lent_tree element.now) fault) }
+
+    // The element's fault is answered, unless memory runs out before it.
+    ensures first { (fault : MessageFault) → IsFault (lent_tree element.now) fault → Refuses result fault }
+{
+    read_message(alloc, element)
+}
+
+/// Reads a message from an element in memory of its own, as [`message_in`] does.
 pub fn message_of(alloc: Global, element: &Element) -> Result<Message<'_>, MessageFault>
     // What is read is what the element says.
     ensures found { IfOk result (λ message. IsMessage (tree_of element.now) (message_value message)) }
@@ -139,7 +160,7 @@ pub fn message_of(alloc: Global, element: &Element) -> Result<Message<'_>, Messa
     // The element's fault is answered, unless memory runs out before it.
     ensures first { (fault : MessageFault) → IsFault (tree_of element.now) fault → Refuses result fault }
 {
-    read_message(alloc, element)
+    message_in(alloc, &ElementRef::Owned(element))
 }
 
 /// Writes a message as [`write_message`] does. If memory runs out, a part of it may be there.

@@ -5,7 +5,7 @@ ghost use Rattle.fp_ber.specs.Canon.{canon_of_all};
 ghost use Rattle.fp_ber.specs.Putting.{EndsWith};
 ghost use Rattle.fp_ber.specs.Tree as tree;
 ghost use Rattle.fp_ber.specs.Tree.{Tree};
-ghost use Rattle.fp_ber.specs.View.{tree_of, forest_of};
+ghost use Rattle.fp_ber.specs.Lent.{lent_tree, lent_trees};
 ghost use Rattle.fp_q773.specs.Value.{ComponentValue};
 ghost use Rattle.fp_q773.specs.View.{component_of, tree_in};
 ghost use Rattle.fp_q773.specs.Fault.{Refused};
@@ -18,8 +18,8 @@ ghost use Rattle.fp_q773.specs.Written.{component_trees, portion_trees, portions
 
 use crate::component::Component;
 use crate::fault::MessageFault;
-use crate::members::{split_first, write_optional};
-use fp_ber::{Class, Element, Writer};
+use crate::members::write_optional;
+use fp_ber::{Class, ElementRef, Elements, Writer};
 use std::alloc::{AllocError, Global};
 
 /// The number of the application tag of a dialogue portion.
@@ -30,28 +30,28 @@ const COMPONENT_PORTION: u16 = 12;
 /// A dialogue portion, if there is one, and components.
 #[derive(Drop)]
 pub struct Portions<'a> {
-    pub dialogue: Option<&'a Element>,
+    pub dialogue: Option<ElementRef<'a>>,
     pub components: Vec<Component<'a>>,
 }
 
 /// A dialogue portion, if there is one, and what follows it.
 #[derive(Clone, Copy)]
 pub struct Dialogue<'a> {
-    pub element: Option<&'a Element>,
-    pub rest: &'a [Element],
+    pub element: Option<ElementRef<'a>>,
+    pub rest: Elements<'a>,
 }
 
 /// Takes off a dialogue portion, if one comes first.
-pub fn dialogue_at(members: &[Element]) -> Dialogue<'_>
-    ensures some { IfSome result.element (λ dialogue. (forest_of members.now ≡ tree.more (tree_of dialogue.now) (forest_of result.rest.now))
-        × IsDialogue (tree_of dialogue.now)) }
-    ensures none { IfNone result.element ((forest_of result.rest.now ≡ forest_of members.now)
-        × ((first : Tree) (rest : tree.Trees) → forest_of members.now ≡ tree.more first rest → IsDialogue first → ⊥)) }
+pub fn dialogue_at<'a>(members: &Elements<'a>) -> Dialogue<'a>
+    ensures some { IfSome result.element (λ dialogue. (lent_trees members.now ≡ tree.more (lent_tree dialogue) (lent_trees result.rest))
+        × IsDialogue (lent_tree dialogue)) }
+    ensures none { IfNone result.element ((lent_trees result.rest ≡ lent_trees members.now)
+        × ((first : Tree) (rest : tree.Trees) → lent_trees members.now ≡ tree.more first rest → IsDialogue first → ⊥)) }
 {
-    let Some(split) = split_first(members) else {
+    let Some(split) = members.split_first() else {
         return Dialogue {
             element: None,
-            rest: members,
+            rest: *members,
         };
     };
     if split
@@ -61,7 +61,7 @@ pub fn dialogue_at(members: &[Element]) -> Dialogue<'_>
     {
         return Dialogue {
             element: None,
-            rest: members,
+            rest: *members,
         };
     }
     Dialogue {
@@ -71,25 +71,30 @@ pub fn dialogue_at(members: &[Element]) -> Dialogue<'_>
 }
 
 /// The components that elements are, in their order.
-fn components_in(alloc: Global, members: &[Element]) -> Result<Vec<Component<'_>>, AllocError>
-    ensures found { IfOk result (λ v. AreComponents (forest_of members.now) (map component_of v.items)) }
+fn components_in<'a>(
+    alloc: Global,
+    members: &Elements<'a>,
+) -> Result<Vec<Component<'a>>, AllocError>
+    ensures found { IfOk result (λ v. AreComponents (lent_trees members.now) (map component_of v.items)) }
     ensures named { IfOk result (λ v. All HasNamedProblem v.items) }
 {
     let mut components = Vec::new(alloc);
-    'members: for member in members {
-        components.push(Component::read(member))?;
+    let mut left = *members;
+    'members: while let Some(split) = left.split_first() {
+        components.push(Component::read(&split.first))?;
+        left = split.rest;
     }
     Ok(components)
 }
 
 /// The components of a component portion, if there is one.
-fn portion_in(alloc: Global, members: &[Element]) -> Result<Vec<Component<'_>>, MessageFault>
-    ensures found { IfOk result (λ v. IsPortion (forest_of members.now) (map component_of v.items)) }
+fn portion_in<'a>(alloc: Global, members: &Elements<'a>) -> Result<Vec<Component<'a>>, MessageFault>
+    ensures found { IfOk result (λ v. IsPortion (lent_trees members.now) (map component_of v.items)) }
     ensures named { IfOk result (λ v. All HasNamedProblem v.items) }
     ensures fault { IfErr result (λ fault. Refused fault ((components : List ComponentValue)
-        → IsPortion (forest_of members.now) components → ⊥)) }
+        → IsPortion (lent_trees members.now) components → ⊥)) }
 {
-    let Some(portion) = split_first(members) else {
+    let Some(portion) = members.split_first() else {
         return Ok(Vec::new(alloc));
     };
     if !portion.rest.is_empty() {
@@ -101,21 +106,21 @@ fn portion_in(alloc: Global, members: &[Element]) -> Result<Vec<Component<'_>>, 
     else {
         return Err(MessageFault::Badly);
     };
-    let components = components_in(alloc, members)?;
+    let components = components_in(alloc, &members)?;
     Ok(components)
 }
 
 impl<'a> Portions<'a> {
     /// The portions that elements are.
-    pub fn read(alloc: Global, members: &'a [Element]) -> Result<Portions<'a>, MessageFault>
-        ensures found { IfOk result (λ p. ArePortions (forest_of members.now) (tree_in p.dialogue)
+    pub fn read(alloc: Global, members: &Elements<'a>) -> Result<Portions<'a>, MessageFault>
+        ensures found { IfOk result (λ p. ArePortions (lent_trees members.now) (tree_in p.dialogue)
             (map component_of p.components.items)) }
         ensures named { IfOk result (λ p. All HasNamedProblem p.components.items) }
         ensures fault { IfErr result (λ fault. Refused fault ((dialogue : Option Tree) (components : List ComponentValue)
-            → ArePortions (forest_of members.now) dialogue components → ⊥)) }
+            → ArePortions (lent_trees members.now) dialogue components → ⊥)) }
     {
         let dialogue = dialogue_at(members);
-        let components = portion_in(alloc, dialogue.rest)?;
+        let components = portion_in(alloc, &dialogue.rest)?;
         Ok(Portions {
             dialogue: dialogue.element,
             components,
@@ -170,7 +175,7 @@ fn write_portion(components: &[Component<'_>], out: &mut Writer) -> Result<(), A
 
 /// Writes the portions of a message.
 pub fn write_portions(
-    dialogue: Option<&Element>,
+    dialogue: Option<ElementRef<'_>>,
     components: &[Component<'_>],
     out: &mut Writer,
 ) -> Result<(), AllocError>

@@ -3,7 +3,7 @@
 ghost use Rattle.std.specs.Prelude.{◌≡◌, ◌++◌, ℤ, Option, IfSome, IfNone, MatchOption, OnOk, OnErr};
 ghost use Rattle.fp_ber.specs.Canon.{canon};
 ghost use Rattle.fp_ber.specs.Putting.{EndsWith};
-ghost use Rattle.fp_ber.specs.View.{tree_of, forest_of};
+ghost use Rattle.fp_ber.specs.Lent.{lent_tree, lent_trees};
 ghost use Rattle.fp_q773.specs.Value.{ProblemValue};
 ghost use Rattle.fp_q773.specs.Problem.{problem_of, IsNamed};
 ghost use Rattle.fp_q773.specs.View.{reject_of};
@@ -11,10 +11,9 @@ ghost use Rattle.fp_q773.specs.Grammar.{IsRejected, IsProblem, IsReject};
 ghost use Rattle.fp_q773.specs.Written.{rejected_tree, problem_tree, component_tree, IsReadBack};
 
 use crate::identifier::{identifier_of, write_identifier};
-use crate::members::split_first;
 use crate::problem::Problem;
 use fp_ber::universal::NULL;
-use fp_ber::{Class, Element, Writer};
+use fp_ber::{Class, ElementRef, Elements, Writer};
 use std::alloc::AllocError;
 
 /// The number of the context tag of a Reject.
@@ -36,9 +35,9 @@ struct Rejected {
 }
 
 /// The identifier of a rejected component that an element is, or null.
-fn rejected_of(element: &Element) -> Option<Rejected>
-    ensures { MatchOption result ((identifier : Option ℤ) → IsRejected (tree_of element.now) identifier → ⊥)
-        (λ r. IsRejected (tree_of element.now) r.identifier) }
+fn rejected_of(element: &ElementRef<'_>) -> Option<Rejected>
+    ensures { MatchOption result ((identifier : Option ℤ) → IsRejected (lent_tree element.now) identifier → ⊥)
+        (λ r. IsRejected (lent_tree element.now) r.identifier) }
 {
     if let Some(octets) = element.octets_with_tag(Class::Universal, NULL) {
         if !octets.is_empty() {
@@ -67,18 +66,18 @@ fn write_rejected(identifier: Option<i8>, out: &mut Writer) -> Result<(), AllocE
 }
 
 /// The problem that an element is.
-fn problem_in(element: &Element) -> Option<Problem>
-    ensures value { MatchOption result ((problem : ProblemValue) → IsProblem (tree_of element.now) problem → ⊥)
-        (λ p. IsProblem (tree_of element.now) (problem_of p)) }
+fn problem_in(element: &ElementRef<'_>) -> Option<Problem>
+    ensures value { MatchOption result ((problem : ProblemValue) → IsProblem (lent_tree element.now) problem → ⊥)
+        (λ p. IsProblem (lent_tree element.now) (problem_of p)) }
     ensures named { IfSome result IsNamed }
 {
-    let Some(octets) = element.octets_with_tag(Class::Context, element.number) else {
+    let Some(octets) = element.octets_with_tag(Class::Context, element.number()) else {
         return None;
     };
     let [code] = octets else {
         return None;
     };
-    Problem::new(element.number, *code)
+    Problem::new(element.number(), *code)
 }
 
 /// Writes a problem.
@@ -92,25 +91,25 @@ fn write_problem(problem: Problem, out: &mut Writer) -> Result<(), AllocError>
 
 impl Reject {
     /// The Reject that holds these elements.
-    pub(crate) fn read(members: &[Element]) -> Option<Reject>
-        ensures some { IfSome result (λ r. IsReject (forest_of members.now) r.identifier (problem_of r.problem)) }
+    pub(crate) fn read(members: &Elements<'_>) -> Option<Reject>
+        ensures some { IfSome result (λ r. IsReject (lent_trees members.now) r.identifier (problem_of r.problem)) }
         ensures none { IfNone result ((identifier : Option ℤ) (problem : ProblemValue)
-            → IsReject (forest_of members.now) identifier problem → ⊥) }
+            → IsReject (lent_trees members.now) identifier problem → ⊥) }
         ensures named { IfSome result (λ r. IsNamed r.problem) }
     {
-        let Some(members) = split_first(members) else {
+        let Some(members) = members.split_first() else {
             return None;
         };
-        let Some(rejected) = rejected_of(members.first) else {
+        let Some(rejected) = rejected_of(&members.first) else {
             return None;
         };
-        let Some(last) = split_first(members.rest) else {
+        let Some(last) = members.rest.split_first() else {
             return None;
         };
         if !last.rest.is_empty() {
             return None;
         }
-        let Some(problem) = problem_in(last.first) else {
+        let Some(problem) = problem_in(&last.first) else {
             return None;
         };
         Some(Reject {

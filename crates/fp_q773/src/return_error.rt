@@ -4,7 +4,7 @@ ghost use Rattle.std.specs.Prelude.{◌≡◌, ◌<◌, ◌≤◌, ◌^◌, ◌+
 ghost use Rattle.fp_ber.specs.Canon.{canon, canon_of_all};
 ghost use Rattle.fp_ber.specs.Putting.{EndsWith};
 ghost use Rattle.fp_ber.specs.Tree.{Tree};
-ghost use Rattle.fp_ber.specs.View.{forest_of};
+ghost use Rattle.fp_ber.specs.Lent.{lent_trees};
 ghost use Rattle.fp_q773.specs.Copied.{ComponentHasTags};
 ghost use Rattle.fp_q773.specs.Room.{component_room};
 ghost use Rattle.fp_q773.specs.Value as value;
@@ -16,8 +16,8 @@ ghost use Rattle.fp_q773.specs.Written.{component_tree, IsReadBack};
 
 use crate::coded::{Code, Coded};
 use crate::identifier::{identifier_of, write_identifier};
-use crate::members::{split_first, write_optional};
-use fp_ber::{Class, Element, Writer};
+use crate::members::write_optional;
+use fp_ber::{Class, ElementRef, Elements, Writer};
 use std::alloc::AllocError;
 
 /// The number of the context tag of a ReturnError.
@@ -31,24 +31,24 @@ pub struct ReturnError<'a> {
     /// The error.
     pub code: Code<'a>,
     /// What is said of the error.
-    pub parameter: Option<&'a Element>,
+    pub parameter: Option<ElementRef<'a>>,
 }
 
 impl<'a> ReturnError<'a> {
     /// The ReturnError that holds these elements.
-    pub(crate) fn read(members: &'a [Element]) -> Option<ReturnError<'a>>
-        ensures some { IfSome result (λ e. IsReturnError (forest_of members.now) e.identifier
+    pub(crate) fn read(members: &Elements<'a>) -> Option<ReturnError<'a>>
+        ensures some { IfSome result (λ e. IsReturnError (lent_trees members.now) e.identifier
             (code_of e.code) (tree_in e.parameter)) }
         ensures none { IfNone result ((identifier : ℤ) (code : CodeValue) (parameter : Option Tree)
-            → IsReturnError (forest_of members.now) identifier code parameter → ⊥) }
+            → IsReturnError (lent_trees members.now) identifier code parameter → ⊥) }
     {
-        let Some(members) = split_first(members) else {
+        let Some(members) = members.split_first() else {
             return None;
         };
-        let Some(identifier) = identifier_of(members.first) else {
+        let Some(identifier) = identifier_of(&members.first) else {
             return None;
         };
-        let Some(error) = Coded::read(members.rest) else {
+        let Some(error) = Coded::read(&members.rest) else {
             return None;
         };
         Some(ReturnError {

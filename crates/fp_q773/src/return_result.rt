@@ -5,7 +5,7 @@ ghost use Rattle.fp_ber.specs.Canon.{canon_of_all};
 ghost use Rattle.fp_ber.specs.Putting.{EndsWith};
 ghost use Rattle.fp_ber.specs.declared.element.Class.TheVariants as classes;
 ghost use Rattle.fp_ber.specs.Tree as tree;
-ghost use Rattle.fp_ber.specs.View.{tree_of, forest_of};
+ghost use Rattle.fp_ber.specs.Lent.{lent_tree, lent_trees};
 ghost use Rattle.fp_q773.specs.Copied.{ResultHasTags};
 ghost use Rattle.fp_q773.specs.Room.{result_room};
 ghost use Rattle.fp_q773.specs.Value.{ResultValue};
@@ -15,9 +15,8 @@ ghost use Rattle.fp_q773.specs.Written.{returned_trees, return_result_trees};
 
 use crate::coded::Coded;
 use crate::identifier::{identifier_of, write_identifier};
-use crate::members::split_first;
 use fp_ber::universal::SEQUENCE;
-use fp_ber::{Class, Element, Writer};
+use fp_ber::{Class, ElementRef, Elements, Writer};
 use std::alloc::AllocError;
 
 /// A ReturnResult: what an operation returns.
@@ -30,33 +29,33 @@ pub struct ReturnResult<'a> {
 }
 
 /// What a sequence of a code and perhaps a parameter returns.
-fn returned_in(sequence: &Element) -> Option<Coded<'_>>
+fn returned_in<'a>(sequence: &ElementRef<'a>) -> Option<Coded<'a>>
     ensures some { IfSome result (λ c. (members : tree.Trees)
-        × (tree_of sequence.now ≡ tree.constructed classes.Universal 16 members)
-        × IsReturned (tree.more (tree_of sequence.now) tree.none) (Some (result_of c))) }
+        × (lent_tree sequence.now ≡ tree.constructed classes.Universal 16 members)
+        × IsReturned (tree.more (lent_tree sequence.now) tree.none) (Some (result_of c))) }
     ensures none { IfNone result ((value : ResultValue)
-        → IsReturned (tree.more (tree_of sequence.now) tree.none) (Some value) → ⊥) }
+        → IsReturned (tree.more (lent_tree sequence.now) tree.none) (Some value) → ⊥) }
 {
     let Some(members) = sequence.children_with_tag(Class::Universal, SEQUENCE) else {
         return None;
     };
-    Coded::read(members)
+    Coded::read(&members)
 }
 
 impl<'a> ReturnResult<'a> {
     /// The ReturnResult that holds these elements.
-    pub(crate) fn read(members: &'a [Element]) -> Option<ReturnResult<'a>>
-        ensures some { IfSome result (λ r. IsReturnResult (forest_of members.now) r.identifier (option_map result_of r.result)) }
+    pub(crate) fn read(members: &Elements<'a>) -> Option<ReturnResult<'a>>
+        ensures some { IfSome result (λ r. IsReturnResult (lent_trees members.now) r.identifier (option_map result_of r.result)) }
         ensures none { IfNone result ((identifier : ℤ) (value : Option ResultValue)
-            → IsReturnResult (forest_of members.now) identifier value → ⊥) }
+            → IsReturnResult (lent_trees members.now) identifier value → ⊥) }
     {
-        let Some(members) = split_first(members) else {
+        let Some(members) = members.split_first() else {
             return None;
         };
-        let Some(identifier) = identifier_of(members.first) else {
+        let Some(identifier) = identifier_of(&members.first) else {
             return None;
         };
-        let Some(last) = split_first(members.rest) else {
+        let Some(last) = members.rest.split_first() else {
             return Some(ReturnResult {
                 identifier,
                 result: None,
@@ -65,7 +64,7 @@ impl<'a> ReturnResult<'a> {
         if !last.rest.is_empty() {
             return None;
         }
-        let Some(returned) = returned_in(last.first) else {
+        let Some(returned) = returned_in(&last.first) else {
             return None;
         };
         Some(ReturnResult {

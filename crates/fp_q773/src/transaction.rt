@@ -6,13 +6,12 @@ ghost use Rattle.fp_ber.specs.Putting.{EndsWith};
 ghost use Rattle.fp_ber.specs.declared.element.Class.TheVariants as classes;
 ghost use Rattle.fp_ber.specs.Tree as tree;
 ghost use Rattle.fp_ber.specs.Tree.{IsTagNumber};
-ghost use Rattle.fp_ber.specs.View.{forest_of};
+ghost use Rattle.fp_ber.specs.Lent.{lent_trees};
 ghost use Rattle.fp_q773.specs.Tid.{octets_of, IsTid};
 ghost use Rattle.fp_q773.specs.Grammar.{IsTransaction};
 
-use crate::members::split_first;
 use crate::tid::Tid;
-use fp_ber::{Class, Element, Writer};
+use fp_ber::{Class, Elements, Writer};
 use std::alloc::AllocError;
 
 /// The number of the application tag of an originating transaction identifier.
@@ -24,16 +23,16 @@ pub const DESTINATION: u16 = 9;
 #[derive(Clone, Copy)]
 pub struct Transaction<'a> {
     pub identifier: Tid,
-    pub rest: &'a [Element],
+    pub rest: Elements<'a>,
 }
 
 /// Takes off the transaction identifier that comes first, with the tag of this number.
-pub fn transaction_at(members: &[Element], number: u16) -> Option<Transaction<'_>>
-    ensures some { IfSome result (λ t. IsTransaction (forest_of members.now) number (octets_of t.identifier) (forest_of t.rest.now)) }
+pub fn transaction_at<'a>(members: &Elements<'a>, number: u16) -> Option<Transaction<'a>>
+    ensures some { IfSome result (λ t. IsTransaction (lent_trees members.now) number (octets_of t.identifier) (lent_trees t.rest)) }
     ensures none { IfNone result ((octets : List ℕ) (rest : tree.Trees)
-        → IsTransaction (forest_of members.now) number octets rest → ⊥) }
+        → IsTransaction (lent_trees members.now) number octets rest → ⊥) }
 {
-    let Some(split) = split_first(members) else {
+    let Some(split) = members.split_first() else {
         return None;
     };
     let Some(octets) = split.first.octets_with_tag(Class::Application, number) else {

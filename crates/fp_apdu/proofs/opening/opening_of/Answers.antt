@@ -1,14 +1,5 @@
-use Rattle.std.proofs.Common.{ap, option_map}
-use Rattle.fp_ber.specs.View.{tree_of}
-use Rattle.fp_apdu.proofs.Requests.{opens_nothing, opens_nothing_without}
+-- An element in memory of its own is lent as it is.
 use Rattle.fp_apdu.proofs.opening.opening_of.Goals as goal
 
-pub returns-in_default-read-clause-only : goal.returns-in_default-read-clause-only
-returns-in_default-read-clause-only c = λ opening h.
-    absurd (opens_nothing _ _ _ (ap (option_map (λ element. tree_of element.now)) c.in-Some.is)
-    (λ apdu version name e aarq. c.in_default-read.ensures apdu e) opening h)
-
-pub returns-in_default-read-2-clause-only : goal.returns-in_default-read-2-clause-only
-returns-in_default-read-2-clause-only c = λ opening h.
-    absurd (opens_nothing_without _ _ _ _ (ap (option_map (λ element. tree_of element.now)) c.in-Some.is) c.in-Some-read.ensures
-    c.in_default-read-2.ensures opening h)
+pub returns-clause-only : goal.returns-clause-only
+returns-clause-only c = rw c.in-Some.is c.opening_in-2.ensures.only

@@ -1,5 +1,6 @@
 -- What stands first is no identifier, or too much stands behind it.
 use Rattle.std.proofs.Common.{rules, tests, subst}
+use Rattle.fp_ber.specs.Lent.{lent_trees}
 use Rattle.fp_q773.specs.Grammar.{IsReturned}
 use Rattle.fp_q773.proofs.Fronts.{no_identifier, rest_same, two_are_not_returned}
 use Rattle.fp_q773.proofs.return_result.ReturnResult.read.Goals as goal
@@ -11,4 +12,4 @@ returns-in_default-identifier_of-clause-none c = λ identifier value h.
 pub returns-then-not-is_empty-clause-none : goal.returns-then-not-is_empty-clause-none
 returns-then-not-is_empty-clause-none c = λ identifier value h.
     let returned = subst (λ ts. IsReturned ts value) (rest_same _ _ _ c.in-Some.ensures h.0 h.1 h.2) h.4 in
-    two_are_not_returned _ _ c.in-Some-split_first.last.rest.now value c.in-Some-split_first.ensures (search (rules, tests)) returned
+    two_are_not_returned _ _ (lent_trees c.in-Some-split_first.last.rest) value c.in-Some-split_first.ensures (search (rules, tests)) returned
