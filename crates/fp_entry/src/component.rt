@@ -9,7 +9,7 @@ ghost use Rattle.fp_entry.specs.Component.{IsEventKind, IsInitialDpKind, IsInvok
 ghost use Rattle.fp_entry.specs.Found.{found};
 
 use crate::{EntryKind, Found, SharedRecord};
-use fp_inap::{InitialDp, Operation, read_event_report, read_initial_dp};
+use fp_inap::{InitialDp, Operation, event_report_in, initial_dp_in};
 use fp_q773::{Code, Component, Invoke, InvokeProblem, Problem, Reject};
 use fp_records::Table;
 use std::alloc::AllocError;
@@ -62,7 +62,7 @@ fn initial_dp_kind(table: &Table, invoke: &Invoke<'_>) -> Result<EntryKind, Allo
     let Some(argument) = invoke.parameter else {
         return Ok(unknown(invoke, InvokeProblem::MistypedParameter));
     };
-    let Ok(dp) = read_initial_dp(argument) else {
+    let Ok(dp) = initial_dp_in(&argument) else {
         return Ok(unknown(invoke, InvokeProblem::MistypedParameter));
     };
     let found = find(table, &dp)?;
@@ -81,7 +81,7 @@ fn event_kind(invoke: &Invoke<'_>) -> EntryKind
     let Some(argument) = invoke.parameter else {
         return unknown(invoke, InvokeProblem::MistypedParameter);
     };
-    let Ok(report) = read_event_report(argument) else {
+    let Ok(report) = event_report_in(&argument) else {
         return unknown(invoke, InvokeProblem::MistypedParameter);
     };
     EntryKind::Event {

@@ -12,7 +12,7 @@ use crate::failure::Failure;
 use crate::fault::Fault;
 use crate::incoming::Incoming;
 use crate::{Entries, Entry, EntryKind};
-use fp_apdu::{Name, opening_of};
+use fp_apdu::{Name, opening_in};
 use fp_digits::Moment;
 use fp_q773::{Abort, Begin, Component, Continue, End, Message};
 use fp_records::Table;
@@ -49,7 +49,7 @@ fn of_begin(
     ensures ok { IfOk result (IsIncoming table.now contexts.now moment (begin_of begin.now)) }
     ensures err { IfErr result (IsMessageFailure contexts.now (begin_of begin.now)) }
 {
-    let Ok(opening) = opening_of(begin.dialogue, contexts) else {
+    let Ok(opening) = opening_in(begin.dialogue, contexts) else {
         return Err(Failure::Refused(Fault::Badly));
     };
     let mut entries = Entries::new(alloc);

@@ -1,10 +1,11 @@
 //! What a frame is prepared to.
 
-ghost use Rattle.std.specs.Prelude.{◌≡◌, ◌≢◌, ℕ, List, IfOk, IfErr, min};
+ghost use Rattle.std.specs.Prelude.{◌≡◌, ◌≢◌, ◌<◌, ◌≤◌, ◌*◌, ℕ, List, IfOk, IfErr, length, min};
 ghost use Rattle.fp_ber.specs.declared.fault.BerFault.TheVariants as ber;
 ghost use Rattle.fp_ber.specs.Faults.{FirstFault};
 ghost use Rattle.fp_ber.specs.Tree.{Tree};
-ghost use Rattle.fp_ber.specs.View.{tree_of};
+ghost use Rattle.fp_ber.specs.Lent.{lent_tree};
+ghost use Rattle.fp_ber.specs.Nodes.{nodes_tree};
 ghost use Rattle.fp_q773.specs.declared.fault.MessageFault.TheVariants as faults;
 ghost use Rattle.fp_q773.specs.Fault.{IsFault};
 ghost use Rattle.fp_q773.specs.Grammar.{IsMessage};
@@ -13,7 +14,7 @@ ghost use Rattle.fp_entry.specs.declared.prepared.Prepared.{Prepared};
 ghost use Rattle.fp_entry.specs.Arrival.{IsArrival};
 ghost use Rattle.fp_entry.specs.Failure.{IsElementFailure, IsFailure};
 ghost use Rattle.fp_entry.specs.Incoming.{IsIncoming};
-ghost use Rattle.fp_entry.specs.Prepared.{Answers, Brings, IsLost, IsPrepared, arrival_of, components_of};
+ghost use Rattle.fp_entry.specs.Prepared.{Answers, Brings, IsElement, IsLost, IsPrepared, arrival_of, components_of};
 
 use crate::arrival::Arrival;
 use crate::failure::Failure;
@@ -22,10 +23,10 @@ use crate::incoming::Incoming;
 use crate::laws::prepared_is_one;
 use crate::message::incoming_of;
 use fp_apdu::Name;
-use fp_ber::{BerFault, Element};
+use fp_ber::{BerFault, ElementRef, Node, NodesFault, read_nodes};
 use fp_digits::Moment;
 use fp_frames::Frame;
-use fp_q773::{MessageFault, message_of};
+use fp_q773::{MessageFault, message_in};
 use fp_records::Table;
 use std::alloc::Global;
 
@@ -84,19 +85,82 @@ fn read_element(
     alloc: Global,
     table: &Table,
     contexts: &[Name],
-    element: &Element,
+    element: &ElementRef<'_>,
     moment: Moment,
 ) -> Result<Incoming, Failure>
-    ensures ok { IfOk result (λ incoming. (message : MessageValue) × IsMessage (tree_of element.now) message
+    ensures ok { IfOk result (λ incoming. (message : MessageValue) × IsMessage (lent_tree element.now) message
         × IsIncoming table.now contexts.now moment message incoming) }
-    ensures err { IfErr result (IsElementFailure contexts.now (tree_of element.now)) }
+    ensures err { IfErr result (IsElementFailure contexts.now (lent_tree element.now)) }
 {
-    let message = match message_of(alloc, element) {
+    let message = match message_in(alloc, element) {
         Ok(message) => message,
         Err(fault) => return Err(of_message_fault(fault)),
     };
     incoming_of(alloc, table, contexts, &message, moment)
 }
+
+/// The message that the element of these nodes is, and what it brings, for all octets that spell that element.
+fn read_placed(
+    alloc: Global,
+    table: &Table,
+    contexts: &[Name],
+    nodes: &[Node<'_>],
+    moment: Moment,
+) -> Result<Incoming, Failure>
+    requires { 0 < length nodes.now }
+    ensures ok { (octets : List ℕ) → IsElement octets (nodes_tree nodes.now)
+        → IfOk result (Brings table.now contexts.now octets moment) }
+    ensures err { (octets : List ℕ) → IsElement octets (nodes_tree nodes.now) → IfErr result (IsFailure contexts.now octets) }
+{
+    let element = ElementRef::of_nodes(nodes);
+    read_element(alloc, table, contexts, &element, moment)
+}
+
+/// The message that octets are, whose nodes are read into these places, and what it brings.
+fn read_into<'a>(
+    alloc: Global,
+    table: &Table,
+    contexts: &[Name],
+    octets: &'a [u8],
+    places: &mut [Node<'a>],
+    moment: Moment,
+) -> Result<Incoming, Failure>
+    requires { length octets.now ≤ 2 * length places.old }
+    ensures ok { IfOk result (Brings table.now contexts.now octets.now moment) }
+    ensures err { IfErr result (IsFailure contexts.now octets.now) }
+{
+    match read_nodes(octets, places) {
+        Ok(used) => read_placed(alloc, table, contexts, &places[..used], moment),
+        Err(NodesFault::Fault(fault)) => Err(of_ber_fault(fault)),
+        Err(NodesFault::Full) => unreachable!(),
+    }
+}
+
+/// The message that octets are, whose nodes are more than a few, and what it brings.
+fn read_long(
+    alloc: Global,
+    table: &Table,
+    contexts: &[Name],
+    octets: &[u8],
+    moment: Moment,
+) -> Result<Incoming, Failure>
+    ensures ok { IfOk result (Brings table.now contexts.now octets.now moment) }
+    ensures err { IfErr result (IsFailure contexts.now octets.now) }
+{
+    // No element has more than one node for two octets.
+    let mut places = vec![in alloc; Node::BLANK; octets.len() / 2 + 1]?;
+    read_into(
+        alloc,
+        table,
+        contexts,
+        octets,
+        places.as_mut_slice(),
+        moment,
+    )
+}
+
+/// How many nodes a message may have without memory for them.
+const FEW: usize = 32;
 
 /// The message that octets are, and what it brings.
 fn read_octets(
@@ -109,11 +173,12 @@ fn read_octets(
     ensures ok { IfOk result (Brings table.now contexts.now octets.now moment) }
     ensures err { IfErr result (IsFailure contexts.now octets.now) }
 {
-    let element = match fp_ber::read(alloc, octets) {
-        Ok(element) => element,
-        Err(fault) => return Err(of_ber_fault(fault)),
-    };
-    read_element(alloc, table, contexts, &element, moment)
+    let mut few = [Node::BLANK; FEW];
+    match read_nodes(octets, &mut few) {
+        Ok(used) => read_placed(alloc, table, contexts, &few[..used], moment),
+        Err(NodesFault::Fault(fault)) => Err(of_ber_fault(fault)),
+        Err(NodesFault::Full) => read_long(alloc, table, contexts, octets, moment),
+    }
 }
 
 /// What a frame that came is prepared to.

@@ -1,9 +1,9 @@
 //! Elements that are read.
 
-use crate::ber::trees::push_tree;
+use crate::ber::trees::{push_lent, push_tree};
 use crate::elements::element_of;
 use cases::{first_word, octets_of};
-use fp_ber::read;
+use fp_ber::{ElementRef, Node, NodesFault, read, read_nodes};
 use std::alloc::Global;
 use std::fmt::Write;
 
@@ -15,10 +15,34 @@ fn push_read(alloc: Global, octets: &[u8], out: &mut String) -> anyhow::Result<(
     }
 }
 
+/// The same, read as nodes.
+fn push_read_nodes(alloc: Global, octets: &[u8], out: &mut String) -> anyhow::Result<()> {
+    let mut places = vec![in alloc; Node::BLANK; octets.len() / 2 + 1]?;
+    match read_nodes(octets, places.as_mut_slice()) {
+        Ok(used) => push_lent(out, &ElementRef::of_nodes(&places.as_slice()[..used])),
+        Err(NodesFault::Fault(fault)) => Ok(write!(out, "{fault:?}")?),
+        Err(NodesFault::Full) => Ok(out.push_str("full")?),
+    }
+}
+
+/// Writes the element that these octets spell, or their first fault. If they are read as something else in nodes, that
+/// follows.
+fn push_both(alloc: Global, octets: &[u8], out: &mut String) -> anyhow::Result<()> {
+    let mut lent = String::new(alloc);
+    push_read_nodes(alloc, octets, &mut lent)?;
+    let mut owned = String::new(alloc);
+    push_read(alloc, octets, &mut owned)?;
+    out.push_str(owned.as_str())?;
+    if lent != owned {
+        write!(out, ", in nodes {lent}")?;
+    }
+    Ok(())
+}
+
 /// The element that these octets spell, or their first fault.
 fn element(alloc: Global, text: &str, out: &mut String) -> anyhow::Result<()> {
     let octets = octets_of(alloc, text)?;
-    push_read(alloc, octets.as_slice(), out)
+    push_both(alloc, octets.as_slice(), out)
 }
 
 /// The same of these octets in as many elements of indefinite length.

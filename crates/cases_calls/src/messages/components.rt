@@ -3,7 +3,7 @@
 use crate::messages::elements::push_optional;
 use crate::messages::problems::push_problem;
 use crate::texts::{push_hexadecimal, push_value};
-use fp_ber::Element;
+use fp_ber::ElementRef;
 use fp_q773::{Code, Coded, Component, Problem};
 use std::fmt::Write;
 
@@ -23,7 +23,7 @@ fn push_code(out: &mut String, code: &Code<'_>) -> anyhow::Result<()> {
 fn push_coded(
     out: &mut String,
     code: &Code<'_>,
-    parameter: Option<&Element>,
+    parameter: Option<ElementRef<'_>>,
 ) -> anyhow::Result<()> {
     push_code(out, code)?;
     out.push_str(", parameter ")?;

@@ -1,7 +1,7 @@
 //! Elements as text: tags and contents, without lengths.
 
 use crate::texts::push_hexadecimal;
-use fp_ber::{Body, Class, Element};
+use fp_ber::{Class, ElementRef, Elements};
 use std::fmt::Write;
 
 /// The bits of a class in the first octet of a tag (X.690, 8.1.2.2).
@@ -25,40 +25,44 @@ fn push_tag(out: &mut String, class: Class, form: u8, number: u16) -> anyhow::Re
 
 /// Writes an element: its tag, and its octets or its elements.
 #[cycle(texts)]
-pub(crate) fn push_element(out: &mut String, element: &Element) -> anyhow::Result<()> {
-    match &element.body {
-        Body::Primitive(octets) => {
-            push_tag(out, element.class, 0x00, element.number)?;
-            out.push_str(":")?;
-            push_hexadecimal(out, octets.as_slice())
-        }
-        Body::Constructed(children) => {
-            push_tag(out, element.class, 0x20, element.number)?;
-            push_elements(out, children.as_slice())
-        }
+pub(crate) fn push_element(out: &mut String, element: &ElementRef<'_>) -> anyhow::Result<()> {
+    if let Some(octets) = element.octets() {
+        push_tag(out, element.class(), 0x00, element.number())?;
+        out.push_str(":")?;
+        push_hexadecimal(out, octets)?;
     }
+    if let Some(children) = element.children() {
+        push_tag(out, element.class(), 0x20, element.number())?;
+        push_elements(out, &children)?;
+    }
+    Ok(())
 }
 
 /// Writes elements, one after another.
 #[cycle(texts)]
-fn push_elements(out: &mut String, elements: &[Element]) -> anyhow::Result<()> {
+fn push_elements(out: &mut String, elements: &Elements<'_>) -> anyhow::Result<()> {
     let mut is_first = true;
     out.push_str("(")?;
-    for element in elements {
+    let mut left = *elements;
+    'elements: while let Some(split) = left.split_first() {
         if !is_first {
             out.push_str(" ")?;
         }
         is_first = false;
-        push_element(out, element)?;
+        push_element(out, &split.first)?;
+        left = split.rest;
     }
     out.push_str(")")?;
     Ok(())
 }
 
 /// Writes an element, or `none`.
-pub(crate) fn push_optional(out: &mut String, element: Option<&Element>) -> anyhow::Result<()> {
+pub(crate) fn push_optional(
+    out: &mut String,
+    element: Option<ElementRef<'_>>,
+) -> anyhow::Result<()> {
     match element {
-        Some(element) => push_element(out, element),
+        Some(element) => push_element(out, &element),
         None => Ok(out.push_str("none")?),
     }
 }

@@ -3,9 +3,9 @@
 use crate::elements::element_of;
 use crate::messages::components::{push_component, push_components};
 use crate::messages::elements::push_optional;
-use cases::push_octets;
-use fp_ber::Element;
-use fp_q773::{Abort, AbortReason, Component, Message, MessageFault, Tid, message_of};
+use cases::{octets_of, push_octets};
+use fp_ber::{ElementRef, Node, read_nodes};
+use fp_q773::{Abort, AbortReason, Component, Message, MessageFault, Tid, message_in, message_of};
 use std::alloc::Global;
 use std::fmt::Write;
 
@@ -18,7 +18,7 @@ fn push_tid(out: &mut String, before: &str, tid: &Tid) -> anyhow::Result<()> {
 /// Writes a dialogue portion and components.
 fn push_portions(
     out: &mut String,
-    dialogue: Option<&Element>,
+    dialogue: Option<ElementRef<'_>>,
     components: &[Component<'_>],
 ) -> anyhow::Result<()> {
     out.push_str(", dialogue ")?;
@@ -33,7 +33,7 @@ fn push_abort(out: &mut String, abort: &Abort<'_>) -> anyhow::Result<()> {
         Some(AbortReason::Provider(cause)) => Ok(write!(out, ", cause {cause}")?),
         Some(AbortReason::User(dialogue)) => {
             out.push_str(", dialogue ")?;
-            push_optional(out, Some(dialogue))
+            push_optional(out, Some(*dialogue))
         }
         None => Ok(out.push_str(", no reason")?),
     }
@@ -71,7 +71,17 @@ fn push_read(out: &mut String, read: &Result<Message<'_>, MessageFault>) -> anyh
 /// The message of these octets.
 pub(crate) fn message(alloc: Global, text: &str, out: &mut String) -> anyhow::Result<()> {
     let element = element_of(alloc, text)?;
-    push_read(out, &message_of(alloc, &element))
+    push_read(out, &message_of(alloc, &element))?;
+    let octets = octets_of(alloc, text)?;
+    let mut places = vec![in alloc; Node::BLANK; octets.len() / 2 + 1]?;
+    let used = read_nodes(octets.as_slice(), places.as_mut_slice())?;
+    let mut lent = String::new(alloc);
+    let nodes = ElementRef::of_nodes(&places.as_slice()[..used]);
+    push_read(&mut lent, &message_in(alloc, &nodes))?;
+    if lent != *out {
+        write!(out, ", in nodes {lent}")?;
+    }
+    Ok(())
 }
 
 /// Writes the one component of a Begin.
@@ -89,7 +99,17 @@ fn push_only_component(out: &mut String, message: &Message<'_>) -> anyhow::Resul
 pub(crate) fn component(alloc: Global, text: &str, out: &mut String) -> anyhow::Result<()> {
     let text = format!(in alloc; "628048012A6C80{text}00000000")?;
     let element = element_of(alloc, text.as_str())?;
-    push_only_component(out, &message_of(alloc, &element)?)
+    push_only_component(out, &message_of(alloc, &element)?)?;
+    let octets = octets_of(alloc, text.as_str())?;
+    let mut places = vec![in alloc; Node::BLANK; octets.len() / 2 + 1]?;
+    let used = read_nodes(octets.as_slice(), places.as_mut_slice())?;
+    let mut lent = String::new(alloc);
+    let nodes = ElementRef::of_nodes(&places.as_slice()[..used]);
+    push_only_component(&mut lent, &message_in(alloc, &nodes)?)?;
+    if lent != *out {
+        write!(out, ", in nodes {lent}")?;
+    }
+    Ok(())
 }
 
 /// Writes the identifier of a component, if it is an Invoke.

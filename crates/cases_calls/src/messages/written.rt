@@ -34,10 +34,10 @@ ghost use Rattle.fp_q773.specs.Writable.{AllWritable, IsWritableDialogue, IsWrit
 
 use crate::elements::{new_writer, push_written};
 use crate::messages::written::components::{components_in, held_of};
-use crate::messages::written::portions::dialogue_of;
+use crate::messages::written::portions::{dialogue_of, lent};
 use crate::values::tid_of;
 use cases::first_word;
-use fp_ber::Element;
+use fp_ber::ElementRef;
 use fp_q773::{Abort, AbortReason, Begin, Component, Continue, End, Message, Tid, write_message};
 use std::alloc::Global;
 
@@ -64,7 +64,7 @@ fn push_message(alloc: Global, message: &Message<'_>, out: &mut String) -> anyho
 fn push_portions(
     alloc: Global,
     frame: Frame,
-    dialogue: Option<&Element>,
+    dialogue: Option<ElementRef<'_>>,
     components: Vec<Component<'_>>,
     out: &mut String,
 ) -> anyhow::Result<()>
@@ -100,7 +100,7 @@ fn push_portions(
 fn push_words(
     alloc: Global,
     frame: Frame,
-    dialogue: Option<&Element>,
+    dialogue: Option<ElementRef<'_>>,
     words: &str,
     out: &mut String,
 ) -> anyhow::Result<()>
@@ -117,7 +117,7 @@ fn push_words(
 fn with_portions(alloc: Global, frame: Frame, text: &str, out: &mut String) -> anyhow::Result<()> {
     let (dialogue, words) = first_word(text);
     let dialogue = dialogue_of(alloc, dialogue)?;
-    push_words(alloc, frame, dialogue.as_ref(), words, out)
+    push_words(alloc, frame, lent(dialogue.as_ref()), words, out)
 }
 
 /// The octets of a Begin.
@@ -181,7 +181,12 @@ fn user_abort(
 ) -> anyhow::Result<()> {
     let dialogue = dialogue_of(alloc, dialogue)?;
     match dialogue.as_ref() {
-        Some(dialogue) => push_abort(alloc, destination, Some(AbortReason::User(dialogue)), out),
+        Some(dialogue) => push_abort(
+            alloc,
+            destination,
+            Some(AbortReason::User(ElementRef::Owned(dialogue))),
+            out,
+        ),
         None => anyhow::bail!("no dialogue portion"),
     }
 }

@@ -9,7 +9,7 @@ ghost use Rattle.fp_q773.specs.View.{code_of, component_of, result_of};
 ghost use Rattle.fp_q773.specs.Writable.{AllWritable, IsWritable};
 
 use crate::messages::problems::problem_of;
-use crate::messages::written::portions::optional_element;
+use crate::messages::written::portions::{lent, optional_element};
 use anyhow::{bail, ensure};
 use fp_ber::Element;
 use fp_q773::{Code, Coded, Component, Invoke, Reject, ReturnError, ReturnResult};
@@ -120,7 +120,7 @@ fn invoke_in<'a>(
         identifier,
         linked,
         code: code_in(held),
-        parameter: held.parameter.as_ref(),
+        parameter: lent(held.parameter.as_ref()),
     }))
 }
 
@@ -155,7 +155,7 @@ fn result_in<'a>(
         identifier,
         result: Some(Coded {
             code: code_in(held),
-            parameter: held.parameter.as_ref(),
+            parameter: lent(held.parameter.as_ref()),
         }),
     })
 }
@@ -170,7 +170,7 @@ fn error_in<'a>(identifier: &str, held: &'a Held<'_>) -> anyhow::Result<Componen
     Ok(Component::ReturnError(ReturnError {
         identifier,
         code: code_in(held),
-        parameter: held.parameter.as_ref(),
+        parameter: lent(held.parameter.as_ref()),
     }))
 }
 

@@ -1,13 +1,14 @@
 //! Elements that a message borrows: dialogue portions and parameters.
 
-ghost use Rattle.std.specs.Prelude.{◌≤◌, IfOk, option_map};
+ghost use Rattle.std.specs.Prelude.{◌≡◌, ◌≤◌, IfOk, option_map};
 ghost use Rattle.fp_ber.specs.View.{tree_of};
 ghost use Rattle.fp_q773.specs.Copied.{CopyHasTags};
 ghost use Rattle.fp_q773.specs.Room.{tree_room};
+ghost use Rattle.fp_q773.specs.View.{tree_in};
 ghost use Rattle.fp_q773.specs.Writable.{IsWritableDialogue};
 
 use anyhow::{bail, ensure};
-use fp_ber::{Class, Element};
+use fp_ber::{Class, Element, ElementRef};
 use std::alloc::Global;
 
 /// The most octets of an element in a case.
@@ -40,4 +41,14 @@ pub(crate) fn dialogue_of(alloc: Global, text: &str) -> anyhow::Result<Option<El
         bail!("{text} is no dialogue portion");
     }
     Ok(Some(element))
+}
+
+/// An element that may be there, lent.
+pub(crate) fn lent(element: Option<&Element>) -> Option<ElementRef<'_>>
+    ensures { tree_in result ≡ option_map (λ element. tree_of element.now) element.entry }
+{
+    let Some(element) = element else {
+        return None;
+    };
+    Some(ElementRef::Owned(element))
 }
