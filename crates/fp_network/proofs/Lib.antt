@@ -1,6 +1,11 @@
+mod Arriving
 mod Changing
 mod Ending
+mod First
+mod Following
 mod Growing
+mod Hearing
 mod Leaves
 mod Ticking
+mod Tied
 mod Waits

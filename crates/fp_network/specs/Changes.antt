@@ -23,10 +23,14 @@ shutting own = record own { course = shut own.course }
 abbrev pub writing : ℕ → Connection → Connection
 writing count own = record own { waiting = drop count own.waiting }
 
--- a message of SCCP waits for it, if it is written and the message fits
+-- a message of SCCP waits for it
+abbrev pub putting : List ℕ → Connection → Connection
+putting octets own = record own { waiting = own.waiting ++ (head_of 253 (length octets) ++ octets) }
+
+-- a message does, if the connection is written and the message fits
 abbrev pub sending_if : Bool → Bool → List ℕ → Connection → Connection
 sending_if fits written octets own =
-    if fits then (if written then record own { waiting = own.waiting ++ (head_of 253 (length octets) ++ octets) } else own) else own
+    if fits then (if written then putting octets own else own) else own
 
 abbrev pub sending : List ℕ → Connection → Connection
 sending octets own = sending_if (nat_le (length octets) 65535) (is_written own.course) octets own

@@ -8,8 +8,8 @@ use Rattle.fp_ipa.specs.declared.connection.Action.TheVariants as actions
 use Rattle.fp_ipa.specs.declared.received.Received.{Received}
 use Rattle.fp_ipa.specs.declared.received.Received.TheVariants as received
 use Rattle.fp_ipa.specs.Connection.{action_for, next}
-use Rattle.fp_network.specs.declared.connection.Arrival.{Arrival}
-use Rattle.fp_network.specs.declared.connection.Arrival.TheVariants as arrivals
+use Rattle.fp_network.specs.declared.arrival.Arrival.{Arrival}
+use Rattle.fp_network.specs.declared.arrival.Arrival.TheVariants as arrivals
 use Rattle.fp_network.specs.declared.event.Closing.{Closing}
 use Rattle.fp_network.specs.declared.event.Closing.TheVariants.{UnknownUnit, OutOfOrder, Draining}
 

@@ -5,8 +5,8 @@ use Rattle.fp_ipa.specs.declared.connection.State.{State}
 use Rattle.fp_ipa.specs.declared.connection.State.TheVariants.{Asked, Named, Active, Closed}
 use Rattle.fp_ipa.specs.declared.connection.Action.{Action}
 use Rattle.fp_ipa.specs.Connection.{sent}
-use Rattle.fp_network.specs.declared.connection.Course.{Course}
-use Rattle.fp_network.specs.declared.connection.Course.TheVariants.{Open, Draining, Shut, Over}
+use Rattle.fp_network.specs.declared.course.Course.{Course}
+use Rattle.fp_network.specs.declared.course.Course.TheVariants.{Open, Draining, Shut, Over}
 use Rattle.fp_network.specs.declared.event.Closing.{Closing}
 use Rattle.fp_network.specs.declared.event.Closing.TheVariants as reasons
 

@@ -1,9 +1,11 @@
 pub mod Changes
 pub mod Connection
 pub mod Course
+pub mod Endings
 pub mod Forwarding
 pub mod Frames
 pub mod Node
+pub mod Receiving
 pub mod Stepping
 pub mod Tally
 pub mod Units

@@ -7,11 +7,11 @@ use Rattle.fp_adaptor.specs.declared.adaptor.HandedOn.{HandedOn}
 use Rattle.fp_adaptor.specs.declared.adaptor.Outcome.{Outcome}
 use Rattle.fp_adaptor.specs.declared.adaptor.Outcome.TheVariants as outcomes
 use Rattle.fp_adaptor.specs.declared.setting.Setting.{Setting}
-use Rattle.fp_adaptor.specs.Adaptor.{Comes, Led}
-use Rattle.fp_adaptor.specs.History.{Event, ended}
+use Rattle.fp_adaptor.specs.Connections.{IsFirst}
+use Rattle.fp_adaptor.specs.History.{Event, connection_after, ended}
 use Rattle.fp_ipa.specs.declared.connection.State.TheVariants.{Asked}
 use Rattle.fp_network.specs.declared.connection.Connection.{Connection}
-use Rattle.fp_network.specs.declared.connection.Course.TheVariants.{Open}
+use Rattle.fp_network.specs.declared.course.Course.TheVariants.{Open}
 use Rattle.fp_network.specs.declared.event.Closing.{Closing}
 use Rattle.fp_network.specs.declared.node.Node.{Node}
 use Rattle.fp_network.specs.declared.plan.Plan.{Plan}
@@ -90,7 +90,7 @@ LeavesOthers place old new = (other : ℕ) → other ≢ place → connection_in
 -- a connection came and got a place that was free; or none is
 abbrev pub Came : ℕ → Node → Node → Option ℕ → Type 0
 Came at old new (Some place) =
-    (is_none (connection_in old place) ≡ true) × IsNew at (connection_in new place) × LeavesOthers place old new
+    IsFree old place × IsNew at (connection_in new place) × LeavesOthers place old new
 Came at old new None = IsFull old × ((place : ℕ) → connection_in new place ≡ connection_in old place)
 
 -- each connection is changed so
@@ -104,12 +104,28 @@ pub record Stays (old new : ℕ → List ℕ) : Type 0 where
 abbrev pub WaitsOn : Node → Node → Type 0
 WaitsOn old new = Stays (waiting_at old) (waiting_at new)
 
--- the octets that come from the link and go to it, the units, and whether the node drains stay the same
+-- the octets that come from the link and go to it, the units, the number of places, and whether the node drains stay the
+-- same
 pub record LeavesLink (old new : Node) : Type 0 where
   pub for_link : new.to_link ≡ old.to_link
   pub from_link : new.from_link ≡ old.from_link
   pub names : new.names.items ≡ old.names.items
   pub draining : new.is_draining ≡ old.is_draining
+  pub count : length new.places.items ≡ length old.places.items
+
+-- The writing side of a connection is to be shut: its node drains, nothing waits for it, and what the link sends goes by
+-- another one.
+abbrev pub IsToShut : Node → List Event → ℕ → Type 0
+IsToShut node history place =
+    (is_draining_at node place ≡ true) × (length (waiting_at node place) ≡ 0)
+    × ((other : ℕ) × (other ≢ place) × IsFirst (connection_after history) (Some other))
+
+-- the octets that come from the link, the units, whether the node drains, and the number of places stay the same
+pub record Keeps (old new : Node) : Type 0 where
+  pub from_link : new.from_link ≡ old.from_link
+  pub names : new.names.items ≡ old.names.items
+  pub draining : new.is_draining ≡ old.is_draining
+  pub count : length new.places.items ≡ length old.places.items
 
 -- a connection that wasn't to be closed already is over
 abbrev pub ended_unless : Bool → ℕ → List Event
@@ -119,12 +135,6 @@ ended_unless false place = ended place ∷ []
 abbrev pub ended_at : Node → Option ℕ → List Event
 ended_at node None = []
 ended_at node (Some place) = ended_unless (is_over_at node place) place
-
--- a connection came for a unit, and after that the one that is to be closed for it is over
-abbrev pub Activates : ℕ → ℕ → Node → Setting → List Event → Node → Type 0
-Activates place unit old setting history new =
-    (closed : Option ℕ) × (more : List Event) × Comes setting history place unit closed more
-    × Led new.adaptor setting (ended_at old closed ++ (more ++ history))
 
 -- the setting of the adaptor of a node
 abbrev pub setting_of : Plan → Setting

@@ -1,5 +1,5 @@
 -- The numbers of connections that were closed, by the reason.
-use Rattle.std.specs.Prelude.{◌≡◌, ℕ, ◌==◌, if◌then◌else◌, List, Some, get_or, slice_get}
+use Rattle.std.specs.Prelude.{◌≡◌, ℕ, ◌==◌, if◌then◌else◌, List, Option, None, Some, get_or, slice_get}
 use Rattle.fp_adaptor.specs.Counted.{one_more}
 use Rattle.fp_network.specs.declared.event.Closing.{Closing}
 use Rattle.fp_network.specs.declared.event.Closing.TheVariants as reasons
@@ -30,3 +30,8 @@ closings_of tally why = get_or tally.closings (place_of why) 0
 -- the number for a reason once a connection is closed for this one
 abbrev pub closed_once_more : Closing → Closing → ℕ → ℕ
 closed_once_more why other count = if place_of other == place_of why then one_more count else count
+
+-- the number for a reason once a connection came: one more was refused if it got no place
+abbrev pub refused_unless : Option ℕ → Closing → ℕ → ℕ
+refused_unless None other count = closed_once_more reasons.TooMany other count
+refused_unless (Some place) other count = count

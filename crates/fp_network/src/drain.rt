@@ -5,7 +5,7 @@ ghost use Rattle.std.specs.Prelude.{◌≡◌};
 use std::sync::atomic::{AtomicBool, Ordering};
 
 /// Whether a node is to drain: it asks the network for no new dialogues from then on, and serves those that are open.
-/// The thread that follows commands and the one that drives the network share it.
+/// The thread that follows commands and the one that reads the link share it.
 #[derive(Drop)]
 pub struct Drain {
     is_set: AtomicBool,

@@ -11,32 +11,32 @@ use std::net::SocketAddr;
 /// Why a connection was closed.
 #[derive(Clone, Copy, Debug, PartialEq, Eq)]
 pub enum Closing {
-    /// Its peer closed it.
+    /// The peer closed the connection.
     PeerClosed,
     /// A read or a write failed.
     Failed,
-    /// Another one came for its unit.
+    /// Another connection came for the unit.
     Replaced,
-    /// It named no unit of the node.
+    /// The peer named no unit of the node.
     UnknownUnit,
-    /// It sent a message that its state doesn't allow.
+    /// The peer sent a message that the state of the connection doesn't allow.
     OutOfOrder,
-    /// It sent a message of more than 4,096 octets.
+    /// The peer sent a message of more than 4,096 octets.
     TooLong,
-    /// It wasn't active within five seconds.
+    /// The connection wasn't active within five seconds.
     Silent,
-    /// Its peer took too little: a megabyte waited for it.
+    /// The peer took too little: a megabyte waited for it.
     Slow,
     /// The node drains.
     Draining,
-    /// 16 others are there.
+    /// Another 16 connections are there.
     TooMany,
     /// The link is down.
     LinkDown,
 }
 
 impl Closing {
-    /// All reasons, in the order in which their numbers are told.
+    /// All reasons, in the order in which their numbers are written.
     pub const ALL: [Closing; Tally::REASONS] = [
         Closing::PeerClosed,
         Closing::Failed,
@@ -51,7 +51,7 @@ impl Closing {
         Closing::LinkDown,
     ];
 
-    /// Its place among the numbers of a [`Tally`].
+    /// The place of a reason among the numbers of a [`Tally`].
     pub(crate) fn place(self) -> usize
         ensures value { result ≡ place_of self }
         ensures range { place_of self < Tally.REASONS }
@@ -71,7 +71,7 @@ impl Closing {
         }
     }
 
-    /// Its word.
+    /// The word for a reason.
     pub(crate) fn word(self) -> &'static str {
         match self {
             Closing::PeerClosed => "peer-closed",
@@ -105,21 +105,21 @@ pub fn reasons_are_listed()
 pub enum NetworkEvent {
     /// A connection came.
     Came {
-        /// Its number.
+        /// The number of the connection.
         connection: u64,
         /// The address of its client.
         peer: SocketAddr,
     },
     /// A connection carries messages for a unit from now on.
     Active {
-        /// Its number.
+        /// The number of the connection.
         connection: u64,
         /// The name of the unit.
         unit: UnitName,
     },
     /// A connection is over.
     Gone {
-        /// Its number.
+        /// The number of the connection.
         connection: u64,
         /// Why.
         why: Closing,
@@ -149,10 +149,4 @@ impl fmt::Display for NetworkEvent {
             NetworkEvent::Counted(tally) => tally.fmt(f),
         }
     }
-}
-
-/// Somebody who is told what happened on a network.
-pub trait Observer {
-    /// Something happened.
-    fn note(&mut self, event: NetworkEvent);
 }

@@ -1,60 +1,40 @@
 //! A node, as its network and its link see it.
+//!
+//! | File | What it has |
+//! |---|---|
+//! | `node.rt` | [`Node`]: its connections as they come and are over |
+//! | `course.rt` | how connections go on to their end: the node drains, time goes by, the link is down |
+//! | `output.rt` | what waits to be written to connections and to the link |
+//! | `receiving.rt` | what comes of the octets of connections |
+//! | `forwarding.rt` | what comes of the octets of the link |
 
-ghost use Rattle.std.specs.Prelude.{◌≡◌, ℕ, List, [], ◌∷◌, ◌++◌, false, true, None, Some, ◌<◌, drop, is_none, nat_le, IfErr, IfOk, IfSome, OnErr, OnOk, MatchOption, length};
-ghost use Rattle.std.specs.Bool.{Decides};
+ghost use Rattle.std.specs.Prelude.{◌≡◌, ℕ, List, [], ◌∷◌, false, true, None, Some, ◌<◌, is_none, IfOk, MatchOption, length};
 ghost use Rattle.std.specs.Option.{option_map};
-ghost use Rattle.fp_adaptor.specs.declared.adaptor.Outcome.{Outcome};
 ghost use Rattle.fp_adaptor.specs.declared.setting.Setting.{Setting};
-ghost use Rattle.fp_adaptor.specs.Adaptor.{Led, Receives};
-ghost use Rattle.fp_adaptor.specs.History.{Event, ended};
-ghost use Rattle.fp_frames.specs.Frame.{framed};
-ghost use Rattle.fp_network.specs.declared.event.Closing.TheVariants.{LinkDown};
-ghost use Rattle.fp_network.specs.Forwarding.{EndsSome, Forwards};
-ghost use Rattle.fp_network.specs.Frames.{frames_of, framed_if};
-ghost use Rattle.fp_network.specs.Changes.{IsLonger, closing, draining, sending, shutting, ticking, writing};
-ghost use Rattle.fp_network.specs.Node.{Activates, Came, ChangesEach, Grows, IsFree, IsFull, LeavesLink, LeavesOthers, WaitsOn, connection_at, connection_in, for_link, frames_for, has_waiting_of, is_draining_at, is_over_at, overdue_of, refusal_of, setting_of, waiting_at};
+ghost use Rattle.fp_adaptor.specs.Adaptor.{Led};
+ghost use Rattle.fp_adaptor.specs.Connections.{IsFirst};
+ghost use Rattle.fp_adaptor.specs.History.{Event, connection_after, ended};
+ghost use Rattle.fp_network.specs.Changes.{closing};
+ghost use Rattle.fp_network.specs.Node.{Came, IsFree, IsFull, LeavesLink, LeavesOthers, connection_at, connection_in, for_link, is_over_at, setting_of};
+ghost use Rattle.fp_network.specs.declared.event.Closing.{Closing};
+ghost use Rattle.fp_network.specs.Tally.{closed_once_more, closings_of, refused_unless};
 ghost use Rattle.fp_network.specs.Units.{own_first};
 
-use crate::connection::{Arrival, Connection};
+mod course;
+mod forwarding;
+mod output;
+mod receiving;
+
+use crate::connection::Connection;
 use crate::plan::own_first;
 use crate::waiting::Waiting;
-use crate::{Closing, NetworkEvent, NetworkFault, Plan, Tally};
-use fp_adaptor::{Adaptor, HandedOn, Outcome, Sending, Setting};
-use fp_frames::{Frame, FrameFault, FrameReader, frame_head};
-use fp_ipa::{IpaFault, IpaMessage, UnitName};
+use crate::{Closing, NetworkEvent, Plan, Tally};
+use fp_adaptor::{Adaptor, Setting};
+use fp_frames::FrameReader;
+use fp_ipa::UnitName;
 use std::alloc::{AllocError, Global};
 use std::collections::VecDeque;
 use std::net::SocketAddr;
-
-/// From how many octets on that wait for the link no connection is read.
-const MANY_FOR_LINK: usize = 65_536;
-
-/// Adds a frame to octets.
-fn push_frame(waiting: &mut Waiting, frame: &Frame) -> Result<(), AllocError>
-    ensures { OnOk result (waiting.new ≡ waiting.old ++ framed frame.now) }
-{
-    let octets = frame.octets();
-    waiting.push(&frame_head(octets.len() as u16))?;
-    waiting.push(octets)
-}
-
-/// Adds a frame to octets, if there is one.
-fn push_frame_if(waiting: &mut Waiting, frame: &Option<Frame>) -> Result<(), AllocError>
-    ensures { OnOk result (waiting.new ≡ waiting.old ++ framed_if frame.now) }
-{
-    let Some(frame) = frame else {
-        return Ok(());
-    };
-    push_frame(waiting, frame)
-}
-
-/// Adds the frames of what an adaptor hands on to octets, in their order.
-fn push_frames(waiting: &mut Waiting, frames: &HandedOn) -> Result<(), AllocError>
-    ensures { OnOk result (waiting.new ≡ waiting.old ++ frames_of frames.now) }
-{
-    push_frame_if(waiting, &frames.abort)?;
-    push_frame(waiting, &frames.message)
-}
 
 /// Places without connections, as many as a node has.
 fn free_places(alloc: Global) -> Result<Vec<Option<Connection>>, AllocError>
@@ -84,7 +64,7 @@ pub struct Node {
     to_link: Waiting,
     is_draining: bool,
     tally: Tally,
-    // What happened and wasn't told.
+    // Events that `next_event` hasn't returned yet.
     news: VecDeque<NetworkEvent>,
 }
 
@@ -122,18 +102,32 @@ impl Node {
         })
     }
 
-    /// Something happened. If memory runs out for it, it isn't told.
+    /// Adds an event to those that `next_event` returns, unless memory runs out for it.
     fn note(&mut self, event: NetworkEvent)
         ensures link { LeavesLink self.old self.new }
         ensures places { self.new.places ≡ self.old.places }
         ensures adaptor { self.new.adaptor ≡ self.old.adaptor }
+        ensures tally { self.new.tally ≡ self.old.tally }
     {
         let _ = self.news.push_back(event);
     }
 
-    /// What happened next, if it wasn't told yet.
-    pub fn next_event(&mut self) -> Option<NetworkEvent> {
+    /// The next event, if there is one that wasn't returned yet.
+    pub fn next_event(&mut self) -> Option<NetworkEvent>
+        ensures link { LeavesLink self.old self.new }
+        ensures places { self.new.places ≡ self.old.places }
+        ensures adaptor { self.new.adaptor ≡ self.old.adaptor }
+        ensures tally { self.new.tally ≡ self.old.tally }
+    {
         self.news.pop_front()
+    }
+
+    /// The place of the connection by which a message of the link goes now.
+    pub fn sends_by(&self) -> Option<usize>
+        ensures { (setting : Setting) (history : List Event) → Led self.now.adaptor setting history
+            → IsFirst (connection_after history) result }
+    {
+        self.adaptor.sends_by()
     }
 
     /// The numbers so far.
@@ -181,6 +175,7 @@ impl Node {
         ensures others { LeavesOthers place self.old self.new }
         ensures link { LeavesLink self.old self.new }
         ensures adaptor { self.new.adaptor ≡ self.old.adaptor }
+        ensures tally { self.new.tally ≡ self.old.tally }
     {
         self.places[place] = Some(connection);
     }
@@ -189,6 +184,8 @@ impl Node {
     /// be closed. `Err`: memory ran out.
     pub fn came(&mut self, peer: SocketAddr, at: u64) -> Result<Option<usize>, AllocError>
         ensures came { IfOk result (Came at self.old self.new) }
+        ensures counted { IfOk result (λ place. (other : Closing) → closings_of self.new.tally other
+            ≡ refused_unless place other (closings_of self.old.tally other)) }
         ensures link { LeavesLink self.old self.new }
         ensures adaptor { self.new.adaptor ≡ self.old.adaptor }
     {
@@ -213,6 +210,8 @@ impl Node {
         ensures link { LeavesLink self.old self.new }
         ensures places { self.new.places ≡ self.old.places }
         ensures adaptor { self.new.adaptor ≡ self.old.adaptor }
+        ensures counted { (other : Closing) → closings_of self.new.tally other
+            ≡ closed_once_more why other (closings_of self.old.tally other) }
     {
         self.tally.closing(why);
         self.note(NetworkEvent::Gone { connection, why });
@@ -226,6 +225,7 @@ impl Node {
         ensures others { LeavesOthers place self.old self.new }
         ensures link { LeavesLink self.old self.new }
         ensures adaptor { self.new.adaptor ≡ self.old.adaptor }
+        ensures tally { self.new.tally ≡ self.old.tally }
         ensures number { MatchOption result (is_over_at self.old place ≡ true)
             (λ number. is_over_at self.old place ≡ false) }
     {
@@ -251,10 +251,14 @@ impl Node {
             ≡ option_map (closing why) (connection_in self.old place) }
         ensures others { LeavesOthers place self.old self.new }
         ensures link { LeavesLink self.old self.new }
-        ensures ended { is_over_at self.old place ≡ false → (setting : Setting) (history : List Event)
-            → Led self.old.adaptor setting history
+        ensures ended { is_over_at self.old place ≡ false
+            → (setting : Setting) (history : List Event) → Led self.old.adaptor setting history
             → Led self.new.adaptor setting (ended place ∷ history) }
         ensures stays { is_over_at self.old place ≡ true → self.new.adaptor ≡ self.old.adaptor }
+        ensures counted { is_over_at self.old place ≡ false → (other : Closing)
+            → closings_of self.new.tally other
+            ≡ closed_once_more why other (closings_of self.old.tally other) }
+        ensures uncounted { is_over_at self.old place ≡ true → self.new.tally ≡ self.old.tally }
     {
         let Some(number) = self.finish(place, why) else {
             return;
@@ -284,467 +288,5 @@ impl Node {
         if place < self.places.len() {
             self.places[place] = None;
         }
-    }
-
-    /// The node drains since this time. If the connection in a place is that of the common unit, its writing side is to be
-    /// shut.
-    fn drain_place(&mut self, place: usize, at: u64)
-        ensures here { connection_in self.new place
-            ≡ option_map (draining (length self.old.names.items) at) (connection_in self.old place) }
-        ensures others { LeavesOthers place self.old self.new }
-        ensures link { LeavesLink self.old self.new }
-        ensures adaptor { self.new.adaptor ≡ self.old.adaptor }
-    {
-        let units = self.names.len();
-        let Some(slot) = self.places.get_mut(place) else {
-            return;
-        };
-        let Some(connection) = slot.as_mut() else {
-            return;
-        };
-        connection.drain(units, at);
-    }
-
-    /// The node drains since this time. The connection of the common unit is to be shut for writing.
-    fn drain_places(&mut self, at: u64)
-        ensures each { ChangesEach (draining (length self.old.names.items) at) self.old self.new }
-        ensures link { LeavesLink self.old self.new }
-        ensures adaptor { self.new.adaptor ≡ self.old.adaptor }
-    {
-        for place in 0..self.places.len() {
-            self.drain_place(place, at);
-        }
-    }
-
-    /// The node is to drain, from this time on, if it doesn't already: no connection is accepted for the common unit, and
-    /// the one that is there is to be shut for writing. What it still brings is taken for two seconds at most.
-    pub fn drain(&mut self, at: u64)
-        ensures drains { self.new.is_draining ≡ true }
-        ensures each { ChangesEach (draining (length self.old.names.items) at) self.old self.new }
-        ensures link { for_link self.new ≡ for_link self.old }
-        ensures from_link { self.new.from_link ≡ self.old.from_link }
-        ensures adaptor { self.new.adaptor ≡ self.old.adaptor }
-    {
-        self.drain_places(at);
-        self.is_draining = true;
-    }
-
-    /// Whether the writing side of the connection in a place is to be shut now: its node drains, nothing waits for it, and
-    /// what the link sends goes by another one.
-    pub fn is_to_shut(&self, place: usize) -> bool
-        ensures idle { result ≡ true → length (waiting_at self.now place) ≡ 0 }
-        ensures drains { result ≡ true → is_draining_at self.now place ≡ true }
-    {
-        let Some(connection) = self.at(place) else {
-            return false;
-        };
-        if !connection.is_draining() {
-            return false;
-        }
-        if !connection.waiting().is_empty() {
-            return false;
-        }
-        match self.adaptor.sends_by() {
-            Some(by) => by != place,
-            None => false,
-        }
-    }
-
-    /// The writing side of the connection in a place was shut, if it was to be. Nothing more is written to it.
-    pub fn shut(&mut self, place: usize)
-        ensures here { connection_in self.new place ≡ option_map shutting (connection_in self.old place) }
-        ensures others { LeavesOthers place self.old self.new }
-        ensures link { LeavesLink self.old self.new }
-        ensures adaptor { self.new.adaptor ≡ self.old.adaptor }
-    {
-        let Some(slot) = self.places.get_mut(place) else {
-            return;
-        };
-        let Some(connection) = slot.as_mut() else {
-            return;
-        };
-        connection.shut();
-    }
-
-    /// Why the connection in a place is to be closed at this time, if time is over for it.
-    fn overdue(&self, place: usize, at: u64) -> Option<Closing>
-        ensures { result ≡ overdue_of at (connection_in self.now place) }
-    {
-        match self.at(place) {
-            Some(connection) => connection.overdue(at),
-            None => None,
-        }
-    }
-
-    /// Time goes by: the connection in a place is to be closed if time is over for it.
-    fn tick_place(&mut self, place: usize, at: u64)
-        ensures here { connection_in self.new place
-            ≡ option_map (ticking at) (connection_in self.old place) }
-        ensures others { LeavesOthers place self.old self.new }
-        ensures link { LeavesLink self.old self.new }
-    {
-        let Some(why) = self.overdue(place, at) else {
-            return;
-        };
-        self.close(place, why);
-    }
-
-    /// Time goes by: connections that aren't active after five seconds are to be closed, and those of a node that drains
-    /// after two.
-    pub fn tick(&mut self, at: u64)
-        ensures each { ChangesEach (ticking at) self.old self.new }
-        ensures link { LeavesLink self.old self.new }
-    {
-        for place in 0..self.places.len() {
-            self.tick_place(place, at);
-        }
-    }
-
-    /// All connections are to be closed, since the link is down.
-    pub fn close_all(&mut self)
-        ensures each { ChangesEach (closing LinkDown) self.old self.new }
-        ensures link { LeavesLink self.old self.new }
-    {
-        for place in 0..self.places.len() {
-            self.close(place, Closing::LinkDown);
-        }
-    }
-
-    /// Octets that wait to be written to the connection in a place.
-    pub fn waiting(&self, place: usize) -> &[u8]
-        ensures { result.now ≡ waiting_at self.now place }
-    {
-        match self.at(place) {
-            Some(connection) => connection.waiting(),
-            None => &[],
-        }
-    }
-
-    /// This number of octets was written to the connection in a place.
-    pub fn written(&mut self, place: usize, count: usize)
-        ensures here { connection_in self.new place
-            ≡ option_map (writing count) (connection_in self.old place) }
-        ensures others { LeavesOthers place self.old self.new }
-        ensures link { LeavesLink self.old self.new }
-        ensures adaptor { self.new.adaptor ≡ self.old.adaptor }
-    {
-        let Some(slot) = self.places.get_mut(place) else {
-            return;
-        };
-        let Some(connection) = slot.as_mut() else {
-            return;
-        };
-        connection.written(count);
-    }
-
-    /// Octets that wait to be written to the link: frames, the first one perhaps in part.
-    pub fn waiting_for_link(&self) -> &[u8]
-        ensures { result.now ≡ for_link self.now }
-    {
-        self.to_link.octets()
-    }
-
-    /// This number of octets was written to the link.
-    pub fn written_to_link(&mut self, count: usize)
-        ensures link { for_link self.new ≡ drop count (for_link self.old) }
-        ensures places { self.new.places ≡ self.old.places }
-        ensures adaptor { self.new.adaptor ≡ self.old.adaptor }
-    {
-        self.to_link.take(count);
-    }
-
-    /// Whether so much waits for the link that connections are to wait.
-    pub fn is_link_busy(&self) -> bool
-        ensures { result ≡ nat_le 65536 (length (for_link self.now)) }
-    {
-        self.to_link.count() >= MANY_FOR_LINK
-    }
-
-    /// Whether something waits to be written to the connection in a place, and it isn't to be closed.
-    fn has_waiting(&self, place: usize) -> bool
-        ensures { result ≡ has_waiting_of (connection_in self.now place) }
-    {
-        if self.is_over(place) {
-            return false;
-        }
-        !self.waiting(place).is_empty()
-    }
-
-    /// Whether nothing waits to be written to any connection that isn't to be closed.
-    pub fn is_quiet(&self) -> bool
-        ensures { Decides result ((place : ℕ) → has_waiting_of (connection_in self.now place) ≡ false) }
-    {
-        for place in 0..self.places.len() {
-            if self.has_waiting(place) {
-                return false;
-            }
-        }
-        true
-    }
-
-    /// A message of SCCP waits to be written to the connection in a place, if there is one that is written.
-    fn send(&mut self, place: usize, octets: &[u8]) -> Result<(), AllocError>
-        ensures here { OnOk result (connection_in self.new place
-            ≡ option_map (sending octets.now) (connection_in self.old place)) }
-        ensures others { LeavesOthers place self.old self.new }
-        ensures link { LeavesLink self.old self.new }
-        ensures adaptor { self.new.adaptor ≡ self.old.adaptor }
-    {
-        let Some(slot) = self.places.get_mut(place) else {
-            return Ok(());
-        };
-        let Some(connection) = slot.as_mut() else {
-            return Ok(());
-        };
-        connection.send(octets)
-    }
-
-    /// Why the connection in a place takes no message of the link, if it doesn't: too much waits for it already, or its
-    /// writing side is shut.
-    fn refusal(&self, place: usize) -> Option<Closing>
-        ensures { result ≡ refusal_of (connection_in self.now place) }
-    {
-        match self.at(place) {
-            Some(connection) => connection.refusal(),
-            None => None,
-        }
-    }
-
-    /// Closes each connection by which the next message of the link would go and that takes none. So it goes by the first one
-    /// that does, or by none.
-    fn make_way(&mut self)
-        ensures ended { (setting : Setting) (history : List Event) → Led self.old.adaptor setting history
-            → EndsSome setting history self.new.adaptor }
-        ensures rest { WaitsOn self.old self.new }
-        ensures link { LeavesLink self.old self.new }
-    {
-        for _ in 0..Node::PLACES {
-            let Some(place) = self.adaptor.sends_by() else {
-                return;
-            };
-            let Some(why) = self.refusal(place) else {
-                return;
-            };
-            self.close(place, why);
-        }
-    }
-
-    /// The connection in a place carries messages for a unit, as its transfer point named it.
-    fn note_active(&mut self, place: usize, unit: usize)
-        ensures link { LeavesLink self.old self.new }
-        ensures places { self.new.places ≡ self.old.places }
-        ensures adaptor { self.new.adaptor ≡ self.old.adaptor }
-    {
-        let Some(connection) = self.at(place) else {
-            return;
-        };
-        let connection = connection.number();
-        if unit < self.names.len() {
-            let unit = self.names[unit];
-            self.note(NetworkEvent::Active { connection, unit });
-        }
-    }
-
-    /// A unit has the connection in a place from now on. The earlier one of the unit is to be closed.
-    fn replace(&mut self, place: usize, unit: usize)
-        ensures came { (setting : Setting) (history : List Event) → Led self.old.adaptor setting history
-            → Activates place unit self.old setting history self.new }
-        ensures rest { WaitsOn self.old self.new }
-        ensures link { LeavesLink self.old self.new }
-    {
-        let Some(earlier) = self.adaptor.came(place, unit) else {
-            return;
-        };
-        self.close(earlier, Closing::Replaced);
-    }
-
-    /// The connection in a place carries messages for a unit from now on. The earlier one of the unit is to be closed.
-    fn activate(&mut self, place: usize, unit: usize)
-        ensures came { (setting : Setting) (history : List Event) → Led self.old.adaptor setting history
-            → Activates place unit self.old setting history self.new }
-        ensures rest { WaitsOn self.old self.new }
-        ensures link { LeavesLink self.old self.new }
-    {
-        self.replace(place, unit);
-        self.note_active(place, unit);
-    }
-
-    /// A message of SCCP came by the connection in a place.
-    fn unit_data(&mut self, place: usize, octets: &[u8]) -> Result<(), AllocError>
-        ensures handed_on { OnOk result ((setting : Setting) (history : List Event) → Led self.old.adaptor setting history
-            → (outcome : Outcome) × (more : List Event) × Receives setting history place octets.now outcome more
-            × (for_link self.new ≡ for_link self.old ++ frames_for outcome)
-            × Led self.new.adaptor setting (more ++ history)) }
-        ensures grows { OnOk result (Grows (for_link self.old) (for_link self.new)) }
-        ensures rest { OnOk result (WaitsOn self.old self.new) }
-    {
-        match self.adaptor.received(place, octets)? {
-            Outcome::HandedOn(frames) => push_frames(&mut self.to_link, &frames),
-            Outcome::Answered(answer) => self.send(place, answer.as_slice()),
-            Outcome::Nothing => Ok(()),
-        }
-    }
-
-    /// The next message of the connection in a place that is there whole, if there is one and it isn't to be closed.
-    fn next_message(&mut self, place: usize) -> Result<Option<IpaMessage>, IpaFault>
-        ensures here { waiting_at self.new place ≡ waiting_at self.old place }
-        ensures others { LeavesOthers place self.old self.new }
-        ensures link { LeavesLink self.old self.new }
-    {
-        if self.is_over(place) {
-            return Ok(None);
-        }
-        let Some(slot) = self.places.get_mut(place) else {
-            return Ok(None);
-        };
-        let Some(connection) = slot.as_mut() else {
-            return Ok(None);
-        };
-        connection.next_message()
-    }
-
-    /// The next message of the connection in a place. If it is too long to be taken, there is none, and the connection is to
-    /// be closed.
-    fn next_or_close(&mut self, place: usize) -> Result<Option<IpaMessage>, AllocError>
-        ensures rest { WaitsOn self.old self.new }
-        ensures link { LeavesLink self.old self.new }
-    {
-        match self.next_message(place) {
-            Ok(message) => Ok(message),
-            Err(IpaFault::TooLong) => {
-                self.close(place, Closing::TooLong);
-                Ok(None)
-            }
-            Err(IpaFault::Memory) => Err(AllocError),
-        }
-    }
-
-    /// What a message of the connection in a place comes to. If too much waits for it already, it is to be closed, since
-    /// the message may have to be answered.
-    fn step(&mut self, place: usize, message: &IpaMessage) -> Result<Arrival, AllocError>
-        ensures here { OnOk result (IsLonger (waiting_at self.old place) (waiting_at self.new place)) }
-        ensures others { LeavesOthers place self.old self.new }
-        ensures link { LeavesLink self.old self.new }
-    {
-        let Some(slot) = self.places.get_mut(place) else {
-            return Ok(Arrival::Nothing);
-        };
-        let Some(connection) = slot.as_mut() else {
-            return Ok(Arrival::Nothing);
-        };
-        let names = self.names.as_slice();
-        let octets = message.octets.as_slice();
-        let arrival = connection.arrival(names, self.is_draining, message.stream, octets)?;
-        Ok(arrival)
-    }
-
-    /// A message of these octets by the connection in a place comes to this.
-    fn arrive(&mut self, place: usize, arrival: Arrival, octets: &[u8]) -> Result<(), AllocError>
-        ensures grows { OnOk result (Grows (for_link self.old) (for_link self.new)) }
-        ensures rest { OnOk result (WaitsOn self.old self.new) }
-    {
-        match arrival {
-            Arrival::Nothing => Ok(()),
-            Arrival::Skipped => {
-                self.tally.skip();
-                Ok(())
-            }
-            Arrival::Active(unit) => {
-                self.activate(place, unit);
-                Ok(())
-            }
-            Arrival::UnitData => self.unit_data(place, octets),
-            Arrival::Close(why) => {
-                self.close(place, why);
-                Ok(())
-            }
-        }
-    }
-
-    /// A message came by the connection in a place.
-    fn take(&mut self, place: usize, message: &IpaMessage) -> Result<(), AllocError>
-        ensures grows { OnOk result (Grows (for_link self.old) (for_link self.new)) }
-        ensures rest { OnOk result (WaitsOn self.old self.new) }
-    {
-        let arrival = self.step(place, message)?;
-        self.arrive(place, arrival, message.octets.as_slice())?;
-        Ok(())
-    }
-
-    /// The connection in a place takes octets of its stream.
-    fn feed(&mut self, place: usize, octets: &[u8]) -> Result<(), AllocError>
-        ensures here { OnOk result (waiting_at self.new place ≡ waiting_at self.old place) }
-        ensures others { LeavesOthers place self.old self.new }
-        ensures link { LeavesLink self.old self.new }
-    {
-        let Some(slot) = self.places.get_mut(place) else {
-            return Ok(());
-        };
-        let Some(connection) = slot.as_mut() else {
-            return Ok(());
-        };
-        connection.feed(octets)?;
-        Ok(())
-    }
-
-    /// Octets came by the connection in a place. `Err`: memory ran out, and the network must end.
-    pub fn received(&mut self, place: usize, octets: &[u8]) -> Result<(), AllocError>
-        ensures grows { OnOk result (Grows (for_link self.old) (for_link self.new)) }
-        ensures rest { OnOk result (WaitsOn self.old self.new) }
-    {
-        self.feed(place, octets)?;
-        for _ in 0..u64::MAX {
-            let Some(message) = self.next_or_close(place)? else {
-                return Ok(());
-            };
-            self.take(place, &message)?;
-        }
-        Ok(())
-    }
-
-    /// A frame came from the link.
-    fn forward(&mut self, frame: &Frame) -> Result<(), AllocError>
-        ensures forwards { OnOk result ((setting : Setting) (history : List Event)
-            → Led self.old.adaptor setting history
-            → Forwards setting history frame.now self.old self.new) }
-        ensures rest { OnOk result (WaitsOn self.old self.new) }
-        ensures link { LeavesLink self.old self.new }
-    {
-        self.make_way();
-        match self.adaptor.send(frame)? {
-            Sending::By(unit_data) => {
-                self.send(unit_data.connection, unit_data.octets.as_slice())?;
-                Ok(())
-            }
-            Sending::NoConnection => Ok(()),
-            Sending::TooLong => Ok(()),
-        }
-    }
-
-    /// The next frame of the link that is there whole, if there is one.
-    fn next_frame(&mut self) -> Result<Option<Frame>, NetworkFault>
-        ensures link { for_link self.new ≡ for_link self.old }
-        ensures places { self.new.places ≡ self.old.places }
-    {
-        match self.from_link.next() {
-            Ok(frame) => Ok(frame),
-            Err(FrameFault::BadFrameLength) => Err(NetworkFault::BadFrames),
-            Err(FrameFault::Memory) => Err(NetworkFault::Memory),
-        }
-    }
-
-    /// Octets came from the link. `Err`: memory ran out, or they are no frames, and the network must end.
-    pub fn received_from_link(&mut self, octets: &[u8]) -> Result<(), NetworkFault>
-        ensures rest { OnOk result (WaitsOn self.old self.new) }
-        ensures link { for_link self.new ≡ for_link self.old }
-    {
-        self.from_link.feed(octets)?;
-        for _ in 0..u64::MAX {
-            let Some(frame) = self.next_frame()? else {
-                return Ok(());
-            };
-            self.forward(&frame)?;
-        }
-        Ok(())
     }
 }

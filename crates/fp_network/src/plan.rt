@@ -1,4 +1,4 @@
-//! What a node is told of its network.
+//! The addresses and the units of a node.
 
 ghost use Rattle.std.specs.Prelude.{◌≡◌, IfOk};
 ghost use Rattle.fp_network.specs.Units.{own_first};

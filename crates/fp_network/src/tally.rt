@@ -9,7 +9,7 @@ use crate::Closing;
 use fp_adaptor::{Adaptor, Counted};
 use std::fmt;
 
-/// The kinds of messages that are counted, in the order in which they are told.
+/// The kinds of messages that are counted, in the order in which they are written.
 const KINDS: [Counted; 10] = [
     Counted::HandedOn,
     Counted::Segment,

@@ -21,7 +21,7 @@ impl Model for Waiting {
 }
 
 impl Waiting {
-    /// None wait. Takes no memory.
+    /// No octets wait. Takes no memory.
     pub(crate) fn new(alloc: Global) -> Waiting
         ensures { result ≡ [] }
     {
@@ -30,7 +30,7 @@ impl Waiting {
         }
     }
 
-    /// These wait too, after the others. `Err`: memory ran out, and nothing changes.
+    /// Adds octets after those that wait. `Err`: memory ran out, and nothing changes.
     pub(crate) fn push(&mut self, octets: &[u8]) -> Result<(), AllocError>
         ensures ok { OnOk result (self.new ≡ self.old ++ octets.now) }
         ensures err { OnErr result (self.new ≡ self.old) }
@@ -38,21 +38,21 @@ impl Waiting {
         self.octets.extend_from_slice(octets)
     }
 
-    /// Those that wait.
+    /// The octets that wait.
     pub(crate) fn octets(&self) -> &[u8]
         ensures { result.now ≡ self.now }
     {
         self.octets.as_slice()
     }
 
-    /// How many wait.
+    /// The number of octets that wait.
     pub(crate) fn count(&self) -> usize
         ensures { result ≡ length self.now }
     {
         self.octets.len()
     }
 
-    /// This number of them was written; all, if fewer wait.
+    /// Removes this number of octets from the front, once they were written; all, if fewer wait.
     pub(crate) fn take(&mut self, count: usize)
         ensures { self.new ≡ drop count self.old }
     {

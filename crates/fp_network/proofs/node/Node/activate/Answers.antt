@@ -2,6 +2,7 @@ use Rattle.std.proofs.Common.{◌++◌, sym, subst}
 use Rattle.fp_adaptor.specs.declared.adaptor.Adaptor.{Adaptor}
 use Rattle.fp_adaptor.specs.Adaptor.{Led}
 use Rattle.fp_network.specs.Node.{ended_at}
+use Rattle.fp_network.proofs.Ending.{closes_as}
 use Rattle.fp_network.proofs.Waits.{stays_more, waits_same}
 use Rattle.fp_network.proofs.node.Node.activate.Goals as goal
 
@@ -12,9 +13,13 @@ returns-clause-came c setting history led =
       r.1,
       r.2,
       subst (λ (own : Adaptor). Led own setting (ended_at c.args.self.now r.0 ++ (r.1 ++ history))) (sym c.note_active.ensures.adaptor) r.3,
+      closes_as _ r.0 _ _ _ c.note_active.ensures.places r.4,
     )
 
 pub returns-clause-rest : goal.returns-clause-rest
 returns-clause-rest c =
     stays_more _ _ _ c.replace.ensures.rest
     (waits_same c.replace.new.self c.note_active.new.self (λ place. rw c.note_active.ensures.places))
+
+pub returns-clause-reads : goal.returns-clause-reads
+returns-clause-reads c = rw c.note_active.ensures.places c.replace.ensures.reads

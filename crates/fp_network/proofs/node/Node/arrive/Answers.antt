@@ -1,4 +1,10 @@
+use Rattle.std.proofs.Common.{[], refl, sym, subst}
+use Rattle.std.proofs.lemmas.Result.{on_ok_weaker}
+use Rattle.fp_network.specs.declared.arrival.Arrival.{Arrival}
+use Rattle.fp_network.specs.Node.{ended_unless, is_over_at}
+use Rattle.fp_network.specs.Receiving.{Results}
 use Rattle.fp_network.proofs.Growing.{grows_none}
+use Rattle.fp_network.proofs.Hearing.{closed_event, reads_closed, results_active}
 use Rattle.fp_network.proofs.Waits.{stays_same, waits_closed}
 use Rattle.fp_network.proofs.node.Node.arrive.Goals as goal
 
@@ -23,3 +29,40 @@ returns-in-Close-clause-grows c = rw c.close.ensures.link.for_link (grows_none _
 pub returns-in-Close-clause-rest : goal.returns-in-Close-clause-rest
 returns-in-Close-clause-rest c =
     waits_closed _ c.args.place c.args.self.now c.close.new.self c.close.ensures.here c.close.ensures.others
+
+pub returns-in-Nothing-clause-comes_to : goal.returns-in-Nothing-clause-comes_to
+returns-in-Nothing-clause-comes_to c =
+    subst (λ (arrival : Arrival). Results c.args.place c.args.octets.now arrival c.args.self.now c.args.self.now) (sym c.in-Nothing.is)
+    (λ setting history led. ([], (refl, refl, refl), led))
+
+pub returns-in-Skipped-clause-comes_to : goal.returns-in-Skipped-clause-comes_to
+returns-in-Skipped-clause-comes_to c setting history led = ([], (rw c.in-Skipped.is (refl, refl, refl)), led)
+
+pub returns-in-Active-clause-comes_to : goal.returns-in-Active-clause-comes_to
+returns-in-Active-clause-comes_to c =
+    subst (λ (arrival : Arrival). Results c.args.place c.args.octets.now arrival c.args.self.now c.activate.new.self) (sym c.in-Active.is)
+    (results_active c.in-Active.unit c.args.place c.args.octets.now c.args.self.now c.activate.new.self c.activate.ensures.link.for_link
+    c.activate.ensures.came)
+
+pub returns-in-UnitData-clause-comes_to : goal.returns-in-UnitData-clause-comes_to
+returns-in-UnitData-clause-comes_to c =
+    on_ok_weaker c.unit_data.result (λ handed_on.
+    subst (λ (arrival : Arrival). Results c.args.place c.args.octets.now arrival c.args.self.now c.unit_data.new.self) (sym c.in-UnitData.is)
+    (λ setting history led.
+    let so = handed_on setting history led in
+    (so.1, (so.0, so.2, so.3, so.5, c.unit_data.ensures.others), so.4)))
+    c.unit_data.ensures.handed_on
+
+pub returns-in-Close-clause-comes_to : goal.returns-in-Close-clause-comes_to
+returns-in-Close-clause-comes_to c =
+    let close = c.close.ensures in
+    subst (λ (arrival : Arrival). Results c.args.place c.args.octets.now arrival c.args.self.now c.close.new.self) (sym c.in-Close.is)
+    (λ setting history led. (
+      ended_unless (is_over_at c.args.self.now c.args.place) c.args.place,
+      (refl, close.link.for_link, (close.here, close.others)),
+      closed_event c.args.place c.args.self.now c.close.new.self setting history close.stays close.ended led,
+    ))
+
+pub returns-in-Close-clause-reads : goal.returns-in-Close-clause-reads
+returns-in-Close-clause-reads c =
+    reads_closed _ c.args.place c.args.place c.args.self.now c.close.new.self c.close.ensures.here c.close.ensures.others

@@ -1,9 +1,14 @@
 use Rattle.fp_network.specs.declared.event.Closing.TheVariants.{LinkDown}
 use Rattle.fp_network.specs.Changes.{closing}
+use Rattle.fp_network.specs.Endings.{EndsClosed}
 use Rattle.fp_network.specs.Node.{LeavesLink}
 use Rattle.fp_network.proofs.Changing.{Changing}
 use Rattle.fp_network.proofs.node.Node.close_all.Given as goal
 
 -- the connections in the places so far are to be closed
 abbrev pub invariant-loop-place : goal.invariant-loop-place
-invariant-loop-place l = Changing (closing LinkDown) l.place l.fn.self l.self × LeavesLink l.fn.self l.self
+invariant-loop-place l = record {
+  so : Changing (closing LinkDown) l.place l.fn.self l.self;
+  ended : EndsClosed l.fn.self l.self;
+  link : LeavesLink l.fn.self l.self;
+}

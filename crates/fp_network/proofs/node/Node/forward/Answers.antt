@@ -3,21 +3,29 @@ use Rattle.fp_adaptor.specs.declared.adaptor.Adaptor.{Adaptor}
 use Rattle.fp_adaptor.specs.declared.adaptor.Sending.TheVariants as sendings
 use Rattle.fp_adaptor.specs.Adaptor.{Led, what_became}
 use Rattle.fp_adaptor.specs.History.{said}
+use Rattle.fp_network.proofs.Tied.{tied_closes}
 use Rattle.fp_network.proofs.Waits.{sending_adds, stays_more, waits_change}
 use Rattle.fp_network.proofs.node.Node.forward.Goals as goal
 
 pub returns-in_ok-send-in-By-clause-forwards : goal.returns-in_ok-send-in-By-clause-forwards
 returns-in_ok-send-in-By-clause-forwards c setting history led =
-    let way = c.make_way.ensures.ended setting history led in
-    let sent = c.in_ok-unit_data.ensures.sent setting (way.0 ++ history) way.2 in
+    let way = c.make_way.ensures.ended in
+    let sent = c.in_ok-unit_data.ensures.sent setting (way.0 ++ history) (way.2 setting history led) in
     let send = c.in_ok-send-in-By.ensures in
     record {
       closed = way.0;
-      are_ended = way.1;
       between = c.make_way.new.self;
+      closes = way.1;
+      refused = c.make_way.ensures.refused;
       rest = c.make_way.ensures.rest;
       sent = sendings.By c.in-By.unit_data;
       sends = (rw c.in-By.is at sent.0);
+      takes = λ units tied.
+          let first = (rw c.in-By.is at sent.0) in (
+            tied_closes c.args.self.now c.make_way.new.self history way.0 way.1 tied first.1.0 c.in-By.unit_data.connection first.1.1,
+            c.make_way.ensures.way setting history (way.0 ++ history) led units tied (way.2 setting history led)
+                c.in-By.unit_data.connection first.1,
+          );
       puts = ((rw c.as_slice.ensures.value at send.here), send.others);
       read = sent.1.0;
       is_read = sent.1.1;
@@ -33,15 +41,17 @@ returns-in_ok-send-in-By-clause-rest c =
 
 pub returns-in-NoConnection-clause-forwards : goal.returns-in-NoConnection-clause-forwards
 returns-in-NoConnection-clause-forwards c setting history led =
-    let way = c.make_way.ensures.ended setting history led in
-    let sent = c.in_ok-unit_data.ensures.sent setting (way.0 ++ history) way.2 in
+    let way = c.make_way.ensures.ended in
+    let sent = c.in_ok-unit_data.ensures.sent setting (way.0 ++ history) (way.2 setting history led) in
     record {
       closed = way.0;
-      are_ended = way.1;
       between = c.make_way.new.self;
+      closes = way.1;
+      refused = c.make_way.ensures.refused;
       rest = c.make_way.ensures.rest;
       sent = sendings.NoConnection;
       sends = (rw c.in-NoConnection.is at sent.0);
+      takes = λ units tied. tt;
       puts = λ place. refl;
       read = sent.1.0;
       is_read = sent.1.1;
@@ -50,15 +60,17 @@ returns-in-NoConnection-clause-forwards c setting history led =
 
 pub returns-in-TooLong-clause-forwards : goal.returns-in-TooLong-clause-forwards
 returns-in-TooLong-clause-forwards c setting history led =
-    let way = c.make_way.ensures.ended setting history led in
-    let sent = c.in_ok-unit_data.ensures.sent setting (way.0 ++ history) way.2 in
+    let way = c.make_way.ensures.ended in
+    let sent = c.in_ok-unit_data.ensures.sent setting (way.0 ++ history) (way.2 setting history led) in
     record {
       closed = way.0;
-      are_ended = way.1;
       between = c.make_way.new.self;
+      closes = way.1;
+      refused = c.make_way.ensures.refused;
       rest = c.make_way.ensures.rest;
       sent = sendings.TooLong;
       sends = (rw c.in-TooLong.is at sent.0);
+      takes = λ units tied. tt;
       puts = λ place. refl;
       read = sent.1.0;
       is_read = sent.1.1;

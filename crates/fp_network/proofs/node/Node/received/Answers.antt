@@ -1,28 +1,73 @@
+use Rattle.std.proofs.Common.{[]}
 use Rattle.fp_network.proofs.Growing.{grows_more, grows_none}
+use Rattle.fp_network.proofs.Hearing.{heard_all, heard_more, same_led}
+use Rattle.fp_network.proofs.Leaves.{keeps_left, keeps_more}
 use Rattle.fp_network.proofs.Waits.{stays_more, waits_same_at}
 use Rattle.fp_network.proofs.node.Node.received.Goals as goal
 
-pub loop-init : goal.loop-init
-loop-init c =
+pub loop-message-init : goal.loop-message-init
+loop-message-init c =
     let feed = c.in_ok-feed.ensures in
     record {
+      so = λ setting history led. record {
+        fed = c.feed.new.self;
+        is_fed = feed.fed;
+        only = record { others = feed.others; link = feed.link; adaptor = feed.adaptor };
+        messages = [];
+        later = history;
+        led = same_led _ _ setting history feed.adaptor led;
+        then = λ new rest each. each;
+      };
       grows = rw feed.link.for_link (grows_none _);
       rest = waits_same_at c.args.place c.args.self.now c.feed.new.self feed.here feed.others;
+      keeps = keeps_left c.args.self.now c.feed.new.self feed.link;
     }
 
--- a message adds whole frames
-pub loop-preserved : goal.loop-preserved
-loop-preserved c =
-    let inv = c.loop.invariant in
+-- a message is dropped in two ways
+pub loop-message-preserved : goal.loop-message-preserved
+loop-message-preserved c =
+    let inv = c.loop-message.invariant in
     let next = c.next_or_close.ensures in
+    let is = rw c.in-Some.is at c.in_ok-message.ensures.next in
     let take = c.in_ok-take.ensures in
     record {
+      so = λ setting history led.
+          heard_more c.args.place c.args.octets.now setting history c.args.self.now c.loop-message.self c.next_or_close.new.self
+          c.take.new.self c.in-Some.message (inv.so setting history led) is (λ before led. take.steps setting before led);
       grows = grows_more _ _ _ inv.grows (rw next.link.for_link at take.grows);
       rest = stays_more _ _ _ inv.rest (stays_more _ _ _ next.rest take.rest);
+      keeps = keeps_more c.args.self.now c.loop-message.self c.take.new.self inv.keeps
+          (keeps_more c.loop-message.self c.next_or_close.new.self c.take.new.self (keeps_left _ _ next.link) c.take.ensures.keeps);
     }
 
+pub loop-message-preserved-in_ok-take : goal.loop-message-preserved-in_ok-take
+loop-message-preserved-in_ok-take c =
+    let inv = c.loop-message.invariant in
+    let next = c.next_or_close.ensures in
+    let is = rw c.in-Some.is at c.in_ok-message.ensures.next in
+    let take = c.in_ok-take.ensures in
+    record {
+      so = λ setting history led.
+          heard_more c.args.place c.args.octets.now setting history c.args.self.now c.loop-message.self c.next_or_close.new.self
+          c.take.new.self c.in-Some.message (inv.so setting history led) is (λ before led. take.steps setting before led);
+      grows = grows_more _ _ _ inv.grows (rw next.link.for_link at take.grows);
+      rest = stays_more _ _ _ inv.rest (stays_more _ _ _ next.rest take.rest);
+      keeps = keeps_more c.args.self.now c.loop-message.self c.take.new.self inv.keeps
+          (keeps_more c.loop-message.self c.next_or_close.new.self c.take.new.self (keeps_left _ _ next.link) c.take.ensures.keeps);
+    }
+
+pub returns-in_default-clause-hears : goal.returns-in_default-clause-hears
+returns-in_default-clause-hears c setting history led =
+    heard_all c.args.place c.args.octets.now setting history c.args.self.now c.loop-message.self c.next_or_close.new.self
+    (c.loop-message.invariant.so setting history led) (rw c.in_default.is at c.in_ok-message.ensures.next)
+
 pub returns-in_default-clause-grows : goal.returns-in_default-clause-grows
-returns-in_default-clause-grows c = rw c.next_or_close.ensures.link.for_link c.loop.invariant.grows
+returns-in_default-clause-grows c = rw c.next_or_close.ensures.link.for_link c.loop-message.invariant.grows
 
 pub returns-in_default-clause-rest : goal.returns-in_default-clause-rest
-returns-in_default-clause-rest c = stays_more _ _ _ c.loop.invariant.rest c.next_or_close.ensures.rest
+returns-in_default-clause-rest c = stays_more _ _ _ c.loop-message.invariant.rest c.next_or_close.ensures.rest
+
+pub returns-in_default-clause-keeps : goal.returns-in_default-clause-keeps
+returns-in_default-clause-keeps c =
+    keeps_more c.args.self.now c.loop-message.self c.next_or_close.new.self c.loop-message.invariant.keeps
+    (keeps_left _ _ c.next_or_close.ensures.link)

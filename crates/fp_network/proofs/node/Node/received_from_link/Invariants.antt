@@ -1,10 +1,9 @@
-use Rattle.std.proofs.Common.{◌≡◌}
-use Rattle.fp_network.specs.Node.{WaitsOn}
+use Rattle.std.proofs.Common.{length}
+use Rattle.fp_network.proofs.Following.{Followed}
 use Rattle.fp_network.proofs.node.Node.received_from_link.Given as goal
 
--- what waits for the link is the same, and what waits for connections stays
-abbrev pub invariant-loop : goal.invariant-loop
-invariant-loop l = record {
-  link : l.self.to_link ≡ l.fn.self.to_link;
-  rest : WaitsOn l.fn.self l.self;
-}
+abbrev pub invariant-loop-frame : goal.invariant-loop-frame
+invariant-loop-frame l = Followed l.fn.self l.octets l.self
+
+abbrev pub decreases-loop-frame : goal.decreases-loop-frame
+decreases-loop-frame l = length l.self.from_link

@@ -1,3 +1,5 @@
+use Rattle.std.proofs.Common.{◌∙◌}
+use Rattle.fp_network.proofs.Hearing.{reads_arrived, same_led}
 use Rattle.fp_network.proofs.Waits.{stays_more, waits_longer_at}
 use Rattle.fp_network.proofs.node.Node.take.Goals as goal
 
@@ -8,3 +10,21 @@ pub returns-clause-rest : goal.returns-clause-rest
 returns-clause-rest c =
     let step = c.in_ok-arrival.ensures in
     stays_more _ _ _ (waits_longer_at c.args.place c.args.self.now c.step.new.self step.here step.others) c.in_ok-arrive.ensures.rest
+
+pub returns-clause-steps : goal.returns-clause-steps
+returns-clause-steps c setting history led =
+    let step = c.in_ok-arrival.ensures in
+    let comes = rw c.as_slice.ensures at c.in_ok-arrive.ensures.comes_to in
+    let so = comes setting history (same_led _ _ setting history step.adaptor led) in
+    record {
+      between = c.step.new.self;
+      arrival = c.in_ok-arrival.arrival;
+      arrives = step.arrives;
+      only = record { others = step.others; link = step.link; adaptor = step.adaptor };
+      more = so.0;
+      comes_to = so.1;
+      led = so.2;
+    }
+
+pub returns-clause-reads : goal.returns-clause-reads
+returns-clause-reads c = c.in_ok-arrive.ensures.reads ∙ reads_arrived _ _ _ _ _ _ _ c.in_ok-arrival.ensures.arrives

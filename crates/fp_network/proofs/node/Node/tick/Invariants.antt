@@ -1,8 +1,13 @@
 use Rattle.fp_network.specs.Changes.{ticking}
+use Rattle.fp_network.specs.Endings.{EndsClosed}
 use Rattle.fp_network.specs.Node.{LeavesLink}
 use Rattle.fp_network.proofs.Changing.{Changing}
 use Rattle.fp_network.proofs.node.Node.tick.Given as goal
 
 -- the connections in the places so far are to be closed if time is over for them
 abbrev pub invariant-loop-place : goal.invariant-loop-place
-invariant-loop-place l = Changing (ticking l.at) l.place l.fn.self l.self × LeavesLink l.fn.self l.self
+invariant-loop-place l = record {
+  so : Changing (ticking l.at) l.place l.fn.self l.self;
+  ended : EndsClosed l.fn.self l.self;
+  link : LeavesLink l.fn.self l.self;
+}

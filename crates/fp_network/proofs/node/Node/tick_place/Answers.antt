@@ -1,4 +1,5 @@
 use Rattle.std.proofs.Common.{sym, ◌∙◌}
+use Rattle.fp_network.proofs.Ending.{closes_none, closes_one}
 use Rattle.fp_network.proofs.Ticking.{ticking_none, ticking_some}
 use Rattle.fp_network.proofs.node.Node.tick_place.Goals as goal
 
@@ -7,3 +8,11 @@ returns-in_default-clause-here c = ticking_none _ _ (sym c.overdue.ensures ∙ c
 
 pub returns-clause-here : goal.returns-clause-here
 returns-clause-here c = c.close.ensures.here ∙ ticking_some _ _ _ (sym c.overdue.ensures ∙ c.in-Some.is)
+
+pub returns-in_default-clause-ended : goal.returns-in_default-clause-ended
+returns-in_default-clause-ended c = closes_none _
+
+pub returns-clause-ended : goal.returns-clause-ended
+returns-clause-ended c =
+    let close = c.close.ensures in
+    closes_one _ _ _ _ close.here close.others close.stays close.ended

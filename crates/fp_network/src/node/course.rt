@@ -1,0 +1,148 @@
+//! How the connections of a node go on to their end: the node drains, time goes by, or the link is down.
+
+ghost use Rattle.std.specs.Prelude.{◌≡◌, List, false, true, None, Some, ◌<◌, length};
+ghost use Rattle.std.specs.Bool.{Decides};
+ghost use Rattle.std.specs.Option.{option_map};
+ghost use Rattle.fp_adaptor.specs.declared.setting.Setting.{Setting};
+ghost use Rattle.fp_adaptor.specs.Adaptor.{Led};
+ghost use Rattle.fp_adaptor.specs.History.{Event};
+ghost use Rattle.fp_network.specs.declared.event.Closing.TheVariants.{LinkDown};
+ghost use Rattle.fp_network.specs.Changes.{closing, draining, shutting, ticking, writing};
+ghost use Rattle.fp_network.specs.Endings.{EndsClosed};
+ghost use Rattle.fp_network.specs.Node.{ChangesEach, IsToShut, LeavesLink, LeavesOthers, connection_in, for_link, is_draining_at, overdue_of, waiting_at};
+
+use crate::{Closing, Node};
+use fp_adaptor::Setting;
+
+impl Node {
+    /// The node drains since this time. If the connection in a place is that of the common unit, its writing side is to be
+    /// shut.
+    fn drain_place(&mut self, place: usize, at: u64)
+        ensures here { connection_in self.new place
+            ≡ option_map (draining (length self.old.names.items) at) (connection_in self.old place) }
+        ensures others { LeavesOthers place self.old self.new }
+        ensures link { LeavesLink self.old self.new }
+        ensures adaptor { self.new.adaptor ≡ self.old.adaptor }
+    {
+        let units = self.names.len();
+        let Some(slot) = self.places.get_mut(place) else {
+            return;
+        };
+        let Some(connection) = slot.as_mut() else {
+            return;
+        };
+        connection.drain(units, at);
+    }
+
+    /// The node drains since this time. The connection of the common unit is to be shut for writing.
+    fn drain_places(&mut self, at: u64)
+        ensures each { ChangesEach (draining (length self.old.names.items) at) self.old self.new }
+        ensures link { LeavesLink self.old self.new }
+        ensures adaptor { self.new.adaptor ≡ self.old.adaptor }
+    {
+        for place in 0..self.places.len() {
+            self.drain_place(place, at);
+        }
+    }
+
+    /// The node is to drain, from this time on, if it doesn't already: no connection is accepted for the common unit, and
+    /// the one that is there is to be shut for writing. What it still brings is taken for two seconds at most.
+    pub fn drain(&mut self, at: u64)
+        ensures drains { self.new.is_draining ≡ true }
+        ensures each { ChangesEach (draining (length self.old.names.items) at) self.old self.new }
+        ensures link { for_link self.new ≡ for_link self.old }
+        ensures from_link { self.new.from_link ≡ self.old.from_link }
+        ensures names { self.new.names.items ≡ self.old.names.items }
+        ensures count { length self.new.places.items ≡ length self.old.places.items }
+        ensures adaptor { self.new.adaptor ≡ self.old.adaptor }
+    {
+        self.drain_places(at);
+        self.is_draining = true;
+    }
+
+    /// Whether the writing side of the connection in a place is to be shut now: its node drains, nothing waits for it, and
+    /// what the link sends goes by another one.
+    pub fn is_to_shut(&self, place: usize) -> bool
+        ensures idle { result ≡ true → length (waiting_at self.now place) ≡ 0 }
+        ensures drains { result ≡ true → is_draining_at self.now place ≡ true }
+        ensures decides { (setting : Setting) (history : List Event)
+            → Led self.now.adaptor setting history → Decides result (IsToShut self.now history place) }
+    {
+        let Some(connection) = self.at(place) else {
+            return false;
+        };
+        if !connection.is_draining() {
+            return false;
+        }
+        if !connection.waiting().is_empty() {
+            return false;
+        }
+        match self.adaptor.sends_by() {
+            Some(by) => by != place,
+            None => false,
+        }
+    }
+
+    /// The writing side of the connection in a place was shut, if it was to be. Nothing more is written to it.
+    pub fn shut(&mut self, place: usize)
+        ensures here { connection_in self.new place ≡ option_map shutting (connection_in self.old place) }
+        ensures others { LeavesOthers place self.old self.new }
+        ensures link { LeavesLink self.old self.new }
+        ensures adaptor { self.new.adaptor ≡ self.old.adaptor }
+    {
+        let Some(slot) = self.places.get_mut(place) else {
+            return;
+        };
+        let Some(connection) = slot.as_mut() else {
+            return;
+        };
+        connection.shut();
+    }
+
+    /// Why the connection in a place is to be closed at this time, if time is over for it.
+    fn overdue(&self, place: usize, at: u64) -> Option<Closing>
+        ensures { result ≡ overdue_of at (connection_in self.now place) }
+    {
+        match self.at(place) {
+            Some(connection) => connection.overdue(at),
+            None => None,
+        }
+    }
+
+    /// Time goes by: the connection in a place is to be closed if time is over for it.
+    fn tick_place(&mut self, place: usize, at: u64)
+        ensures here { connection_in self.new place
+            ≡ option_map (ticking at) (connection_in self.old place) }
+        ensures others { LeavesOthers place self.old self.new }
+        ensures ended { EndsClosed self.old self.new }
+        ensures link { LeavesLink self.old self.new }
+    {
+        let Some(why) = self.overdue(place, at) else {
+            return;
+        };
+        self.close(place, why);
+    }
+
+    /// Time goes by: connections that aren't active after five seconds are to be closed, and the connection of the common
+    /// unit two seconds after its node began to drain.
+    pub fn tick(&mut self, at: u64)
+        ensures each { ChangesEach (ticking at) self.old self.new }
+        ensures ended { EndsClosed self.old self.new }
+        ensures link { LeavesLink self.old self.new }
+    {
+        for place in 0..self.places.len() {
+            self.tick_place(place, at);
+        }
+    }
+
+    /// All connections are to be closed, since the link is down.
+    pub fn close_all(&mut self)
+        ensures each { ChangesEach (closing LinkDown) self.old self.new }
+        ensures ended { EndsClosed self.old self.new }
+        ensures link { LeavesLink self.old self.new }
+    {
+        for place in 0..self.places.len() {
+            self.close(place, Closing::LinkDown);
+        }
+    }
+}

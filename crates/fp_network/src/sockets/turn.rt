@@ -1,0 +1,156 @@
+//! A turn of a node with its sockets: what is accepted, read and written.
+
+use crate::keep_alive::watch_transfer_point;
+use crate::sockets::{End, LISTENER, Sockets};
+use crate::source::{Source, is_again};
+use crate::{Closing, NetworkFault, Node};
+use mio::Events;
+use mio::net::TcpStream;
+use std::alloc::AllocError;
+use std::io;
+use std::io::Read;
+use std::net::SocketAddr;
+
+/// For how many milliseconds at most connections stay once the link is down.
+const MILLISECONDS_TO_END: u64 = 2_000;
+
+impl Sockets {
+    /// The connection in a place, if there is one, is ready for what an event says.
+    fn note_all(&mut self, events: &Events) {
+        for event in events.iter() {
+            let place = usize::from(event.token());
+            if place == LISTENER {
+                if let Some(listener) = &mut self.listener {
+                    listener.note(&event);
+                }
+            }
+            if let Some(slot) = self.streams.get_mut(place) {
+                if let Some(socket) = slot.as_mut() {
+                    socket.note(&event);
+                }
+            }
+        }
+    }
+
+    /// Reads what is ready, by these events and those before, and writes what waits. `Err`: the network must end.
+    fn take_turn(&mut self, events: &Events, room: &mut [u8], at: u64) -> Result<(), NetworkFault> {
+        self.note_all(events);
+        if self.is_to_accept() {
+            self.accept(at)?;
+        } else {
+            self.is_refused = false;
+        }
+        for place in 0..self.used {
+            if self.is_to_read(place) {
+                self.read(place, room)?;
+            }
+        }
+        if self.drain.is_set() {
+            self.node.drain(at);
+        }
+        // Within a millisecond no time goes by.
+        if at > self.looked_at {
+            self.looked_at = at;
+            self.node.tick(at);
+        }
+        self.write_all();
+        self.shut_if_quiet();
+        self.clear_places();
+        self.look_whether_over(at);
+        Ok(())
+    }
+
+    /// Reads what is ready, by these events and those before, and writes what waits. If the system gave no events, or memory
+    /// runs out, the network ends.
+    pub(crate) fn turn(
+        &mut self,
+        answer: io::Result<()>,
+        events: &Events,
+        room: &mut [u8],
+        at: u64,
+    ) {
+        if answer.is_err() {
+            self.fail(NetworkFault::NoReadiness);
+            return;
+        }
+        if let Err(fault) = self.take_turn(events, room, at) {
+            self.fail(fault);
+        }
+    }
+
+    /// Once the link ended: looks whether no connection is left, or two seconds went by.
+    fn look_whether_over(&mut self, at: u64) {
+        let End::Ended(then) = self.end else {
+            return;
+        };
+        let has_none = self.streams.iter().all(|slot| slot.is_none());
+        if has_none || at.saturating_sub(then) >= MILLISECONDS_TO_END {
+            self.end = End::Over;
+        }
+    }
+
+    /// Accepts connections, as long as some wait. If the system refuses one, as without descriptors, the next is accepted
+    /// after a turn.
+    fn accept(&mut self, at: u64) -> Result<(), AllocError> {
+        for _ in 0..Node::PLACES {
+            let Some(listener) = &mut self.listener else {
+                return Ok(());
+            };
+            match listener.stream.accept() {
+                Ok((stream, peer)) => self.came(stream, peer, at)?,
+                Err(error) if is_again(&error) => {
+                    listener.awaits_input(&error);
+                    return Ok(());
+                }
+                Err(_) => {
+                    self.is_refused = true;
+                    return Ok(());
+                }
+            }
+        }
+        Ok(())
+    }
+
+    /// A connection came.
+    fn came(&mut self, stream: TcpStream, peer: SocketAddr, at: u64) -> Result<(), AllocError> {
+        let Some(place) = self.node.came(peer, at)? else {
+            return Ok(());
+        };
+        // Each message goes out at once. If the system refuses that, it goes out all the same.
+        let _ = stream.set_nodelay(true);
+        watch_transfer_point(&stream);
+        if place < self.streams.len() {
+            self.streams[place] = Some(Source::new(stream));
+            self.used = self.used.max(place + 1);
+        }
+        Ok(())
+    }
+
+    /// Reads the connection in a place once.
+    fn read(&mut self, place: usize, room: &mut [u8]) -> Result<(), AllocError> {
+        let Some(slot) = self.streams.get_mut(place) else {
+            return Ok(());
+        };
+        let Some(socket) = slot.as_mut() else {
+            return Ok(());
+        };
+        let most = room.len();
+        let mut stream = &socket.stream;
+        match stream.read(room) {
+            Ok(0) => self.node.close(place, Closing::PeerClosed),
+            Ok(count) => {
+                if count < most {
+                    socket.has_no_more();
+                }
+                // Nothing is made of what comes after the link ended.
+                if self.end == End::Open {
+                    let octets = room.get(..count).unwrap_or_default();
+                    self.node.received(place, octets)?;
+                }
+            }
+            Err(error) if is_again(&error) => socket.awaits_input(&error),
+            Err(_) => self.node.close(place, Closing::Failed),
+        }
+        Ok(())
+    }
+}

@@ -1,0 +1,83 @@
+//! A socket that is waited at.
+
+use mio::event::Event;
+use mio::{Interest, Registry, Token};
+use std::io;
+use std::io::ErrorKind;
+
+/// A socket among the sources of a poll. It is watched for input from when it came, and for room for output only while it had
+/// none for what waits. The system says once that it is ready: so that is noted until a read or a write finds that it isn't any
+/// more.
+#[derive(Drop)]
+pub(crate) struct Source<S: mio::event::Source + Drop> {
+    pub(crate) stream: S,
+    watched: Option<Interest>,
+    // Whether there may be something to be read.
+    pub(crate) has_input: bool,
+    // Whether its peer sends no more, or it failed: a read will say so.
+    is_ended: bool,
+    // Whether it had no room for output that waits.
+    pub(crate) is_full: bool,
+}
+
+impl<S: mio::event::Source + Drop> Source<S> {
+    /// A socket that isn't watched yet.
+    pub(crate) fn new(stream: S) -> Source<S> {
+        Source {
+            stream,
+            watched: None,
+            has_input: false,
+            is_ended: false,
+            is_full: false,
+        }
+    }
+
+    /// What is to be known of it.
+    fn wanted(&self) -> Interest {
+        if self.is_full {
+            Interest::READABLE | Interest::WRITABLE
+        } else {
+            Interest::READABLE
+        }
+    }
+
+    /// Watches it for what is to be known of it. `false`: the system refuses.
+    pub(crate) fn watch(&mut self, registry: &Registry, place: usize) -> bool {
+        let wanted = self.wanted();
+        if self.watched == Some(wanted) {
+            return true;
+        }
+        let answer = if self.watched.is_some() {
+            registry.reregister(&mut self.stream, Token(place), wanted)
+        } else {
+            registry.register(&mut self.stream, Token(place), wanted)
+        };
+        self.watched = Some(wanted);
+        answer.is_ok()
+    }
+
+    /// The source is ready for what an event says.
+    pub(crate) fn note(&mut self, event: &Event) {
+        self.has_input |= event.is_readable() || event.is_read_closed() || event.is_error();
+        self.is_ended |= event.is_read_closed() || event.is_error();
+        self.is_full &= !event.is_writable();
+    }
+
+    /// A read gave less than it had room for, so that nothing more is there, unless its peer ended.
+    pub(crate) fn has_no_more(&mut self) {
+        self.has_input = self.is_ended;
+    }
+
+    /// A read failed that is to be made again once there is input, or, if a signal ended it, at once.
+    pub(crate) fn awaits_input(&mut self, error: &io::Error) {
+        self.has_input = matches!(error.kind(), ErrorKind::Interrupted);
+    }
+}
+
+/// Whether a call that failed is to be made again once the socket is ready.
+pub(crate) fn is_again(error: &io::Error) -> bool {
+    match error.kind() {
+        ErrorKind::WouldBlock | ErrorKind::Interrupted => true,
+        _ => false,
+    }
+}
