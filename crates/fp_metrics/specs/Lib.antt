@@ -1,5 +1,6 @@
 pub mod Answer
 pub mod Gauge
+pub mod Number
 pub mod Series
 pub mod Text
 pub mod Times

@@ -82,11 +82,11 @@ front_of counters.EndLimit = codes "freephone_scp_link_ends_total{reason=\"limit
 front_of counters.EndQuit = codes "freephone_scp_link_ends_total{reason=\"quit\",link=\""
 
 abbrev pub heading_of : Counter → List ℕ
-heading_of counters.Begins = codes "# HELP freephone_scp_messages_total Messages that came, by kind.\n# TYPE freephone_scp_messages_total counter\n"
+heading_of counters.Begins = codes "# HELP freephone_scp_messages_total Messages that came, by kind, but for those that were dropped at the end of the run or whose log lines were lost.\n# TYPE freephone_scp_messages_total counter\n"
 heading_of counters.Opened = codes "# HELP freephone_scp_message_results_total Messages that came and for which no Abort of the provider was to be sent, by what became of them.\n# TYPE freephone_scp_message_results_total counter\n"
 heading_of counters.RefusedUnknownMessage = codes "# HELP freephone_scp_messages_refused_total Messages that were refused, for which an Abort of the provider was to be sent, by its cause (Q.773).\n# TYPE freephone_scp_messages_refused_total counter\n"
 heading_of counters.OutOfMemory = codes "# HELP freephone_scp_messages_out_of_memory_total Messages for which memory ran out.\n# TYPE freephone_scp_messages_out_of_memory_total counter\n"
-heading_of counters.EndedByPeer = codes "# HELP freephone_scp_dialogues_ended_by_peer_total Dialogues that an End or an Abort of the peer ended.\n# TYPE freephone_scp_dialogues_ended_by_peer_total counter\n"
+heading_of counters.EndedByPeer = codes "# HELP freephone_scp_dialogues_ended_by_peer_total End and Abort messages that a dialogue accepted.\n# TYPE freephone_scp_dialogues_ended_by_peer_total counter\n"
 heading_of counters.ClockEntries = codes "# HELP freephone_scp_clock_entries_total Dialogues that were due at a tick of the clock and were given its entry.\n# TYPE freephone_scp_clock_entries_total counter\n"
 heading_of counters.ClockEntriesLeftOut = codes "# HELP freephone_scp_clock_entries_left_out_total Dialogues that were due and for which memory ran out.\n# TYPE freephone_scp_clock_entries_left_out_total counter\n"
 heading_of counters.TurnsTaken = codes "# HELP freephone_scp_turns_taken_total Turns that were taken, to be served.\n# TYPE freephone_scp_turns_taken_total counter\n"
@@ -96,7 +96,7 @@ heading_of counters.RequestsQueued = codes "# HELP freephone_scp_requests_total 
 heading_of counters.FramesSent = codes "# HELP freephone_scp_frames_total Frames of requests and Aborts of the provider, by what became of them.\n# TYPE freephone_scp_frames_total counter\n"
 heading_of counters.LinesLost = codes "# HELP freephone_scp_log_lines_lost_total Log lines that found no place. What their steps would count is missing in all other numbers.\n# TYPE freephone_scp_log_lines_lost_total counter\n"
 heading_of counters.SentContinue = codes "# HELP freephone_scp_messages_sent_total Messages of the service that were sent, by kind.\n# TYPE freephone_scp_messages_sent_total counter\n"
-heading_of counters.EndedByService = codes "# HELP freephone_scp_dialogues_ended_by_service_total Dialogues that an End or an Abort of the service ended.\n# TYPE freephone_scp_dialogues_ended_by_service_total counter\n"
+heading_of counters.EndedByService = codes "# HELP freephone_scp_dialogues_ended_by_service_total End messages and Aborts by the user that were sent.\n# TYPE freephone_scp_dialogues_ended_by_service_total counter\n"
 heading_of counters.SentUnknownMessage = codes "# HELP freephone_scp_aborts_sent_total Aborts of the provider that were sent, by cause (Q.773).\n# TYPE freephone_scp_aborts_sent_total counter\n"
 heading_of counters.Connect = codes "# HELP freephone_scp_answers_total Components that were sent, by operation, error or problem, and its cause.\n# TYPE freephone_scp_answers_total counter\n"
 heading_of counters.HeldBack = codes "# HELP freephone_scp_messages_held_back_total Messages that were held back.\n# TYPE freephone_scp_messages_held_back_total counter\n"

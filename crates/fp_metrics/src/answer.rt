@@ -1,27 +1,29 @@
 //! What a request gets.
 
 ghost use Rattle.std.specs.Prelude.{◌≡◌};
-ghost use Rattle.fp_metrics.specs.Answer.{answer_at, answer_to, status_of, text_of, well_if};
+ghost use Rattle.fp_metrics.specs.Answer.{answer_at, answer_to, content_of, status_of, text_of, well_if};
 
-use http::StatusCode;
+use http::{HeaderValue, StatusCode};
 
 /// How a run is.
 #[derive(Clone, Copy, Debug, PartialEq, Eq)]
 pub struct Health {
     /// The clocks of its links and the thread that writes its log move.
     pub is_live: bool,
-    /// A link is up, and the run isn't about to end.
+    /// A link is up, a node is connected, if the run is one, and the run isn't about to end.
     pub is_ready: bool,
 }
 
 /// What a request gets.
 #[derive(Clone, Copy, Debug, PartialEq, Eq)]
 pub enum Answer {
+    /// The page for a browser.
+    Page,
     /// The numbers.
     Metrics,
     /// The run is as it should be.
     Well,
-    /// It isn't.
+    /// The run isn't as it should be.
     Unwell,
     /// No page is there.
     NotFound,
@@ -29,11 +31,12 @@ pub enum Answer {
     NotAllowed,
 }
 
-/// What a page says of a run, `None` if there is no such page.
+/// What the page at this path says of a run.
 fn answer_at(path: &str, health: Health) -> Answer
     ensures { result ≡ answer_at path.now health }
 {
     match path {
+        "/" => Answer::Page,
         "/metrics" => Answer::Metrics,
         "/live" => Answer::well_if(health.is_live),
         "/ready" => Answer::well_if(health.is_ready),
@@ -73,18 +76,29 @@ impl Answer {
         ensures { result ≡ status_of self }
     {
         match self {
-            Answer::Metrics | Answer::Well => StatusCode::OK,
+            Answer::Page | Answer::Metrics | Answer::Well => StatusCode::OK,
             Answer::Unwell => StatusCode::SERVICE_UNAVAILABLE,
             Answer::NotFound => StatusCode::NOT_FOUND,
             Answer::NotAllowed => StatusCode::METHOD_NOT_ALLOWED,
         }
     }
 
-    /// The body, `metrics` being the numbers.
-    pub fn body(self, metrics: &str) -> &str
-        ensures { result.now ≡ text_of self metrics.now }
+    /// The type of the body.
+    pub(crate) fn content(self) -> HeaderValue
+        ensures { result.bytes ≡ content_of self }
     {
         match self {
+            Answer::Page => HeaderValue::from_static("text/html; charset=utf-8"),
+            _ => HeaderValue::from_static("text/plain; version=0.0.4"),
+        }
+    }
+
+    /// The body, these being the page and the numbers.
+    pub fn body<'a>(self, page: &'a str, metrics: &'a str) -> &'a str
+        ensures { result.now ≡ text_of self page.now metrics.now }
+    {
+        match self {
+            Answer::Page => page,
             Answer::Metrics => metrics,
             Answer::Well => "ok\n",
             Answer::Unwell => "not ok\n",

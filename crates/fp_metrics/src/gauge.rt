@@ -81,13 +81,13 @@ impl Gauge {
                 "# HELP freephone_scp_dialogues Dialogues that the link holds.\n# TYPE freephone_scp_dialogues gauge\n"
             }
             Gauge::MostDialogues => {
-                "# HELP freephone_scp_dialogues_most The most dialogues that the link held.\n# TYPE freephone_scp_dialogues_most gauge\n"
+                "# HELP freephone_scp_dialogues_most The most dialogues that the link was seen to hold.\n# TYPE freephone_scp_dialogues_most gauge\n"
             }
             Gauge::Lines => {
-                "# HELP freephone_scp_log_lines_waiting Log lines of the link that aren't written yet.\n# TYPE freephone_scp_log_lines_waiting gauge\n"
+                "# HELP freephone_scp_log_lines_waiting Log lines that left the book of the link and aren't written yet.\n# TYPE freephone_scp_log_lines_waiting gauge\n"
             }
             Gauge::MostLines => {
-                "# HELP freephone_scp_log_lines_waiting_most The most log lines of the link that weren't written.\n# TYPE freephone_scp_log_lines_waiting_most gauge\n"
+                "# HELP freephone_scp_log_lines_waiting_most The most of them that were seen.\n# TYPE freephone_scp_log_lines_waiting_most gauge\n"
             }
         }
     }

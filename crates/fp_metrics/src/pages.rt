@@ -15,6 +15,8 @@ use std::alloc::AllocError;
 /// The pages of a run: its numbers, and how it is.
 #[derive(Drop)]
 pub struct Pages<'a> {
+    /// The page for a browser, as an HTML text.
+    pub page: &'a str,
     /// The numbers, as a text.
     pub metrics: &'a str,
     /// How the run is.
@@ -22,17 +24,23 @@ pub struct Pages<'a> {
 }
 
 /// Fills a response with an answer.
-fn fill(answer: Answer, metrics: &str, response: &mut Response) -> Result<(), AllocError>
+fn fill(
+    answer: Answer,
+    page: &str,
+    metrics: &str,
+    response: &mut Response,
+) -> Result<(), AllocError>
     requires { IsBlank response.old }
-    ensures { OnOk result (IsResponse (status_of answer) (fields_for answer) (text_of answer metrics.now) response.new) }
+    ensures { OnOk result (IsResponse (status_of answer) (fields_for answer) (text_of answer page.now metrics.now) response.new) }
 {
     response.status = answer.status();
-    let content = HeaderValue::from_static("text/plain; version=0.0.4");
-    response.add_header(header::CONTENT_TYPE, content)?;
+    response.add_header(header::CONTENT_TYPE, answer.content())?;
     if answer == Answer::NotAllowed {
         response.add_header(header::ALLOW, HeaderValue::from_static("GET, HEAD"))?;
     }
-    response.body.put_slice(answer.body(metrics).as_bytes())?;
+    response
+        .body
+        .put_slice(answer.body(page, metrics).as_bytes())?;
     Ok(())
 }
 
@@ -43,11 +51,11 @@ impl Service for Pages<'_> {
     ghost use Rattle.http_uri.specs.Uri.{uri_path};
     ghost use Rattle.fp_metrics.specs.Answer.{answer_to, fields_for, status_of, text_of};
 
-    // The answer goes by the method and the path alone, and changes nothing.
+    // The answer goes by the method, the path, the health and the numbers, and changes nothing.
     ghost answers = { λ old request response new.
         IsResponse (status_of (answer_to (head_of request).method (uri_path (head_of request).uri) old.health))
         (fields_for (answer_to (head_of request).method (uri_path (head_of request).uri) old.health))
-        (text_of (answer_to (head_of request).method (uri_path (head_of request).uri) old.health) old.metrics.now)
+        (text_of (answer_to (head_of request).method (uri_path (head_of request).uri) old.health) old.page.now old.metrics.now)
         response
         × (new ≡ old) };
 
@@ -57,6 +65,6 @@ impl Service for Pages<'_> {
         response: &mut Response,
     ) -> Result<(), AllocError> {
         let answer = answer_to(request.method().as_str(), request.uri().path(), self.health);
-        fill(answer, self.metrics, response)
+        fill(answer, self.page, self.metrics, response)
     }
 }

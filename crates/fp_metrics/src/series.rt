@@ -121,7 +121,7 @@ pub(crate) fn heading(counter: Counter) -> &'static str
 {
     match counter {
         Counter::Begins => {
-            "# HELP freephone_scp_messages_total Messages that came, by kind.\n# TYPE freephone_scp_messages_total counter\n"
+            "# HELP freephone_scp_messages_total Messages that came, by kind, but for those that were dropped at the end of the run or whose log lines were lost.\n# TYPE freephone_scp_messages_total counter\n"
         }
         Counter::Opened => {
             "# HELP freephone_scp_message_results_total Messages that came and for which no Abort of the provider was to be sent, by what became of them.\n# TYPE freephone_scp_message_results_total counter\n"
@@ -133,7 +133,7 @@ pub(crate) fn heading(counter: Counter) -> &'static str
             "# HELP freephone_scp_messages_out_of_memory_total Messages for which memory ran out.\n# TYPE freephone_scp_messages_out_of_memory_total counter\n"
         }
         Counter::EndedByPeer => {
-            "# HELP freephone_scp_dialogues_ended_by_peer_total Dialogues that an End or an Abort of the peer ended.\n# TYPE freephone_scp_dialogues_ended_by_peer_total counter\n"
+            "# HELP freephone_scp_dialogues_ended_by_peer_total End and Abort messages that a dialogue accepted.\n# TYPE freephone_scp_dialogues_ended_by_peer_total counter\n"
         }
         Counter::ClockEntries => {
             "# HELP freephone_scp_clock_entries_total Dialogues that were due at a tick of the clock and were given its entry.\n# TYPE freephone_scp_clock_entries_total counter\n"
@@ -163,7 +163,7 @@ pub(crate) fn heading(counter: Counter) -> &'static str
             "# HELP freephone_scp_messages_sent_total Messages of the service that were sent, by kind.\n# TYPE freephone_scp_messages_sent_total counter\n"
         }
         Counter::EndedByService => {
-            "# HELP freephone_scp_dialogues_ended_by_service_total Dialogues that an End or an Abort of the service ended.\n# TYPE freephone_scp_dialogues_ended_by_service_total counter\n"
+            "# HELP freephone_scp_dialogues_ended_by_service_total End messages and Aborts by the user that were sent.\n# TYPE freephone_scp_dialogues_ended_by_service_total counter\n"
         }
         Counter::SentUnknownMessage => {
             "# HELP freephone_scp_aborts_sent_total Aborts of the provider that were sent, by cause (Q.773).\n# TYPE freephone_scp_aborts_sent_total counter\n"

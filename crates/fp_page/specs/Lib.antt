@@ -1,0 +1,7 @@
+pub mod Bars
+pub mod Escaped
+pub mod History
+pub mod Pieces
+pub mod Sent
+pub mod Spans
+pub mod Troubles

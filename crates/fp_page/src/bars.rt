@@ -1,0 +1,42 @@
+//! Bars: how long they are, and their marks.
+
+ghost use Rattle.std.specs.Prelude.{◌≡◌, ◌≤◌};
+ghost use Rattle.fp_page.specs.Bars.{bar_length};
+
+use crate::html::{Html, Piece};
+use std::alloc::AllocError;
+
+/// How long the bar of a number is where that of the greatest number fills this room.
+pub(crate) fn bar_length(number: u64, most: u64, room: u16) -> u64
+    ensures value { result ≡ bar_length number most room }
+    ensures range { bar_length number most room ≤ room }
+{
+    if most == 0 {
+        return 0;
+    }
+    let product = u128::from(number.min(most)) * u128::from(room);
+    (product / u128::from(most)) as u64
+}
+
+/// The length of a bar that fills its place.
+const ROOM: u16 = 100;
+
+/// A row with a name, a bar and a number.
+pub(crate) fn add_row(
+    html: &mut Html,
+    name: &[Piece<'_>],
+    number: u64,
+    most: u64,
+) -> Result<(), AllocError> {
+    html.add(&[Piece::Fixed("<tr><th>")])?;
+    html.add(name)?;
+    html.add(&[
+        Piece::Fixed(
+            "</th><td class=\"b\"><svg viewBox=\"0 0 100 1\" preserveAspectRatio=\"none\" aria-hidden=\"true\"><rect width=\"",
+        ),
+        Piece::Number(bar_length(number, most, ROOM)),
+        Piece::Fixed("\" height=\"1\"/></svg></td><td class=\"n\">"),
+        Piece::Number(number),
+        Piece::Fixed("</td></tr>\n"),
+    ])
+}
