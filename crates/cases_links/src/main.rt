@@ -19,6 +19,7 @@
 //! | `replay`, .. | `replays` | logs, replayed |
 //! | `counted`, `sent`, `times`, .. | `counting` | what is counted on a link |
 //! | `page`, `metrics` | `pages` | what an operator's tools get over HTTP |
+//! | `escaped`, `span`, `html`, .. | `html` | the page on which an operator sees how a run is |
 //! | `logged-run`, `long-run` | `logged_runs` | the logs of whole runs, and their replay |
 //! | `by-tables` | here | `by-tables COUNT CASE`: a case of a run or of a log by this number of tables without numbers |
 //!
@@ -35,6 +36,7 @@ mod book;
 mod counting;
 mod devices;
 mod held;
+mod html;
 mod lines;
 mod link_end;
 mod log;
@@ -90,7 +92,8 @@ fn of_link(alloc: Global, kind: &str, rest: &str, out: &mut String) -> anyhow::R
             || sending::answer(alloc, kind, rest, out)?
             || lines::answer(alloc, kind, rest, out)?
             || counting::answer(alloc, kind, rest, out)?
-            || pages::answer(alloc, kind, rest, out)?,
+            || pages::answer(alloc, kind, rest, out)?
+            || html::answer(alloc, kind, rest, out)?,
     )
 }
 

@@ -5,10 +5,11 @@
 //! | `page METHOD PATH HEALTH` | the status and the body, where HEALTH is `live`, `ready`, `both` or `none` |
 //! | `build VERSION RECORDS` | the line that says which program runs |
 //! | `metrics LINK ..` | the lines of the counters that aren't 0, each link having counted one Begin; in the run an answer took 20 seconds |
+//! | `number DIGITS` | the lines of a called number for which the counter in place 0 counted one, that in place 1 two, and so on |
 
 use cases::first_word;
 use fp_counters::{Counter, Counters, Histogram};
-use fp_metrics::{Gauges, Health, LinkNumbers, RunNumbers, answer_to, metrics_text};
+use fp_metrics::{Gauges, Health, LinkNumbers, RunNumbers, answer_to, metrics_text, number_text};
 use std::alloc::Global;
 use std::fmt::Write;
 
@@ -32,7 +33,7 @@ fn page(words: &str, out: &mut String) -> anyhow::Result<()> {
     };
     let answer = answer_to(method, path, health);
     let status = answer.status().as_u16();
-    let body = answer.body("numbers\n").trim_end();
+    let body = answer.body("page\n", "numbers\n").trim_end();
     write!(out, "{status} {body}")?;
     Ok(())
 }
@@ -90,6 +91,25 @@ fn metrics(alloc: Global, words: &str, out: &mut String) -> anyhow::Result<()> {
     Ok(())
 }
 
+/// The lines of a called number, each counter of which counted one more than the one before it.
+fn number(alloc: Global, called: &str, out: &mut String) -> anyhow::Result<()> {
+    let mut counters = Counters::new();
+    let mut amount: u64 = 0;
+    let all = Counter::all();
+    for counter in &all {
+        amount = amount.saturating_add(1);
+        counters.add(*counter, amount);
+    }
+    let text = number_text(alloc, called, &counters)?;
+    let mut count: usize = 0;
+    for line in text.as_str().lines() {
+        count = count.saturating_add(1);
+        write!(out, "{line}; ")?;
+    }
+    write!(out, "{count} lines")?;
+    Ok(())
+}
+
 /// Writes what a case of this module gives, and says whether it has one of this kind.
 pub(crate) fn answer(
     alloc: Global,
@@ -101,6 +121,7 @@ pub(crate) fn answer(
         "page" => page(rest, out),
         "build" => build(alloc, rest, out),
         "metrics" => metrics(alloc, rest, out),
+        "number" => number(alloc, rest, out),
         _ => return Ok(false),
     };
     written?;

@@ -5,7 +5,7 @@ use Rattle.std.proofs.lemmas.List.Elements.{All-append, All-cons, All-nil}
 use Rattle.std.proofs.lemmas.List.Folds.{concat-append}
 use Rattle.std.specs.Io.KnownBytes.{Appends}
 use Rattle.fp_serve.specs.declared.run.status.LinkStatus.{LinkStatus}
-use Rattle.fp_serve.specs.Report.{IsAnswer, TellsAnswers, TellsOfCounters, links_answer, reloaded_line}
+use Rattle.fp_serve.specs.Report.{IsAnswer, TellsAnswers, TellsOfCounters, TellsOfNumber, links_answer, reloaded_line}
 
 module _ (last first_link : ℕ) (has_commands : Bool) (a b : Option (List ℕ)) where
   -- nothing was written
@@ -27,7 +27,10 @@ module _ (last first_link : ℕ) (has_commands : Bool) (a b : Option (List ℕ))
   of_links links has = one (links_answer first_link links) (inr (has, inl (links, refl)))
 
   pub of_counters : (text : List ℕ) → TellsOfCounters text → has_commands ≡ true → Appends a b text → TellsAnswers last first_link has_commands a b
-  of_counters text told has = one text (inr (has, inr told))
+  of_counters text told has = one text (inr (has, inr (inl told)))
+
+  pub of_number : (text : List ℕ) → TellsOfNumber text → has_commands ≡ true → Appends a b text → TellsAnswers last first_link has_commands a b
+  of_number text told has = one text (inr (has, inr (inr told)))
 
   -- and then others were
   pub more : (c : Option (List ℕ)) → TellsAnswers last first_link has_commands a b → TellsAnswers last first_link has_commands b c → TellsAnswers last first_link has_commands a c

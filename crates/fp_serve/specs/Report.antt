@@ -7,6 +7,8 @@ use Rattle.std.specs.Net.Text.{socket_text}
 use Rattle.std.specs.declared.net.socket_addr.SocketAddr.{SocketAddr}
 use Rattle.fp_book.specs.Shelf.{no_totals}
 use Rattle.fp_book.specs.declared.totals.Totals.{Totals}
+use Rattle.fp_counters.specs.declared.counters.Counters.{Counters}
+use Rattle.fp_metrics.specs.Number.{number_text}
 use Rattle.fp_metrics.specs.Text.{metrics_text}
 use Rattle.fp_metrics.specs.declared.text.RunNumbers.{RunNumbers}
 use Rattle.fp_replay.specs.Replayed.{report_line}
@@ -72,9 +74,18 @@ TellsNumbers text = (run : RunNumbers) × (text ≡ metrics_text run)
 abbrev pub TellsOfCounters : List ℕ → Type 0
 TellsOfCounters text = (numbers : List ℕ) × TellsNumbers numbers × (text ≡ numbers ++ codes "# EOF\n")
 
--- the answer to a command: the second and the third only if more commands are known
+-- what is counted for a number
+abbrev pub TellsNumber : List ℕ → Type 0
+TellsNumber text = (digits : List ℕ) × (counters : Counters) × (text ≡ number_text digits counters)
+
+-- the answer to `counters NUMBER`: that, and the same line
+abbrev pub TellsOfNumber : List ℕ → Type 0
+TellsOfNumber text = (lines : List ℕ) × TellsNumber lines × (text ≡ lines ++ codes "# EOF\n")
+
+-- the answer to a command: all but the first only if more commands are known
 abbrev pub IsAnswer : ℕ → ℕ → Bool → List ℕ → Type 0
-IsAnswer last first_link has_commands text = IsReloaded last text ⊎ ((has_commands ≡ true) × (TellsOfLinks first_link text ⊎ TellsOfCounters text))
+IsAnswer last first_link has_commands text =
+    IsReloaded last text ⊎ ((has_commands ≡ true) × (TellsOfLinks first_link text ⊎ (TellsOfCounters text ⊎ TellsOfNumber text)))
 
 -- the answers to commands were written, and nothing else
 abbrev pub TellsAnswers : ℕ → ℕ → Bool → Option (List ℕ) → Option (List ℕ) → Type 0

@@ -12,7 +12,7 @@
 //!   link has, how many entries its dialogues may keep, how many turns its receiver serves, what is done when the log
 //!   can't be written ([`WhenLogFails`]), and which commands are known.
 //! * [`Commands`] are what is asked of the run while it lasts: to read its records again, which an [`Operator`] does; to
-//!   print the status of its links ([`LinkStatus`]), or what is counted; and to end.
+//!   print the status of its links ([`LinkStatus`]), or what is counted, also for a called number; and to end.
 //! * [`Watched`] is what is counted ([`Metrics`]), and where the run is asked for it.
 //! * [`ServeFault`] says why a run failed.
 //! * [`Events`] are lines on which link came or went and why, if they are asked for.
@@ -40,6 +40,9 @@
 //! Once it has sent, the receiver makes the text of the lines of its link, if 64 wait. If 512 do, the clock is woken, which
 //! makes it otherwise once a second; if many do, the other threads move some of them out of the book too. Only the
 //! writing thread waits for the device of the log, and for a bounded time a receiver does.
+//!
+//! The connection of a link is a socket or, in a run that is a node, its network (`LinkStream`): the receiver then drives the
+//! network while it waits, and whichever thread sends writes to the network's sockets as far as they take it.
 //!
 //! A thread of its own reads the commands, and the run follows them, while another thread accepts the connections and
 //! joins the threads of the links. All links share the tables, and each keeps the one from which it answers.
@@ -78,4 +81,4 @@ pub use run::{
     Server, Service, Settings, StandingLink, Version, Wanted, WhenLogFails,
 };
 pub use system::System;
-pub use watch::{Metrics, MetricsListener, Watched};
+pub use watch::{Metrics, MetricsListener, RecentEvents, Watched};

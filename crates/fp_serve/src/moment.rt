@@ -4,6 +4,7 @@ ghost use Rattle.std.specs.Prelude.{◌≡◌, ◌≤◌, ◌-◌, ◌/◌, min}
 ghost use Rattle.std.specs.Duration.{as_nanos};
 ghost use Rattle.fp_serve.specs.Tag.{tag_by};
 
+use crate::run::Links;
 use fp_digits::Moment;
 use fp_tids::LocalIds;
 use std::rt::Clock;
@@ -53,8 +54,9 @@ pub(crate) fn tag_of(moment: Moment) -> u16
     (second % u64::from(LocalIds::LAST_TAG)) as u16 + 1
 }
 
-/// Waits until the second of this moment is over: a second at most, or three, if the clock is set back meanwhile.
-pub(crate) fn await_next_second<R: Wait + Clock>(rt: &R, moment: Moment) {
+/// Waits until the second of this moment is over: a second at most, or three, if the clock is set back meanwhile. The network of
+/// a node is driven meanwhile.
+pub(crate) fn await_next_second<R: Wait + Clock>(rt: &R, links: &Links, moment: Moment) {
     let second = moment.milliseconds() / MILLISECONDS_OF_A_SECOND;
     for _ in 0..MOST_WAITS {
         let milliseconds = now(rt).milliseconds();
@@ -62,6 +64,10 @@ pub(crate) fn await_next_second<R: Wait + Clock>(rt: &R, moment: Moment) {
             return;
         }
         let left = MILLISECONDS_OF_A_SECOND - milliseconds % MILLISECONDS_OF_A_SECOND;
-        thread::sleep(rt, Duration::from_millis(left));
+        let left = Duration::from_millis(left);
+        match links {
+            Links::Awaited(_) => thread::sleep(rt, left),
+            Links::Standing(link) => link.network.wait(rt, left),
+        }
     }
 }

@@ -2,20 +2,23 @@
 //!
 //! | File | What it has |
 //! |---|---|
-//! | `serving.rt` | [`Server`]: the run from its address to its report, and a thread for each link |
+//! | `serving.rt` | [`Server`]: the run from its address to its report |
+//! | `link_threads.rt` | a thread for each link of a run |
 //! | `context.rt` | [`Run`]: what all threads of a run share |
 //! | `settings.rt`, `service.rt` | which links and which tag a run has, how many workers and entries; what messages are answered from |
-//! | `commands.rt` | the commands, the thread that reads them, and how they are followed |
+//! | `command_lines.rt`, `commands.rt` | the thread that reads commands; how they are followed |
 //! | `peer.rt` | the peer of a link, and its text |
 //! | `status.rt` | the status of the links, for the commands |
 //! | `stop.rt`, `fault.rt` | why all links are to go down, or since when they are to end |
 //! | `events.rt` | the events of a run, and the thread that writes them |
 //! | `report.rt` | the lines of the address, of the commands' answers and of the report |
 
+mod command_lines;
 mod commands;
 mod context;
 mod events;
 mod fault;
+mod link_threads;
 mod peer;
 mod report;
 mod service;
@@ -26,6 +29,7 @@ mod stop;
 
 pub use commands::{Commands, Operator, Refusal};
 pub(crate) use context::Run;
+pub(crate) use events::TimedEvent;
 pub use events::{Event, Events, Version, Wanted};
 pub use fault::ServeFault;
 pub use peer::{Peer, PeerName};

@@ -67,6 +67,8 @@ pub enum Asked<'a> {
         log: &'a str,
         /// The text of the address where it is asked for what is counted, which has not been read, if there is one.
         metrics: Option<&'a str>,
+        /// Whether it is counted for each called number, too.
+        counts_numbers: bool,
         /// Which events are written, if any are.
         events: Option<Wanted>,
         /// The text of the list of application contexts, which has not been read, if there is one.

@@ -43,13 +43,14 @@ impl<H: Files + AllocGlobal + Wait + Clock, E: Write> Console<'_, H, E> {
         let text = records_in(self.rt, self.records)?;
         let digest = Sha256::digest(text.as_slice());
         let table = Table::read_and_free(self.rt.alloc(), text)?;
+        let counts = table.counts();
         let Some(index) = tables.reload(self.rt, table) else {
             return Err(RunFault::RefusedReload);
         };
         self.events
             .report(self.rt, Event::Reloaded { index, digest });
         if let Some(metrics) = self.metrics {
-            metrics.note_reload(self.rt, digest);
+            metrics.note_reload(self.rt, digest, counts);
         }
         Ok(index)
     }

@@ -19,7 +19,8 @@
 //!   listener. They are those of `fp_ask` and `fp_serve`, with their contracts.
 //! * `command` reads the words of the command line, and the moment among them, `tag` has the tag of a run; `contexts`
 //!   reads the list of names; `console` the records again, while links are served from them.
-//! * `network` reads the addresses and the units of a node on a signalling network.
+//! * `network` reads the addresses and the units of a node on a signalling network; `listening` awaits connections, and
+//!   `log_file` opens the log.
 //! * `check` prints what the records hold, `explain` all there is to say of them, and `migrate` the records themselves.
 //! * `output` writes a text or octets.
 //! * `fault` has the faults of a run and their texts.
@@ -35,6 +36,8 @@ mod console;
 mod contexts;
 mod explain;
 mod fault;
+mod listening;
+mod log_file;
 mod migrate;
 mod network;
 mod output;

@@ -1,17 +1,17 @@
 //! One run of the program that may serve links.
 
-ghost use Rattle.std.specs.Prelude.{◌≡◌, ◌≤◌, ◌⊎◌, IfErr, OnOk, ◌&&◌, ◌==◌, not, if◌then◌else◌};
+ghost use Rattle.std.specs.Prelude.{◌≡◌, ◌≤◌, OnOk, ◌&&◌, ◌==◌, not, if◌then◌else◌};
 ghost use Rattle.fp_serve.specs.Report.{TellsLinks};
-ghost use Rattle.fp_serve.specs.declared.run.fault.ServeFault.TheVariants.{Memory, NoConnection, UnwrittenLog};
-ghost use Rattle.scp.specs.declared.fault.RunFault.TheVariants.{Serve, UnopenedLog};
 
 use crate::command::{Asked, VERSION, asked_by};
 use crate::console::Console;
 use crate::fault::RunFault;
+use crate::listening::{listener_at, metrics_listener_at};
+use crate::log_file::{empty, lock, opened_log};
 use crate::network::NetworkWords;
 use crate::run::{accepted, records_in, run_asked, status_of};
 use fp_hub::Tables;
-use fp_network::{Drain, Network, NetworkEvent, NetworkFault, Node, Observer, Opened, Plan};
+use fp_network::{Drain, NetworkEvent, NetworkFault, NetworkLink, Node, Plan};
 use fp_records::Table;
 use fp_serve::{
     Commands, Event, Events, Links, Metrics, MetricsListener, Operator, ServeFault, Server,
@@ -20,16 +20,12 @@ use fp_serve::{
 use fp_streams::Counted;
 use sha2::{Digest, Sha256};
 use std::alloc::AllocError;
-use std::fs::{File, OpenFile, OpenOptions, TryLockError};
-use std::hash::RandomState;
-use std::io::{ErrorKind, Read, Write};
-use std::net::{IpAddr, Net, SocketAddr, TcpListener, TcpStream};
-use std::os::unix::fs::{MetadataExt, OpenOptionsExt};
+use std::fs::{File, OpenFile};
+use std::io::{Read, Write};
+use std::net::{Net, TcpListener, TcpStream};
 use std::random::RandomSource;
-use std::rt::Files;
+use std::rt::{Clock, Files};
 use std::sync::Arc;
-use std::thread::JoinHandle;
-use std::{fs, thread};
 
 /// Runs the program as [`program`](crate::program) does, and serves links if the words ask for that. Faults of `serve`
 /// are found in this order: the words, the application contexts, the records, the opening of the log, the address, the
@@ -80,6 +76,7 @@ where
                 settings,
                 log,
                 metrics,
+                counts_numbers,
                 events,
                 contexts,
             },
@@ -90,6 +87,7 @@ where
                 settings,
                 log,
                 metrics,
+                counts_numbers,
                 events,
                 contexts,
             };
@@ -108,6 +106,7 @@ struct Run<'a> {
     settings: Settings,
     log: &'a str,
     metrics: Option<&'a str>,
+    counts_numbers: bool,
     events: Option<Wanted>,
     contexts: Option<&'a str>,
 }
@@ -143,13 +142,15 @@ where
     let text = records_in(rt, asked.records)?;
     let digest = digest_of(&asked, text.as_slice());
     let table = Table::read_and_free(rt.alloc(), text)?;
+    let counts = table.counts();
     let file = opened_log(rt, asked.log, asked.records)?;
     let listener = listener_at(rt, asked.listen)?;
     let metrics_listener = metrics_listener_at(rt, asked.metrics)?;
     lock(&file)?;
     empty(&file)?;
     let events = started_events(rt, asked.events, digest, event_lines)?;
-    let watched = watched(rt, &asked, digest, metrics_listener)?;
+    let events = kept_for(events, &metrics_listener)?;
+    let watched = watched(rt, &asked, digest, counts, metrics_listener)?;
     let tables = Tables::with_last_index(rt.alloc(), table, asked.settings.last_index())?;
     let service = Service {
         alloc: rt.alloc(),
@@ -168,7 +169,9 @@ where
         errors,
     };
     let Side { links, network } = side_of(rt, network, listener)?;
-    let network = started(rt, network, &events)?;
+    if let (Some(metrics), Some(_)) = (&metrics, &network) {
+        metrics.note_connected(false);
+    }
     let server = Server {
         settings: asked.settings,
         links,
@@ -183,13 +186,10 @@ where
         &events,
         &mut Counted::new(&mut *output),
     );
-    let driven = match network {
-        Some(network) => network.join(rt),
-        None => Ok(()),
-    };
+    let finished = finish(rt, network, &events);
     events.finish(rt);
     outcome?;
-    driven?;
+    finished?;
     Ok(())
 }
 
@@ -197,12 +197,12 @@ where
 #[derive(Drop)]
 struct Side {
     links: Links,
-    network: Option<Network>,
+    network: Option<Arc<NetworkLink>>,
 }
 
 /// Where the links of a run come from: from a listener, or over the network of a node whose transfer points connect to
 /// it.
-fn side_of<H: AllocGlobal + Net<Listener = TcpListener, Stream = TcpStream>>(
+fn side_of<H: AllocGlobal + Clock + Net<Listener = TcpListener, Stream = TcpStream>>(
     rt: &H,
     words: Option<NetworkWords<'_>>,
     listener: TcpListener,
@@ -229,15 +229,12 @@ fn side_of<H: AllocGlobal + Net<Listener = TcpListener, Stream = TcpStream>>(
         units: asked.units.as_slice(),
     };
     let node = Node::new(alloc, plan)?;
-    let Opened { network, link } = Network::new(
-        rt,
-        alloc,
-        listener,
-        node,
-        Arc::try_clone(&drain)?,
-    )?;
+    let link = NetworkLink::new(rt, alloc, listener, node, Arc::try_clone(&drain)?)?;
+    let Ok(network) = Arc::new(alloc, link) else {
+        return Err(RunFault::Serve(ServeFault::Memory));
+    };
     let links = Links::Standing(StandingLink {
-        stream: link,
+        network: Arc::try_clone(&network)?,
         peer: asked.peer,
         address,
         drain,
@@ -248,38 +245,26 @@ fn side_of<H: AllocGlobal + Net<Listener = TcpListener, Stream = TcpStream>>(
     })
 }
 
-/// Tells the events of a run what happens on its network.
-#[derive(Drop)]
-struct Reporter<H> {
-    rt: H,
-    events: Events,
-}
-
-impl<H: System> Observer for Reporter<H> {
-    fn note(&mut self, event: NetworkEvent) {
-        self.events.report(&self.rt, Event::Network(event));
-    }
-}
-
-/// Starts a thread that drives a network, if there is one.
-fn started<H: System + Copy + Send + Sync + 'static>(
+/// Waits until a network is over, if there is one, and reports what happened on it and its numbers. The error: why it ended
+/// before its link did.
+fn finish<H: System>(
     rt: &H,
-    network: Option<Network>,
+    network: Option<Arc<NetworkLink>>,
     events: &Events,
-) -> Result<Option<JoinHandle<Result<(), NetworkFault>>>, RunFault> {
+) -> Result<(), NetworkFault> {
     let Some(network) = network else {
-        return Ok(None);
+        return Ok(());
     };
-    let own = *rt;
-    let events = events.share()?;
-    let work = move || {
-        let mut reporter = Reporter { rt: own, events };
-        network.run(&own, &mut reporter)
-    };
-    match thread::spawn(rt, work) {
-        Ok(handle) => Ok(Some(handle)),
-        Err(_) => Err(RunFault::Serve(ServeFault::NoThread)),
+    let ended = network.finish(rt);
+    for _ in 0..u64::MAX {
+        let Some(event) = network.next_event(rt) else {
+            break;
+        };
+        events.report(rt, Event::Network(event));
     }
+    let numbers = NetworkEvent::Counted(network.tally(rt));
+    events.report(rt, Event::Network(numbers));
+    ended
 }
 
 /// The digest of the records, if an event, a page or a command has it.
@@ -322,101 +307,21 @@ where
     Ok(events)
 }
 
-/// The permissions of a log that is created: it has the numbers of callers.
-const LOG_MODE: u32 = 0o640;
-
-/// Opens the log to write it, unless it is the file of the records. What it holds stays until the address is bound, so
-/// that a second run which is refused the address of the first leaves its log alone.
-fn opened_log<H: Files<File = File>>(rt: &H, path: &str, records: &str) -> Result<File, RunFault>
-    ensures fault { IfErr result (λ fault. (fault ≡ UnopenedLog) ⊎ (fault ≡ Serve Memory)) }
-{
-    let mut options = OpenOptions::new();
-    options.write(true).create(true).mode(LOG_MODE);
-    match options.open(rt, path) {
-        Ok(file) if is_same_file(rt, &file, records) => Err(RunFault::UnopenedLog),
-        Ok(file) => Ok(file),
-        Err(error) if error.kind() == ErrorKind::OutOfMemory => {
-            Err(RunFault::Serve(ServeFault::Memory))
-        }
-        Err(_) => Err(RunFault::UnopenedLog),
+/// The same events, of which the last are kept for those who look at the page of the run, if it has one.
+fn kept_for(events: Events, listener: &Option<MetricsListener>) -> Result<Events, AllocError> {
+    match listener {
+        Some(place) => Ok(events.kept_in(Arc::try_clone(&place.recent)?)),
+        None => Ok(events),
     }
 }
 
-/// Whether a file is the one at a path.
-fn is_same_file<H: Files>(rt: &H, file: &File, path: &str) -> bool {
-    let (Ok(one), Ok(other)) = (file.metadata(), fs::metadata(rt, path)) else {
-        return false;
-    };
-    one.dev() == other.dev() && one.ino() == other.ino()
-}
-
-/// Locks the log, so that no other run writes it meanwhile: a second one is refused what the first holds. The lock ends
-/// with the run. Only a regular file is locked, since the lock of a device is the whole machine's; and if the system
-/// can't lock a file, the run goes on without.
-fn lock(file: &File) -> Result<(), RunFault>
-    ensures fault { IfErr result (λ fault. fault ≡ UnopenedLog) }
-{
-    let is_regular = match file.metadata() {
-        Ok(known) => known.is_file(),
-        Err(_) => false,
-    };
-    if !is_regular {
-        return Ok(());
-    }
-    match file.try_lock() {
-        Err(TryLockError::WouldBlock) => Err(RunFault::UnopenedLog),
-        Ok(()) | Err(TryLockError::Error(_)) => Ok(()),
-    }
-}
-
-/// Whether this is a multicast address, or the broadcast address 255.255.255.255. Linux listens there, and nobody can
-/// connect. The broadcast address of a network can't be told from its text.
-fn is_multicast_or_broadcast(ip: IpAddr) -> bool {
-    match ip.to_canonical() {
-        IpAddr::V4(ip) => ip.is_multicast() || ip.is_broadcast(),
-        IpAddr::V6(ip) => ip.is_multicast(),
-    }
-}
-
-/// A listener at the IP address and port that a text gives.
-fn listener_at<H: Net<Listener = TcpListener, Stream = TcpStream>>(
-    rt: &H,
-    listen: &str,
-) -> Result<TcpListener, ServeFault>
-    ensures fault { IfErr result (λ fault. (fault ≡ NoConnection) ⊎ (fault ≡ Memory)) }
-{
-    let Ok(address) = listen.parse::<SocketAddr>() else {
-        return Err(ServeFault::NoConnection);
-    };
-    if is_multicast_or_broadcast(address.ip()) {
-        return Err(ServeFault::NoConnection);
-    }
-    match TcpListener::bind(rt, address) {
-        Ok(listener) => Ok(listener),
-        Err(error) if error.kind() == ErrorKind::OutOfMemory => Err(ServeFault::Memory),
-        Err(_) => Err(ServeFault::NoConnection),
-    }
-}
-
-/// A listener where the run is asked for what it counts, at the IP address and port that a text gives, if it is to be.
-fn metrics_listener_at<H: Net<Listener = TcpListener, Stream = TcpStream> + RandomSource>(
-    rt: &H,
-    address: Option<&str>,
-) -> Result<Option<MetricsListener>, RunFault> {
-    let Some(address) = address else {
-        return Ok(None);
-    };
-    let (Ok(listener), Ok(keys)) = (listener_at(rt, address), RandomState::new(rt)) else {
-        return Err(RunFault::NoMetrics);
-    };
-    Ok(Some(MetricsListener { listener, keys }))
-}
-
-/// What a run with these words counts, if it is to be asked for that: by commands or over HTTP. Its records have this digest.
+/// What a run with these words counts, if it is to be asked for that: by commands or over HTTP. `counts` are how many
+/// numbers and rules its records have.
 fn watched<H: AllocGlobal>(
     rt: &H,
     asked: &Run<'_>,
     digest: Option<[u8; 32]>,
+    counts: (u32, u32),
     listener: Option<MetricsListener>,
 ) -> Result<Option<Watched>, AllocError> {
     if listener.is_none() && !asked.settings.has_commands {
@@ -425,22 +330,15 @@ fn watched<H: AllocGlobal>(
     let Some(digest) = digest else {
         return Ok(None);
     };
-    let metrics = Metrics::new(rt.alloc(), asked.settings, version(), digest)?;
+    let metrics = Metrics::new(
+        rt.alloc(),
+        asked.settings,
+        version(),
+        digest,
+        counts,
+        asked.counts_numbers,
+    )?;
     Ok(Some(Watched { metrics, listener }))
-}
-
-/// Empties the log if it holds something. A device such as `/dev/null` holds nothing, and can't be emptied. A log that
-/// can't be emptied can't be written as it has to be.
-fn empty(file: &File) -> Result<(), ServeFault>
-    ensures fault { IfErr result (λ fault. fault ≡ UnwrittenLog) }
-{
-    let Ok(known) = file.metadata() else {
-        return Err(ServeFault::UnwrittenLog);
-    };
-    if known.len() > 0 && file.set_len(0).is_err() {
-        return Err(ServeFault::UnwrittenLog);
-    }
-    Ok(())
 }
 
 /// Serves links, from tables whose last index is that of the settings, and says of writers whose octets are known what

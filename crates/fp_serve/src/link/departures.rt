@@ -107,10 +107,10 @@ impl<R: System, A: Ledger, B: Ledger, C: Ledger> Departures<'_, R, A, B, C> {
     /// Counts a parcel that is sent, if somebody asked for that.
     fn count(&mut self, parcel: &Parcel) {
         let Link { run, metrics, .. } = self.link;
-        if let Some(counts) = &mut self.counts {
-            counts.count(parcel);
-        }
         if let Some(metrics) = metrics {
+            if let Some(counts) = &mut self.counts {
+                metrics.count_parcel(run.rt, counts, parcel);
+            }
             if let Some(read_at) = metrics.close_sample(run.rt, parcel) {
                 self.answered = Some(read_at);
             }

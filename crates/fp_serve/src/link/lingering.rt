@@ -8,10 +8,11 @@
 //! taken yet. So a client that goes on sending gets all answers that it takes within the two seconds.
 
 use crate::link::Link;
+use crate::run::Run;
+use crate::socket::LinkStream;
 use crate::system::System;
 use fp_linkstate::{LinkEnd, LinkEvent};
-use std::io::{ErrorKind, Read};
-use std::net::TcpStream;
+use std::io::ErrorKind;
 use std::sync::ledger::Ledger;
 use std::time::Duration;
 
@@ -22,12 +23,16 @@ const MOST_DROPPED: usize = 16_384;
 const LOOK_MILLISECONDS: u64 = 10;
 
 /// Waits for octets, for this time at most, and drops them. `false`: none come any more.
-fn drop_input(stream: &TcpStream, most: Duration, room: &mut [u8]) -> bool {
-    if stream.set_read_timeout(Some(most)).is_err() {
+fn drop_input<R: System>(
+    run: &Run<'_, R>,
+    stream: &LinkStream,
+    most: Duration,
+    room: &mut [u8],
+) -> bool {
+    if !stream.set_read_timeout(run, most) {
         return false;
     }
-    let mut stream = stream;
-    match stream.read(room) {
+    match stream.read(run, room) {
         Ok(count) => count > 0,
         Err(error) => match error.kind() {
             ErrorKind::WouldBlock | ErrorKind::Interrupted => true,
@@ -57,8 +62,10 @@ impl<R: System, A: Ledger, B: Ledger, C: Ledger> Link<'_, R, A, B, C> {
                     self.await_quiet(left);
                     true
                 }
-                LinkEnd::Draining { .. } => drop_input(self.stream, left.min(look), &mut room),
-                LinkEnd::Lingering { .. } => drop_input(self.stream, left, &mut room),
+                LinkEnd::Draining { .. } => {
+                    drop_input(self.run, self.stream, left.min(look), &mut room)
+                }
+                LinkEnd::Lingering { .. } => drop_input(self.run, self.stream, left, &mut room),
             };
             if !has_more {
                 self.meet(LinkEvent::PeerClosed);

@@ -7,7 +7,7 @@ use crate::link::departures::Outgoing;
 use crate::log::LinkLog;
 use crate::moment::time_since;
 use crate::run::{Event, Run, ServeFault};
-use crate::socket::TracedStream;
+use crate::socket::{LinkStream, TracedStream};
 use crate::system::System;
 use crate::watch::LinkMetrics;
 use crossbeam_utils::CachePadded;
@@ -15,7 +15,7 @@ use fp_book::{Status, Totals};
 use fp_hub::{Gate, Hub, Looks, PARTS, finish};
 use fp_linkstate::{Action, LinkEnd, LinkEvent, Why};
 use std::marker::Brand;
-use std::net::{Shutdown, TcpStream};
+use std::net::Shutdown;
 use std::sync::Mutex;
 use std::sync::ledger::{Blank, Ledger};
 use std::thread;
@@ -39,7 +39,7 @@ pub(crate) struct Link<'x, R, A: Ledger, B: Ledger, C: Ledger> {
     pub(crate) run: &'x Run<'x, R>,
     pub(crate) plan: &'x Plan,
     pub(crate) hub: &'x Hub<A, B, C>,
-    pub(crate) stream: &'x TcpStream,
+    pub(crate) stream: &'x LinkStream,
     // How far its end has come.
     pub(crate) end: &'x Mutex<LinkEnd>,
     // Where its lines wait for the thread that writes the log.
@@ -64,9 +64,7 @@ impl<'x, R: System, A: Ledger, B: Ledger, C: Ledger> Link<'x, R, A, B, C> {
             Action::Nothing => {}
             Action::EndSending { why } => self.go_down(why, Shutdown::Write),
             Action::End { why } => self.go_down(why, Shutdown::Both),
-            Action::Close => {
-                let _ = self.stream.shutdown(Shutdown::Both);
-            }
+            Action::Close => self.stream.shutdown(self.run, Shutdown::Both),
         }
     }
 
@@ -84,7 +82,7 @@ impl<'x, R: System, A: Ledger, B: Ledger, C: Ledger> Link<'x, R, A, B, C> {
             metrics.count_end(rt, why);
         }
         self.hub.down(rt);
-        let _ = self.stream.shutdown(how);
+        self.stream.shutdown(self.run, how);
         self.hub.close(rt);
         self.note_status();
     }
@@ -191,7 +189,7 @@ impl<
         plan: &Plan,
         blanks: (Blank, Blank, Blank),
         gate: &G,
-        stream: &TcpStream,
+        stream: &LinkStream,
     ) -> Option<Totals>
         requires blanks { AreBlanks blanks A.name A.parts B.name B.parts C.name C.parts }
     {
@@ -220,6 +218,7 @@ impl<
         };
         link.note_up();
         let seat = link.run_threads(gate, seat);
+        stream.finish(run);
         link.make_last_text();
         link.note_status();
         let totals = finish(hub, seat);
@@ -236,7 +235,7 @@ pub(crate) fn run_link<'x, R: System + Sync, G: Gate + Sync>(
     run: &'x Run<'x, R>,
     plan: Plan,
     gate: &G,
-    stream: &TcpStream,
+    stream: &LinkStream,
 ) -> Option<Totals> {
     let blanks = (Blank::new(PARTS), Blank::new(PARTS), Blank::new(PARTS));
     Link::<R, Brand, Brand, Brand>::run(run, &plan, blanks, gate, stream)

@@ -3,7 +3,7 @@
 use crate::link::Link;
 use crate::run::{Event, Run, ServeFault};
 use crate::system::System;
-use crate::watch::{LinkMetrics, StepCounts};
+use crate::watch::{LineCounts, LinkMetrics, StepCounts};
 use fp_book::{Line, Log, LoggedStep};
 use fp_logtext::{MadeText, UnwrittenText, WaitingLines};
 use std::alloc::{AllocError, Global};
@@ -74,6 +74,34 @@ fn count(steps: &mut Option<MutexGuard<'_, StepCounts>>, step: &LoggedStep) {
     if let Some(steps) = steps {
         steps.count(step);
     }
+}
+
+/// Counts lines for each called number, if somebody asked for that.
+fn count_numbers_of_lines<R: System>(numbers: &Option<LineCounts<'_, R>>, lines: &[Line]) {
+    let Some(numbers) = numbers else {
+        return;
+    };
+    let mut rows = numbers.rows();
+    for line in lines {
+        if let Line::Step { step, .. } = line {
+            numbers.count(&mut rows, step);
+        }
+    }
+    numbers.finish(&mut rows);
+}
+
+/// Counts the lines of a log for each called number, if somebody asked for that.
+fn count_numbers_of_log<R: System>(numbers: &Option<LineCounts<'_, R>>, log: &Log) {
+    let Some(numbers) = numbers else {
+        return;
+    };
+    let mut rows = numbers.rows();
+    for place in 0..log.len() {
+        if let Some(step) = log.get(place) {
+            numbers.count(&mut rows, step);
+        }
+    }
+    numbers.finish(&mut rows);
 }
 
 /// Lines that left the book of a link.
@@ -163,6 +191,7 @@ impl<R: System, A: Ledger, B: Ledger, C: Ledger> Link<'_, R, A, B, C> {
 
     /// Moves the next lines of the book to those that are moved at once, counts them, and reports the gaps among them.
     fn drain(&self, lines: &mut Moved) {
+        let numbers = LineCounts::begin(self.run, self.metrics);
         self.hub.drain(self.run.rt, &mut lines.moved);
         {
             let mut steps = steps_of(self.run.rt, self.metrics);
@@ -173,6 +202,7 @@ impl<R: System, A: Ledger, B: Ledger, C: Ledger> Link<'_, R, A, B, C> {
                 }
             }
         }
+        count_numbers_of_lines(&numbers, lines.moved.as_slice());
         self.note_counted(lines.moved.len());
     }
 
@@ -199,6 +229,7 @@ impl<R: System, A: Ledger, B: Ledger, C: Ledger> Link<'_, R, A, B, C> {
     /// among them.
     fn exchange(&self, lines: &mut Moved, making: &mut MadeText) {
         lines.exchanged.clear();
+        let numbers = LineCounts::begin(self.run, self.metrics);
         let link = self.hub.exchange_log(self.run.rt, &mut lines.exchanged);
         {
             let mut steps = steps_of(self.run.rt, self.metrics);
@@ -209,6 +240,7 @@ impl<R: System, A: Ledger, B: Ledger, C: Ledger> Link<'_, R, A, B, C> {
                 }
             }
         }
+        count_numbers_of_log(&numbers, &lines.exchanged);
         self.note_counted(lines.exchanged.len());
         making.take_log(link, &mut lines.exchanged);
     }

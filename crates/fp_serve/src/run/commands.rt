@@ -1,32 +1,24 @@
-//! The commands of a run: lines of a reader, of which the run follows one after another until it is over.
+//! The commands of a run, which it follows one after another until it is over.
 
 ghost use Rattle.std.specs.Prelude.{◌≤◌, IfOk, IfSome, OnOk, string_bytes};
-ghost use Rattle.fp_serve.specs.Report.{TellsAnswers, TellsOfCounters, TellsOfLinks};
+ghost use Rattle.fp_serve.specs.Report.{TellsAnswers, TellsNumber, TellsOfCounters, TellsOfLinks, TellsOfNumber};
 
 use crate::moment::time_since;
 use crate::run::report::{answer_of, write_flushed, write_reloaded};
-use crate::run::{Run, ServeFault, Statuses, Stop};
-use crate::system::{System, start_thread};
-use crate::watch::Watch;
-use crossbeam_channel::{Receiver, Sender};
+use crate::run::{Run, ServeFault, Statuses};
+use crate::system::System;
+use crate::watch::{CalledNumber, Watch};
+use crossbeam_channel::Receiver;
+use fp_counters::Counters;
 use fp_hub::Tables;
+use fp_metrics::number_text;
 use fp_streams::LinkWrite;
 use std::alloc::{AllocError, Global};
-use std::io::{ErrorKind, Read};
 use std::rt::Clock;
-use std::sync::{Arc, Wait};
+use std::sync::Wait;
+use std::thread;
 use std::time::{Duration, Instant};
-use std::{str, thread};
 use thiserror::Error;
-
-/// How many octets one read of the commands may give.
-const MOST_READ: usize = 512;
-
-/// How many octets of a line are kept: more than any command has.
-const MOST_OCTETS: usize = 16;
-
-/// How many reads of the commands are made at most.
-const MOST_READS: u64 = 1 << 40;
 
 /// How many commands that were read wait to be followed.
 pub(crate) const MOST_WAITING: usize = 16;
@@ -56,6 +48,9 @@ pub enum Refusal {
     /// The node has no unit of its own, so without the common one there is no way for its answers.
     #[error("command: drain: no unit but the common one")]
     NoOwnUnit,
+    /// What is counted for a number is asked for, and the run doesn't count that.
+    #[error("command: counters: numbers aren't counted")]
+    NoNumbers,
 }
 
 /// What reads the records of a run again, and says what is wrong with a command.
@@ -90,6 +85,8 @@ pub(crate) enum Command {
     Links,
     /// `counters`: what is counted.
     Counters,
+    /// `counters NUMBER`: what is counted for a called number.
+    CountersOf(CalledNumber),
     /// `drain`: the node is to ask for no new dialogues, and all links are to end once none is held.
     Drain,
     /// `quit`: all links are to end.
@@ -107,117 +104,6 @@ pub(crate) enum Notice {
     NoCommands,
     /// All links are down.
     LinksDown,
-}
-
-/// A line of which some octets came.
-#[derive(Clone, Copy)]
-struct CommandLine {
-    octets: [u8; MOST_OCTETS],
-    // How many came, at most one more than are kept.
-    count: usize,
-}
-
-impl CommandLine {
-    /// None came.
-    fn new() -> CommandLine {
-        CommandLine {
-            octets: [0; MOST_OCTETS],
-            count: 0,
-        }
-    }
-
-    /// One more came.
-    fn push(&mut self, octet: u8) {
-        if self.count < MOST_OCTETS {
-            self.octets[self.count] = octet;
-        }
-        if self.count <= MOST_OCTETS {
-            self.count += 1;
-        }
-    }
-
-    /// The command that the line is.
-    fn command(&self) -> Command {
-        let octets = self.octets.get(..self.count).unwrap_or_default();
-        match str::from_utf8(octets) {
-            Ok("reload") => Command::Reload,
-            Ok("links") => Command::Links,
-            Ok("counters") => Command::Counters,
-            Ok("drain") => Command::Drain,
-            Ok("quit") => Command::Quit,
-            Ok(_) | Err(_) => Command::Unknown,
-        }
-    }
-}
-
-/// Sends a notice of a line that was read, and ends the links here if it says so: that waits for no command before it.
-/// `false`: nobody takes notices any more.
-fn send_command<R: Wait + Clock>(
-    rt: &R,
-    line: &CommandLine,
-    ended: Option<&Arc<Stop>>,
-    notices: &Sender<Notice>,
-) -> bool {
-    let command = line.command();
-    if let (Command::Quit, Some(stop)) = (command, ended) {
-        stop.quit(rt);
-    }
-    notices.send(rt, Notice::Command(command)).is_ok()
-}
-
-/// Sends a notice of each line that is read here, until no more come, and ends the links here if a line says so.
-/// The last one may have no line feed.
-fn read_commands<R: Wait + Clock, I: Read>(
-    rt: &R,
-    input: &mut I,
-    ended: Option<&Arc<Stop>>,
-    notices: &Sender<Notice>,
-) {
-    let mut room = [0; MOST_READ];
-    let mut line = CommandLine::new();
-    for _ in 0..MOST_READS {
-        let count = match input.read(&mut room) {
-            Ok(0) => break,
-            Ok(count) => count,
-            Err(error) if error.kind() == ErrorKind::Interrupted => continue,
-            Err(_) => break,
-        };
-        for octet in room.iter().take(count) {
-            if *octet != b'\n' {
-                line.push(*octet);
-                continue;
-            }
-            if !send_command(rt, &line, ended, notices) {
-                return;
-            }
-            line = CommandLine::new();
-        }
-    }
-    if line.count > 0 {
-        let _ = send_command(rt, &line, ended, notices);
-    }
-    let _ = notices.send(rt, Notice::NoCommands);
-}
-
-/// Starts a thread that reads commands, of which `quit` ends the links here, if more commands are known. The thread
-/// isn't joined: it may wait for its input when the run is over.
-pub(crate) fn start_reading<R: System + Copy + Send + 'static, I: Read + Send + Drop + 'static>(
-    rt: &R,
-    input: I,
-    stop: &Arc<Stop>,
-    has_commands: bool,
-    notices: Sender<Notice>,
-) -> Result<(), ServeFault> {
-    let own = *rt;
-    let ended = if has_commands {
-        Some(Arc::try_clone(stop)?)
-    } else {
-        None
-    };
-    start_thread(rt, move || {
-        let mut input = input;
-        read_commands(&own, &mut input, ended.as_ref(), &notices);
-    })
 }
 
 /// The answer to `links`.
@@ -297,6 +183,59 @@ fn end_if_drained<R: System>(run: &Run<'_, R>, since: &mut Option<Instant>) {
     }
 }
 
+/// What is counted for a called number.
+fn number_lines(alloc: Global, digits: &str, counters: &Counters) -> Result<String, AllocError>
+    ensures { IfOk result (λ text. TellsNumber (string_bytes text)) }
+{
+    number_text(alloc, digits, counters)
+}
+
+/// The answer to `counters NUMBER`.
+fn number_answer(
+    alloc: Global,
+    number: CalledNumber,
+    counters: &Counters,
+) -> Result<String, AllocError>
+    ensures { IfOk result (λ text. TellsOfNumber (string_bytes text)) }
+{
+    let digits = number.text(alloc)?;
+    let mut text = number_lines(alloc, digits.as_str(), counters)?;
+    text.push_str(END_OF_COUNTERS)?;
+    Ok(text)
+}
+
+/// Writes what is counted for a called number, if more commands are known and that is counted; else the command isn't
+/// known, or it is said that numbers aren't counted. If memory runs out for the text, it is said, and nothing is written.
+fn answer_number<R: System, O: Operator, W: LinkWrite>(
+    run: &Run<'_, R>,
+    number: CalledNumber,
+    operator: &mut O,
+    output: &mut W,
+) -> Result<(), ServeFault>
+    ensures { OnOk result (TellsAnswers run.entry.now.service.tables.now run.entry.now.settings.first_link run.entry.now.settings.has_commands
+        (W.contents output.old) (W.contents output.new)) }
+{
+    if !run.settings.has_commands {
+        operator.refuse(Refusal::Unknown);
+        return Ok(());
+    }
+    let counters = match run.watch {
+        Some(watch) => watch.metrics.counters_of(run.rt, number),
+        None => None,
+    };
+    let Some(counters) = counters else {
+        operator.refuse(Refusal::NoNumbers);
+        return Ok(());
+    };
+    match number_answer(run.service.alloc, number, &counters) {
+        Ok(text) => write_flushed(text.as_str(), output),
+        Err(_) => {
+            operator.fail(ServeFault::Memory);
+            Ok(())
+        }
+    }
+}
+
 /// Does what a command asks for, if one came, and writes its answer, if it has one. If memory runs out for that of
 /// `links`, it is said, and nothing is written.
 fn obey<R: System, O: Operator, W: LinkWrite>(
@@ -325,6 +264,7 @@ fn obey<R: System, O: Operator, W: LinkWrite>(
             }
         },
         Some(Command::Counters) => answer_counters(run, operator, output),
+        Some(Command::CountersOf(number)) => answer_number(run, number, operator, output),
         // The thread that read it has ended the links.
         Some(Command::Quit) if has_commands => Ok(()),
         Some(Command::Drain) if has_commands => {

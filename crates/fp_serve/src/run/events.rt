@@ -7,6 +7,7 @@
 use crate::moment::now;
 use crate::run::{Peer, ServeFault};
 use crate::system::{System, start_thread};
+use crate::watch::RecentEvents;
 use arrayvec::ArrayString;
 use crossbeam_channel::{Receiver, Sender, bounded};
 use fp_digits::Moment;
@@ -153,12 +154,17 @@ impl Wanted {
 
 /// An event, and when it came.
 #[derive(Clone, Copy)]
-struct TimedEvent {
-    moment: Moment,
-    event: Event,
+pub(crate) struct TimedEvent {
+    pub(crate) moment: Moment,
+    pub(crate) event: Event,
 }
 
 impl TimedEvent {
+    /// Its line, with its moment.
+    pub(crate) fn line_of_all(&self, alloc: Global) -> Result<String, AllocError> {
+        self.line(alloc, Wanted::All)
+    }
+
     /// Its line.
     fn line(&self, alloc: Global, wanted: Wanted) -> Result<String, AllocError> {
         let event = self.event;
@@ -211,12 +217,17 @@ struct EventQueue {
 pub struct Events {
     // None: nobody asked for events.
     queue: Option<Arc<EventQueue>>,
+    // None: nobody looks at the last ones.
+    recent: Option<Arc<RecentEvents>>,
 }
 
 impl Events {
     /// Events that nobody asked for.
     pub fn none() -> Events {
-        Events { queue: None }
+        Events {
+            queue: None,
+            recent: None,
+        }
     }
 
     /// Events that a thread of its own writes here. It isn't joined: the end of the program may cut it off.
@@ -243,30 +254,59 @@ impl Events {
             write_events(&own, alloc, wanted, &messages, &mut errors);
             drop::<Sender<()>>(ending);
         })?;
-        Ok(Events { queue: Some(queue) })
+        Ok(Events {
+            queue: Some(queue),
+            recent: None,
+        })
+    }
+
+    /// The same events, of which the last ones are kept here, too.
+    pub fn kept_in(mut self, recent: Arc<RecentEvents>) -> Events {
+        self.recent = Some(recent);
+        self
     }
 
     /// The same events, for a thread that goes on by itself.
     pub fn share(&self) -> Result<Events, AllocError> {
-        match &self.queue {
-            Some(queue) => Ok(Events {
-                queue: Some(Arc::try_clone(queue)?),
-            }),
-            None => Ok(Events::none()),
+        let queue = match &self.queue {
+            Some(queue) => Some(Arc::try_clone(queue)?),
+            None => None,
+        };
+        let recent = match &self.recent {
+            Some(recent) => Some(Arc::try_clone(recent)?),
+            None => None,
+        };
+        Ok(Events { queue, recent })
+    }
+
+    /// Keeps an event, if somebody looks at the last ones.
+    fn keep<R: Wait>(&self, rt: &R, timed: &TimedEvent) {
+        match &self.recent {
+            Some(recent) => recent.keep(rt, *timed),
+            None => {}
         }
     }
 
-    /// An event came. It is lost if 1,024 wait to be written.
-    pub fn report<R: Wait + Clock>(&self, rt: &R, event: Event) {
+    /// Has an event written, if it is asked for. It is lost if 1,024 wait.
+    fn send<R: Wait>(&self, rt: &R, timed: &TimedEvent) {
         let Some(queue) = &self.queue else {
             return;
         };
-        if !queue.wanted.includes(&event) {
+        if !queue.wanted.includes(&timed.event) {
+            return;
+        }
+        let _ = queue.sender.try_send(rt, Message::Event(*timed));
+    }
+
+    /// An event came. Of those that are written it is lost if 1,024 wait.
+    pub fn report<R: Wait + Clock>(&self, rt: &R, event: Event) {
+        if self.queue.is_none() && self.recent.is_none() {
             return;
         }
         let moment = now(rt);
         let timed = TimedEvent { moment, event };
-        let _ = queue.sender.try_send(rt, Message::Event(timed));
+        self.keep(rt, &timed);
+        self.send(rt, &timed);
     }
 
     /// No more come. Waits until all were written, a second at most, or two if 1,024 wait.

@@ -1,50 +1,34 @@
-//! A run: its connections, a thread for each link, and the report.
+//! A run: its address, what it waits for, and the report.
 
 ghost use Rattle.std.specs.Prelude.{◌≡◌, ◌≤◌, ◌<◌, ◌+◌, OnOk, length};
 ghost use Rattle.std.specs.Io.KnownBytes.{Appends};
 ghost use Rattle.fp_replay.specs.Replayed.{report_line};
 ghost use Rattle.fp_serve.specs.Report.{TellsAnswers, TellsLinks, lines_by, with_links_below};
 
-use crate::link::{Plan, run_link};
 use crate::log::{Log, start_log};
 use crate::moment::{await_next_second, now, tag_of};
-use crate::run::commands::{Commands, MOST_WAITING, Notice, Operator, follow, start_reading};
-use crate::run::report::{NOTHING, write_address, write_report};
-use crate::run::{
-    Event, Events, Peer, PeerName, Run, ServeFault, Service, Settings, Statuses, Stop,
-};
-use crate::socket::{connection, look_often};
+use crate::run::command_lines::start_reading;
+use crate::run::commands::{Commands, MOST_WAITING, Notice, Operator, follow};
+use crate::run::link_threads::run_links;
+use crate::run::report::{write_address, write_report};
+use crate::run::{Event, Events, PeerName, Run, ServeFault, Service, Settings, Statuses, Stop};
 use crate::system::System;
 use crate::watch::{Watch, Watched, start_listening};
 use crossbeam_channel::{Receiver, Sender, bounded};
 use fp_book::Totals;
-use fp_hub::{Gate, Looks, OpenGate};
-use fp_network::Drain;
+use fp_hub::{Gate, OpenGate};
+use fp_network::{Drain, NetworkLink};
 use fp_streams::LinkWrite;
 use std::alloc::{AllocError, Global};
 use std::io::Read;
-use std::net::{SocketAddr, TcpListener, TcpStream};
+use std::net::{SocketAddr, TcpListener};
 use std::rt::Clock;
 use std::sync::{Arc, Wait};
 use std::thread;
-use std::thread::{JoinHandle, Scope, Threads};
-
-/// How many threads of a link have work to do, beside its workers: the receiving thread and the sending one.
-const OTHER_THREADS: usize = 2;
-
-/// How the run's threads wait, given their number and the number of processors.
-fn looks<R: Threads>(rt: &R, settings: Settings) -> Looks {
-    let processors = match thread::available_parallelism(rt) {
-        Ok(count) => count.get(),
-        Err(_) => 1,
-    };
-    let of_a_link = usize::from(settings.workers) + OTHER_THREADS;
-    Looks::for_threads(usize::from(settings.links) * of_a_link, processors)
-}
 
 /// The settings with the tag of the run. If that is the tag of the second in which the run begins, returns once this
-/// second is over, so that the first connection is accepted in a later one.
-fn with_tag_of_run<R: Wait + Clock>(rt: &R, settings: Settings) -> Settings
+/// second is over, so that the first message is read in a later one.
+fn with_tag_of_run<R: Wait + Clock>(rt: &R, links: &Links, settings: Settings) -> Settings
     ensures first { result.first_link ≡ settings.first_link }
     ensures links { result.links ≡ settings.links }
     ensures has_commands { result.has_commands ≡ settings.has_commands }
@@ -53,7 +37,7 @@ fn with_tag_of_run<R: Wait + Clock>(rt: &R, settings: Settings) -> Settings
         return settings;
     }
     let start = now(rt);
-    await_next_second(rt, start);
+    await_next_second(rt, links, start);
     settings.with_tag(tag_of(start))
 }
 
@@ -68,11 +52,11 @@ fn address_of(listener: &TcpListener) -> Result<SocketAddr, ServeFault> {
     }
 }
 
-/// A link whose connection was there before the run.
+/// A link that a network carries.
 #[derive(Drop)]
 pub struct StandingLink {
-    /// The connection: a stream of frames.
-    pub stream: TcpStream,
+    /// The network.
+    pub network: Arc<NetworkLink>,
     /// The text of its peer.
     pub peer: PeerName,
     /// The address that is reported as the one where the run listens.
@@ -150,7 +134,8 @@ impl<
     /// the commands, and three more are known. `links` writes, for each link that came, in order, `link L up P accepted A
     /// served S sent T held H`, or `down` in the place of `up`: with the address of its client, what it had counted and how
     /// many dialogues it held at its last tick, a second ago at most, or in the end; and then `links N`, how many came.
-    /// `counters` writes what is counted, in the text format of Prometheus, and `# EOF`, if it is ([`Watched`]).
+    /// `counters` writes what is counted, in the text format of Prometheus, and `# EOF`, if it is ([`Watched`]); and `counters
+    /// NUMBER` what is counted for a called number, if that is.
     /// `quit` ends all links: nothing more is accepted, what was is served and sent, two seconds after the command at most,
     /// and then each link goes down. A link that never came has counted nothing.
     ///
@@ -210,7 +195,7 @@ impl<
             watched,
         } = self;
         let tagged = Server {
-            settings: with_tag_of_run(rt, settings),
+            settings: with_tag_of_run(rt, &links, settings),
             links,
             commands,
             log,
@@ -382,134 +367,4 @@ impl<'x, R: System + Sync> Run<'x, R> {
         }
         Ok(())
     }
-}
-
-/// Starts a thread for a link that came, of this peer. There is room for its handle.
-fn start_link<'s, E: 's, R: System + Sync, G: Gate + Sync>(
-    scope: &'s Scope<'s, E>,
-    run: &'s Run<'s, R>,
-    gate: &'s G,
-    plan: Plan,
-    peer: Peer,
-    stream: TcpStream,
-    handles: &mut Vec<JoinHandle<Option<Totals>>>,
-) {
-    run.statuses.add(run.rt, peer);
-    match scope.spawn(move || run_link(run, plan, gate, &stream)) {
-        Ok(handle) => {
-            let _ = handles.push(handle);
-        }
-        Err(_) => run.stop.ask_for(run.rt, ServeFault::NoThread),
-    }
-}
-
-/// Accepts a connection for each link of a run and starts a thread for it, as long as connections are wanted. Then drops
-/// the listener, so that later ones are refused. There is room for the handles.
-fn await_links<'s, E: 's, R: System + Sync, G: Gate + Sync>(
-    scope: &'s Scope<'s, E>,
-    run: &'s Run<'s, R>,
-    gate: &'s G,
-    listener: TcpListener,
-    handles: &mut Vec<JoinHandle<Option<Totals>>>,
-) {
-    let Settings {
-        links,
-        first_link,
-        ..
-    } = run.settings;
-    let looks = looks(run.rt, run.settings);
-    for place in 0..links {
-        let Some((stream, peer)) = connection(run.rt, &listener, run.stop) else {
-            break;
-        };
-        let plan = Plan {
-            place,
-            link: first_link + place,
-            looks,
-        };
-        start_link(scope, run, gate, plan, Peer::Client(peer), stream, handles);
-    }
-}
-
-/// Starts a thread for the first link of a run, whose connection is there, unless no connections are wanted.
-fn start_standing<'s, E: 's, R: System + Sync, G: Gate + Sync>(
-    scope: &'s Scope<'s, E>,
-    run: &'s Run<'s, R>,
-    gate: &'s G,
-    link: StandingLink,
-    handles: &mut Vec<JoinHandle<Option<Totals>>>,
-) {
-    if run.stop.refuses_connections(run.rt) {
-        return;
-    }
-    let StandingLink { stream, peer, .. } = link;
-    look_often(&stream);
-    let plan = Plan {
-        place: 0,
-        link: run.settings.first_link,
-        looks: looks(run.rt, run.settings),
-    };
-    start_link(scope, run, gate, plan, Peer::Named(peer), stream, handles);
-}
-
-/// Starts a thread for each link of a run, wherever it comes from.
-fn start_links<'s, E: 's, R: System + Sync, G: Gate + Sync>(
-    scope: &'s Scope<'s, E>,
-    run: &'s Run<'s, R>,
-    gate: &'s G,
-    links: Option<Links>,
-    handles: &mut Vec<JoinHandle<Option<Totals>>>,
-) {
-    let Some(links) = links else {
-        return;
-    };
-    match links {
-        Links::Awaited(listener) => await_links(scope, run, gate, listener, handles),
-        Links::Standing(link) => start_standing(scope, run, gate, link, handles),
-    }
-}
-
-/// Waits for the threads of the links of a run. Puts what they counted here, where there is room for it, in their order
-/// up to the first of which that isn't known; and, if the links were asked to end, zeros for those that never came.
-fn join_links<R: System>(
-    run: &Run<'_, R>,
-    handles: Vec<JoinHandle<Option<Totals>>>,
-    counted: &mut Vec<Totals>,
-) {
-    let mut is_known = true;
-    for handle in handles {
-        match handle.join(run.rt) {
-            Some(totals) if is_known => {
-                let _ = counted.push(totals);
-            }
-            Some(_) | None => is_known = false,
-        }
-    }
-    if is_known && run.stop.is_quitting() {
-        for _ in counted.len()..usize::from(run.settings.links) {
-            let _ = counted.push(NOTHING);
-        }
-    }
-}
-
-/// Runs links, at most 8, until all of them are down, and hands back what they counted, in their order, up to the first
-/// of which that isn't known.
-fn run_links<'x, R: System + Sync, G: Gate + Sync>(
-    run: &'x Run<'x, R>,
-    gate: &'x G,
-    links: Option<Links>,
-) -> Result<Vec<Totals>, AllocError> {
-    thread::scope(
-        thread::scope_env(),
-        run.rt,
-        move |scope| -> Result<Vec<Totals>, AllocError> {
-            let alloc: Global = run.service.alloc;
-            let most = usize::from(run.settings.links);
-            let mut handles = Vec::with_capacity(alloc, most)?;
-            let mut counted = Vec::with_capacity(alloc, most)?;
-            start_links(scope, run, gate, links, &mut handles);
-            join_links(run, handles, &mut counted);
-            Ok(counted)
-        },
-    )
 }

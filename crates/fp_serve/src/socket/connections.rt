@@ -88,7 +88,7 @@ fn look_for_one<R: Wait + Clock>(
 
 /// Lets a read of a connection end after a fifth of a second, so that a thread that reads sees the command to end,
 /// although nothing comes.
-pub(crate) fn look_often(stream: &TcpStream) {
+fn look_often(stream: &TcpStream) {
     let most = Duration::from_millis(LOOK_MILLISECONDS.unsigned_abs().into());
     let _ = stream.set_read_timeout(Some(most));
 }

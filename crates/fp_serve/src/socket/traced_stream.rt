@@ -1,12 +1,12 @@
 //! A connection that remembers how its last read or write ended.
 
 use crate::run::Run;
+use crate::socket::LinkStream;
 use crate::system::System;
 use fp_linkio::Ended;
 use fp_linkstate::{LinkEnd, LinkEvent, Why};
 use std::io;
 use std::io::{ErrorKind, Read, Write};
-use std::net::TcpStream;
 use std::sync::Mutex;
 
 /// How a read or a write ended.
@@ -63,7 +63,7 @@ impl LastCall {
 #[derive(Drop)]
 pub(crate) struct TracedStream<'x, R> {
     run: &'x Run<'x, R>,
-    stream: &'x TcpStream,
+    stream: &'x LinkStream,
     // The end of the link, which a call that fails is reported to.
     end: &'x Mutex<LinkEnd>,
     pub(crate) last: LastCall,
@@ -73,7 +73,7 @@ impl<'x, R: System> TracedStream<'x, R> {
     /// A connection that was neither read nor written.
     pub(crate) fn new(
         run: &'x Run<'x, R>,
-        stream: &'x TcpStream,
+        stream: &'x LinkStream,
         end: &'x Mutex<LinkEnd>,
     ) -> TracedStream<'x, R> {
         TracedStream {
@@ -105,8 +105,7 @@ impl<R: System> Read for TracedStream<'_, R> {
             self.last = LastCall::AtEnd;
             return Ok(0);
         }
-        let mut stream = self.stream;
-        let answer = stream.read(octets);
+        let answer = self.stream.read(run, octets);
         if run.stop.is_quitting() {
             self.last = LastCall::AtEnd;
             return Ok(0);
@@ -124,8 +123,7 @@ impl<R: System> Read for TracedStream<'_, R> {
 
 impl<R: System> Write for TracedStream<'_, R> {
     fn write(&mut self, octets: &[u8]) -> io::Result<usize> {
-        let mut stream = self.stream;
-        let answer = stream.write(octets);
+        let answer = self.stream.write(self.run, octets);
         self.trace(LastCall::of(&answer), Ended::WriteFault);
         answer
     }

@@ -5,6 +5,59 @@
 
 use fp_counters::{Counter, Counters};
 
+/// What a frame is counted in.
+pub(crate) trait FrameCounts {
+    /// Counts its message, or one of its components.
+    fn note(&mut self, counter: Counter);
+}
+
+impl FrameCounts for Counters {
+    fn note(&mut self, counter: Counter) {
+        self.add(counter, 1);
+    }
+}
+
+/// How many counters a frame of the service counts in at most: one of its message, and one for each of two components.
+const MOST_COUNTERS: usize = 3;
+
+/// A frame of a dialogue that was sent: the local identifier of the dialogue, and what it counts.
+#[derive(Clone, Copy)]
+pub(crate) struct SentFrame {
+    local: u32,
+    counters: [Option<Counter>; MOST_COUNTERS],
+}
+
+impl SentFrame {
+    /// Nothing was counted of a frame of the dialogue of this local identifier.
+    pub(crate) fn new(local: u32) -> SentFrame {
+        SentFrame {
+            local,
+            counters: [None; MOST_COUNTERS],
+        }
+    }
+
+    /// The local identifier of its dialogue.
+    pub(crate) fn local(&self) -> u32 {
+        self.local
+    }
+
+    /// What it counts.
+    pub(crate) fn counters(&self) -> &[Option<Counter>] {
+        self.counters.as_slice()
+    }
+}
+
+impl FrameCounts for SentFrame {
+    fn note(&mut self, counter: Counter) {
+        for place in self.counters.iter_mut() {
+            if place.is_none() {
+                *place = Some(counter);
+                return;
+            }
+        }
+    }
+}
+
 /// How many octets the length before a message has.
 pub(crate) const OCTETS_OF_A_HEAD: usize = 4;
 
@@ -103,7 +156,7 @@ fn component_counter(tag: u8, octets: &[u8]) -> Option<Counter> {
 }
 
 /// Counts the component that octets begin with, and returns what follows it: no octet, if there is none.
-fn count_component<'a>(counters: &mut Counters, octets: &'a [u8]) -> &'a [u8] {
+fn count_component<'a, T: FrameCounts>(counts: &mut T, octets: &'a [u8]) -> &'a [u8] {
     let [tag, octets @ ..] = octets else {
         return octets;
     };
@@ -111,7 +164,7 @@ fn count_component<'a>(counters: &mut Counters, octets: &'a [u8]) -> &'a [u8] {
         return octets;
     };
     if let Some(counter) = component_counter(*tag, octets) {
-        counters.count(counter);
+        counts.note(counter);
     }
     octets.get(length..).unwrap_or_default()
 }
@@ -130,22 +183,22 @@ fn after_identifiers(content: &[u8]) -> &[u8] {
 }
 
 /// Counts the components of a component portion (tag 0x6C), of which the service writes two at most.
-fn count_portion(counters: &mut Counters, portion: &[u8]) {
+fn count_portion<T: FrameCounts>(counts: &mut T, portion: &[u8]) {
     let [0x6C, components @ ..] = portion else {
         return;
     };
     let Some(AfterTag { octets, .. }) = after_tag(components) else {
         return;
     };
-    let second = count_component(counters, octets);
+    let second = count_component(counts, octets);
     if !second.is_empty() {
-        count_component(counters, second);
+        count_component(counts, second);
     }
 }
 
 /// Counts the components of a message. The portions follow its transaction identifiers: perhaps one of the dialogue (tag
 /// 0x6B), then perhaps that of the components, which ends with the message.
-fn count_components(counters: &mut Counters, portions: &[u8]) {
+fn count_components<T: FrameCounts>(counts: &mut T, portions: &[u8]) {
     let components = match portions {
         [0x6B, dialogue @ ..] => match after_tag(dialogue) {
             Some(AfterTag { length, octets }) => octets.get(length..).unwrap_or_default(),
@@ -170,30 +223,30 @@ fn count_components(counters: &mut Counters, portions: &[u8]) {
     {
         if *length < 0x80 && usize::from(*length) == argument.len() + 6 {
             if let Some(counter) = invoke_counter(*operation, argument) {
-                counters.count(counter);
+                counts.note(counter);
             }
             return;
         }
     }
-    count_portion(counters, components);
+    count_portion(counts, components);
 }
 
 /// Counts an Abort, by what follows its transaction identifiers: of the provider, if that is a cause (Q.773, 4.2.1), or by
 /// the user.
-fn count_abort(counters: &mut Counters, portions: &[u8]) {
+fn count_abort<T: FrameCounts>(counts: &mut T, portions: &[u8]) {
     match portions {
-        [0x4A, 1, 0, ..] => counters.count(Counter::SentUnknownMessage),
-        [0x4A, 1, 1, ..] => counters.count(Counter::SentUnknownTransaction),
-        [0x4A, 1, 2, ..] => counters.count(Counter::SentBadTransaction),
-        [0x4A, 1, 3, ..] => counters.count(Counter::SentIncorrectTransaction),
-        [0x4A, 1, 4, ..] => counters.count(Counter::SentLimit),
-        _ => counters.count(Counter::SentUserAbort),
+        [0x4A, 1, 0, ..] => counts.note(Counter::SentUnknownMessage),
+        [0x4A, 1, 1, ..] => counts.note(Counter::SentUnknownTransaction),
+        [0x4A, 1, 2, ..] => counts.note(Counter::SentBadTransaction),
+        [0x4A, 1, 3, ..] => counts.note(Counter::SentIncorrectTransaction),
+        [0x4A, 1, 4, ..] => counts.note(Counter::SentLimit),
+        _ => counts.note(Counter::SentUserAbort),
     }
 }
 
 /// Counts a frame of the service, or of an Abort of the provider, that was sent. The dialogues that it ends aren't counted:
 /// there is one for each End and each Abort by the user.
-pub(crate) fn count_frame(counters: &mut Counters, frame: &[u8]) {
+pub(crate) fn count_frame<T: FrameCounts>(counts: &mut T, frame: &[u8]) {
     let [_, _, _, _, tag, rest @ ..] = frame else {
         return;
     };
@@ -203,14 +256,14 @@ pub(crate) fn count_frame(counters: &mut Counters, frame: &[u8]) {
     let portions = after_identifiers(octets);
     match tag {
         0x65 => {
-            counters.count(Counter::SentContinue);
-            count_components(counters, portions);
+            counts.note(Counter::SentContinue);
+            count_components(counts, portions);
         }
         0x64 => {
-            counters.count(Counter::SentEnd);
-            count_components(counters, portions);
+            counts.note(Counter::SentEnd);
+            count_components(counts, portions);
         }
-        0x67 => count_abort(counters, portions),
+        0x67 => count_abort(counts, portions),
         _ => {}
     }
 }

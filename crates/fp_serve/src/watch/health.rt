@@ -43,7 +43,7 @@ impl Watch {
     }
 
     /// Whether the run is to end, or its node to ask for no more dialogues.
-    fn is_ending<R: Wait>(&self, rt: &R) -> bool {
+    pub(crate) fn is_ending<R: Wait>(&self, rt: &R) -> bool {
         let drains = match &self.drain {
             Some(drain) => drain.is_set(),
             None => false,
@@ -52,7 +52,8 @@ impl Watch {
     }
 
     /// How the run is. It is live, if the clocks of the links that are up and the thread that writes the log moved within
-    /// the last ten seconds; and ready, if a link is up and the run isn't about to end.
+    /// the last ten seconds; and ready, if a link is up, a connection of the network carries its messages if it is a node's,
+    /// and the run isn't about to end.
     pub(crate) fn health<R: Wait + Clock>(&self, rt: &R) -> Health {
         let time = self.stop.time(rt);
         let mut is_live = is_moving(time, self.log.moved_at());
@@ -65,7 +66,7 @@ impl Watch {
         }
         Health {
             is_live,
-            is_ready: is_up && !self.is_ending(rt),
+            is_ready: is_up && !self.metrics.lacks_connection() && !self.is_ending(rt),
         }
     }
 }

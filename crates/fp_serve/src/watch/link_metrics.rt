@@ -1,7 +1,8 @@
 //! What is counted on a link.
 
 use crate::moment::now;
-use crate::watch::frames::{OCTETS_OF_A_HEAD, count_frame};
+use crate::watch::frames::{OCTETS_OF_A_HEAD, SentFrame, count_frame};
+use crate::watch::number_counts::NumberCounts;
 use crate::watch::sample::Sample;
 use fp_book::{LoggedStep, Parcel, Status};
 use fp_counters::{Counter, Counters, Highest};
@@ -36,7 +37,7 @@ impl StepCounts {
         self.counters.count_step(step);
     }
 
-    /// This number of lines left the book, and the device took so many of all.
+    /// `count` lines left the book, and of all lines the device took `written`.
     fn note_lines(&mut self, count: u64, written: u64) {
         self.lines = self.lines.saturating_add(count);
         self.most_lines.note(self.lines.saturating_sub(written));
@@ -64,8 +65,18 @@ pub(crate) struct SentCounts {
 
 impl SentCounts {
     /// Counts a parcel that is sent.
-    pub(crate) fn count(&mut self, parcel: &Parcel) {
+    fn count(&mut self, parcel: &Parcel) {
         count_frame(&mut self.counters, parcel.octets());
+    }
+
+    /// Counts a parcel that is sent, a frame of the dialogue of this local identifier, and gives what it counts.
+    fn count_frame_of(&mut self, local: u32, parcel: &Parcel) -> SentFrame {
+        let mut frame = SentFrame::new(local);
+        count_frame(&mut frame, parcel.octets());
+        for counter in frame.counters().iter().flatten() {
+            self.counters.count(*counter);
+        }
+        frame
     }
 }
 
@@ -81,11 +92,13 @@ pub(crate) struct LinkMetrics {
     // When its clock ticked, in milliseconds since the run began.
     ticked_at: AtomicU64,
     pub(crate) sample: Sample,
+    // What is counted for each called number, if somebody asked for that.
+    pub(crate) numbers: Option<NumberCounts>,
 }
 
 impl LinkMetrics {
-    /// Nothing was counted, and the link isn't up.
-    pub(crate) fn new() -> LinkMetrics {
+    /// Nothing was counted, also for called numbers if that is asked for, and the link isn't up.
+    pub(crate) fn new(numbers: Option<NumberCounts>) -> LinkMetrics {
         LinkMetrics {
             steps: Mutex::new(StepCounts {
                 counters: Counters::new(),
@@ -106,6 +119,7 @@ impl LinkMetrics {
             }),
             ticked_at: AtomicU64::new(NEVER),
             sample: Sample::new(),
+            numbers,
         }
     }
 
@@ -122,7 +136,7 @@ impl LinkMetrics {
         self.ticked_at.store(time, Ordering::SeqCst);
     }
 
-    /// This number of lines left the book, and the device took so many of all.
+    /// `count` lines left the book, and of all lines the device took `written`.
     pub(crate) fn note_lines<R: Wait>(&self, rt: &R, count: usize, written: u64) {
         let count = u64::try_from(count).unwrap_or(u64::MAX);
         self.steps.lock(rt).note_lines(count, written);
@@ -166,6 +180,16 @@ impl LinkMetrics {
         *sent
     }
 
+    /// Counts a parcel that is sent, before its line is in the book of the link.
+    pub(crate) fn count_parcel<R: Wait>(&self, rt: &R, counts: &mut SentCounts, parcel: &Parcel) {
+        match (&self.numbers, parcel.dialogue()) {
+            (Some(numbers), Some(local)) => {
+                numbers.note_sent(rt, counts.count_frame_of(local, parcel));
+            }
+            _ => counts.count(parcel),
+        }
+    }
+
     /// When the message was read that this parcel answers, if that is the one whose answer is awaited.
     pub(crate) fn close_sample<R: Wait + Clock>(&self, rt: &R, parcel: &Parcel) -> Option<Instant> {
         if !self.sample.is_open() {
@@ -185,7 +209,7 @@ impl LinkMetrics {
         }
     }
 
-    /// What it counted, and what it has, as the link of this number of whose lines the device took so many.
+    /// What it counted, and what it has, as link `link` of whose lines the device took `written`.
     pub(crate) fn numbers<R: Wait>(&self, rt: &R, link: u8, written: u64) -> LinkNumbers {
         let steps = *self.steps.lock(rt);
         let sent = self.sent_counters(rt);

@@ -1,13 +1,14 @@
 //! The thread that answers those who ask how a run is, over HTTP.
 //!
 //! It waits for no single connection: each is read, answered and written as far as it goes, four seconds at most without
-//! an answer. There are eight at most; one more takes the place of one of them, each in its turn.
+//! an answer. There are eight at most; one more takes the place of the one that has been there longest.
 
 use crate::moment::time_since;
 use crate::run::ServeFault;
 use crate::system::{System, start_thread};
+use crate::watch::page::Page;
 use crate::watch::visitor::Visitor;
-use crate::watch::{Metrics, Watch};
+use crate::watch::{Metrics, RecentEvents, Watch};
 use fp_metrics::Pages;
 use libc::net::{POLLIN, poll};
 use libc::types::pollfd;
@@ -43,6 +44,8 @@ pub struct MetricsListener {
     pub listener: TcpListener,
     /// The keys of the maps of header fields, whose names clients choose.
     pub keys: RandomState,
+    /// What the events of the run say.
+    pub recent: Arc<RecentEvents>,
 }
 
 /// What is counted in a run, and where it is asked for that.
@@ -84,9 +87,10 @@ struct Listening {
     watch: Watch,
     // Room for eight connections.
     visitors: Vec<Option<Visitor>>,
-    // The place that one more takes, if there are eight.
-    next: usize,
+    // How many connections came.
+    count: u64,
     last: LastText,
+    page: Page,
 }
 
 impl Listening {
@@ -112,7 +116,26 @@ impl Listening {
         }
     }
 
-    /// Takes in a connection that waits, if one does. If there are eight, one of them is closed, each in its turn.
+    /// Puts a connection in a free place, or, if there is none, in that of the one that has been there longest.
+    fn admit(&mut self, visitor: Visitor) {
+        let mut first = u64::MAX;
+        let mut chosen = 0;
+        for (place, other) in self.visitors.iter().enumerate() {
+            let number = match other {
+                Some(other) => other.number(),
+                None => 0,
+            };
+            if number < first {
+                first = number;
+                chosen = place;
+            }
+        }
+        if let Some(place) = self.visitors.get_mut(chosen) {
+            *place = Some(visitor);
+        }
+    }
+
+    /// Takes in a connection that waits, if one does. If there are eight, the one that has been there longest is closed.
     fn accept<R: Wait + Clock>(&mut self, rt: &R) {
         let stream = match self.listener.accept() {
             Ok((stream, _)) => stream,
@@ -123,23 +146,10 @@ impl Listening {
                 return;
             }
         };
-        let Some(visitor) = Visitor::new(rt, self.alloc, self.keys, stream) else {
-            return;
-        };
-        for place in self.visitors.iter_mut() {
-            if place.is_none() {
-                *place = Some(visitor);
-                return;
-            }
+        self.count = self.count.saturating_add(1);
+        if let Some(visitor) = Visitor::new(rt, self.alloc, self.keys, stream, self.count) {
+            self.admit(visitor);
         }
-        if let Some(place) = self.visitors.get_mut(self.next) {
-            *place = Some(visitor);
-        }
-        self.next = if self.next < MOST_VISITORS - 1 {
-            self.next + 1
-        } else {
-            0
-        };
     }
 
     /// Moves each connection on, and closes those that are done or late.
@@ -148,7 +158,9 @@ impl Listening {
             return;
         }
         self.last.refresh(rt, self.alloc, &self.watch);
+        self.page.refresh(rt, &self.watch);
         let mut pages = Pages {
+            page: self.page.text(),
             metrics: self.last.text.as_str(),
             health: self.watch.health(rt),
         };
@@ -170,6 +182,7 @@ impl Listening {
                 break;
             }
             self.wait(rt);
+            self.page.note(rt, &self.watch);
             self.accept(rt);
             self.step(rt);
         }
@@ -192,11 +205,16 @@ pub(crate) fn start_listening<R: System + Copy + Send + 'static>(
     place: MetricsListener,
     watch: Watch,
 ) -> Result<(), ServeFault> {
-    let MetricsListener { listener, keys } = place;
+    let MetricsListener {
+        listener,
+        keys,
+        recent,
+    } = place;
     if listener.set_nonblocking(true).is_err() {
         return Err(ServeFault::NoConnection);
     }
     let visitors = places(alloc)?;
+    let page = Page::new(alloc, recent, watch.metrics.links().len())?;
     let own = *rt;
     start_thread(rt, move || {
         let mut listening = Listening {
@@ -205,11 +223,12 @@ pub(crate) fn start_listening<R: System + Copy + Send + 'static>(
             keys,
             watch,
             visitors,
-            next: 0,
+            count: 0,
             last: LastText {
                 text: String::new(alloc),
                 made_at: None,
             },
+            page,
         };
         listening.answer(&own);
     })

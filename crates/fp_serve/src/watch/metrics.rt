@@ -5,9 +5,10 @@ ghost use Rattle.fp_serve.specs.Report.{TellsNumbers};
 
 use crate::log::Log;
 use crate::run::{Settings, Version};
-use crate::watch::LinkMetrics;
-use fp_counters::Histogram;
-use fp_metrics::{RunNumbers, metrics_text};
+use crate::watch::number_counts::NumberCounts;
+use crate::watch::{CalledNumber, LinkMetrics};
+use fp_counters::{Counters, Histogram};
+use fp_metrics::{LinkNumbers, RunNumbers, metrics_text};
 use std::alloc::{AllocError, Global};
 use std::sync::atomic::{AtomicBool, Ordering};
 use std::sync::{Arc, Mutex, Wait};
@@ -15,10 +16,20 @@ use std::time::Duration;
 
 /// The records from which calls are answered.
 #[derive(Clone, Copy)]
-struct Records {
+pub(crate) struct Records {
     // The SHA-256 digest of their file.
     digest: [u8; 32],
-    reloads: u64,
+    /// How often they were replaced.
+    pub(crate) reloads: u64,
+    /// How many numbers and rules they have.
+    pub(crate) counts: (u32, u32),
+}
+
+impl Records {
+    /// The digest, in hexadecimal digits.
+    pub(crate) fn digest_text(&self, alloc: Global) -> Result<String, AllocError> {
+        hexadecimal(alloc, &self.digest)
+    }
 }
 
 /// What is counted in a run, for those who watch it: on each of its links, in the order of their numbers, and how long
@@ -32,6 +43,8 @@ pub struct Metrics {
     links: Vec<LinkMetrics>,
     // Nobody is answered any more.
     is_over: AtomicBool,
+    // The run is a node, and no connection of its network carries messages.
+    lacks_connection: AtomicBool,
 }
 
 /// A digest in hexadecimal digits.
@@ -44,6 +57,16 @@ fn hexadecimal(alloc: Global, digest: &[u8; 32]) -> Result<String, AllocError> {
     Ok(text)
 }
 
+/// Nothing was counted on a link, also for called numbers if these are counted.
+fn link_metrics(alloc: Global, counts_numbers: bool) -> Result<LinkMetrics, AllocError> {
+    let numbers = if counts_numbers {
+        Some(NumberCounts::new(alloc)?)
+    } else {
+        None
+    };
+    Ok(LinkMetrics::new(numbers))
+}
+
 /// The numbers of a run in the text format of Prometheus.
 fn numbers_text(alloc: Global, run: &RunNumbers<'_>) -> Result<String, AllocError>
     ensures { IfOk result (λ text. TellsNumbers (string_bytes text)) }
@@ -53,33 +76,52 @@ fn numbers_text(alloc: Global, run: &RunNumbers<'_>) -> Result<String, AllocErro
 
 impl Metrics {
     /// Nothing was counted in a run with these settings, by a program of this version, which answers from the records of
-    /// a file of this SHA-256 digest.
+    /// a file of this SHA-256 digest; `counts` are how many numbers and rules these have. If numbers are counted, each
+    /// number that is called has counters of its own.
     pub fn new(
         alloc: Global,
         settings: Settings,
         version: Version,
         digest: [u8; 32],
+        counts: (u32, u32),
+        counts_numbers: bool,
     ) -> Result<Arc<Metrics>, AllocError> {
         let mut links = Vec::with_capacity(alloc, usize::from(settings.links))?;
         for _ in 0..settings.links {
-            links.push(LinkMetrics::new())?;
+            links.push(link_metrics(alloc, counts_numbers)?)?;
         }
         let metrics = Metrics {
             version,
             first_link: settings.first_link,
-            records: Mutex::new(Records { digest, reloads: 0 }),
+            records: Mutex::new(Records {
+                digest,
+                reloads: 0,
+                counts,
+            }),
             answer_times: Mutex::new(Histogram::new()),
             links,
             is_over: AtomicBool::new(false),
+            lacks_connection: AtomicBool::new(false),
         };
         Ok(Arc::new(alloc, metrics)?)
     }
 
-    /// The records were replaced by those of a file of this digest.
-    pub fn note_reload<R: Wait>(&self, rt: &R, digest: [u8; 32]) {
+    /// The records were replaced by those of a file of this digest; `counts` are how many numbers and rules these have.
+    pub fn note_reload<R: Wait>(&self, rt: &R, digest: [u8; 32], counts: (u32, u32)) {
         let mut records = self.records.lock(rt);
         records.digest = digest;
+        records.counts = counts;
         records.reloads = records.reloads.saturating_add(1);
+    }
+
+    /// The run is a node on a signalling network, of which a connection carries messages now, or none does.
+    pub fn note_connected(&self, is_connected: bool) {
+        self.lacks_connection.store(!is_connected, Ordering::SeqCst);
+    }
+
+    /// Whether the run is a node to which no messages come, since no connection of its network carries any.
+    pub(crate) fn lacks_connection(&self) -> bool {
+        self.lacks_connection.load(Ordering::SeqCst)
     }
 
     /// What is counted on the link in this place. `None`: the run has no such link.
@@ -108,6 +150,51 @@ impl Metrics {
         self.is_over.load(Ordering::SeqCst)
     }
 
+    /// What is counted for a called number, on all links. `None`: numbers aren't counted.
+    pub(crate) fn counters_of<R: Wait>(&self, rt: &R, number: CalledNumber) -> Option<Counters> {
+        let mut counters = Counters::new();
+        let mut is_counted = false;
+        for link in self.links.iter() {
+            if let Some(numbers) = &link.numbers {
+                numbers.add_to(rt, number, &mut counters);
+                is_counted = true;
+            }
+        }
+        if is_counted { Some(counters) } else { None }
+    }
+
+    /// The version of the program.
+    pub(crate) fn version(&self) -> Version {
+        self.version
+    }
+
+    /// The records from which calls are answered.
+    pub(crate) fn records<R: Wait>(&self, rt: &R) -> Records {
+        *self.records.lock(rt)
+    }
+
+    /// How long answers took.
+    pub(crate) fn answer_times<R: Wait>(&self, rt: &R) -> Histogram {
+        *self.answer_times.lock(rt)
+    }
+
+    /// The numbers of each link, of a run with this log.
+    pub(crate) fn numbers<R: Wait>(
+        &self,
+        rt: &R,
+        alloc: Global,
+        log: &Log,
+    ) -> Result<Vec<LinkNumbers>, AllocError> {
+        let mut links = Vec::with_capacity(alloc, self.links.len())?;
+        let mut number = self.first_link;
+        for (place, link) in self.links.iter().enumerate() {
+            let written = log.lines_of(place).map_or(0, |lines| lines.written());
+            links.push(link.numbers(rt, number, written))?;
+            number = number.saturating_add(1);
+        }
+        Ok(links)
+    }
+
     /// All of it in the text format of Prometheus, of a run with this log.
     pub(crate) fn text<R: Wait>(
         &self,
@@ -117,20 +204,14 @@ impl Metrics {
     ) -> Result<String, AllocError>
         ensures { IfOk result (λ text. TellsNumbers (string_bytes text)) }
     {
-        let mut links = Vec::with_capacity(alloc, self.links.len())?;
-        let mut number = self.first_link;
-        for (place, link) in self.links.iter().enumerate() {
-            let written = log.lines_of(place).map_or(0, |lines| lines.written());
-            links.push(link.numbers(rt, number, written))?;
-            number = number.saturating_add(1);
-        }
-        let Records { digest, reloads } = *self.records.lock(rt);
-        let digest = hexadecimal(alloc, &digest)?;
+        let links = self.numbers(rt, alloc, log)?;
+        let records = self.records(rt);
+        let digest = records.digest_text(alloc)?;
         let run = RunNumbers {
             version: self.version.as_str(),
             records: digest.as_str(),
-            reloads,
-            answer_times: *self.answer_times.lock(rt),
+            reloads: records.reloads,
+            answer_times: self.answer_times(rt),
             links: links.as_slice(),
         };
         numbers_text(alloc, &run)

@@ -29,6 +29,8 @@ const MOST_DROPPED: usize = 4_096;
 /// A connection over which somebody asks how a run is.
 #[derive(Drop)]
 pub(crate) struct Visitor {
+    // Its number among those that came, from 1.
+    number: u64,
     stream: TcpStream,
     connection: Connection,
     // When it came, or its last answer was written.
@@ -37,7 +39,7 @@ pub(crate) struct Visitor {
     is_closing: bool,
 }
 
-/// Whether a call that failed so is made again.
+/// Whether a call that failed with this error is made again.
 fn is_passing(error: &io::Error) -> bool {
     match error.kind() {
         ErrorKind::WouldBlock | ErrorKind::Interrupted => true,
@@ -46,12 +48,13 @@ fn is_passing(error: &io::Error) -> bool {
 }
 
 impl Visitor {
-    /// A connection that came just now. `None`: it can't be served without waiting for it.
+    /// A connection that came just now, as the one of this number. `None`: it can't be served without waiting for it.
     pub(crate) fn new<R: Clock>(
         rt: &R,
         alloc: Global,
         keys: RandomState,
         stream: TcpStream,
+        number: u64,
     ) -> Option<Visitor> {
         if stream.set_nonblocking(true).is_err() {
             return None;
@@ -61,11 +64,17 @@ impl Visitor {
             ..Config::default()
         };
         Some(Visitor {
+            number,
             stream,
             connection: Connection::new(alloc, keys, config),
             since: Instant::now(rt).ok(),
             is_closing: false,
         })
+    }
+
+    /// Its number among those that came.
+    pub(crate) fn number(&self) -> u64 {
+        self.number
     }
 
     /// What the system is asked of it.

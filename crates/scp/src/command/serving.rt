@@ -59,6 +59,7 @@ pub(super) fn serve_asked<'a>(
         },
         log: chosen.get_str("log").unwrap_or(""),
         metrics: chosen.get_str("metrics"),
+        counts_numbers: chosen.get_flag("count-numbers"),
         events: wanted_events(chosen.get_flag("events"), has_log_gaps),
         contexts,
     })
@@ -184,6 +185,16 @@ fn flag<'a>(alloc: Global, name: &'a str, help: &'a str) -> Arg<'a> {
         .help(help)
 }
 
+/// The option for counters of each called number.
+fn count_numbers_option<'a>(alloc: Global) -> Result<Arg<'a>, AllocError> {
+    flag(
+        alloc,
+        "count-numbers",
+        "Count for each called number, too, which the command counters NUMBER prints; with --commands",
+    )
+    .requires_arg("commands")
+}
+
 /// The option for the tag of the run.
 fn tag_option<'a>(alloc: Global) -> Result<Arg<'a>, AllocError> {
     let tag = Arg::new(alloc, "tag")
@@ -281,6 +292,7 @@ pub(super) fn serve_command<'a>(alloc: Global) -> Result<Command<'a>, AllocError
             "commands",
             "Know the commands links, counters and quit too, and end with the links, whatever standard input does",
         ))?
+        .arg(count_numbers_option(alloc)?)?
         .arg(flag(
             alloc,
             "log-gaps",
