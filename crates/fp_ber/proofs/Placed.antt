@@ -1,10 +1,10 @@
 -- Nodes that are put into places, one behind the other, are those of elements.
-use Rattle.std.proofs.Common.{◌≡◌, ℕ, suc, ◌+◌, ◌-◌, ◌*◌, ◌<◌, ◌≤◌, Bool, true, false, List, [], ◌∷◌, ◌++◌, length, take, set, length-append, length-take-le, sym, ◌∙◌, ap, append_assoc, append-nil, arith, inl, inr}
+use Rattle.std.proofs.Common.{◌≡◌, ℕ, suc, ◌+◌, ◌-◌, ◌*◌, ◌<◌, ◌≤◌, Bool, true, false, List, [], ◌∷◌, ◌++◌, length, take, set, length-append, length-take-le, refl, sym, ◌∙◌, ap, append_assoc, append-nil, arith, inl, inr}
 use Rattle.std.proofs.lemmas.List.{map-append, length-map, map-set}
 use Rattle.std.proofs.Math.Seq.{take-set-lt, set-append_seam}
 use Rattle.fp_ber.specs.declared.element.Class.{Class}
 use Rattle.fp_ber.specs.declared.node.Node.{Node}
-use Rattle.fp_ber.specs.Nodes.{Head, head_of, heads_in, heads_of, heads_of_all, primitive_head, constructed_head, Closes, PutsNode, PutsNodes}
+use Rattle.fp_ber.specs.Nodes.{Head, head_of, heads_in, heads_of, heads_of_all, primitive_head, constructed_head, Closes, IsLeaf, PutsNode, PutsNodes}
 use Rattle.fp_ber.specs.Spelling.{IsTag, IsLength, Spells, SpellsAll, Begins, BeginsTag, BeginsLength}
 use Rattle.fp_ber.specs.Tree.{Tree, Trees, primitive, constructed, none, more, trees_with}
 use Rattle.fp_ber.proofs.Heads.{heads_of_all-push}
@@ -59,6 +59,35 @@ node_primitive depth octets after contents rest class form number old new n deep
   tree = primitive class number contents;
   begins = made_primitive depth octets after contents rest class form number deep is tag size;
   put = put_head old new n (primitive_head class number contents) pushed head;
+}
+
+-- a primitive element with one octet of tag and one of length
+pub leaf : (octets after contents rest : List ℕ) (n : Node) → n.constructed ≡ false → n.octets.now ≡ contents → n.below ≡ 0
+    → BeginsTag octets n.class false n.number after → BeginsLength after (length contents) (contents ++ rest) → IsLeaf octets n rest
+leaf octets after contents rest n form is below tag size = record {
+  tree = primitive n.class n.number contents;
+  begins = made_primitive 1 octets after contents rest n.class false n.number (omega arith) refl tag size;
+  is = λ i. record {
+    class = n.class;
+    form = sym form i;
+    number = n.number;
+    octets = sym is i;
+    below = sym below i;
+  } ∷ [];
+}
+
+-- an element is put whose node was read
+pub leaf_put : (depth : ℕ) (octets rest : List ℕ) (old new : List Node) (n : Node) → 0 < depth → IsLeaf octets n rest → new ≡ old ++ n ∷ []
+    → PutsNode depth octets old new rest
+leaf_put depth octets rest old new n deep is pushed = record {
+  tree = is.tree;
+  begins = record {
+    text = is.begins.text;
+    spelled = is.begins.spelled;
+    nested = omega (arith, is.begins.nested);
+    whole = is.begins.whole;
+  };
+  put = put_head old new n (head_of n) pushed refl ∙ ap (λ hs. heads_in old ++ hs) (sym is.is);
 }
 
 -- the nodes of a constructed element, where those of its elements are put between its own node and closing it

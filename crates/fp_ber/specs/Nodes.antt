@@ -38,7 +38,7 @@ primitive_head class number octets = record {
   below = 0;
 }
 
--- the node of an element whose elements have so many
+-- the node of a constructed element, with the number of nodes of the elements in it
 abbrev pub constructed_head : Class → ℕ → ℕ → Head
 constructed_head class number below = record {
   class = class;
@@ -110,3 +110,9 @@ pub record PutsNodes (depth : ℕ) (octets : List ℕ) (old new : List Node) (re
   pub trees : Trees
   pub begin : BeginAll depth octets trees rest
   pub put : heads_in new ≡ heads_in old ++ heads_of_all trees
+
+-- an element without elements in it is at the front of the octets, and this is its node
+pub record IsLeaf (octets : List ℕ) (node : Node) (rest : List ℕ) : Type 0 where
+  pub tree : Tree
+  pub begins : Begins 1 octets tree rest
+  pub is : heads_of tree ≡ head_of node ∷ []

@@ -1,4 +1,4 @@
-//! An element: what a spelling in BER stands for.
+//! An element of BER in memory of its own.
 
 ghost use Rattle.std.specs.Prelude.{◌≡◌, MatchOption, List, ℕ};
 ghost use Rattle.fp_ber.specs.Tree as tree;
@@ -23,8 +23,8 @@ pub enum Class {
 pub struct Element {
     /// The class of the tag.
     pub class: Class,
-    /// The number of the tag, 0 to 16,383. Number 0 of the universal class marks an end of contents
-    /// and is no element's.
+    /// The number of the tag, 0 to 16,383. In the universal class number 0 marks an end of
+    /// contents, and no element has it.
     pub number: u16,
     /// The contents.
     pub body: Body,
@@ -41,7 +41,7 @@ pub enum Body {
 }
 
 impl Element {
-    /// The element of this tag that holds these octets. Takes no memory.
+    /// A primitive element with this tag and these octets. Takes no memory.
     pub fn primitive(class: Class, number: u16, octets: Vec<u8>) -> Element
         ensures { tree_of result ≡ tree.primitive class number octets.items }
     {
@@ -52,7 +52,7 @@ impl Element {
         }
     }
 
-    /// The element of this tag that holds these elements. Takes no memory.
+    /// A constructed element with this tag and these elements in it. Takes no memory.
     pub fn constructed(class: Class, number: u16, children: Vec<Element>) -> Element
         ensures { tree_of result ≡ tree.constructed class number (forest_of children.items) }
     {
@@ -63,7 +63,7 @@ impl Element {
         }
     }
 
-    /// The octets that a primitive element holds, and `None` for a constructed one.
+    /// The octets of a primitive element, and `None` for a constructed one.
     pub fn octets(&self) -> Option<&[u8]>
         ensures { MatchOption result
             ((children : tree.Trees) × (tree_of self.now ≡ tree.constructed self.now.class self.now.number children))
@@ -75,7 +75,7 @@ impl Element {
         }
     }
 
-    /// The elements that a constructed element holds, and `None` for a primitive one.
+    /// The elements in a constructed element, and `None` for a primitive one.
     pub fn children(&self) -> Option<&[Element]>
         ensures { MatchOption result
             ((octets : List ℕ) × (tree_of self.now ≡ tree.primitive self.now.class self.now.number octets))

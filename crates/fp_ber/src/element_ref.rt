@@ -1,4 +1,4 @@
-//! Elements that are lent: those in memory of their own, or nodes.
+//! Borrowed elements: in memory of their own, or as nodes.
 
 ghost use Rattle.std.specs.Prelude.{◌≡◌, ◌<◌, MatchOption, List, ℕ, length};
 ghost use Rattle.fp_ber.specs.Lent.{lent_tree, lent_trees};
@@ -10,12 +10,12 @@ ghost use Rattle.fp_ber.specs.View.{forest_of};
 use crate::element::{Class, Element};
 use crate::node::Node;
 
-/// An element that is lent. Contracts see the same tree in both forms.
+/// A borrowed element. Contracts see the same tree in both forms.
 #[derive(Clone, Copy, Debug)]
 pub enum ElementRef<'a> {
     /// An element in memory of its own.
     Owned(&'a Element),
-    /// A node, and those of the elements in it.
+    /// A node, and the nodes of the elements in it.
     Node {
         /// The node.
         node: &'a Node<'a>,
@@ -24,25 +24,25 @@ pub enum ElementRef<'a> {
     },
 }
 
-/// Elements that are lent, one after another.
+/// Borrowed elements, one after another.
 #[derive(Clone, Copy, Debug)]
 pub enum Elements<'a> {
     /// Elements in memory of their own.
     Owned(&'a [Element]),
-    /// Nodes: that of each element, and then those of the elements in it.
+    /// Nodes: one for each element, followed by the nodes of the elements in it.
     Nodes(&'a [Node<'a>]),
 }
 
-/// An element, and those after it.
+/// The first element, and the others.
 #[derive(Clone, Copy, Debug)]
 pub struct Split<'a> {
     /// The first element.
     pub first: ElementRef<'a>,
-    /// Those after it.
+    /// The elements after it.
     pub rest: Elements<'a>,
 }
 
-/// The first of some nodes with those below it, and the others.
+/// The first element in a list of nodes, and the others.
 fn split_nodes<'a>(nodes: &'a [Node<'a>]) -> Option<Split<'a>>
     ensures { MatchOption result (trees_in (heads_in nodes.now) ≡ tree.none)
         (λ split. trees_in (heads_in nodes.now) ≡ tree.more (lent_tree split.first) (lent_trees split.rest)) }
@@ -57,7 +57,7 @@ fn split_nodes<'a>(nodes: &'a [Node<'a>]) -> Option<Split<'a>>
     })
 }
 
-/// The first of some elements, and the others.
+/// The first element in a list of elements, and the others.
 fn split_owned(elements: &[Element]) -> Option<Split<'_>>
     ensures { MatchOption result (forest_of elements.now ≡ tree.none)
         (λ split. forest_of elements.now ≡ tree.more (lent_tree split.first) (lent_trees split.rest)) }
@@ -82,7 +82,7 @@ impl<'a> Elements<'a> {
         }
     }
 
-    /// The first element and those after it; `None` for no elements.
+    /// The first element and the others; `None` for no elements.
     pub fn split_first(&self) -> Option<Split<'a>>
         ensures { MatchOption result (lent_trees self.now ≡ tree.none)
             (λ split. lent_trees self.now ≡ tree.more (lent_tree split.first) (lent_trees split.rest)) }
@@ -95,7 +95,8 @@ impl<'a> Elements<'a> {
 }
 
 impl<'a> ElementRef<'a> {
-    /// The element of the first of these nodes, with all others below it: what [`read_nodes`](crate::read_nodes) read.
+    /// The element in the nodes that [`read_nodes`](crate::read_nodes) read: the first is its node, all others are in
+    /// it. There must be one.
     pub fn of_nodes(nodes: &'a [Node<'a>]) -> ElementRef<'a>
         requires { 0 < length nodes.now }
         ensures { lent_tree result ≡ nodes_tree nodes.now }
@@ -126,7 +127,7 @@ impl<'a> ElementRef<'a> {
         }
     }
 
-    /// The octets that a primitive element holds, and `None` for a constructed one.
+    /// The octets of a primitive element, and `None` for a constructed one.
     pub fn octets(&self) -> Option<&'a [u8]>
         ensures { MatchOption result
             ((children : tree.Trees) × (lent_tree self.now
@@ -144,7 +145,7 @@ impl<'a> ElementRef<'a> {
         }
     }
 
-    /// The elements that a constructed element holds, and `None` for a primitive one.
+    /// The elements in a constructed element, and `None` for a primitive one.
     pub fn children(&self) -> Option<Elements<'a>>
         ensures { MatchOption result
             ((octets : List ℕ) × (lent_tree self.now

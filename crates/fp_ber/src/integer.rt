@@ -14,7 +14,7 @@ pub fn signed_of(octet: u8) -> i8
     }
 }
 
-/// The octet that stands for this value in two's complement.
+/// The octet of this value in two's complement. For example, -1 has the octet FF.
 pub fn octet_of(value: i8) -> u8
     ensures { signed result ≡ value }
 {
@@ -25,7 +25,7 @@ pub fn octet_of(value: i8) -> u8
     }
 }
 
-/// A number, and eight more bits after it.
+/// A number with eight more bits appended.
 fn with_octet(high: i32, octet: u8) -> i32
     requires least { pos 0 ≤ℤ (pos 0x80_0000 +ℤ high) }
     requires most { high <ℤ pos 0x80_0000 }
@@ -34,8 +34,8 @@ fn with_octet(high: i32, octet: u8) -> i32
     256 * high + i32::from(octet)
 }
 
-/// The value that one to four octets have as the contents of an integer, minimal or not: two's complement,
-/// the most significant octet first. `None` for no octets and for more than four.
+/// The value of the contents of an integer: one to four octets, minimal or not, in two's complement, the most
+/// significant octet first. For example, `FF 7F` is -129. `None` for no octets and for more than four.
 pub fn integer_of(octets: &[u8]) -> Option<i32>
     ensures { result ≡ integer octets.now }
 {

@@ -1,4 +1,4 @@
-//! The octets of a length, and the contents that it bounds (X.690, 8.1.3 and 10.1).
+//! The octets of a length, and the contents after them (X.690, 8.1.3 and 10.1).
 
 ghost use Rattle.std.specs.Prelude.{◌≡◌, ◌<◌, ◌≤◌, ◌^◌, ◌∷◌, true, IfOk, IfErr, MatchOption};
 ghost use Rattle.std.specs.Prelude as lengths;
@@ -13,17 +13,17 @@ use crate::placing::put;
 /// The first octet of an indefinite length.
 const INDEFINITE: u8 = 0x80;
 
-/// Where the contents of an element lie.
+/// The contents of an element, or their beginning.
 #[derive(Drop)]
 pub enum Extent<'a> {
-    /// The contents, and what follows the element.
+    /// The contents, and the octets after the element.
     Definite { contents: &'a [u8], rest: &'a [u8] },
-    /// What follows the length: elements up to an end of contents, which closes them.
+    /// The octets after the length: elements up to an end of contents.
     Indefinite { rest: &'a [u8] },
 }
 
-/// Reads the length at the front of what follows a tag, `None` for an indefinite one, and gives what follows.
-/// A primitive element has no indefinite one.
+/// Reads a length, the first octets after a tag, and gives the octets after it. `None` for an indefinite length, a
+/// fault in a primitive element. For example, `82 01 00` is 256.
 pub fn length_at(octets: &[u8], constructed: bool) -> Result<(Option<usize>, &[u8]), BerFault>
     ensures ok { IfOk result (λ x. MatchOption x.0
         ((constructed ≡ true) × (octets.now ≡ 0x80 ∷ x.1.now))
@@ -72,7 +72,7 @@ pub fn length_at(octets: &[u8], constructed: bool) -> Result<(Option<usize>, &[u
     }
 }
 
-/// Reads the length at the front, and gives the contents and what follows.
+/// Reads the length at the front, and gives the contents and the octets after them.
 pub fn extent_at(octets: &[u8], constructed: bool) -> Result<Extent<'_>, BerFault>
     ensures ok { IfOk result (IsExtent octets.now constructed) }
     ensures err { IfErr result (ExtentFault constructed octets.now) }
@@ -88,7 +88,7 @@ pub fn extent_at(octets: &[u8], constructed: bool) -> Result<Extent<'_>, BerFaul
     Ok(Extent::Definite { contents, rest })
 }
 
-/// How many octets the least definite length takes.
+/// The number of octets of the shortest definite length. The length must be below 2^32.
 pub fn length_size(length: usize) -> usize
     requires { length < 2 ^ 32 }
     ensures { result ≡ lengths.length (length_octets length) }
@@ -108,7 +108,8 @@ pub fn length_size(length: usize) -> usize
     5
 }
 
-/// Puts the octets of the least definite length in front of a place, and gives where they begin.
+/// Writes the shortest definite length so that it ends at `end`, and gives its position. The length must be below 2^32,
+/// and there must be room before `end`.
 pub fn put_length(length: usize, out: &mut [u8], end: usize) -> usize
     requires length { length < 2 ^ 32 }
     requires room { lengths.length (length_octets length) ≤ end }

@@ -1,4 +1,4 @@
-//! An element in memory of its own from one that is lent.
+//! An element in memory of its own, made from a borrowed one.
 
 ghost use Rattle.std.specs.Prelude.{◌≡◌, IfOk};
 ghost use Rattle.fp_ber.specs.Lent.{lent_tree, lent_trees};
@@ -8,7 +8,7 @@ use crate::element::Element;
 use crate::element_ref::{ElementRef, Elements};
 use std::alloc::{AllocError, Global};
 
-/// A copy of an element that is lent.
+/// A copy of a borrowed element.
 #[cycle(lent)]
 fn copy_of(alloc: Global, element: &ElementRef<'_>) -> Result<Element, AllocError>
     ensures { IfOk result (λ copy. tree_of copy ≡ lent_tree element.now) }
@@ -26,7 +26,7 @@ fn copy_of(alloc: Global, element: &ElementRef<'_>) -> Result<Element, AllocErro
     Ok(Element::constructed(class, number, children))
 }
 
-/// Copies of elements that are lent, in their order.
+/// Copies of borrowed elements, in their order.
 #[cycle(lent)]
 fn copy_all(alloc: Global, elements: &Elements<'_>) -> Result<Vec<Element>, AllocError>
     ensures { IfOk result (λ copies. forest_of copies.items ≡ lent_trees elements.now) }

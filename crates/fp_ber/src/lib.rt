@@ -1,25 +1,25 @@
 //! The Basic Encoding Rules of ITU-T X.690, as far as TCAP and INAP use them.
 //!
-//! The layer is handed octets and gives an [`Element`], or is handed an [`Element`] and gives octets.
-//! It never asks the system for anything but memory.
+//! This layer reads an [`Element`] from octets, and writes an [`Element`] as octets. It asks the system only for
+//! memory.
 //!
-//! Octets that are only looked at need no element: [`read_nodes`] reads them into places for [`Node`]s, which lend the
-//! octets, by the same rules and without memory. An [`ElementRef`] is an element in either form, and its contracts speak of
-//! the same tree, so a reader of messages is written once.
+//! If you only look at the octets, no element is needed. [`read_nodes`] reads them into places for [`Node`]s, which
+//! borrow the octets, by the same rules and without memory. An [`ElementRef`] is an element in either form. Its
+//! contracts speak of the same tree, so a reader of messages is written once.
 //!
-//! * [`read`] takes all three forms of a length (X.690, 8.1.3), minimal or not, and tags in one to three
-//!   octets (8.1.2). What it can't read it refuses by the first fault from left to right, a [`BerFault`].
+//! * [`read`] takes all three forms of a length (X.690, 8.1.3), minimal or not, and tags in one to three octets
+//!   (8.1.2). It refuses other octets by their first fault from left to right, a [`BerFault`].
 //! * [`write`] appends the canonical spelling: definite lengths in as few octets as they take (10.1). A [`Writer`]
-//!   makes it from its end to its front, without an element.
+//!   writes it from its end to its front, without an element. For example, number 5 as an integer is `02 01 05`.
 //! * [`Element`] and [`Body`] are the value: a class, a number, and octets or elements.
 //! * [`length_at`] reads a length alone, where the octets needn't be an element.
 //!
-//! The layer above may rely on this: `read` answers an element exactly where the octets spell it and it
-//! is in range (at most sixteen elements inside each other, tag numbers to 16,383), unless memory runs out;
-//! no spelling begins another; octets have one first fault at most, and none where they spell an element in
-//! range; what `write` appends is a spelling of its element, which `read` reads as that element; and if memory
-//! runs out for what is written, the octets are unchanged. Contracts speak of an element as its tree
-//! (`specs/Tree.antt`), and of octets by `Spells` (`specs/Spelling.antt`) and `canon` (`specs/Canon.antt`).
+//! The layer above may rely on this: `read` gives an element exactly if the octets spell it and it is in range (at most
+//! sixteen elements inside each other, tag numbers to 16,383), unless memory runs out. No spelling begins another.
+//! Octets have at most one first fault, and none if they spell an element in range. `write` appends a spelling that
+//! `read` reads as the same element. If memory runs out, `write` leaves the octets unchanged. Contracts speak of an
+//! element as its tree (`specs/Tree.antt`), and of octets by `Spells` (`specs/Spelling.antt`) and `canon`
+//! (`specs/Canon.antt`).
 #![tactic(auto)]
 
 mod cloning;

@@ -2,7 +2,7 @@
 
 use crate::element::Class;
 
-/// An element without those in it: its tag, and its octets if it is primitive.
+/// One element without the elements in it: its tag, and its octets if it is primitive.
 #[derive(Clone, Copy, Debug)]
 pub struct Node<'a> {
     /// The class of the tag.
@@ -11,14 +11,14 @@ pub struct Node<'a> {
     pub(crate) constructed: bool,
     /// The number of the tag.
     pub(crate) number: u16,
-    /// How many of the nodes after it are those of the elements in it.
+    /// The number of the following nodes that are in this element.
     pub(crate) below: usize,
-    /// The octets that it holds, none if it holds elements.
+    /// The octets of a primitive element, none in a constructed one.
     pub(crate) octets: &'a [u8],
 }
 
 impl Node<'static> {
-    /// A node for a place that none was read into yet.
+    /// A node for a place that is still unused.
     pub const BLANK: Node<'static> = Node {
         class: Class::Universal,
         constructed: false,

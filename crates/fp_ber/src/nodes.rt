@@ -1,4 +1,4 @@
-//! The element that octets spell, as nodes over those octets.
+//! Reading an element into nodes over its octets.
 
 ghost use Rattle.std.specs.Prelude.{◌≡◌, ◌*◌, ◌<◌, ◌≤◌, length, take, IfOk, IfErr};
 ghost use Rattle.fp_ber.specs.declared.fault.BerFault.{BerFault};
@@ -14,7 +14,7 @@ use crate::node::Node;
 use crate::node_reading::node_at;
 use crate::reading::DEPTH;
 
-/// The nodes of the element that all of the octets spell, and how many they are.
+/// Reads the nodes of the element that all of the octets spell, and gives their number.
 fn nodes_in<'a>(octets: &'a [u8], places: &mut [Node<'a>]) -> Result<usize, NodesFault>
     ensures places { IfOk result (λ used. (0 < used) × (used ≤ length places.new)) }
     ensures found { IfOk result (λ used. Spells octets.now (nodes_tree (take used places.new))
@@ -28,30 +28,30 @@ fn nodes_in<'a>(octets: &'a [u8], places: &mut [Node<'a>]) -> Result<usize, Node
     Ok(placed.used)
 }
 
-/// Reads the element that all of the octets spell (X.690, 8.1), as [`read`](crate::read) does, into places for its nodes,
-/// and gives how many of them, the first ones, it takes. Copies no octet and takes no memory.
-/// [`ElementRef::of_nodes`](crate::ElementRef::of_nodes) gives the element.
+/// Reads the element that all of the octets spell (X.690, 8.1), as [`read`](crate::read) does, into places for its
+/// nodes. Gives the number of its nodes: they are in the first places. Copies no octet and takes no memory.
+/// [`ElementRef::of_nodes`](crate::ElementRef::of_nodes) makes the element of them.
 ///
 /// Octets that spell no element in range are refused by their first fault. [`NodesFault::Full`]: there are fewer places
-/// than nodes, and so less than one for two octets.
+/// than nodes. With a place for each two octets you never get it.
 pub fn read_nodes<'a>(octets: &'a [u8], places: &mut [Node<'a>]) -> Result<usize, NodesFault>
     ensures places { IfOk result (λ used. (0 < used) × (used ≤ length places.new)) }
 
-    // What is read is spelled so, and in range.
+    // The octets spell the nodes that are given, in range.
     ensures found { IfOk result (λ used. Spells octets.now (nodes_tree (take used places.new))
         × InRange (nodes_tree (take used places.new))) }
 
-    // What is spelled so and in range is read, unless the places are full.
+    // An element that the octets spell, in range, is read, unless the places are full.
     ensures only { (t : Tree) → Spells octets.now t → InRange t → PlacesRead result places.new t }
 
-    // What a short text spells can be written, in no more octets.
+    // An element from fewer than 65,536 octets can be written, in at most as many octets.
     ensures fits { IfOk result (λ used. length octets.now < 65536
         → HasLengths (nodes_tree (take used places.new)) × (length (canon (nodes_tree (take used places.new))) ≤ length octets.now)) }
 
     // A fault is the first from left to right. The places are full only if they are fewer than one for two octets.
     ensures fault { IfErr result (Stops (FirstFault octets.now) (2 * length places.old < length octets.now)) }
 
-    // The first fault is answered, unless the places are full before it.
+    // The first fault is reported, unless the places are full before it.
     ensures first { (fault : BerFault) → FirstFault octets.now fault → PlacesRefuse result fault }
 {
     nodes_in(octets, places)

@@ -1,9 +1,10 @@
-//! Octets in front of a place.
+//! Octets written before a position.
 
 ghost use Rattle.std.specs.Prelude.{◌≤◌, length};
 ghost use Rattle.fp_ber.specs.Canon.{Puts};
 
-/// Puts octets in front of a place, and gives where they begin.
+/// Writes octets so that they end at `end`, and gives their position. There must be room before
+/// `end`.
 pub fn put(octets: &[u8], out: &mut [u8], end: usize) -> usize
     requires room { length octets.now ≤ end }
     requires end { end ≤ length out.old }

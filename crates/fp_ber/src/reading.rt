@@ -16,13 +16,13 @@ use crate::length::{Extent, extent_at};
 use crate::tag::tag_at;
 use std::alloc::Global;
 
-/// How many elements may lie inside each other, the outermost counted.
+/// The most elements inside each other, the outermost counted.
 pub(crate) const DEPTH: u8 = 16;
 
-/// For how many elements that contents hold there is room at first.
+/// Room for this many elements is reserved at first.
 const FIRST_ROOM: usize = 8;
 
-/// Reads the element at the front, with at most `depth` elements inside each other, and gives what follows.
+/// Reads the element at the front, nested at most `depth` deep, and gives the octets after it.
 #[cycle(read)]
 fn element_at(alloc: Global, octets: &[u8], depth: u8) -> Result<(Element, &[u8]), BerFault>
     ensures ok { IfOk result (λ x. Begins depth octets.now (tree_of x.0) x.1.now) }
@@ -50,13 +50,13 @@ fn element_at(alloc: Global, octets: &[u8], depth: u8) -> Result<(Element, &[u8]
     }
 }
 
-/// Reads the elements that definite contents hold.
+/// Reads the elements in definite contents.
 #[cycle(read)]
 fn elements_of(alloc: Global, contents: &[u8], depth: u8) -> Result<Vec<Element>, BerFault>
     ensures ok { IfOk result (λ v. BeginAll depth contents.now (forest_of v.items) []) }
     ensures err { IfErr result (λ fault. fault ≢ faults.Memory → InContents depth (ElementFault depth) contents.now fault) }
 {
-    // An element takes two octets or more.
+    // An element takes at least two octets.
     let mut children = Vec::with_capacity(alloc, FIRST_ROOM.min(contents.len() / 2))?;
     let mut rest = contents;
     'children: while !rest.is_empty() {
@@ -67,7 +67,7 @@ fn elements_of(alloc: Global, contents: &[u8], depth: u8) -> Result<Vec<Element>
     Ok(children)
 }
 
-/// Reads elements up to an end of contents, and gives what follows it.
+/// Reads elements up to an end of contents, and gives the octets after it.
 #[cycle(read)]
 fn elements_to_end(
     alloc: Global,
@@ -106,24 +106,24 @@ fn element_of(alloc: Global, octets: &[u8]) -> Result<Element, BerFault>
 
 /// Reads the element that all of the octets spell (X.690, 8.1).
 ///
-/// Each length may have any of the three forms and needn't be minimal. At most sixteen elements may lie
-/// inside each other, and tag numbers go to 16,383. Octets that spell no such element are refused by their
-/// first fault from left to right; nothing is kept of them.
+/// Each length may have any of the three forms and needn't be minimal. At most sixteen elements may lie inside each
+/// other, and tag numbers go to 16,383. For example, `30 80 00 00` and `30 00` are the same empty sequence. Octets that
+/// spell no such element are refused by their first fault from left to right, and nothing is kept of them.
 pub fn read(alloc: Global, octets: &[u8]) -> Result<Element, BerFault>
-    // What is read is spelled so, and in range.
+    // The octets spell the element that is given, in range.
     ensures found { IfOk result (λ e. Spells octets.now (tree_of e) × InRange (tree_of e)) }
 
-    // What is spelled so and in range is read, unless memory runs out.
+    // An element that the octets spell, in range, is read, unless memory runs out.
     ensures only { (t : Tree) → Spells octets.now t → InRange t → Reads result t }
 
-    // What a short text spells can be written, in no more octets.
+    // An element from fewer than 65,536 octets can be written, in at most as many octets.
     ensures fits { IfOk result (λ e. length octets.now < 65536
         → HasLengths (tree_of e) × (length (canon (tree_of e)) ≤ length octets.now)) }
 
     // A fault is the first from left to right.
     ensures fault { IfErr result (λ fault. fault ≢ faults.Memory → FirstFault octets.now fault) }
 
-    // The first fault is answered, unless memory runs out before it.
+    // The first fault is reported, unless memory runs out before it.
     ensures first { (fault : BerFault) → FirstFault octets.now fault → Refuses result fault }
 {
     element_of(alloc, octets)

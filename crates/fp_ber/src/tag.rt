@@ -11,7 +11,7 @@ use crate::element::Class;
 use crate::fault::BerFault;
 use crate::placing::put;
 
-/// A tag: a class, whether the contents are elements, and a number.
+/// A tag: its class, whether the contents are elements, and its number.
 #[derive(Clone, Copy, Debug)]
 pub struct Tag {
     pub class: Class,
@@ -19,8 +19,8 @@ pub struct Tag {
     pub number: u16,
 }
 
-/// The class that the first two bits of a tag give.
-fn class_of(first: u8) -> Class
+/// The class in the first two bits of a tag.
+pub fn class_of(first: u8) -> Class
     ensures { class_code result ≡ first / 64 }
 {
     match first / 64 {
@@ -31,8 +31,8 @@ fn class_of(first: u8) -> Class
     }
 }
 
-/// The first octet of a tag whose last five bits are these.
-fn first_of(class: Class, constructed: bool, low: u8) -> u8
+/// The first octet of a tag with these last five bits, which must be below 32.
+pub fn first_of(class: Class, constructed: bool, low: u8) -> u8
     requires { low < 32 }
     ensures { result ≡ first_octet class constructed low }
 {
@@ -46,7 +46,7 @@ fn first_of(class: Class, constructed: bool, low: u8) -> u8
     class + form + low
 }
 
-/// Reads the number of a tag in the high form, after its first octet, and gives what follows.
+/// Reads a tag number in the high form, after the first octet, and gives the octets after it.
 fn high_number_at(octets: &[u8]) -> Result<(u16, &[u8]), BerFault>
     ensures ok { IfOk result (λ x. (class : Class) (form : Bool)
         → BeginsTag (first_octet class form 31 ∷ octets.now) class form x.0 x.1.now) }
@@ -73,7 +73,7 @@ fn high_number_at(octets: &[u8]) -> Result<(u16, &[u8]), BerFault>
     Ok((128 * (u16::from(*first) - 128) + u16::from(*second), rest))
 }
 
-/// Reads the tag at the front, and gives what follows.
+/// Reads the tag at the front, and gives the octets after it.
 pub fn tag_at(octets: &[u8]) -> Result<(Tag, &[u8]), BerFault>
     ensures ok { IfOk result (λ x. BeginsTag octets.now x.0.class x.0.constructed x.0.number x.1.now) }
     ensures err { IfErr result (TagFault octets.now) }
@@ -105,7 +105,7 @@ pub fn tag_at(octets: &[u8]) -> Result<(Tag, &[u8]), BerFault>
     Ok((tag, rest))
 }
 
-/// How many octets a tag takes.
+/// The number of octets of a tag.
 pub fn tag_size(tag: Tag) -> usize
     ensures { result ≡ length (tag_octets tag.class tag.constructed tag.number) }
 {
@@ -118,7 +118,8 @@ pub fn tag_size(tag: Tag) -> usize
     3
 }
 
-/// Puts the octets of a tag in front of a place, and gives where they begin.
+/// Writes a tag so that it ends at `end`, and gives its position. The number must be in range, and
+/// there must be room before `end`.
 pub fn put_tag(tag: Tag, out: &mut [u8], end: usize) -> usize
     requires tag { IsTagNumber tag.class tag.number }
     requires room { length (tag_octets tag.class tag.constructed tag.number) ≤ end }

@@ -1,8 +1,8 @@
-//! Spellings that grow at their front.
+//! A writer that grows at its front.
 //!
-//! The length of an element precedes its contents, and isn't known before they are there. So a spelling is
-//! made from its end to its front: the contents first, and then their tag and length before them. No element is built
-//! on the way.
+//! The length of an element precedes its contents, and is only known once they are written. So a spelling is written
+//! from its end to its front: first the contents, then the length and the tag before them. No element is built on the
+//! way.
 
 ghost use Rattle.std.specs.Prelude.{◌≡◌, ◌<◌, ◌≤◌, ◌^◌, ◌++◌, ℕ, List, [], IfOk, OnOk, OnErr, length, vec_len};
 ghost use Rattle.std.specs.Prelude as lists;
@@ -17,17 +17,17 @@ use crate::element::{Class, Element};
 use crate::element_ref::ElementRef;
 use crate::placing::put;
 use crate::tag::Tag;
-use crate::writing::{header_size, put_element, put_header, size_of};
+use crate::writing::{header_size, put_element, put_header, put_short_header, size_of};
 use std::alloc::{AllocError, Global};
 use std::marker::Model;
 
-/// Octets that grow at their front, less than 2^32 of them. Contracts see them as their list, the first one first.
-/// If memory runs out for what is put, the octets are unchanged. More than 2^32 - 1 octets count as out of memory.
+/// Octets that grow at their front, less than 2^32 of them. Contracts see them as their list, the first one first. If
+/// memory runs out in a call, the octets are unchanged. More than 2^32 - 1 octets count as out of memory.
 #[derive(Debug, Drop)]
 pub struct Writer {
-    /// Room, at whose end the octets lie.
+    /// The room. The octets are at its end.
     room: Vec<u8>,
-    /// Where they begin.
+    /// The position of the first octet.
     start: usize,
 }
 
@@ -41,11 +41,12 @@ impl Model for Writer {
     ghost invariant = { λ writer. (writer.start ≤ length writer.room.items) × (length writer.room.items < 2 ^ 32) };
 }
 
-/// How many octets there may be.
+/// The largest number of octets.
 const MOST: usize = 0xFFFF_FFFF;
 
-/// Makes the room larger, so that this many octets find room in front of a place. Gives that place then; what was from it
-/// on still is. `Err`: there would be more than 2^32 - 1 octets, or memory ran out. Nothing has changed then.
+/// Makes the room larger, so that this many octets fit before the position `start`. Gives the new position of the
+/// octets that began there; they are unchanged. `Err`: there would be more than 2^32 - 1 octets, or memory ran out, and
+/// nothing has changed.
 fn grow(room: &mut Vec<u8>, start: usize, count: usize) -> Result<usize, AllocError>
     requires start { start ≤ vec_len room.old }
     requires fits { vec_len room.old < 2 ^ 32 }
@@ -64,7 +65,7 @@ fn grow(room: &mut Vec<u8>, start: usize, count: usize) -> Result<usize, AllocEr
     Ok(place)
 }
 
-/// Makes room for this many octets in front of a place, as [`grow`] does, unless there is room.
+/// Makes room for this many octets before the position `start`, as [`grow`] does, if there isn't enough.
 fn make_room(room: &mut Vec<u8>, start: usize, count: usize) -> Result<usize, AllocError>
     requires start { start ≤ vec_len room.old }
     requires fits { vec_len room.old < 2 ^ 32 }
@@ -78,7 +79,7 @@ fn make_room(room: &mut Vec<u8>, start: usize, count: usize) -> Result<usize, Al
 }
 
 impl Writer {
-    /// No octets, and room for this many before memory is asked for again.
+    /// An empty writer, with room for this many octets before it allocates again.
     pub fn with_capacity(alloc: Global, capacity: usize) -> Result<Writer, AllocError>
         ensures { IfOk result (λ writer. writer ≡ []) }
     {
@@ -87,7 +88,7 @@ impl Writer {
         Ok(Writer { room, start })
     }
 
-    /// How many octets there are.
+    /// The number of octets.
     pub fn len(&self) -> usize
         ensures value { result ≡ length self.now }
         ensures most { length self.now < 2 ^ 32 }
@@ -95,7 +96,7 @@ impl Writer {
         self.room.len() - self.start
     }
 
-    /// Puts octets before those that are there. More than 2^32 - 1 in all count as out of memory.
+    /// Puts octets before the others. More than 2^32 - 1 in all count as out of memory.
     pub fn put(&mut self, octets: &[u8]) -> Result<(), AllocError>
         ensures ok { OnOk result (self.new ≡ octets.now ++ self.old) }
         ensures err { OnErr result (self.new ≡ self.old) }
@@ -106,7 +107,7 @@ impl Writer {
         Ok(())
     }
 
-    /// Puts a tag and a length before the octets that are there.
+    /// Puts a tag and a length before the others.
     fn put_header(&mut self, tag: Tag, length: usize) -> Result<(), AllocError>
         requires tag { IsTagNumber tag.class tag.number }
         requires length { length < 2 ^ 32 }
@@ -114,12 +115,16 @@ impl Writer {
         ensures err { OnErr result (self.new ≡ self.old) }
         ensures stays { EndsWith self.new self.old }
     {
+        if tag.number < 31 && length < 0x80 && self.start >= 2 {
+            self.start = put_short_header(tag, length, self.room.as_mut_slice(), self.start);
+            return Ok(());
+        }
         let end = make_room(&mut self.room, self.start, header_size(tag, length))?;
         self.start = put_header(tag, length, self.room.as_mut_slice(), end);
         Ok(())
     }
 
-    /// Takes away all octets but the last ones, this many. If there are fewer, they stay.
+    /// Removes all octets except the last `count`. If there are fewer, they all stay.
     pub fn keep_last(&mut self, count: usize)
         ensures some { (rest : List ℕ) → EndsWith self.old rest → length rest ≡ count → self.new ≡ rest }
         ensures all { length self.old ≤ count → self.new ≡ self.old }
@@ -130,8 +135,8 @@ impl Writer {
         }
     }
 
-    /// Puts the canonical spelling of a primitive element before the octets that are there. More than 2^32 - 1 octets
-    /// in all count as out of memory.
+    /// Puts the canonical spelling of a primitive element before the octets. The tag number must be in range. More than
+    /// 2^32 - 1 octets in all count as out of memory.
     #[tactic(auto, using(crate::specs::Putting::end_of_end))]
     pub fn put_primitive(
         &mut self,
@@ -159,8 +164,8 @@ impl Writer {
         Ok(())
     }
 
-    /// Puts a tag and a length before the spellings of elements, so that with the elements after them they are a
-    /// constructed element. All octets but the last ones, `behind` in number, are those of the elements.
+    /// Puts a tag and a length before the spellings of elements, which makes them a constructed element. The tag number
+    /// must be in range. The last `behind` octets lie after this element; all octets before them must be the spellings.
     pub fn put_constructed(
         &mut self,
         class: Class,
@@ -183,8 +188,8 @@ impl Writer {
         self.put_header(tag, length)
     }
 
-    /// Puts the canonical spelling of an element before the octets that are there. More than 2^32 - 1 octets in all
-    /// count as out of memory.
+    /// Puts the canonical spelling of an element before the octets. The tags and lengths in it must be in range. More
+    /// than 2^32 - 1 octets in all count as out of memory.
     pub fn put_element(&mut self, element: &Element) -> Result<(), AllocError>
         requires tags { HasTags (tree_of element.now) }
         requires lengths { HasLengths (tree_of element.now) }
@@ -197,8 +202,8 @@ impl Writer {
         Ok(())
     }
 
-    /// Puts the canonical spelling of an element that is lent before the octets that are there. More than 2^32 - 1 octets
-    /// in all count as out of memory.
+    /// Puts the canonical spelling of a borrowed element before the octets. The tags and lengths in it must be in
+    /// range. More than 2^32 - 1 octets in all count as out of memory.
     pub fn put_lent(&mut self, element: &ElementRef<'_>) -> Result<(), AllocError>
         requires tags { HasTags (lent_tree element.now) }
         requires lengths { HasLengths (lent_tree element.now) }

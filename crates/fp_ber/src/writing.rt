@@ -1,8 +1,8 @@
 //! Writing the canonical spelling of an element.
 //!
-//! The length of an element precedes contents whose length isn't known before they are written. So the
-//! room for all is made first, and then filled from its end to its front: each octet is written once, however deep
-//! it lies, memory is asked for once, and the element is gone through twice.
+//! The length of an element precedes its contents, and is only known once they are written. So the room for all of it
+//! is allocated first, and then filled from its end to its front. Each octet is written once at any depth, memory is
+//! allocated once, and the element is traversed twice.
 
 ghost use Rattle.std.specs.Prelude.{◌≡◌, ◌<◌, ◌≤◌, ◌^◌, ◌++◌, OnOk, OnErr, length};
 ghost use Rattle.std.specs.Prelude as lists;
@@ -13,10 +13,10 @@ ghost use Rattle.fp_ber.specs.Canon.{canon, canon_of_all, tag_octets, length_oct
 use crate::element::{Body, Element};
 use crate::length::{length_size, put_length};
 use crate::placing::put;
-use crate::tag::{Tag, put_tag, tag_size};
+use crate::tag::{Tag, first_of, put_tag, tag_size};
 use std::alloc::AllocError;
 
-/// How many octets the tag and the length of an element take.
+/// The number of octets of an element's tag and length. The length must be below 2^32.
 pub fn header_size(tag: Tag, length: usize) -> usize
     requires { length < 2 ^ 32 }
     ensures { result ≡ lists.length (tag_octets tag.class tag.constructed tag.number ++ length_octets length) }
@@ -24,7 +24,7 @@ pub fn header_size(tag: Tag, length: usize) -> usize
     tag_size(tag) + length_size(length)
 }
 
-/// How many octets the canonical spelling of an element takes.
+/// The number of octets of an element's canonical spelling. All lengths in it must be below 2^32.
 #[cycle(size)]
 pub fn size_of(element: &Element) -> usize
     requires lengths { HasLengths (tree_of element.now) }
@@ -53,7 +53,7 @@ pub fn size_of(element: &Element) -> usize
     }
 }
 
-/// How many octets the canonical spellings of elements take.
+/// The number of octets of these elements' canonical spellings.
 #[cycle(size)]
 fn size_of_all(elements: &[Element]) -> usize
     requires lengths { AllHaveLengths (forest_of elements.now) }
@@ -67,7 +67,8 @@ fn size_of_all(elements: &[Element]) -> usize
     size
 }
 
-/// Puts the tag and the length of an element in front of a place, and gives where they begin.
+/// Writes the tag and the length of an element so that they end at `end`, and gives their position. Both must be in
+/// range, and there must be room before `end`.
 pub fn put_header(tag: Tag, length: usize, out: &mut [u8], end: usize) -> usize
     requires tag { IsTagNumber tag.class tag.number }
     requires length { length < 2 ^ 32 }
@@ -79,7 +80,21 @@ pub fn put_header(tag: Tag, length: usize, out: &mut [u8], end: usize) -> usize
     put_tag(tag, out, start)
 }
 
-/// Puts the canonical spelling of an element in front of a place, and gives where it begins.
+/// Writes a tag and a length of one octet each so that they end at `end`, and gives their position. The tag number must
+/// be below 31, the length below 128, and there must be room before `end`.
+pub fn put_short_header(tag: Tag, length: usize, out: &mut [u8], end: usize) -> usize
+    requires tag { tag.number < 31 }
+    requires length { length < 0x80 }
+    requires room { 2 ≤ end }
+    requires end { end ≤ lists.length out.old }
+    ensures { Puts (tag_octets tag.class tag.constructed tag.number ++ length_octets length) out.old out.new result end }
+{
+    let first = first_of(tag.class, tag.constructed, tag.number as u8);
+    put(&[first, length as u8], out, end)
+}
+
+/// Writes the canonical spelling of an element so that it ends at `end`, and gives its position. The tags and lengths
+/// in it must be in range, and there must be room before `end`.
 #[cycle(write)]
 pub fn put_element(element: &Element, out: &mut [u8], end: usize) -> usize
     requires tags { HasTags (tree_of element.now) }
@@ -112,7 +127,7 @@ pub fn put_element(element: &Element, out: &mut [u8], end: usize) -> usize
     }
 }
 
-/// Puts the canonical spellings of elements in front of a place, and gives where the first one begins.
+/// Writes the canonical spellings of elements so that they end at `end`, and gives the position of the first.
 #[cycle(write)]
 fn put_all(elements: &[Element], out: &mut [u8], end: usize) -> usize
     requires tags { AllHaveTags (forest_of elements.now) }
@@ -132,8 +147,8 @@ fn put_all(elements: &[Element], out: &mut [u8], end: usize) -> usize
 
 /// Appends the canonical spelling of an element (X.690, 10.1): definite lengths in as few octets as they take.
 ///
-/// The element has tags that elements may have, and lengths that four octets can say, at each level. It may
-/// be nested as deep as it likes. If memory runs out, the vector is unchanged.
+/// At each level the tag number and the length must be in range: a length of at most 2^32 - 1 octets. Elements may be
+/// nested to any depth. If memory runs out, the vector is unchanged.
 pub fn write(element: &Element, out: &mut Vec<u8>) -> Result<(), AllocError>
     requires tags { HasTags (tree_of element.now) }
     requires lengths { HasLengths (tree_of element.now) }

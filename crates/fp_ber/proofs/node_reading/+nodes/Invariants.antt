@@ -4,13 +4,16 @@ use Rattle.fp_ber.specs.Nodes.{PutsNodes}
 use Rattle.fp_ber.proofs.node_reading.+nodes.Given as goal
 
 abbrev pub decreases-node_at : goal.decreases-node_at
-decreases-node_at l = 2 * l.depth
+decreases-node_at l = 3 * l.depth
+
+abbrev pub decreases-element_at : goal.decreases-element_at
+decreases-element_at l = 3 * l.depth + 1
 
 abbrev pub decreases-nodes_of : goal.decreases-nodes_of
-decreases-nodes_of l = 2 * l.depth + 1
+decreases-nodes_of l = 3 * l.depth + 2
 
 abbrev pub decreases-nodes_to_end : goal.decreases-nodes_to_end
-decreases-nodes_to_end l = 2 * l.depth + 1
+decreases-nodes_to_end l = 3 * l.depth + 2
 
 abbrev pub invariant-nodes_of-elements : goal.invariant-nodes_of-elements
 invariant-nodes_of-elements l = record {
