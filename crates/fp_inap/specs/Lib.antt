@@ -2,6 +2,7 @@ pub mod Connect
 pub mod Event
 pub mod EventReport
 pub mod InitialDp
+pub mod InitialDpParts
 pub mod Laws
 pub mod Members
 pub mod Operation

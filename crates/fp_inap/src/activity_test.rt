@@ -12,14 +12,14 @@ use fp_ber::Writer;
 use fp_q773::{Code, write_invoke};
 use std::alloc::AllocError;
 
-/// Writes the Invoke of ActivityTest (after ITU-T Q.1218), which has no argument: a test of whether the dialogue still
+/// Writes the Invoke of ActivityTest (after ITU-T Q.1218), which has no argument. It tests whether the dialogue still
 /// exists at the switch. If memory runs out, the octets are unchanged.
 pub fn write_activity_test(identifier: i8, out: &mut Writer) -> Result<(), AllocError>
     ensures exact { OnOk result (out.new
         ≡ canon (component_tree (value.invoke identifier None (value.local (code_of operations.ActivityTest)) None)) ++ out.old) }
     ensures err { OnErr result (out.new ≡ out.old) }
 
-    // It is read as that Invoke.
+    // The written octets are read as that Invoke.
     ensures found { OnOk result (IsReadBack (value.invoke identifier None (value.local (code_of operations.ActivityTest)) None)) }
 {
     let start = out.len();

@@ -1,4 +1,4 @@
-//! Connect: the argument that is written.
+//! Connect: writing its argument.
 
 ghost use Rattle.std.specs.Prelude.{◌≡◌, ◌++◌, ◌<◌, ◌≤◌, length, Some, OnOk, OnErr};
 ghost use Rattle.std.specs.List.{All};
@@ -17,11 +17,12 @@ use std::alloc::AllocError;
 /// The number of the context tag of destinationRoutingAddress.
 const DESTINATION_ROUTING_ADDRESS: u16 = 0;
 
-/// Puts the argument of Connect (after ITU-T Q.1218) for a destination of these digits, 1 to 15 of them, each 0 to 9,
-/// before the octets written so far.
+/// Puts the argument of Connect (after ITU-T Q.1218) before the octets. You must pass a destination of 1 to 15 digits,
+/// each 0 to 9.
 ///
-/// The argument is a sequence of destinationRoutingAddress alone, tag 0, and that of one called party number, as
-/// [`write_called`] spells it. If memory runs out, the octets are unchanged.
+/// The argument is a sequence with only destinationRoutingAddress, tag 0, and in it one called party number, as
+/// [`write_called`] writes it. For example, 80012 gives `30 09 A0 07 04 05 83 10 08 10 02`. If memory runs out, the
+/// octets are unchanged.
 pub fn write_connect(destination: &[u8], out: &mut Writer) -> Result<(), AllocError>
     requires some { 1 ≤ length destination.now }
     requires most { length destination.now ≤ 15 }
@@ -29,12 +30,12 @@ pub fn write_connect(destination: &[u8], out: &mut Writer) -> Result<(), AllocEr
     ensures ok { OnOk result (out.new ≡ canon (connect destination.now) ++ out.old) }
     ensures err { OnErr result (out.new ≡ out.old) }
 
-    // The argument is in range to be spelled, in at most 16 octets.
+    // The tags and lengths of the argument are in range, and it has at most 16 octets.
     ensures tags { HasTags (connect destination.now) }
     ensures lengths { HasLengths (connect destination.now) }
     ensures size { length (canon (connect destination.now)) ≤ 16 }
 
-    // The number in it is read back as a national one of the same digits.
+    // The number in the argument is read back as a national one with the same digits.
     ensures read_back { number_of (called_octets destination.now)
         ≡ Some (record { nature = national; digits = destination.now }) }
 {

@@ -19,7 +19,7 @@ pub fn write_continue(identifier: i8, out: &mut Writer) -> Result<(), AllocError
         ≡ canon (component_tree (value.invoke identifier None (value.local (code_of operations.Continue)) None)) ++ out.old) }
     ensures err { OnErr result (out.new ≡ out.old) }
 
-    // It is read as that Invoke.
+    // The written octets are read as that Invoke.
     ensures found { OnOk result (IsReadBack (value.invoke identifier None (value.local (code_of operations.Continue)) None)) }
 {
     let start = out.len();

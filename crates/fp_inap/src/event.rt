@@ -18,8 +18,7 @@ pub enum Event {
     ODisconnect,
     /// 10, oAbandon: the caller left before an answer.
     OAbandon,
-    /// An event with another code. [`Event::from_code`] and the readers never return this with the code of an event
-    /// that has a name.
+    /// An event with another code. [`Event::from_code`] and the readers never return this for a code with a name.
     Other(u8),
 }
 

@@ -1,4 +1,4 @@
-//! EventReportBCSM: the argument that is read.
+//! EventReportBCSM: reading its argument.
 
 ghost use Rattle.std.specs.Prelude.{◌≡◌, ◌∷◌, [], ℕ, Bool, List, Option, Some, Ok, IfOk, IfErr};
 ghost use Rattle.fp_ber.specs.Tree as tree;
@@ -40,19 +40,24 @@ const MESSAGE_TYPE: u16 = 0;
 pub struct EventReport {
     /// The event, eventTypeBCSM.
     pub event: Event,
-    /// The leg of the call at which it occurred, legID, if the report has one.
+    /// The leg of the call, legID, if the report has one.
     pub leg: Option<Leg>,
-    /// Whether the switch continues without waiting: messageType is notification, and not request.
+    /// Whether the switch goes on without waiting: messageType is notification, and not request.
     pub notification: bool,
 }
 
 /// Reads the argument of EventReportBCSM (after ITU-T Q.1218). Takes no memory.
 ///
-/// The argument is a sequence of members with context tags, in any order. Each of these is there at most once:
-/// eventTypeBCSM, tag 80, one octet, which must be there; A2, which is skipped; legID, A3, that holds just one 80 or 81
-/// with one octet; miscCallInfo, A4, of members with context tags, among them at most one messageType, 80, with 0
-/// (request) or 1 (notification). Without messageType it is a request. Members with other context tags are skipped. Any
-/// other element is [`Mistyped`]. An event that has a name is returned by its name.
+/// The argument is a sequence of members with context tags, in any order, each of these at most once:
+///
+/// - 80, eventTypeBCSM: one octet. This member must be there.
+/// - A2: skipped.
+/// - A3, legID: just one 80 or 81 of one octet.
+/// - A4, miscCallInfo: members with context tags, among them at most one messageType, 80, with 0 (request) or 1
+///   (notification). Without messageType it is a request.
+///
+/// Members with other context tags are skipped. For example, `30 03 80 01 05` reports that the called party is busy.
+/// Any other element is [`Mistyped`]. An event with a name is returned by its name.
 pub fn event_report_in(argument: &ElementRef<'_>) -> Result<EventReport, Mistyped>
     ensures ok { IfOk result (IsEventReport (lent_tree argument.now)) }
     ensures only { (report : EventReport) → IsEventReport (lent_tree argument.now) report → result ≡ Ok report }
@@ -61,7 +66,7 @@ pub fn event_report_in(argument: &ElementRef<'_>) -> Result<EventReport, Mistype
     event_report_of(argument)
 }
 
-/// Reads the argument of EventReportBCSM, an element in memory of its own, as [`event_report_in`] does.
+/// Reads the argument of EventReportBCSM from an element in memory of its own, as [`event_report_in`] does.
 pub fn read_event_report(argument: &Element) -> Result<EventReport, Mistyped>
     ensures ok { IfOk result (IsEventReport (tree_of argument.now)) }
     ensures only { (report : EventReport) → IsEventReport (tree_of argument.now) report → result ≡ Ok report }
@@ -127,7 +132,7 @@ fn leg_of(side: &ElementRef<'_>) -> Result<Leg, Mistyped>
     Ok(Leg::Receiving(*octet))
 }
 
-/// Whether the messageType in these members, if they are there, is notification.
+/// Whether the messageType in these members is notification. Without messageType or members it isn't.
 fn is_notification(members: Option<Elements<'_>>) -> Result<bool, Mistyped>
     ensures ok { IfOk result (IsCallInfo (forest_in members.entry)) }
     ensures err { IfErr result (λ _. (notification : Bool) → IsCallInfo (forest_in members.entry) notification → ⊥) }
@@ -139,7 +144,7 @@ fn is_notification(members: Option<Elements<'_>>) -> Result<bool, Mistyped>
     message_type_in(members.octets(MESSAGE_TYPE)?)
 }
 
-/// Whether this messageType, if it is there, is notification.
+/// Whether this messageType is notification. If it is absent, it isn't.
 fn message_type_in(octets: Option<&[u8]>) -> Result<bool, Mistyped>
     ensures ok { IfOk result (IsMessageType (octets_in octets.entry)) }
     ensures err { IfErr result (λ _. (notification : Bool) → IsMessageType (octets_in octets.entry) notification → ⊥) }

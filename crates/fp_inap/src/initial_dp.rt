@@ -1,4 +1,4 @@
-//! InitialDP: the argument that is read.
+//! InitialDP: reading its argument.
 
 ghost use Rattle.std.specs.Prelude.{◌≡◌, ◌∷◌, [], ℕ, List, Option, pos, Ok, IfOk, IfErr, IfSome};
 ghost use Rattle.fp_ber.specs.Lent.{lent_tree};
@@ -9,6 +9,7 @@ ghost use Rattle.fp_inap.specs.InitialDp.{IsInitialDp, IsKey, number_in};
 ghost use Rattle.fp_inap.specs.View.{octets_in};
 
 use crate::event::Event;
+use crate::initial_dp_parts::parts_of;
 use crate::members::{Members, octet_in};
 use crate::mistyped::Mistyped;
 use fp_ber::{Element, ElementRef, integer_of};
@@ -16,17 +17,17 @@ use fp_digits::{Number, read_called, read_calling};
 
 // The numbers of the context tags of the members.
 
-const SERVICE_KEY: u16 = 0;
+pub(crate) const SERVICE_KEY: u16 = 0;
 
-const CALLED_PARTY_NUMBER: u16 = 2;
+pub(crate) const CALLED_PARTY_NUMBER: u16 = 2;
 
-const CALLING_PARTY_NUMBER: u16 = 3;
+pub(crate) const CALLING_PARTY_NUMBER: u16 = 3;
 
-const CALLING_PARTYS_CATEGORY: u16 = 5;
+pub(crate) const CALLING_PARTYS_CATEGORY: u16 = 5;
 
-const EVENT_TYPE_BCSM: u16 = 28;
+pub(crate) const EVENT_TYPE_BCSM: u16 = 28;
 
-/// The contents of the argument of InitialDP (after ITU-T Q.1218). A part that is `None` is absent.
+/// The contents of the argument of InitialDP (after ITU-T Q.1218). `None` means that the part is absent.
 #[derive(Clone, Copy, Debug, PartialEq, Eq)]
 pub struct InitialDp {
     /// The service key: the requested service, 0 to 2,147,483,647.
@@ -43,11 +44,11 @@ pub struct InitialDp {
 
 /// Reads the argument of InitialDP (after ITU-T Q.1218). Takes no memory.
 ///
-/// The argument is a sequence of members with context tags, in any order. Each of these is there at most once, and
-/// primitive: serviceKey, tag 0, an integer of one to four octets, not negative; calledPartyNumber, tag 2;
+/// The argument is a sequence of members with context tags, in any order. Each of these may occur at most once, and
+/// must be primitive: serviceKey, tag 0, an integer of one to four octets, not negative; calledPartyNumber, tag 2;
 /// callingPartyNumber, tag 3; callingPartysCategory, tag 5, one octet; eventTypeBCSM, tag 28, one octet. Members with
-/// other context tags are skipped. Any other element is [`Mistyped`]. A number whose octets hold none (see
-/// [`read_called`]) is no error: it is absent. An event that has a name is returned by its name.
+/// other context tags are skipped. Any other element is [`Mistyped`]. Octets without a number (see [`read_called`]) are
+/// no error: the number is absent. An event with a name is returned by its name.
 pub fn initial_dp_in(argument: &ElementRef<'_>) -> Result<InitialDp, Mistyped>
     ensures ok { IfOk result (IsInitialDp (lent_tree argument.now)) }
     ensures only { (dp : InitialDp) → IsInitialDp (lent_tree argument.now) dp → result ≡ Ok dp }
@@ -56,7 +57,7 @@ pub fn initial_dp_in(argument: &ElementRef<'_>) -> Result<InitialDp, Mistyped>
     initial_dp_of(argument)
 }
 
-/// Reads the argument of InitialDP, an element in memory of its own, as [`initial_dp_in`] does.
+/// Reads the argument of InitialDP from an element in memory of its own, as [`initial_dp_in`] does.
 pub fn read_initial_dp(argument: &Element) -> Result<InitialDp, Mistyped>
     ensures ok { IfOk result (IsInitialDp (tree_of argument.now)) }
     ensures only { (dp : InitialDp) → IsInitialDp (tree_of argument.now) dp → result ≡ Ok dp }
@@ -72,11 +73,12 @@ fn initial_dp_of(argument: &ElementRef<'_>) -> Result<InitialDp, Mistyped>
     ensures named { IfOk result (λ dp. IfSome dp.event IsByName) }
 {
     let members = Members::of_sequence(argument)?;
-    let key = key_in(members.octets(SERVICE_KEY)?)?;
-    let called = members.octets(CALLED_PARTY_NUMBER)?;
-    let calling = members.octets(CALLING_PARTY_NUMBER)?;
-    let category = octet_in(members.octets(CALLING_PARTYS_CATEGORY)?)?;
-    let event = octet_in(members.octets(EVENT_TYPE_BCSM)?)?;
+    let parts = parts_of(&members.elements)?;
+    let key = key_in(members.octets_in(SERVICE_KEY, parts.key)?)?;
+    let called = members.octets_in(CALLED_PARTY_NUMBER, parts.called)?;
+    let calling = members.octets_in(CALLING_PARTY_NUMBER, parts.calling)?;
+    let category = octet_in(members.octets_in(CALLING_PARTYS_CATEGORY, parts.category)?)?;
+    let event = octet_in(members.octets_in(EVENT_TYPE_BCSM, parts.event)?)?;
     Ok(InitialDp {
         key,
         called: called_in(called),
@@ -103,7 +105,7 @@ fn key_in(octets: Option<&[u8]>) -> Result<Option<u32>, Mistyped>
     Ok(Some(key))
 }
 
-/// The called party number in these octets, if they hold one.
+/// The called party number in these octets, if there is one.
 fn called_in(octets: Option<&[u8]>) -> Option<Number>
     ensures { result ≡ number_in (octets_in octets.entry) }
 {
@@ -113,7 +115,7 @@ fn called_in(octets: Option<&[u8]>) -> Option<Number>
     read_called(octets).ok()
 }
 
-/// The calling party number in these octets, if they hold one.
+/// The calling party number in these octets, if there is one.
 fn calling_in(octets: Option<&[u8]>) -> Option<Number>
     ensures { result ≡ number_in (octets_in octets.entry) }
 {

@@ -1,4 +1,4 @@
-//! What holds of all arguments.
+//! Laws of all arguments.
 
 ghost use Rattle.fp_inap.specs.Laws.{InitialDpsAreOne, EventReportsAreOne};
 

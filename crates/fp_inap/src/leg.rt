@@ -1,11 +1,10 @@
 //! Legs of a call.
 
-/// A leg of a call, legID (after ITU-T Q.1218), by the side that names it and its number: 1 is the caller's, 2 the
-/// called party's.
+/// A leg of a call, legID (after ITU-T Q.1218), with its number: 1 is the caller's, 2 the called party's.
 #[derive(Clone, Copy, Debug, PartialEq, Eq)]
 pub enum Leg {
-    /// sendingSideID.
+    /// The number in sendingSideID.
     Sending(u8),
-    /// receivingSideID.
+    /// The number in receivingSideID.
     Receiving(u8),
 }

@@ -40,7 +40,7 @@ impl<'a> Members<'a> {
         Members::new(elements)
     }
 
-    /// The one member with this number, if there is one. Two are a fault.
+    /// The only member with this number, if there is one. Two are a fault.
     fn only(&self, number: u16) -> Result<Option<ElementRef<'a>>, Mistyped>
         ensures ok { IfOk result (λ found. with_number number (lent_trees self.now.elements) ≡ found_in found) }
         ensures err { IfErr result (λ _. 2 ≤ length (with_number number (lent_trees self.now.elements))) }
@@ -59,14 +59,30 @@ impl<'a> Members<'a> {
         Ok(found)
     }
 
-    /// The octets of the one member with this number, if there is one. Two are a fault, and so is a constructed one.
+    /// The octets of the only member with this number, if there is one. Two are a fault, and so is a constructed one.
     pub(crate) fn octets(&self, number: u16) -> Result<Option<&'a [u8]>, Mistyped>
         requires { AllContext (lent_trees self.now.elements) }
         ensures ok { IfOk result (λ octets. HoldsOctets (lent_trees self.now.elements) number (octets_in octets)) }
         ensures err { IfErr result (λ _. (octets : Option (List ℕ))
             → HoldsOctets (lent_trees self.now.elements) number octets → ⊥) }
     {
-        let Some(element) = self.only(number)? else {
+        let found = self.only(number)?;
+        self.octets_in(number, found)
+    }
+
+    /// The octets of the one member with this number, which was found, if there is one. A constructed one is a fault.
+    pub(crate) fn octets_in(
+        &self,
+        number: u16,
+        found: Option<ElementRef<'a>>,
+    ) -> Result<Option<&'a [u8]>, Mistyped>
+        requires context { AllContext (lent_trees self.now.elements) }
+        requires found { with_number number (lent_trees self.now.elements) ≡ found_in found }
+        ensures ok { IfOk result (λ octets. HoldsOctets (lent_trees self.now.elements) number (octets_in octets)) }
+        ensures err { IfErr result (λ _. (octets : Option (List ℕ))
+            → HoldsOctets (lent_trees self.now.elements) number octets → ⊥) }
+    {
+        let Some(element) = found else {
             return Ok(None);
         };
         let Some(octets) = element.octets() else {
@@ -75,7 +91,7 @@ impl<'a> Members<'a> {
         Ok(Some(octets))
     }
 
-    /// The elements in the one member with this number, if there is one. Two are a fault, and so is a primitive one.
+    /// The elements in the only member with this number, if there is one. Two are a fault, and so is a primitive one.
     pub(crate) fn members(&self, number: u16) -> Result<Option<Elements<'a>>, Mistyped>
         requires { AllContext (lent_trees self.now.elements) }
         ensures ok { IfOk result (λ members. HoldsMembers (lent_trees self.now.elements) number (forest_in members)) }
@@ -107,7 +123,7 @@ fn are_context(elements: &Elements<'_>) -> bool
     true
 }
 
-/// The octet of a member that has just one, if the member is there. Any other number of octets is a fault.
+/// The octet of a member that must have just one, if the member is there. Any other number of octets is a fault.
 pub(crate) fn octet_in(octets: Option<&[u8]>) -> Result<Option<u8>, Mistyped>
     ensures ok { IfOk result (λ octet. IsOctet (octets_in octets.entry) octet) }
     ensures err { IfErr result (λ _. (octet : Option ℕ) → IsOctet (octets_in octets.entry) octet → ⊥) }

@@ -1,8 +1,8 @@
-//! Why an argument is not read.
+//! Why an argument isn't read.
 
 use thiserror::Error;
 
-/// The element is not the argument of the operation.
+/// The element isn't an argument of the operation.
 #[derive(Clone, Copy, Debug, PartialEq, Eq, Error)]
 #[error("mistyped argument")]
 pub struct Mistyped;

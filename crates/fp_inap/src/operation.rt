@@ -9,7 +9,7 @@ use fp_q773::OperationClass;
 /// An operation, by its name in INAP CS-1 (after ITU-T Q.1218) and its operation code.
 #[derive(Clone, Copy, Debug, PartialEq, Eq)]
 pub enum Operation {
-    /// initialDP: the switch reports a call at a detection point and asks what to do.
+    /// initialDP: the switch reports a call at a detection point and asks for instructions.
     InitialDp = 0,
     /// connect: the switch routes the call to a destination.
     Connect = 20,
@@ -17,7 +17,7 @@ pub enum Operation {
     ReleaseCall = 22,
     /// requestReportBCSMEvent: the switch watches the call for events.
     RequestReportBcsmEvent = 23,
-    /// eventReportBCSM: the switch reports such an event.
+    /// eventReportBCSM: the switch reports one of these events.
     EventReportBcsm = 24,
     /// continue: the switch goes on with the call.
     Continue = 31,
@@ -33,7 +33,7 @@ impl Operation {
         self as i32
     }
 
-    /// The operation with this code, and `None` if no operation has it.
+    /// The operation with this code, and `None` if there is none.
     pub fn from_code(code: i32) -> Option<Operation>
         ensures some { IfSome result (λ operation. code_of operation ≡ code) }
         ensures only { (operation : Operation) → code_of operation ≡ code → result ≡ Some operation }
@@ -50,7 +50,8 @@ impl Operation {
         }
     }
 
-    /// The class of the operation (Q.771, 3.1.2.2): which outcomes its performer reports.
+    /// The class of the operation (Q.771, 3.1.2.2): whether its performer reports success and
+    /// failure.
     pub fn class(self) -> OperationClass
         ensures { result ≡ class_of self }
     {

@@ -3,13 +3,13 @@
 ghost use Rattle.std.specs.Prelude.{◌≡◌};
 ghost use Rattle.fp_inap.specs.OperationError.{code_of};
 
-/// An error of an operation, by its name in INAP CS-1 (after ITU-T Q.1218) and its error code. None has a
+/// An error of an operation, by its name in INAP CS-1 (after ITU-T Q.1218) and its error code. No error has a
 /// parameter.
 #[derive(Clone, Copy, Debug, PartialEq, Eq)]
 pub enum OperationError {
     /// missingCustomerRecord: the number has no record.
     MissingCustomerRecord = 6,
-    /// missingParameter: the argument lacks what the operation needs.
+    /// missingParameter: the argument lacks a part that the operation needs.
     MissingParameter = 7,
     /// unexpectedComponentSequence: the operation isn't allowed in this state.
     UnexpectedComponentSequence = 14,

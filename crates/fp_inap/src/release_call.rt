@@ -1,4 +1,4 @@
-//! ReleaseCall: the argument that is written.
+//! ReleaseCall: writing its argument.
 
 ghost use Rattle.std.specs.Prelude.{◌≡◌, ◌++◌, length, OnOk, OnErr};
 ghost use Rattle.fp_ber.specs.Canon.{canon, HasLengths};
@@ -10,13 +10,13 @@ use fp_ber::{Class, Writer};
 use fp_digits::{Cause, cause};
 use std::alloc::AllocError;
 
-/// Puts the argument of ReleaseCall (after ITU-T Q.1218) with this cause before the octets written so far: an octet
-/// string with the octets of Q.763, 3.12. If memory runs out, the octets are unchanged.
+/// Puts the argument of ReleaseCall (after ITU-T Q.1218) with this cause before the octets: an octet string with the
+/// octets of Q.763, 3.12. For example, user busy is `04 02 82 91`. If memory runs out, the octets are unchanged.
 pub fn write_release(value: Cause, out: &mut Writer) -> Result<(), AllocError>
     ensures ok { OnOk result (out.new ≡ canon (release_call value) ++ out.old) }
     ensures err { OnErr result (out.new ≡ out.old) }
 
-    // The argument is in range to be spelled, in four octets.
+    // The tags and lengths of the argument are in range, and it has four octets.
     ensures tags { HasTags (release_call value) }
     ensures lengths { HasLengths (release_call value) }
     ensures size { length (canon (release_call value)) ≡ 4 }
