@@ -1,5 +1,5 @@
 -- A timer that is added where it belongs leaves the timers in order, whatever the order is.
-use Rattle.fp_timers.proofs.Names.{Err, List, Ok, OnErr, OnOk, Result, Timer, ap, arith, cases_lt, cases_order, get_or-insert_above, get_or-insert_at, get_or-insert_below, get_or-remove_above, get_or-remove_below, inl, inr, insert, length, length-insert, length-remove, remove, subst, timer_at, ℕ, ◌+◌, ◌-◌, ◌<◌, ◌≡◌, ◌≤◌, ◌⊎◌, most_deadlines}
+use Rattle.fp_timers.proofs.Names.{List, Timer, arith, cases_lt, cases_order, get_or-insert_above, get_or-insert_at, get_or-insert_below, get_or-remove_above, get_or-remove_below, inl, inr, insert, length, length-insert, length-remove, remove, subst, timer_at, ℕ, ◌+◌, ◌-◌, ◌<◌, ◌≡◌, ◌≤◌, ◌⊎◌}
 
 -- the default that `timer_at` reads beyond the end
 abbrev pub past_end : Timer
@@ -55,8 +55,3 @@ module _ (R : Timer → Timer → Type 0) (l : List Timer) (rises : Rises R l) (
       by (inl p) (inr q) = alike _ _ _ _ (below i p) (above j q) (rises i (j + 1) (omega arith) fits)
       by (inr p) (inl q) = absurd (omega arith)
       by (inr p) (inr q) = alike _ _ _ _ (above i p) (above j q) (rises (i + 1) (j + 1) (omega arith) fits)
-
--- an insert for which there is room has happened
-pub grown : {A E : Type 0} (r : Result A E) (l new : List Timer) (at : ℕ) (t : Timer) (len capacity : ℕ) → len ≡ length l → length l < most_deadlines → most_deadlines ≤ capacity → at ≤ length l → OnErr r (capacity ≤ len) → OnOk r (new ≡ insert l at t) → (new ≡ insert l at t) × (length new ≤ most_deadlines)
-grown (Ok a) l new at t len capacity all fewer room within full items = (items, omega (arith, ap length items, length-insert l at t within))
-grown (Err e) l new at t len capacity all fewer room within full items = absurd (omega (arith, full))

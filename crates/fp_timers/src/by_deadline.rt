@@ -16,9 +16,9 @@ use std::marker::Model;
 /// the same. Contracts see them as a finite map.
 #[derive(Debug, Drop)]
 pub(crate) struct ByDeadline {
-    // A deadline is a fixed time after a message, and there are few such times. Those of one kind come in order, so up
-    // to four kinds find a lane each where they come last. What finds none, as with a fifth kind or after a clock was
-    // set back, goes into the fourth.
+    // A deadline is a fixed time after a message, and there are few such times. Deadlines of one kind are set in order,
+    // so up to four kinds find a lane each where they are last. A deadline that is last in no lane goes into the
+    // fourth. For example, one of a fifth kind, or one after a clock was set back.
     first: Lane,
     second: Lane,
     third: Lane,
@@ -42,7 +42,7 @@ impl Model for ByDeadline {
 }
 
 impl ByDeadline {
-    /// No timers, with memory for as many as there may be.
+    /// No timers, with memory for the most that there may be.
     pub(crate) fn new(alloc: Global) -> Result<ByDeadline, AllocError>
         ensures { IfOk result (λ own. own ≡ map.empty) }
     {
@@ -54,7 +54,7 @@ impl ByDeadline {
         })
     }
 
-    /// Adds a timer of an identifier that has none: at the end of the first lane where it comes last, and else into the
+    /// Adds a timer of an identifier that has none: at the end of the first lane where it is last, and else into the
     /// fourth lane. Takes no memory.
     pub(crate) fn add(&mut self, timer: Timer)
         requires absent { map.get self.old timer.local ≡ None }
@@ -73,7 +73,7 @@ impl ByDeadline {
         self.fourth.add(timer);
     }
 
-    /// Takes the identifier's timer away, if it has one: its deadline is handed in. Then there is room for another one.
+    /// Removes the identifier's timer, if it has one: its deadline is handed in. Then there is room for another one.
     /// Takes no memory.
     pub(crate) fn remove(&mut self, local: u32, deadline: Option<u64>)
         requires { deadline ≡ map.get self.old local }
@@ -96,8 +96,7 @@ impl ByDeadline {
         let _removed = self.fourth.remove(timer);
     }
 
-    /// The first timer that comes after `last`, the first of all for `None`, if its deadline is at or before the
-    /// moment.
+    /// The first timer after `last`, the first of all for `None`, if its deadline is at or before the moment.
     pub(crate) fn due_after(&self, last: Option<Timer>, moment: Moment) -> Option<Timer>
         ensures { IsEarliestDueAfter self.now last moment result }
     {
@@ -112,7 +111,7 @@ impl ByDeadline {
         Some(first)
     }
 
-    /// Takes all timers away. Takes no memory.
+    /// Removes all timers. Takes no memory.
     pub(crate) fn clear_all(&mut self)
         ensures { self.new ≡ map.empty }
     {

@@ -6,7 +6,7 @@ ghost use Rattle.std.specs.FinMap as map;
 ghost use Rattle.fp_timers.specs.Deadlines.{HasRoom};
 
 use crate::Deadlines;
-use crate::timers::{Timer, place_of};
+use crate::timers::{Timer, place_of, put_at, take_away};
 use std::alloc::{AllocError, Global};
 use std::collections::VecDeque;
 use std::marker::Model;
@@ -35,7 +35,7 @@ impl Model for ByLocal {
 }
 
 impl ByLocal {
-    /// No timers, with memory for as many as there may be.
+    /// No timers, with memory for the most that there may be.
     pub(crate) fn new(alloc: Global) -> Result<ByLocal, AllocError>
         ensures { IfOk result (λ own. own ≡ map.empty) }
     {
@@ -44,7 +44,7 @@ impl ByLocal {
         })
     }
 
-    /// How many there are.
+    /// The number of timers.
     pub(crate) fn len(&self) -> usize
         ensures count { result ≡ map.len self.now }
         ensures most { result ≤ Deadlines.MOST }
@@ -52,7 +52,8 @@ impl ByLocal {
         self.timers.len()
     }
 
-    /// Puts the timer in place of its identifier's, and gives the deadline that the identifier had. Takes no memory.
+    /// Replaces the timer of this identifier, or adds one, and returns the deadline that the identifier had. Takes no
+    /// memory.
     pub(crate) fn set(&mut self, timer: Timer) -> Option<u64>
         requires { HasRoom self.old timer.local }
         ensures before { result ≡ map.get self.old timer.local }
@@ -65,14 +66,13 @@ impl ByLocal {
                 Some(before)
             }
             Err(place) => {
-                // There is room, so this takes no memory and succeeds.
-                drop(self.timers.insert(place, timer));
+                put_at(&mut self.timers, place, timer);
                 None
             }
         }
     }
 
-    /// Takes the identifier's timer away, if it has one, and gives the deadline that it had. Takes no memory.
+    /// Removes the identifier's timer, if it has one, and returns the deadline that it had. Takes no memory.
     pub(crate) fn clear(&mut self, local: u32) -> Option<u64>
         ensures before { result ≡ map.get self.old local }
         ensures after { self.new ≡ map.remove self.old local }
@@ -80,14 +80,14 @@ impl ByLocal {
         match place_of(&self.timers, local) {
             Ok(place) => {
                 let before = self.timers[place].deadline;
-                drop(self.timers.remove(place));
+                take_away(&mut self.timers, place);
                 Some(before)
             }
             Err(_) => None,
         }
     }
 
-    /// Takes all timers away. Takes no memory.
+    /// Removes all timers. Takes no memory.
     pub(crate) fn clear_all(&mut self)
         ensures { self.new ≡ map.empty }
     {

@@ -37,10 +37,10 @@ impl Model for Deadlines {
 }
 
 impl Deadlines {
-    /// How many there may be.
+    /// The most deadlines that there may be.
     pub const MOST: usize = 4096;
 
-    /// No deadlines, with memory for as many as there may be.
+    /// No deadlines, with memory for the most that there may be.
     pub fn new(alloc: Global) -> Result<Deadlines, AllocError>
         ensures { IfOk result (λ deadlines. deadlines ≡ map.empty) }
     {
@@ -50,7 +50,7 @@ impl Deadlines {
         })
     }
 
-    /// How many there are, at most [`Deadlines::MOST`].
+    /// The number of deadlines, at most [`Deadlines::MOST`].
     pub fn len(&self) -> usize
         ensures count { result ≡ map.len self.now }
         ensures most { result ≤ Self.MOST }
@@ -58,8 +58,8 @@ impl Deadlines {
         self.by_local.len()
     }
 
-    /// Gives an identifier a deadline, in place of any that it had. The identifier has one, or there are fewer than
-    /// [`Deadlines::MOST`]. Takes no memory.
+    /// Gives an identifier a deadline, in place of any that it had. The identifier must have one, or there must be
+    /// fewer than [`Deadlines::MOST`]. Takes no memory.
     pub fn set(&mut self, local: u32, deadline: u64)
         requires { HasRoom self.old local }
         ensures { self.new ≡ map.insert self.old local deadline }
@@ -73,7 +73,7 @@ impl Deadlines {
         self.by_deadline.add(timer);
     }
 
-    /// Takes an identifier's deadline away, if it has one. Takes no memory.
+    /// Removes an identifier's deadline, if it has one. Takes no memory.
     pub fn clear(&mut self, local: u32)
         ensures { self.new ≡ map.remove self.old local }
     {
@@ -81,7 +81,7 @@ impl Deadlines {
         self.by_deadline.remove(local, before);
     }
 
-    /// Takes all deadlines away. Takes no memory.
+    /// Removes all deadlines. Takes no memory.
     pub fn clear_all(&mut self)
         ensures { self.new ≡ map.empty }
     {
@@ -89,8 +89,8 @@ impl Deadlines {
         self.by_deadline.clear_all();
     }
 
-    /// The identifier with the earliest deadline, if that is at or before the moment: the smallest where several have
-    /// it. Takes no memory.
+    /// The identifier with the earliest deadline, if that is at or before the moment: the smallest if several have it.
+    /// Takes no memory.
     pub fn due(&self, moment: Moment) -> Option<u32>
         ensures { IsEarliestDue self.now moment result }
     {
@@ -98,9 +98,9 @@ impl Deadlines {
         Some(first.local)
     }
 
-    /// The first deadline that comes after `last`, the first of all for `None`, with its identifier, if it is at or
-    /// before the moment. The earlier deadline comes first, and the smaller identifier where several have it. `last`
-    /// needn't be there any more, and isn't given itself. Takes no memory.
+    /// The first deadline after `last`, the first of all for `None`, with its identifier, if it is at or before the
+    /// moment. Deadlines are in ascending order, equal ones in the order of their identifiers. `last` needn't be there
+    /// any more, and isn't given itself. Takes no memory.
     pub fn due_after(&self, last: Option<Timer>, moment: Moment) -> Option<Timer>
         ensures { IsEarliestDueAfter self.now last moment result }
     {

@@ -4,7 +4,7 @@ ghost use Rattle.std.specs.Prelude.{◌≡◌, ◌≢◌, ◌<◌, [], length, f
 ghost use Rattle.fp_timers.specs.Timers.{IsEarliestAfter, IsWith};
 
 use crate::Deadlines;
-use crate::timers::{Timer, comes_last, place_after, place_if_there, place_in_time};
+use crate::timers::{Timer, comes_last, place_after, place_if_there, place_in_time, take_away};
 use std::alloc::{AllocError, Global};
 use std::collections::VecDeque;
 use std::marker::Model;
@@ -30,7 +30,7 @@ impl Model for Lane {
 }
 
 impl Lane {
-    /// No timers, with memory for as many as there may be.
+    /// No timers, with memory for the most that there may be.
     pub(crate) fn new(alloc: Global) -> Result<Lane, AllocError>
         ensures { IfOk result (λ lane. lane ≡ []) }
     {
@@ -39,7 +39,7 @@ impl Lane {
         })
     }
 
-    /// Adds the timer at the end, if it comes after all others, and reports whether it does. Takes no memory.
+    /// Adds the timer at the end, if it is after all others, and returns whether it is. Takes no memory.
     pub(crate) fn push(&mut self, timer: Timer) -> bool
         requires { length self.old < Deadlines.MOST }
         ensures added { IsTrue result → IsWith self.old timer self.new }
@@ -63,7 +63,7 @@ impl Lane {
         drop(self.timers.insert(place, timer));
     }
 
-    /// Takes the timer away, if it is here, and reports whether it was. Takes no memory.
+    /// Removes the timer, if it is here, and returns whether it was. Takes no memory.
     pub(crate) fn remove(&mut self, timer: Timer) -> bool
         ensures removed { IsTrue result → IsWith self.new timer self.old }
         ensures kept { result ≡ false → self.new ≡ self.old }
@@ -72,11 +72,11 @@ impl Lane {
         let Some(place) = place_if_there(&self.timers, timer) else {
             return false;
         };
-        drop(self.timers.remove(place));
+        take_away(&mut self.timers, place);
         true
     }
 
-    /// The first timer that comes after `last`, or the first of all for `None`.
+    /// The first timer after `last`, or the first of all for `None`.
     pub(crate) fn first_after(&self, last: Option<Timer>) -> Option<Timer>
         ensures { IsEarliestAfter last self.now result }
     {
@@ -87,7 +87,7 @@ impl Lane {
         Some(*first)
     }
 
-    /// Takes all timers away. Takes no memory.
+    /// Removes all timers. Takes no memory.
     pub(crate) fn clear(&mut self)
         ensures { self.new ≡ [] }
     {

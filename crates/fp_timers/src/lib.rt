@@ -1,4 +1,4 @@
-//! The deadlines of the dialogues of a link: when each has to be served though no message comes, by its local
+//! The deadlines of the dialogues of a link: when each has to be served even without a message, by its local
 //! transaction identifier (ITU-T Q.773, 4.2.1.3).
 //!
 //! The layer is handed identifiers, deadlines and the moment, and asks no clock. A deadline is a number of milliseconds
@@ -6,16 +6,16 @@
 //! [`Deadlines::MOST`], is taken by [`Deadlines::new`], and none after it.
 //!
 //! Each deadline is in a list in the order of identifiers, and in one of four lanes, each in the order of deadlines. A
-//! new one goes to the end of the first lane where it comes last. Deadlines that are set the same time ahead come in
-//! order, so they mostly share a lane, and one is seldom put between others. A change looks at the end of the list and
-//! at the ends of the lanes first, and searches by halves if it isn't there. [`Deadlines::due`] looks only at the first
+//! new one goes to the end of the first lane where it is last. Deadlines that are set the same time ahead are set in
+//! order. So they mostly share a lane, and one is seldom put between others. A change looks at both ends of the
+//! list and at the ends of the lanes first, and searches by halves if it isn't there. [`Deadlines::due`] looks only at the first
 //! of each lane. [`Deadlines::due_after`] searches each lane by halves, unless it is asked for the first of all.
 //!
 //! The layer above may rely on this: contracts see [`Deadlines`] as a finite map from identifier to deadline, which
 //! [`Deadlines::set`] and [`Deadlines::clear`] change at one identifier alone, and [`Deadlines::clear_all`] empties.
-//! [`Deadlines::due`] gives the identifier of the earliest deadline, the smallest where several have it, exactly where
-//! that deadline is at or before the moment. [`Deadlines::due_after`] gives the same of the deadlines that come after a
-//! [`Timer`] in this order (`specs/Deadlines.antt`).
+//! [`Deadlines::due`] gives the identifier of the earliest deadline, the smallest if several have it, exactly if that
+//! deadline is at or before the moment. [`Deadlines::due_after`] gives the same of the deadlines after a [`Timer`] in
+//! this order (`specs/Deadlines.antt`).
 #![tactic(auto)]
 
 mod by_deadline;

@@ -1,6 +1,8 @@
 //! Timers, and where they go among others in the order of their identifiers or of their deadlines.
 
-ghost use Rattle.std.specs.Prelude.{◌≡◌, ◌≢◌, ◌<◌, ◌↔◌, All, None, false, length, IfErr, IfOk, IfSome, IsTrue};
+ghost use Rattle.std.specs.Prelude.{◌≡◌, ◌≢◌, ◌<◌, ◌≤◌, ◌↔◌, All, None, false, length, IfErr, IfOk, IfSome, IsTrue};
+ghost use Rattle.std.specs.List.{insert, remove};
+ghost use Rattle.std.specs.VecDeque.{deque_capacity};
 ghost use Rattle.fp_timers.specs.Timers.{IsInOrder, IsAt, IsGapFor, IsInTimeOrder, IsPlaceFor, IsPlaceAfter, IsTimerAt, comes_before, earlier};
 
 use std::collections::VecDeque;
@@ -14,8 +16,8 @@ pub struct Timer {
     pub deadline: u64,
 }
 
-/// The place of the identifier's timer, or, if it has none, the place at which one would go. Most are new identifiers,
-/// which come last.
+/// The place of the identifier's timer, or, if it has none, the place for a new one. Most timers are of new
+/// identifiers, whose place is the last, or of the oldest identifier, whose place is the first.
 pub(crate) fn place_of(timers: &VecDeque<Timer>, local: u32) -> Result<usize, usize>
     requires { IsInOrder timers.now.items }
     ensures found { IfOk result (IsAt timers.now.items local) }
@@ -29,10 +31,51 @@ pub(crate) fn place_of(timers: &VecDeque<Timer>, local: u32) -> Result<usize, us
             return Ok(timers.len() - 1);
         }
     }
+    if has_first(timers, local) {
+        return Ok(0);
+    }
     timers.binary_search_by_key(&local, |timer| timer.local)
 }
 
-/// Whether the timer comes after all others in the order of their deadlines.
+/// Whether the first timer is the identifier's.
+fn has_first(timers: &VecDeque<Timer>, local: u32) -> bool
+    ensures { IsTrue result → IsAt timers.now.items local 0 }
+{
+    match timers.front() {
+        Some(first) => first.local == local,
+        None => false,
+    }
+}
+
+/// Puts a timer at this place; there must be room for it. Most go to the end, so that no other moves.
+pub(crate) fn put_at(timers: &mut VecDeque<Timer>, place: usize, timer: Timer)
+    requires within { place ≤ length timers.old.items }
+    requires room { length timers.old.items < deque_capacity timers.old }
+    ensures items { timers.new.items ≡ insert timers.old.items place timer }
+    ensures capacity { deque_capacity timers.old ≤ deque_capacity timers.new }
+{
+    if place == timers.len() {
+        timers.push_back_reserved(timer);
+        return;
+    }
+    // There is room, so this takes no memory and succeeds.
+    drop(timers.insert(place, timer));
+}
+
+/// Removes the timer at this place. Most are first, so that no other moves.
+pub(crate) fn take_away(timers: &mut VecDeque<Timer>, place: usize)
+    requires { place < length timers.old.items }
+    ensures items { timers.new.items ≡ remove timers.old.items place }
+    ensures capacity { deque_capacity timers.new ≡ deque_capacity timers.old }
+{
+    if place == 0 {
+        drop(timers.pop_front());
+        return;
+    }
+    drop(timers.remove(place));
+}
+
+/// Whether the timer is after all others in the order of their deadlines.
 pub(crate) fn comes_last(timers: &VecDeque<Timer>, timer: Timer) -> bool
     requires { IsInTimeOrder timers.now.items }
     ensures { IsTrue result → IsPlaceFor timers.now.items timer (length timers.now.items) }
@@ -43,7 +86,7 @@ pub(crate) fn comes_last(timers: &VecDeque<Timer>, timer: Timer) -> bool
     }
 }
 
-/// Whether a timer comes before this one in the order of their deadlines: then the first does.
+/// Whether any timer is before this one in the order of their deadlines: then the first one is.
 fn any_before(timers: &VecDeque<Timer>, timer: Timer) -> bool
     requires { IsInTimeOrder timers.now.items }
     ensures { result ≡ false → IsPlaceFor timers.now.items timer 0 }
@@ -54,8 +97,8 @@ fn any_before(timers: &VecDeque<Timer>, timer: Timer) -> bool
     }
 }
 
-/// The place of the timer among others in the order of their deadlines, or the place at which it would go. Most go to
-/// one of the ends.
+/// The place of the timer among others in the order of their deadlines, or the place for it if it isn't there. Most go
+/// to one of the ends.
 pub(crate) fn place_in_time(timers: &VecDeque<Timer>, timer: Timer) -> usize
     requires { IsInTimeOrder timers.now.items }
     ensures { IsPlaceFor timers.now.items timer result }
@@ -86,8 +129,8 @@ pub(crate) fn place_if_there(timers: &VecDeque<Timer>, timer: Timer) -> Option<u
     None
 }
 
-/// The place of the first timer that comes after `last` in the order of their deadlines, or, if none does, how many
-/// there are. For `None` all come after it.
+/// The place of the first timer after `last` in the order of their deadlines, or, if there is none, the number of
+/// timers. For `None` all are after it.
 pub(crate) fn place_after(timers: &VecDeque<Timer>, last: Option<Timer>) -> usize
     requires { IsInTimeOrder timers.now.items }
     ensures { IsPlaceAfter timers.now.items last result }
@@ -108,7 +151,7 @@ fn is_at(timers: &VecDeque<Timer>, timer: Timer, place: usize) -> bool
     }
 }
 
-/// The one of two timers that comes before the other, if there is one.
+/// The earlier of two timers, if there is one.
 pub(crate) fn earlier(timer: Option<Timer>, other: Option<Timer>) -> Option<Timer>
     ensures { result ≡ earlier timer other }
 {
