@@ -13,7 +13,7 @@ use fp_q773::{Code, Reject, write_component_portion, write_invoke, write_return_
 use fp_service::{Component, Instruction};
 use std::alloc::AllocError;
 
-/// Puts the argument of the operation of an instruction; Continue and ActivityTest have none.
+/// Puts the argument of an instruction. Continue and ActivityTest have none.
 fn write_argument(instruction: &Instruction, out: &mut Writer) -> Result<(), AllocError>
     ensures exact { OnOk result (out.new ≡ canon_of_all (only (argument_of instruction.now)) ++ out.old) }
     ensures argument { OnOk result (IsArgument instruction.now) }
@@ -29,7 +29,7 @@ fn write_argument(instruction: &Instruction, out: &mut Writer) -> Result<(), All
     }
 }
 
-/// Puts the Invoke of the operation of an instruction.
+/// Puts the Invoke of an instruction.
 fn write_instruction(
     identifier: i8,
     instruction: &Instruction,
@@ -44,7 +44,7 @@ fn write_instruction(
     write_invoke(identifier, None, code, start, out)
 }
 
-/// Puts the ReturnError of an error, which has no parameter.
+/// Puts a ReturnError with this error, which has no parameter.
 #[tactic(auto, using(crate::proofs::Sending::error_sent))]
 fn write_error(identifier: i8, error: OperationError, out: &mut Writer) -> Result<(), AllocError>
     ensures exact { OnOk result (out.new ≡ canon (component_tree (component_value (Component.ReturnError identifier error))) ++ out.old) }

@@ -21,7 +21,7 @@ fn write_answer(name: Name, verdict: Verdict, out: &mut Writer) -> Result<(), Al
     write_aare(&name, verdict, out)
 }
 
-/// Puts the AARE that accepts a dialogue of this application context name, if any.
+/// Puts the AARE that accepts a dialogue with this application context name, if there is one.
 pub(crate) fn write_acceptance(name: Option<Name>, out: &mut Writer) -> Result<(), AllocError>
     ensures exact { OnOk result (out.new ≡ canon_of_all (only (acceptance_portion name)) ++ out.old) }
     ensures portion { OnOk result (IsDialoguePortion (acceptance_portion name)) }

@@ -14,18 +14,18 @@ use std::alloc::{AllocError, Global};
 /// The number of octets of the head of a frame.
 pub(crate) const HEAD: usize = 4;
 
-/// The most octets of a frame, the head included: its message has at most 219. The longest one is a Continue with an
-/// AARE of a name of 64 octets, an Invoke of RequestReportBCSMEvent, and an Invoke of Connect to 15 digits.
+/// The most octets of a frame with its head: its message has at most 219. The longest message is a Continue with an
+/// AARE for a name of 64 octets, an Invoke of RequestReportBCSMEvent, and an Invoke of Connect to 15 digits.
 ///
 /// A message of MTP has room for 272 octets. A unitdata message (UDT) of SCCP (ITU-T Q.713, 4.10) with two addresses of
-/// 18 octets fits it, if its data has at most 224 octets. So each message that is sent fits one.
+/// 18 octets fits in, if its data has at most 224 octets. So each message fits.
 pub const MOST_OCTETS: usize = 223;
 
-/// The octets that are sent for a request of the service logic (Q.773, 4.2): the head of a frame, and after it the
-/// message in canonical spelling.
+/// The frame of a request (Q.773, 4.2): a head and the message in canonical spelling.
 ///
 /// `local` is this end's transaction identifier of the dialogue and `peer` the other end's. A Continue has both, the
-/// local one in four octets; an End and an Abort have the peer's alone. It is written as it came.
+/// local one in four octets; an End and an Abort have only the peer's. The peer's identifier is written as it was
+/// received.
 #[tactic(auto, using(crate::proofs::Frames::canon_some, crate::proofs::Frames::frame_says), unfolding(crate::specs::Reply::frame_of))]
 pub fn bytes_of(
     alloc: Global,

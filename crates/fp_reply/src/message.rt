@@ -11,7 +11,6 @@ ghost use Rattle.fp_reply.specs.Reply.{abort_portion, acceptance_portion, compon
 
 use crate::component::write_components;
 use crate::dialogue_portion::{write_abort_portion, write_acceptance};
-use crate::frame::MOST_OCTETS;
 use fp_apdu::Name;
 use fp_ber::Writer;
 use fp_q773::{
@@ -21,8 +20,7 @@ use fp_q773::{
 use fp_service::{AbortPortion, Components, Request};
 use std::alloc::{AllocError, Global};
 
-/// Puts the portions of a Continue or an End: the components, and before them the AARE that accepts the dialogue, if
-/// any.
+/// Puts the portions of a Continue or an End: the AARE that accepts the dialogue, if there is one, and the components.
 fn write_portions(
     acceptance: Option<Name>,
     components: &Components,
@@ -107,7 +105,11 @@ fn write_message(
     }
 }
 
-/// The octets of a request's message, with room for the head of a frame.
+/// The number of octets for which a reply has room at first. Most replies are shorter; the room grows for others. Rooms
+/// of this size are handed out and freed cheaply by the allocator (those of up to 120 octets by glibc).
+const ROOM: usize = 112;
+
+/// The octets of a request's message, with room for the head of a frame in most.
 pub(crate) fn reply_to(
     alloc: Global,
     request: &Request,
@@ -120,7 +122,7 @@ pub(crate) fn reply_to(
     ensures spelled { IfOk result (λ out. IsSpelled (written (reply request.now local (octets_of peer.now)))) }
 {
     written_messages_are_elements();
-    let mut out = Writer::with_capacity(alloc, MOST_OCTETS)?;
+    let mut out = Writer::with_capacity(alloc, ROOM)?;
     write_message(request, local, *peer, &mut out)?;
     Ok(out)
 }

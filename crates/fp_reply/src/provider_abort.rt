@@ -12,8 +12,7 @@ use fp_octets::Octets;
 use fp_q773::{AbortCause, Tid, write_abort};
 use std::marker::Model;
 
-/// The octets of a frame with an Abort of the provider, the head included: twelve to fifteen. Contracts see it as a
-/// list of octets.
+/// A frame with an Abort of the provider: twelve to fifteen octets with its head. Contracts see it as a list of octets.
 #[derive(Clone, Copy, Debug, PartialEq, Eq)]
 pub struct AbortFrame {
     octets: Octets<15>,
@@ -40,8 +39,8 @@ impl AbortFrame {
     }
 }
 
-/// The octets that are sent if the provider aborts, for this cause, a dialogue with this identifier at the peer: the
-/// head of a frame, and after it the Abort in canonical spelling (Q.773, 4.2.1; X.690, 10.1). Takes no memory.
+/// The frame of an Abort of the provider, for this cause, to this identifier of the peer: a head and the Abort in
+/// canonical spelling (Q.773, 4.2.1; X.690, 10.1). Takes no memory.
 pub fn abort_frame(destination: Tid, cause: AbortCause) -> AbortFrame
     ensures { frame_octets result ≡ framed (canon (provider_abort (octets_of destination) (cause_code cause))) }
 {
