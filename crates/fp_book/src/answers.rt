@@ -1,39 +1,39 @@
-//! What the steps of a link answer.
+//! The answers of the steps of a link.
 
 ghost use Rattle.std.specs.Prelude.{◌≡◌};
 
 use fp_q773::AbortCause;
 
-/// What becomes of a message that is posted.
+/// The outcome of a posted message.
 #[derive(Clone, Copy, Debug, PartialEq, Eq)]
 pub enum Posted {
-    /// A Begin opened a dialogue, which has this local transaction identifier.
+    /// A dialogue, opened by a Begin, with this local transaction identifier.
     Opened(u32),
-    /// The dialogue that the message names accepted this number of entries.
+    /// The number of entries that the dialogue, named by the message, accepted.
     Accepted(u32),
-    /// It was refused, which closed the admitted dialogue that it names, if there is one, and an Abort of the provider
-    /// for this cause waits to be sent.
+    /// The message was refused. The admitted dialogue that it names, if there is one, was closed. An Abort of the
+    /// provider with this cause waits to be sent.
     Aborted(AbortCause),
-    /// It was refused, which closed the dialogue that it names, and nothing is sent.
+    /// The message was refused and the dialogue that it names closed. Nothing is sent.
     Ended,
-    /// No dialogue accepted it, none was closed, and nothing is sent.
+    /// No dialogue accepted the message or was closed. Nothing is sent.
     Discarded,
 }
 
-/// What [`Book::post_with_receipt`](crate::Book::post_with_receipt) says of a message.
+/// The answer of [`Book::post_with_receipt`](crate::Book::post_with_receipt).
 #[derive(Clone, Copy, Debug, PartialEq, Eq)]
 pub struct Receipt {
-    /// What became of it.
+    /// The outcome.
     pub posted: Posted,
-    /// How many of its components were accepted, 0 where it wasn't accepted.
+    /// How many components of the message were accepted, 0 if it wasn't accepted.
     pub components: u32,
-    /// Whether memory ran out in this call, so that the message was treated as lost, and the log has
-    /// a `Lost`. It is `false` for a message that came as lost.
+    /// Whether memory ran out in this call, so that the message was treated as lost, and the log has a `Lost`. `false`
+    /// for a message that was lost before it was posted.
     pub lost: bool,
 }
 
 impl Receipt {
-    /// Of a message that wasn't accepted.
+    /// The receipt of a message that wasn't accepted.
     pub(crate) fn not_accepted(posted: Posted, lost: bool) -> Receipt
         ensures { result ≡ record { posted = posted; components = 0; lost = lost } }
     {
@@ -45,13 +45,13 @@ impl Receipt {
     }
 }
 
-/// What becomes of the requests of a turn that is given back.
+/// The outcome of the requests of a turn that is given back.
 #[derive(Clone, Copy, Debug, PartialEq, Eq)]
 pub enum Given {
-    /// Nothing is requested.
+    /// No frame: the entries requested nothing.
     Silent,
-    /// The frames of this many requests wait to be sent.
+    /// The number of frames that now wait to be sent.
     Queued(u32),
-    /// The dialogue was ended from outside, so this many requests of it aren't accepted.
+    /// The number of requests that weren't accepted, because the dialogue was ended from outside.
     Dropped(u32),
 }

@@ -15,8 +15,8 @@ use fp_timers::Deadlines;
 use std::alloc::{AllocError, Global};
 use std::marker::Model;
 
-/// All dialogues of a link, the order in which they are served, what waits to be sent, and the log. Contracts see it as
-/// a [`Shelf`](crate): its parts as lists and finite maps, and what was counted.
+/// All dialogues of a link, the order in which they are served, the frames that wait to be sent, the totals and the
+/// log. Contracts see a [`Shelf`](crate): the parts as lists and finite maps.
 #[derive(Debug, Drop)]
 pub struct Book {
     // The link, 0 to 7.
@@ -60,18 +60,18 @@ impl Model for Book {
 }
 
 impl Book {
-    /// How many dialogues may be held: each may have a deadline.
+    /// The most dialogues that may be held: each may have a deadline.
     pub const MOST_DIALOGUES: usize = Deadlines::MOST;
 
-    /// How many entries of a dialogue may wait to be served or be out, those of the clock and the peer's end and abort
-    /// not counted.
+    /// The most entries of a dialogue that may wait to be served or be out, not counting entries of the clock and of
+    /// the peer's end and abort.
     pub const MOST_ENTRIES: usize = 64;
 
-    /// How many elements the component portion of a message may hold.
+    /// The most elements that the component portion of a message may hold.
     pub const MOST_ELEMENTS: usize = 16;
 
-    /// How many entries a link accepts before it takes no more: from then on each Begin, Continue and End is refused,
-    /// and no dialogue is given a Clock. An Abort of the peer is accepted all the same.
+    /// The most entries that a link accepts. From then on each Begin, Continue and End is refused, and no dialogue is
+    /// given a Clock. An Abort of the peer is accepted all the same.
     pub const ALL_ENTRIES: u64 = 1 << 63;
 
     /// The book of a link, 0 to 7, which is up, in a run without a tag: its tag is 0. It holds no dialogue, and has
@@ -84,7 +84,7 @@ impl Book {
         Self::with_tag(alloc, link, 0)
     }
 
-    /// The book of a link, 0 to 7, in a run with this tag, 0 to 4,094: as that of [`Book::new`], but for the
+    /// The book of a link, 0 to 7, in a run with this tag, 0 to 4,094: as the book of [`Book::new`], except for the
     /// identifiers of its dialogues.
     pub fn with_tag(alloc: Global, link: u8, tag: u16) -> Result<Book, AllocError>
         requires links { link < LocalIds.LINKS }
@@ -114,7 +114,7 @@ impl Book {
         })
     }
 
-    /// What was counted since the book was made.
+    /// The totals since the book was made.
     pub fn totals(&self) -> Totals
         ensures value { result ≡ self.now.totals }
         ensures sound { Sound self.now }
@@ -142,14 +142,14 @@ impl Book {
         }
     }
 
-    /// How many lines the log has, at most [`Log::MOST`]. Takes no memory.
+    /// The number of log lines, at most [`Log::MOST`]. Takes no memory.
     pub fn line_count(&self) -> usize
         ensures value { result ≡ length self.now.log }
     {
         self.log.len()
     }
 
-    /// How many dialogues are ready, at most [`Book::MOST_DIALOGUES`]. Takes no memory.
+    /// The number of ready dialogues, at most [`Book::MOST_DIALOGUES`]. Takes no memory.
     pub fn ready_count(&self) -> usize
         ensures value { result ≡ length self.now.ready }
     {
@@ -166,8 +166,8 @@ impl Book {
         self.log.drain(self.link, lines);
     }
 
-    /// Exchanges the log for an empty one, so that all its lines are handed out at once, and returns the link whose lines
-    /// they are. Changes nothing else. Takes no memory and frees none.
+    /// Exchanges the log for an empty one, so that all its lines are handed out at once, and returns their link.
+    /// Changes nothing else. Takes no memory and frees none.
     pub fn exchange_log(&mut self, log: &mut Log) -> u8
         requires empty { log.old ≡ [] }
         ensures link { result ≡ self.old.link }
@@ -178,8 +178,8 @@ impl Book {
         self.link
     }
 
-    /// How many places for frames are held: by frames that wait, by the one that is being sent, and by entries that are
-    /// out.
+    /// How many places for frames are held: by frames that wait, by the frame that is being sent, and by entries that
+    /// are out.
     pub(crate) fn places_held(&self) -> usize
         ensures { result ≡ places_held self.now }
     {

@@ -1,4 +1,4 @@
-//! The dialogues of a link where one of them changes.
+//! Changes of one dialogue of a link.
 
 ghost use Rattle.std.specs.Prelude.{◌≡◌, ◌≢◌, ◌<◌, [], ◌↔◌, not, true, Some, IfErr, IfOk, IsOk, IsTrue, OnErr, ◌&&◌, if◌then◌else◌};
 ghost use Rattle.std.specs.FinMap.{contains_key, get, remove};
@@ -14,21 +14,21 @@ use fp_q773::Tid;
 use fp_row::{Done, Ending, Requested, Row, Rows, ServedTurn, Turn, putting_back_changes_nothing};
 use std::alloc::{AllocError, Global};
 
-/// What the other parts of a book have to know of a dialogue that changed.
+/// A changed dialogue, as the other parts of a book need to know it.
 #[derive(Clone, Copy, Debug)]
 pub(crate) struct Left {
     /// Its birth.
     pub(crate) birth: u64,
-    /// Whether something of it is left.
+    /// Whether the dialogue is still held.
     pub(crate) is_held: bool,
-    /// Whether it is ready, or has become so.
+    /// Whether the dialogue is ready, or has become so.
     pub(crate) is_ready: bool,
-    /// The earliest moment at which it is given a Clock, in milliseconds, if there is one.
+    /// The earliest moment when the dialogue is given a Clock, in milliseconds, if there is one.
     pub(crate) deadline: Option<u64>,
 }
 
 impl Left {
-    /// What they have to know of this dialogue.
+    /// The summary of this dialogue.
     fn of(row: &Row) -> Left
         ensures { result ≡ left_as row.now }
     {
@@ -41,52 +41,52 @@ impl Left {
     }
 }
 
-/// What comes of a turn that a dialogue takes back, served.
+/// The result of taking a turn back, served.
 #[derive(Debug, Drop)]
 pub(crate) struct Served {
-    /// What becomes of its request.
+    /// The outcome of its requests.
     pub(crate) requested: Requested,
-    /// What the other parts have to know of the dialogue.
+    /// The dialogue afterwards.
     pub(crate) left: Left,
 }
 
-/// What comes of the next entries of a dialogue, which were served in their place.
+/// The result of serving the next entries of a dialogue in their place.
 #[derive(Debug, Drop)]
 pub(crate) struct ServedInPlace {
-    /// The turn that they would have been, and what becomes of its requests.
+    /// The turn that the entries would have been, and the outcome of its requests.
     pub(crate) turn: ServedTurn,
-    /// What the other parts have to know of the dialogue.
+    /// The dialogue afterwards.
     pub(crate) left: Left,
 }
 
-/// What comes of the entries that a dialogue accepts.
+/// The result of accepting entries for a dialogue.
 #[derive(Clone, Copy, Debug)]
 pub(crate) struct Extended {
-    /// What the other parts have to know of the dialogue, and whether it has become ready.
+    /// The dialogue afterwards, and whether it has become ready.
     pub(crate) left: Left,
-    /// Whether frames of it that wait are to be dropped.
+    /// Whether waiting frames of the dialogue are to be dropped.
     pub(crate) drops_frames: bool,
 }
 
-/// What becomes of a dialogue that is ended from outside, and what of it is to be dropped by the other parts of a book.
+/// The result of ending a dialogue from outside, with the parts of it that the book must drop.
 #[derive(Clone, Copy, Debug)]
 pub(crate) struct Dropped {
-    /// Whether something of it is left.
+    /// Whether the dialogue is still held.
     pub(crate) is_held: bool,
-    /// Whether it was ready, so that it has a place in the order of service.
+    /// Whether the dialogue was ready, so that it has a place in the order of service.
     pub(crate) was_ready: bool,
-    /// Whether frames of it wait.
+    /// Whether waiting frames of the dialogue are to be dropped.
     pub(crate) frames: bool,
 }
 
-/// Whether a dialogue has become ready, by whether it was.
+/// Whether a dialogue is ready now and wasn't before.
 fn has_become_ready(row: &Row, was_ready: bool) -> bool
     ensures { result ≡ (not was_ready && is_ready row.now) }
 {
     !was_ready && row.is_ready()
 }
 
-/// Takes a dialogue off of which nothing is left. Takes no memory.
+/// Removes a dialogue unless it is still held. Takes no memory.
 fn keep(rows: &mut Rows, local: u32, is_held: bool)
     ensures { rows.new ≡ (if is_held then rows.old else remove rows.old local) }
 {
@@ -95,8 +95,8 @@ fn keep(rows: &mut Rows, local: u32, is_held: bool)
     }
 }
 
-/// Hands out the turn of a dialogue that is ready, where this many places are free. If memory runs out for a copy of
-/// the entries and of the core, nothing changes.
+/// Hands out the turn of a ready dialogue, with this many free places. If memory runs out for a copy of the entries and
+/// of the core, nothing changes.
 pub(crate) fn take(rows: &mut Rows, local: u32, free: usize) -> Result<Turn, AllocError>
     requires ready { ready_count (get rows.old local) ≡ 1 }
     requires room { 0 < free }
@@ -114,8 +114,8 @@ pub(crate) fn take(rows: &mut Rows, local: u32, free: usize) -> Result<Turn, All
     Ok(turn)
 }
 
-/// Serves the next entries of a dialogue that is ready, where this many places are free. It goes if nothing of it is
-/// left. If memory runs out for the frames, nothing changes.
+/// Serves the next entries of a ready dialogue, with this many free places. The dialogue is removed if it is no longer
+/// held. If memory runs out for the frames, nothing changes.
 pub(crate) fn serve(rows: &mut Rows, local: u32, free: usize) -> Result<ServedInPlace, AllocError>
     requires ready { ready_count (get rows.old local) ≡ 1 }
     requires room { 0 < free }
@@ -135,8 +135,8 @@ pub(crate) fn serve(rows: &mut Rows, local: u32, free: usize) -> Result<ServedIn
     Ok(ServedInPlace { turn, left })
 }
 
-/// Gives a turn that was served back to its dialogue, which goes if nothing of it is left. A stale or foreign one comes
-/// back, and nothing changes. Takes no memory.
+/// Gives a turn that was served back to its dialogue, which is removed if it is no longer held. A stale or foreign turn
+/// is returned, and nothing changes. Takes no memory.
 pub(crate) fn give(rows: &mut Rows, done: Done) -> Result<Served, Done>
     ensures ok { IfOk result (λ served. GivesAt rows.old done served.requested served.left rows.new) }
     ensures err { IfErr result (λ back. (back ≡ done) × (rows.new ≡ rows.old)) }
@@ -156,8 +156,8 @@ pub(crate) fn give(rows: &mut Rows, done: Done) -> Result<Served, Done>
     Ok(Served { requested, left })
 }
 
-/// Gives a turn that wasn't served back to its dialogue, which goes if nothing of it is left. A stale or foreign one
-/// comes back, and nothing changes. Takes no memory.
+/// Gives a turn that wasn't served back to its dialogue, which is removed if it is no longer held. A stale or foreign
+/// turn is returned, and nothing changes. Takes no memory.
 pub(crate) fn put_back(rows: &mut Rows, turn: Turn) -> Result<Left, Turn>
     ensures ok { IfOk result (λ left. PutsBackAt rows.old turn left rows.new) }
     ensures err { IfErr result (λ back. (back ≡ turn) × (rows.new ≡ rows.old)) }
@@ -177,8 +177,8 @@ pub(crate) fn put_back(rows: &mut Rows, turn: Turn) -> Result<Left, Turn>
     Ok(left)
 }
 
-/// Counts one more frame of a dialogue as sent, of which one is kept that wasn't. Says whether something of it is left;
-/// it goes where nothing is. Takes no memory.
+/// Counts one more frame of a dialogue as sent; one of its kept frames must not be sent yet. Returns whether the
+/// dialogue is still held, and removes it if it isn't. Takes no memory.
 pub(crate) fn sent(rows: &mut Rows, local: u32) -> bool
     requires { is_unsent (get rows.old local) ≡ true }
     ensures { SendsAt rows.old local result rows.new }
@@ -192,8 +192,8 @@ pub(crate) fn sent(rows: &mut Rows, local: u32) -> bool
     is_held
 }
 
-/// Ends a dialogue that is there from outside, which goes if nothing of it is left. Returns whether it stays, and what
-/// of it is to be dropped elsewhere. Takes no memory.
+/// Ends a dialogue that is there from outside, and removes it if it is no longer held. Returns whether it stays, and
+/// the parts of it that you must drop elsewhere. Takes no memory.
 pub(crate) fn end(rows: &mut Rows, local: u32, ending: Ending, is_sending: bool) -> Dropped
     requires { IsTrue (contains_key rows.old local) }
     ensures ends { EndsAt rows.old local ending is_sending result.is_held rows.new }
@@ -213,9 +213,9 @@ pub(crate) fn end(rows: &mut Rows, local: u32, ending: Ending, is_sending: bool)
     }
 }
 
-/// Puts entries after those of a dialogue that takes messages, and ends it if its peer does. It goes if nothing of it
-/// is left. Says whether it has become ready. If memory runs out, which it never does for no entries, nothing changes,
-/// and the entries are gone.
+/// Puts entries at the end of a dialogue that takes messages, and ends it if its peer does. The dialogue is removed if
+/// it is no longer held. Returns whether it has become ready. If memory runs out, which it never does for no entries,
+/// nothing changes, and the entries are lost.
 pub(crate) fn extend(
     rows: &mut Rows,
     local: u32,
@@ -251,7 +251,7 @@ pub(crate) fn extend(
 }
 
 /// Opens a dialogue with these entries: this end knows it by `local`, its peer by `peer`, and it is the `birth`-th of
-/// its link. If memory runs out, nothing changes, and the entries are gone.
+/// its link. If memory runs out, nothing changes, and the entries are lost.
 pub(crate) fn open(
     alloc: Global,
     rows: &mut Rows,
@@ -273,7 +273,7 @@ pub(crate) fn open(
     }
 }
 
-/// Gives a dialogue that is due a Clock of this moment, and says whether it has become ready. If memory runs out,
+/// Gives a dialogue that is due a Clock of this moment, and returns whether it has become ready. If memory runs out,
 /// nothing changes.
 pub(crate) fn clock(rows: &mut Rows, local: u32, moment: Moment) -> Result<bool, AllocError>
     requires { is_due_at (get rows.old local) moment ≡ true }

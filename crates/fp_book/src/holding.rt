@@ -15,7 +15,7 @@ use fp_q773::Kind;
 use std::alloc::Global;
 
 impl Book {
-    /// From how many places for frames that are held no message is taken: seven eighths of them.
+    /// The threshold of held places for frames: from there on no message is taken. Seven eighths of all.
     pub const MANY_PLACES: usize = Outbox::MOST_FRAMES / 8 * 7;
 
     /// Whether a dialogue is busy: a turn of it is out, an entry of it waits, or a frame of it is to be sent.
@@ -35,8 +35,8 @@ impl Book {
         found.names_a_cause() && came.arrival().ids.orig.is_some()
     }
 
-    /// Whether all a message lacks is room: it is readable, and neither has too many elements nor comes after the last
-    /// entry that the link takes.
+    /// Whether a message lacks nothing but room: it is readable, it hasn't too many elements, and the link accepts
+    /// further entries.
     fn lacks_only_room(&self, came: &Prepared) -> bool
         ensures { result ≡ lacks_only_room self.now came.now }
     {
@@ -73,17 +73,18 @@ impl Book {
         found.is_over_a_limit() && self.lacks_only_room(came) && self.gets_room(came)
     }
 
-    /// Whether a message is better posted later: posted now it would be refused, or what it brings would wait, for a
-    /// cause that goes away as turns are served and frames are sent. On a link that is up, a message is held back
+    /// Whether you should post a message later: posted now it would be refused, or its entries would wait, for a cause
+    /// that goes away as turns are served and frames are sent. On a link that is up, a message is held back
     ///
     /// * if it would be taken while [`Book::MANY_PLACES`] for frames are held;
     /// * if an Abort of the provider is to answer it, and [`Outbox::MOST_ABORTS`] wait;
-    /// * if it is a readable Continue or End with which more than [`Book::MOST_ENTRIES`] of its dialogue would wait;
-    /// * if it is a readable Begin while [`Book::MOST_DIALOGUES`] are held, one of which is busy.
+    /// * if it is a readable Continue or End that would make more than [`Book::MOST_ENTRIES`] of its dialogue wait;
+    /// * if it is a readable Begin while [`Book::MOST_DIALOGUES`] are held and one of them is busy.
     ///
-    /// The last two only with at most [`Book::MOST_ELEMENTS`] elements, on a link that takes more entries. Any other
-    /// message is posted at once: it is accepted, or refused for a cause that serving and sending don't take away. So
-    /// is one for which memory runs out at the post. Doesn't go through all dialogues.
+    /// The last two apply only to a message with at most [`Book::MOST_ELEMENTS`] elements, on a link that accepts
+    /// further entries. Any other message is posted at once: it is accepted, or refused for a cause that serving and
+    /// sending don't take away. So is one that runs out of memory at the post. For example, a Continue with one Invoke
+    /// is held back while 64 entries of its dialogue wait. Doesn't go through all dialogues.
     pub fn holds_back(&self, came: &Prepared) -> bool
         ensures value { result ≡ holds_back self.now came.now }
         ensures sound { Sound self.now }
@@ -93,7 +94,7 @@ impl Book {
     }
 
     /// Takes a message, or refuses it, as [`Book::post_with_receipt`], unless it is held back ([`Book::holds_back`]):
-    /// then it comes back, and nothing changes. The message is judged once.
+    /// then it is returned, and nothing changes. The message is judged once.
     pub fn post_unless_held_back(
         &mut self,
         alloc: Global,
@@ -123,7 +124,7 @@ impl Book {
         !self.has_busy() && self.outbox.is_empty()
     }
 
-    /// How many entries the dialogues that are held keep: all that each of them accepted. Goes through all of them.
+    /// How many entries the held dialogues keep: the sum of all that they accepted. Goes through all of them.
     pub fn entry_count(&self) -> u64
         ensures value { result ≡ entries_kept self.now }
         ensures sound { Sound self.now }

@@ -1,18 +1,18 @@
-//! What serving in place answers.
+//! The answers of serving in place.
 
 ghost use Rattle.std.specs.Prelude.{◌≡◌};
 ghost use Rattle.fp_book.specs.InPlace.{count_in};
 
 use crate::Given;
 
-/// What comes of serving a turn in its place.
+/// The result of serving a turn in its place.
 #[derive(Clone, Copy, Debug)]
 pub enum InPlace {
-    /// A turn was handed out, served and given back.
+    /// One turn, handed out, served and given back.
     Served {
         /// How many of its entries were served.
         count: usize,
-        /// What became of their requests.
+        /// The outcome of their requests.
         given: Given,
     },
     /// No dialogue is ready.
@@ -24,7 +24,7 @@ pub enum InPlace {
 }
 
 impl InPlace {
-    /// How many entries were served, none if no turn was.
+    /// How many entries were served, 0 if no turn was.
     pub fn served(&self) -> usize
         ensures { result ≡ count_in self.now }
     {

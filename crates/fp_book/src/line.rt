@@ -7,7 +7,7 @@ use fp_frames::Frame;
 /// A line of the log.
 #[derive(Debug, Drop)]
 pub enum Line {
-    /// The first one: how many links there are, and the tag of the run.
+    /// The first line: how many links there are, and the tag of the run.
     Head {
         /// The number of links, 1 to 8.
         links: u8,
@@ -29,25 +29,25 @@ pub enum Line {
 pub enum LoggedStep {
     /// A message was posted.
     Post {
-        /// The index of the table by whose records it was read, among those of the run.
+        /// The index among the run's tables of the one whose records the message was read by.
         table: u16,
-        /// When it came.
+        /// The moment of the message.
         moment: Moment,
         /// The message, without its head.
         message: Frame,
-        /// What became of it.
+        /// Its outcome.
         answer: Posted,
     },
-    /// A message was posted for which memory ran out.
+    /// A message was posted, and treated as lost because memory ran out for it.
     Lost {
-        /// When it came.
+        /// The moment of the message.
         moment: Moment,
         /// The message, without its head.
         message: Frame,
-        /// What became of it.
+        /// Its outcome.
         answer: Posted,
     },
-    /// Time went by.
+    /// A tick that found a dialogue due.
     Tick {
         /// The moment.
         moment: Moment,
@@ -73,7 +73,7 @@ pub enum LoggedStep {
         position: u64,
         /// How many entries were served.
         served: u32,
-        /// What became of their requests.
+        /// The outcome of their requests.
         given: Given,
     },
     /// A turn was put back, not served.
@@ -100,9 +100,9 @@ pub enum LoggedStep {
     },
     /// The link went down.
     Down,
-    /// Steps are missing here.
+    /// A number of steps that are missing here.
     Gap {
-        /// How many, at most 2^64 - 1.
+        /// How many steps are missing, at most 2^64 - 1.
         lost: u64,
     },
 }

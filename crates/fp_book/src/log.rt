@@ -11,8 +11,8 @@ use std::collections::VecDeque;
 use std::marker::Model;
 use std::mem;
 
-/// The steps of a link that weren't drained yet, the oldest first, at most [`Log::MOST`]. In the last place is nothing
-/// but a gap, which counts the steps that found no place. Contracts see them as their list.
+/// The steps of a link that weren't drained yet, the oldest first, at most [`Log::MOST`]. Only a gap can be in the last
+/// place; it counts the steps that found no place. Contracts see their list.
 #[derive(Debug, Drop)]
 pub struct Log {
     steps: VecDeque<LoggedStep>,
@@ -33,10 +33,10 @@ impl Model for Log {
 }
 
 impl Log {
-    /// How many steps there may be, a gap in the last place counted.
+    /// The most steps that there may be, including a gap in the last place.
     pub const MOST: usize = 8192;
 
-    /// No steps, with memory for as many as there may be.
+    /// No steps, with memory for the most that there may be.
     pub fn new(alloc: Global) -> Result<Log, AllocError>
         ensures { IfOk result (λ log. log ≡ []) }
     {
@@ -45,7 +45,7 @@ impl Log {
         })
     }
 
-    /// How many steps there are, at most [`Log::MOST`].
+    /// The number of steps, at most [`Log::MOST`].
     pub fn len(&self) -> usize
         ensures count { result ≡ length self.now }
         ensures most { result ≤ Self.MOST }
@@ -53,8 +53,9 @@ impl Log {
         self.steps.len()
     }
 
-    /// Puts a step after the others. If only the last place is left, it is counted in the gap there instead, which
-    /// begins at 1 and stays at 2^64 - 1. Takes no memory.
+    /// Puts a step after the others. If only the last place is left, the step is counted in the gap there instead. A
+    /// gap begins at 1 and stays at 2^64 - 1. Takes no memory.
+    #[inline(always)]
     pub fn add(&mut self, step: LoggedStep)
         ensures { self.new ≡ logged self.old step }
     {
@@ -65,8 +66,8 @@ impl Log {
         }
     }
 
-    /// Moves the oldest steps to the end of `lines`, as lines of this link, 0 to 7, as many as it has room for. The
-    /// steps that are left keep their order. Takes no memory.
+    /// Moves the oldest steps to the end of `lines`, as lines of this link, 0 to 7, as many as `lines` has room for.
+    /// The remaining steps keep their order. Takes no memory.
     pub fn drain(&mut self, link: u8, lines: &mut Vec<Line>)
         ensures drains { Drains link self.old lines.old.items (vec_capacity lines.old - vec_len lines.old) self.new lines.new.items }
         ensures capacity { vec_capacity lines.new ≡ vec_capacity lines.old }
@@ -74,7 +75,7 @@ impl Log {
         move_steps(&mut self.steps, link, lines);
     }
 
-    /// The step in this place, the oldest in place 0. `None`: there are fewer.
+    /// The step in this place, the oldest in place 0. `None` if there are fewer.
     pub fn get(&self, place: usize) -> Option<&LoggedStep>
         ensures item { IsItemAt self.now place result }
     {
@@ -88,7 +89,7 @@ impl Log {
         self.steps.clear();
     }
 
-    /// Exchanges the steps for those of another log. Takes no memory, and frees none.
+    /// Exchanges the steps with another log. Takes no memory, and frees none.
     pub fn exchange(&mut self, other: &mut Log)
         ensures here { self.new ≡ other.old }
         ensures there { other.new ≡ self.old }
@@ -98,6 +99,7 @@ impl Log {
     }
 
     /// Counts a step as lost, in the gap that is last, or in a new one. Takes no memory.
+    #[inline(never)]
     fn lose(&mut self)
         ensures { self.new ≡ lose self.old }
     {
@@ -119,7 +121,7 @@ impl Log {
     }
 }
 
-/// How many steps a gap counts, and `None` for any other step.
+/// The number of steps that a gap counts, and `None` for any other step.
 fn lost_in(step: &LoggedStep) -> Option<u64>
     ensures { result ≡ lost_in step.now }
 {

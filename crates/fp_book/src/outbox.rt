@@ -1,4 +1,4 @@
-//! What waits to be sent on a link.
+//! The frames that wait to be sent on a link.
 
 ghost use Rattle.std.specs.Prelude.{◌≡◌, ◌+◌, ◌++◌, ◌<◌, ◌≤◌, ◌↔◌, Some, IfErr, IfOk, IsOk, IsTrue, length, nat_le, nat_lt};
 ghost use Rattle.std.specs.VecDeque.{deque_capacity};
@@ -15,9 +15,9 @@ use std::alloc::{AllocError, Global};
 use std::collections::VecDeque;
 use std::marker::Model;
 
-/// What waits to be sent on a link, the oldest first: at most [`Outbox::MOST_ABORTS`] Aborts of the provider, which go
-/// first, and [`Outbox::MOST_FRAMES`] frames of dialogues; and what is being sent. Contracts see the two lists, and
-/// what the parcel holds that is out.
+/// The frames that wait to be sent on a link, the oldest first: at most [`Outbox::MOST_ABORTS`] Aborts of the provider,
+/// which go first, and [`Outbox::MOST_FRAMES`] frames of dialogues; and the content that is being sent. Contracts see
+/// the two lists, and the content of the parcel that is out.
 #[derive(Debug, Drop)]
 pub struct Outbox {
     aborts: VecDeque<AbortFrame>,
@@ -37,7 +37,7 @@ impl Model for Outbox {
     ghost invariant = { λ own. IsKept own.aborts.items (deque_capacity own.aborts) own.frames.items (deque_capacity own.frames) };
 }
 
-/// Puts frames of a dialogue after those that wait, in their order. There is memory for them.
+/// Puts frames of a dialogue after those that wait, in their order. There must be memory for them.
 fn push_all(waiting: &mut VecDeque<Waiting>, local: u32, birth: u64, frames: Vec<RequestFrame>)
     requires { length waiting.old.items + length frames.items ≤ deque_capacity waiting.old }
     ensures items { waiting.new.items
@@ -54,13 +54,13 @@ fn push_all(waiting: &mut VecDeque<Waiting>, local: u32, birth: u64, frames: Vec
 }
 
 impl Outbox {
-    /// How many Aborts of the provider may wait.
+    /// The most Aborts of the provider that may wait.
     pub const MOST_ABORTS: usize = 64;
 
-    /// How many frames of dialogues may wait.
+    /// The most frames of dialogues that may wait.
     pub const MOST_FRAMES: usize = 8192;
 
-    /// Nothing waits and nothing is being sent, with memory for as much as may wait, and for what is being sent.
+    /// No frame waits or is being sent. Takes the memory for all that may wait, and for the one that is being sent.
     pub fn new(alloc: Global) -> Result<Outbox, AllocError>
         ensures { IfOk result (λ outbox. outbox ≡ nothing) }
     {
@@ -80,7 +80,7 @@ impl Outbox {
         self.frames.len() + usize::from(self.sending.is_frame())
     }
 
-    /// Whether nothing waits, and nothing is being sent.
+    /// Whether no frame waits or is being sent.
     pub fn is_empty(&self) -> bool
         ensures { IsTrue result ↔ (self.now ≡ nothing) }
     {
@@ -94,8 +94,8 @@ impl Outbox {
         self.aborts.len() >= Self::MOST_ABORTS
     }
 
-    /// Puts an Abort of the provider after the others that wait, and says so; if [`Outbox::MOST_ABORTS`] wait,
-    /// nothing changes. Takes no memory.
+    /// Puts an Abort of the provider after the others that wait, and answers true. If [`Outbox::MOST_ABORTS`] wait, it
+    /// answers false and nothing changes. Takes no memory.
     pub fn add_abort(&mut self, frame: AbortFrame) -> bool
         ensures added { result ≡ nat_lt (length self.old.aborts) Self.MOST_ABORTS }
         ensures value { self.new ≡ abort_added self.old frame }
@@ -108,7 +108,7 @@ impl Outbox {
     }
 
     /// Puts frames of the dialogue with this local transaction identifier and this birth after the others that wait, in
-    /// their order. With them at most [`Outbox::MOST_FRAMES`] do. Takes no memory.
+    /// their order. With them at most [`Outbox::MOST_FRAMES`] may wait. Takes no memory.
     pub fn add_frames(&mut self, local: u32, birth: u64, frames: RequestFrames)
         requires room { length self.old.frames + length frames ≤ Self.MOST_FRAMES }
         ensures { self.new ≡ with_frames self.old (waiting_frames local birth frames) }
@@ -116,14 +116,14 @@ impl Outbox {
         push_all(&mut self.frames, local, birth, frames.into_vec());
     }
 
-    /// Drops the frames of a dialogue that wait. What is being sent stays. Takes no memory.
+    /// Drops the waiting frames of a dialogue. A frame that is being sent stays. Takes no memory.
     pub fn drop_frames(&mut self, local: u32)
         ensures { self.new ≡ without_frames_of local self.old }
     {
         self.frames.retain(|waiting| waiting.local != local);
     }
 
-    /// Drops all that waits. What is being sent stays. Takes no memory.
+    /// Drops all waiting frames and Aborts. One that is being sent stays. Takes no memory.
     pub fn clear(&mut self)
         ensures { self.new ≡ without_waiting self.old }
     {
@@ -131,7 +131,7 @@ impl Outbox {
         self.frames.clear();
     }
 
-    /// The dialogue of which a frame is being sent, if one is.
+    /// The dialogue whose frame is being sent, if one is.
     pub(crate) fn sending(&self) -> Option<u32>
         ensures { result ≡ dialogue_out self.now.out }
     {
@@ -145,8 +145,8 @@ impl Outbox {
         self.sending.is_frame_of(local)
     }
 
-    /// Hands out what is sent next: the oldest Abort of the provider, or, where none waits, the oldest frame. While a
-    /// parcel is out there is no other. It is a parcel of this link, 0 to 7. Takes no memory.
+    /// Hands out the next parcel of this link, 0 to 7: the oldest Abort of the provider, or, if none waits, the oldest
+    /// frame. While a parcel is out there is no other. Takes no memory.
     pub fn pick(&mut self, link: u8) -> Picked
         ensures { Picks link self.old result self.new }
     {
@@ -160,9 +160,9 @@ impl Outbox {
         Picked::Parcel(Parcel { link, content })
     }
 
-    /// Takes back the parcel of this link that is out: nothing is being sent from now on, and what waits stays. A
-    /// foreign parcel, one of another link or whose content isn't what is being sent, comes back, and nothing changes.
-    /// Takes no memory.
+    /// Takes back the parcel of this link that is out: nothing is being sent from now on, and the waiting frames stay.
+    /// A foreign parcel is returned, and nothing changes: it is of another link, or its content isn't the one that is
+    /// being sent. Takes no memory.
     pub fn take_back(&mut self, link: u8, parcel: Parcel) -> Result<(), Parcel>
         ensures ok { IfOk result (λ _. self.new ≡ with_nothing_out self.old) }
         ensures err { IfErr result (λ back. (back ≡ parcel) × (self.new ≡ self.old)) }
@@ -176,7 +176,7 @@ impl Outbox {
         Ok(())
     }
 
-    /// Takes off what is sent next, if anything waits.
+    /// Takes the next content to send off the lists, if anything waits.
     fn take_next(&mut self) -> Option<Content>
         ensures { TakesNext self.old result self.new }
     {

@@ -6,8 +6,8 @@ ghost use Rattle.fp_book.specs.Parcel.{birth_of, dialogue_of, local_of, octets_o
 use fp_reply::AbortFrame;
 use fp_row::RequestFrame;
 
-/// What is being sent on a link: the frame of a dialogue's request, or of an Abort of the provider. It is reported sent
-/// or unsent, or abandoned.
+/// The content that is being sent on a link: the frame of a dialogue's request, or of an Abort of the provider. You
+/// must report it sent or unsent, or abandon it.
 #[must_use]
 #[derive(Debug)]
 pub struct Parcel {
@@ -16,7 +16,7 @@ pub struct Parcel {
     pub(crate) content: Content,
 }
 
-/// What a parcel holds.
+/// The content of a parcel.
 #[derive(Debug, Drop)]
 pub(crate) enum Content {
     /// An Abort of the provider.
@@ -36,15 +36,15 @@ pub(crate) struct Waiting {
     pub(crate) frame: RequestFrame,
 }
 
-/// What is handed out to be sent.
+/// The answer to a pick.
 #[must_use]
 #[derive(Debug)]
 pub enum Picked {
-    /// This is to be sent next.
+    /// The parcel to send next.
     Parcel(Parcel),
     /// A parcel is out already.
     Busy,
-    /// Nothing waits.
+    /// No frame waits.
     Nothing,
 }
 

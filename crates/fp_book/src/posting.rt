@@ -1,4 +1,4 @@
-//! What a book does with a message.
+//! Messages that are posted to a book.
 
 ghost use Rattle.std.specs.Prelude.{◌≡◌, false, length, IfSome, if◌then◌else◌};
 ghost use Rattle.fp_book.specs.declared.verdict.Verdict.TheVariants as verdicts;
@@ -27,7 +27,7 @@ use std::alloc::Global;
 #[derive(Clone, Copy, Debug)]
 pub(crate) struct Named {
     pub(crate) local: u32,
-    // How many of its places are taken.
+    // The number of its places that are taken.
     pub(crate) places: usize,
 }
 
@@ -41,7 +41,7 @@ fn local_in(dialogue: Option<Named>) -> Option<u32>
     }
 }
 
-/// The line of the log for what was posted.
+/// The log line of a posted message.
 fn line_of(came: Prepared, answer: Posted) -> LoggedStep
     ensures { result ≡ posted_line came answer }
 {
@@ -67,7 +67,7 @@ fn line_of(came: Prepared, answer: Posted) -> LoggedStep
 }
 
 /// Answers a message that is refused: if a cause is named, its sender gave its identifier, and there is a place, an
-/// Abort of the provider waits to be sent. `closed` is the dialogue that was closed for it, if one was. Takes no
+/// Abort of the provider waits to be sent. `closed` is the dialogue that was closed because of it, if one was. Takes no
 /// memory.
 fn answer_by(
     outbox: &mut Outbox,
@@ -88,8 +88,8 @@ fn answer_by(
     }
 }
 
-/// Drops the frames of a dialogue that wait, where some do: the frames of all dialogues are gone through then. Takes no
-/// memory.
+/// Drops the waiting frames of a dialogue, if it has any: only then the frames of all dialogues are gone through. Takes
+/// no memory.
 fn drop_frames_if(outbox: &mut Outbox, local: u32, some_wait: bool)
     ensures { outbox.new ≡ (if some_wait then without_frames_of local outbox.old else outbox.old) }
 {
@@ -98,7 +98,7 @@ fn drop_frames_if(outbox: &mut Outbox, local: u32, some_wait: bool)
     }
 }
 
-/// Takes a dialogue out of the order of service, where it has a place there: the whole order is gone through then.
+/// Takes a dialogue out of the order of service, if it has a place there: only then the whole order is gone through.
 /// Takes no memory.
 fn leave_if(ready: &mut ReadyQueue, local: u32, was_ready: bool)
     ensures { ready.new ≡ (if was_ready then without local ready.old else ready.old) }
@@ -109,7 +109,7 @@ fn leave_if(ready: &mut ReadyQueue, local: u32, was_ready: bool)
 }
 
 impl Book {
-    /// Whether the link accepted all the entries that it accepts.
+    /// Whether the link accepted all the entries that it ever accepts.
     pub(crate) fn is_full(&self) -> bool
         ensures { result ≡ is_full self.now }
     {
@@ -130,7 +130,7 @@ impl Book {
         Some(Named { local, places })
     }
 
-    /// What decides what is done with a message that names this admitted dialogue, or none.
+    /// The facts that decide about a message that names this admitted dialogue, or none.
     fn facts(&self, named: Option<Named>) -> Facts
         requires { IfSome named (HasItsPlaces self.now) }
         ensures facts { result ≡ facts_with self.now (local_in named) }
@@ -148,7 +148,7 @@ impl Book {
         }
     }
 
-    /// What is to be done with what came: what the first rule of receipt says that fits it.
+    /// The verdict on a message: the first matching rule of receipt applies.
     pub(crate) fn verdict(&self, came: &Prepared) -> Verdict
         ensures value { result ≡ verdict self.now came.now }
         ensures sound { Sound self.now }
@@ -200,8 +200,8 @@ impl Book {
         }
     }
 
-    /// Puts the entries of a message after those of its dialogue, and ends that if the message is its peer's end or
-    /// abort. If memory runs out, the message is treated as lost.
+    /// Puts the entries of a message at the end of its dialogue, and ends the dialogue if the message is its peer's end
+    /// or abort. If memory runs out, the message is treated as lost.
     fn extend(&mut self, local: u32, ends: bool, came: Prepared) -> Receipt
         requires { verdict self.old came ≡ verdicts.Extend local ends }
         ensures { IsReceipt self.old came result self.new }
@@ -259,7 +259,7 @@ impl Book {
         answer
     }
 
-    /// Does nothing with a message but log it. Takes no memory.
+    /// Discards a message: only logs it. Takes no memory.
     fn discard(&mut self, came: Prepared) -> Posted
         requires { verdict self.old came ≡ verdicts.Discard }
         ensures { Discards self.old came result self.new }
@@ -269,7 +269,7 @@ impl Book {
         Posted::Discarded
     }
 
-    /// Treats a message for which memory ran out as one that was lost. Takes no memory.
+    /// Treats a message that ran out of memory as lost. Takes no memory.
     fn lose(&mut self, arrival: Arrival) -> Posted
         ensures { Follows (verdict self.old (prepared.Lost arrival)) self.old (prepared.Lost arrival) result self.new }
     {
@@ -281,7 +281,7 @@ impl Book {
         }
     }
 
-    /// Does with a message what its verdict says.
+    /// Executes the verdict on a message.
     pub(crate) fn receive(&mut self, alloc: Global, found: Verdict, came: Prepared) -> Receipt
         requires { found ≡ verdict self.old came }
         ensures { IsReceipt self.old came result self.new }
@@ -302,20 +302,20 @@ impl Book {
     /// 2. It is a Unidirectional: `Discarded`.
     /// 3. Memory ran out as it was read: cause 4 for a Begin and for a Continue of an admitted dialogue, cause 1 for
     ///    another Continue, none for an End or an Abort; the admitted dialogue is closed. An unknown tag: as in rule 4.
-    /// 4. Octets that are no message that is taken: cause 0 for an unknown tag, else 2; the admitted dialogue is
-    ///    closed.
+    /// 4. Octets that aren't a valid message: cause 0 for an unknown tag, else 2; the admitted dialogue is closed.
     /// 5. A Continue, an End or an Abort that names no admitted dialogue: cause 1 for a Continue, else `Discarded`.
-    /// 6. A Begin, a Continue or an End with more than [`Book::MOST_ELEMENTS`] elements in its component portion, for
-    ///    which no further dialogue may be held, with which more than [`Book::MOST_ENTRIES`] entries of the dialogue
-    ///    would wait, or after the last entry that the link takes: cause 4, and the dialogue is closed. If memory runs
-    ///    out as a message is accepted, it gets what rule 3 says.
+    /// 6. A Begin, a Continue or an End with more than [`Book::MOST_ELEMENTS`] elements in its component portion, or
+    ///    while no further dialogue may be held, or that would make more than [`Book::MOST_ENTRIES`] entries of the
+    ///    dialogue wait, or after the last entry that the link accepts: cause 4, and the dialogue is closed. If memory
+    ///    runs out as a message is accepted, rule 3 applies to it.
     /// 7. Else `Opened` or `Accepted`.
     ///
     /// A Begin without entries that is over no limit of rule 6 is discarded. No message that was read is one.
     ///
     /// If a cause is named, the sender gave its identifier, and fewer Aborts of the provider wait than may
     /// ([`Outbox::MOST_ABORTS`](crate::Outbox::MOST_ABORTS)), one more waits, and the answer is `Aborted`; else it is
-    /// `Ended` if a dialogue was closed, and `Discarded` if none was. (ITU-T Q.774, 3.3.4 and 3.3.5.)
+    /// `Ended` if a dialogue was closed, and `Discarded` if none was. For example, a Continue that names no admitted
+    /// dialogue and gives its sender's identifier is answered by an Abort with cause 1. (ITU-T Q.774, 3.3.4 and 3.3.5.)
     pub fn post(&mut self, alloc: Global, came: Prepared) -> Posted
         ensures posts { Posts self.old came result self.new }
         ensures totals { self.new.totals ≡ posted_totals self.old.totals came result }
@@ -324,7 +324,7 @@ impl Book {
         self.post_with_receipt(alloc, came).posted
     }
 
-    /// Takes a message, or refuses it, as [`Book::post`], and says besides how many of its components were accepted,
+    /// Takes a message, or refuses it, as [`Book::post`], and also returns how many of its components were accepted,
     /// and whether memory ran out in this call.
     pub fn post_with_receipt(&mut self, alloc: Global, came: Prepared) -> Receipt
         ensures receipt { IsReceipt self.old came result self.new }

@@ -11,7 +11,7 @@ use std::collections::VecDeque;
 use std::marker::Model;
 
 /// The local transaction identifiers of dialogues in the order in which they are served, at most [`ReadyQueue::MOST`].
-/// Contracts see them as their list.
+/// Contracts see their list.
 #[derive(Debug, Drop)]
 pub struct ReadyQueue {
     locals: VecDeque<u32>,
@@ -30,10 +30,10 @@ impl Model for ReadyQueue {
 }
 
 impl ReadyQueue {
-    /// How many there may be.
+    /// The most identifiers that there may be.
     pub const MOST: usize = Book::MOST_DIALOGUES;
 
-    /// None, with memory for as many as there may be.
+    /// An empty queue, with memory for the most identifiers that there may be.
     pub fn new(alloc: Global) -> Result<ReadyQueue, AllocError>
         ensures { IfOk result (λ queue. queue ≡ []) }
     {
@@ -42,7 +42,7 @@ impl ReadyQueue {
         })
     }
 
-    /// How many there are, at most [`ReadyQueue::MOST`].
+    /// The number of identifiers, at most [`ReadyQueue::MOST`].
     pub fn len(&self) -> usize
         ensures count { result ≡ length self.now }
         ensures most { result ≤ Self.MOST }
@@ -50,7 +50,7 @@ impl ReadyQueue {
         self.locals.len()
     }
 
-    /// Puts an identifier after the others. There are fewer than [`ReadyQueue::MOST`]. Takes no memory.
+    /// Puts an identifier after the others. There must be fewer than [`ReadyQueue::MOST`]. Takes no memory.
     pub fn join(&mut self, local: u32)
         requires room { length self.old < Self.MOST }
         ensures { self.new ≡ self.old ++ local ∷ [] }
@@ -65,7 +65,7 @@ impl ReadyQueue {
         self.locals.front().copied()
     }
 
-    /// Takes the identifier off that is served next, if there is one. Takes no memory.
+    /// Takes off the identifier that is served next, if there is one. Takes no memory.
     pub fn next(&mut self) -> Option<u32>
         ensures taken { self.old ≡ option_to_list result ++ self.new }
         ensures none { IsEmptyIfNone result self.old }
@@ -73,14 +73,14 @@ impl ReadyQueue {
         self.locals.pop_front()
     }
 
-    /// Takes an identifier out, wherever it is, and keeps the order of the others. Takes no memory.
+    /// Removes an identifier, wherever it is, and keeps the order of the others. Takes no memory.
     pub fn leave(&mut self, local: u32)
         ensures { self.new ≡ filter (is_other local) self.old }
     {
         self.locals.retain(|other| *other != local);
     }
 
-    /// Takes all out. Takes no memory.
+    /// Removes all identifiers. Takes no memory.
     pub fn clear(&mut self)
         ensures { self.new ≡ [] }
     {

@@ -1,4 +1,4 @@
-//! The rules of receipt: what a link does with a message, by a few facts.
+//! The rules of receipt: from a message and a few facts to the rule that applies.
 
 ghost use Rattle.std.specs.Prelude.{◌≡◌, Some, nat_le, if◌then◌else◌};
 ghost use Rattle.fp_book.specs.declared.rules.Rule.TheVariants.{Extend, Refuse};
@@ -14,15 +14,15 @@ use crate::Book;
 use fp_entry::{Incoming, Prepared};
 use fp_q773::{AbortCause, Kind};
 
-/// What a link knows, as a message comes, that decides what is done with the message.
+/// The facts of a link that decide about a message.
 #[derive(Clone, Copy, Debug)]
 pub struct Facts {
     /// Whether the link is down.
     pub is_down: bool,
     /// Whether the message's destination names a dialogue that takes messages.
     pub names_one: bool,
-    /// How many entries that dialogue accepted and didn't serve yet, those of the clock and of the peer's end and abort
-    /// not counted. 0 if the message names none.
+    /// How many entries that dialogue accepted and didn't serve yet, not counting entries of the clock and of the
+    /// peer's end and abort. 0 if the message names none.
     pub unserved: usize,
     /// How many entries the link ever accepted.
     pub entries: u64,
@@ -30,21 +30,21 @@ pub struct Facts {
     pub held: usize,
 }
 
-/// What is done with a message.
+/// The decision on a message.
 #[derive(Clone, Copy, Debug)]
 pub enum Rule {
-    /// Nothing.
+    /// The message is only logged.
     Discard,
-    /// It is refused, and the dialogue that it names, if it names one, is closed.
+    /// The message is refused, and the dialogue that it names, if it names one, is closed.
     Refuse {
-        /// The cause of an Abort of the provider, where one is named.
+        /// The cause of an Abort of the provider, if one is named.
         cause: Option<AbortCause>,
     },
-    /// It opens a dialogue.
+    /// The message opens a dialogue.
     Open,
-    /// The dialogue that it names accepts it.
+    /// The dialogue that the message names accepts it.
     Extend {
-        /// Whether the dialogue ends with it.
+        /// Whether the dialogue ends with the message.
         ends: bool,
     },
 }
@@ -56,14 +56,14 @@ fn refused(cause: AbortCause) -> Rule
     Rule::Refuse { cause: Some(cause) }
 }
 
-/// Whether a message holds more elements in its component portion than are taken.
+/// Whether the component portion of a message holds more elements than are taken.
 pub(crate) fn too_many(incoming: &Incoming) -> bool
     ensures { result ≡ too_many incoming.now }
 {
     incoming.elements > Book::MOST_ELEMENTS || incoming.entries.len() > Book::MOST_ELEMENTS + 1
 }
 
-/// What is done with octets that are no message that is taken.
+/// The rule for octets that aren't a valid message, on a link that is up.
 fn of_refused(kind: Kind) -> Rule
     ensures { (facts : Facts) (arrival : Arrival) (fault : Fault) → result ≡ first_that_fits (rules_up facts (prepared.Refused arrival fault) kind) }
 {
@@ -75,14 +75,14 @@ fn of_refused(kind: Kind) -> Rule
 }
 
 impl Facts {
-    /// Whether the link accepted all the entries that it accepts.
+    /// Whether the link accepted all the entries that it ever accepts.
     fn is_full(self) -> bool
         ensures { result ≡ nat_le all_entries self.entries }
     {
         self.entries >= Book::ALL_ENTRIES
     }
 
-    /// What is done with a message that was lost, on a link that is up.
+    /// The rule for a lost message, on a link that is up.
     fn of_lost(self, kind: Kind) -> Rule
         ensures { (arrival : Arrival) → result ≡ first_that_fits (rules_up self (prepared.Lost arrival) kind) }
     {
@@ -97,7 +97,8 @@ impl Facts {
         }
     }
 
-    /// Whether room lacks for a readable message: for its elements, or for its entries in its dialogue or on the link.
+    /// Whether there is no room for a readable message: for its elements, or for its entries in its dialogue or on the
+    /// link.
     fn lacks_room(self, incoming: &Incoming) -> bool
         ensures { (arrival : Arrival) → result ≡ lacks_room self (prepared.Message arrival incoming.now) }
     {
@@ -105,7 +106,7 @@ impl Facts {
         too_many(incoming) || places > Book::MOST_ENTRIES || self.is_full()
     }
 
-    /// What is done with a Begin, on a link that is up.
+    /// The rule for a Begin, on a link that is up.
     fn of_begin(self, incoming: &Incoming) -> Rule
         ensures { (arrival : Arrival) → result ≡ first_that_fits (rules_up self (prepared.Message arrival incoming.now) Begin) }
     {
@@ -118,7 +119,7 @@ impl Facts {
         Rule::Open
     }
 
-    /// What is done with a Continue or an End of a dialogue that takes messages.
+    /// The rule for a Continue or an End of a dialogue that takes messages.
     fn of_more(self, ends: bool, incoming: &Incoming) -> Rule
         ensures { (arrival : Arrival) → result ≡ (if lacks_room self (prepared.Message arrival incoming.now) then Refuse (Some ResourceLimitation) else Extend ends) }
     {
@@ -128,7 +129,7 @@ impl Facts {
         Rule::Extend { ends }
     }
 
-    /// What is done with a readable message, on a link that is up.
+    /// The rule for a readable message, on a link that is up.
     fn of_message(self, kind: Kind, incoming: &Incoming) -> Rule
         ensures { (arrival : Arrival) → result ≡ first_that_fits (rules_up self (prepared.Message arrival incoming.now) kind) }
     {
@@ -145,7 +146,7 @@ impl Facts {
         }
     }
 
-    /// What is done with a message: what the first rule says that fits it. Takes no memory.
+    /// The rule for a message: the first that matches it. Takes no memory.
     pub(crate) fn rule(self, came: &Prepared) -> Rule
         ensures { result ≡ rule self came.now }
     {

@@ -1,4 +1,4 @@
-//! What is being sent.
+//! The content that is being sent.
 
 ghost use Rattle.std.specs.Prelude.{◌≡◌, ◌↔◌, Some, None, IfOk, IsTrue, is_some};
 ghost use Rattle.fp_book.specs.declared.parcel.Content.TheVariants as contents;
@@ -10,19 +10,19 @@ use fp_reply::{AbortFrame, MOST_OCTETS};
 use std::alloc::{AllocError, Global};
 use std::marker::Model;
 
-/// What is being sent on a link, if anything is: a copy of what its parcel holds, with memory for every frame.
+/// The content that is being sent on a link, if there is one: a copy of its parcel's, with memory for every frame.
 /// Contracts see that content.
 #[derive(Debug, Drop)]
 pub(crate) struct Sending {
     kind: Option<Kind>,
-    // The frame, where it is one of a dialogue.
+    // The frame, if it is a dialogue's.
     octets: Vec<u8>,
 }
 
-/// Which kind is being sent.
+/// The kind of the content.
 #[derive(Debug, Drop)]
 enum Kind {
-    /// This Abort of the provider.
+    /// An Abort of the provider.
     Abort(AbortFrame),
     /// The frame of the dialogue with this local transaction identifier and this birth.
     Frame { local: u32, birth: u64 },
@@ -43,7 +43,7 @@ impl Model for Sending {
 }
 
 impl Sending {
-    /// Nothing, with memory for every frame.
+    /// No content, with memory for every frame.
     pub(crate) fn new(alloc: Global) -> Result<Sending, AllocError>
         ensures { IfOk result (λ sending. sending ≡ None) }
     {
@@ -53,7 +53,7 @@ impl Sending {
         })
     }
 
-    /// This is being sent from now on. Takes no memory.
+    /// Starts sending this content. Takes no memory.
     pub(crate) fn start(&mut self, content: &Content)
         ensures { self.new ≡ Some content.now }
     {
@@ -71,7 +71,7 @@ impl Sending {
         }
     }
 
-    /// Nothing is being sent from now on. Takes no memory.
+    /// Ends sending: there is no content from now on. Takes no memory.
     pub(crate) fn end(&mut self)
         ensures { self.new ≡ None }
     {
@@ -96,7 +96,7 @@ impl Sending {
         }
     }
 
-    /// The local transaction identifier of the dialogue of which a frame is being sent, if one is.
+    /// The local transaction identifier of the dialogue whose frame is being sent, if one is.
     pub(crate) fn dialogue(&self) -> Option<u32>
         ensures { result ≡ dialogue_out self.now }
     {

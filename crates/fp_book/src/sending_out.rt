@@ -18,7 +18,7 @@ use fp_row::Rows;
 use fp_service::entries_ask_once_at_most;
 use fp_timers::Deadlines;
 
-/// Closes all dialogues, none of which has a deadline then. Takes no memory.
+/// Closes all dialogues, and clears all deadlines. Takes no memory.
 fn close_all(rows: &mut Rows, deadlines: &mut Deadlines, outbox: &Outbox)
     ensures closes { (local : ℕ) → ClosesAt (is_frame_of local outbox.now.out) (get rows.old local) (get rows.new local) }
     ensures timed { AreTimed deadlines.new rows.new }
@@ -28,9 +28,8 @@ fn close_all(rows: &mut Rows, deadlines: &mut Deadlines, outbox: &Outbox)
 }
 
 impl Book {
-    /// Hands out what is sent next: the oldest Abort of the provider, or, where none waits, the oldest frame of a
-    /// dialogue. `Busy`: a parcel is out already. `Nothing`: nothing waits. In these cases nothing changes. Takes no
-    /// memory.
+    /// Hands out the next parcel: the oldest Abort of the provider, or, if none waits, the oldest frame of a dialogue.
+    /// `Busy`: a parcel is out already. `Nothing`: no frame waits. In these cases nothing changes. Takes no memory.
     pub fn pick(&mut self) -> Picked
         ensures hands { Hands self.old result self.new }
         ensures sound { Sound self.new }
@@ -44,8 +43,8 @@ impl Book {
         picked
     }
 
-    /// Takes the parcel back that was sent: a frame counts as one more that its dialogue sent, an Abort of the provider
-    /// isn't counted. A foreign parcel, of another link or not the one that is out, comes back, and nothing changes.
+    /// Takes back the parcel that was sent: a frame counts as one more that its dialogue sent, an Abort of the provider
+    /// isn't counted. A foreign parcel, of another link or not the one that is out, is returned, and nothing changes.
     /// Takes no memory.
     pub fn sent(&mut self, parcel: Parcel) -> Result<(), Parcel>
         ensures ok { OnOk result (Sends self.old parcel.content self.new) }
@@ -72,8 +71,8 @@ impl Book {
         Ok(())
     }
 
-    /// Takes the parcel back that couldn't be sent: the link goes down, as by [`Book::down`], and its frame counts as
-    /// not sent. A foreign parcel comes back, and nothing changes. Takes no memory.
+    /// Takes back the parcel that couldn't be sent: the link goes down, as by [`Book::down`], and its frame counts as
+    /// not sent. A foreign parcel is returned, and nothing changes. Takes no memory.
     pub fn unsent(&mut self, parcel: Parcel) -> Result<(), Parcel>
         ensures ok { OnOk result (Unsends self.old parcel self.new) }
         ensures err { IfErr result (λ back. (back ≡ parcel) × (self.new ≡ self.old)) }
@@ -94,9 +93,10 @@ impl Book {
         Ok(())
     }
 
-    /// The link goes down: all dialogues are closed, and what waits is dropped. What is out may still come back: turns,
-    /// whose requests aren't accepted, and the parcel. Each message that is posted from now on is discarded, so no
-    /// identifier is given any more. Where the link is down already, nothing but the log changes. Takes no memory.
+    /// The link goes down: all dialogues are closed, and the waiting entries and frames are dropped. You may still give
+    /// back the turns that are out, whose requests aren't accepted, and the parcel. Each message posted from now on is
+    /// discarded, so no identifier is given any more. If the link is down already, nothing but the log changes. Takes
+    /// no memory.
     pub fn down(&mut self)
         ensures down { GoesDown self.old.outbox.out self.old line.Down self.new }
         ensures sound { Sound self.new }

@@ -28,7 +28,7 @@ pub(crate) fn end_serial_unless_held(ids: &mut LocalIds, local: u32, is_held: bo
     }
 }
 
-/// Gives a dialogue its deadline, or takes it away. Takes no memory.
+/// Sets the deadline of a dialogue, or clears it. Takes no memory.
 pub(crate) fn set_deadline(deadlines: &mut Deadlines, local: u32, deadline: Option<u64>)
     requires { HasRoom deadlines.old local }
     ensures { deadlines.new ≡ with_deadline deadlines.old local deadline }
@@ -39,7 +39,7 @@ pub(crate) fn set_deadline(deadlines: &mut Deadlines, local: u32, deadline: Opti
     }
 }
 
-/// Puts a dialogue after the others that are ready, if it has become so. Takes no memory.
+/// Puts a dialogue after the others that are ready, if it has become ready. Takes no memory.
 pub(crate) fn join(ready: &mut ReadyQueue, local: u32, is_ready: bool)
     requires { IsTrue is_ready → length ready.old < ReadyQueue.MOST }
     ensures { ready.new ≡ ready.old ++ joins local is_ready }
@@ -70,9 +70,10 @@ fn queue(outbox: &mut Outbox, local: u32, birth: u64, requested: Requested) -> G
 
 impl Book {
     /// Hands out the turn of the dialogue that has been ready longest. `Nothing`: no dialogue is ready. `NoRoom`: all
-    /// places for frames, [`Outbox::MOST_FRAMES`], are held, by frames that wait, by the one that is being sent, and by
-    /// entries that are out. `Memory`: memory ran out for a copy of the entries and of the core. In these cases nothing
-    /// changes. A turn has as many entries as wait and find a free place each, at most [`Turn::MOST_ENTRIES`].
+    /// places for frames, [`Outbox::MOST_FRAMES`], are held, by frames that wait, by the frame that is being sent, and
+    /// by entries that are out. `Memory`: memory ran out for a copy of the entries and of the core. In these cases
+    /// nothing changes. A turn has as many entries as wait and as there are free places for, at most
+    /// [`Turn::MOST_ENTRIES`].
     pub fn take(&mut self) -> Taken
         ensures takes { Takes self.old result self.new }
         ensures none { NoneReady result self.old }
@@ -101,10 +102,9 @@ impl Book {
         Taken::Turn(turn)
     }
 
-    /// Serves the turn of the dialogue that has been ready longest, in its place: what comes of it, its log included, is
-    /// what comes of [`Book::take`], [`Turn::serve`] and [`Book::give`], one right after the other. `Nothing`, `NoRoom`
-    /// and `Memory` are as for `take`, and then nothing changes; `Memory` is also the answer if memory runs out for a
-    /// frame.
+    /// Serves the turn of the dialogue that has been ready longest, in its place: with the same result and log as
+    /// [`Book::take`], [`Turn::serve`] and [`Book::give`], one right after the other. `Nothing`, `NoRoom` and `Memory`
+    /// are as for `take`, and then nothing changes; `Memory` is also the answer if memory runs out for a frame.
     pub fn serve(&mut self) -> InPlace
         ensures serves { Serves self.old result self.new }
         ensures totals { self.new.totals ≡ more_served self.old.totals (count_in result) }
@@ -155,10 +155,10 @@ impl Book {
         }
     }
 
-    /// Takes a turn back that was served: the entries that were served count as such. `Queued`: the frames of their
-    /// requests wait after the others. `Silent`: they request nothing. `Dropped`: the dialogue was ended from outside,
-    /// so their requests aren't accepted. A stale or foreign turn, one whose identifiers, position, entries or core
-    /// before aren't those of a turn that is out, comes back, and nothing changes. Takes no memory.
+    /// Takes back a turn that was served: its served entries count as such. `Queued`: the frames of their requests wait
+    /// after the others. `Silent`: they request nothing. `Dropped`: the dialogue was ended from outside, so their
+    /// requests aren't accepted. A stale or foreign turn is returned, and nothing changes: its identifiers, position,
+    /// entries or core before aren't those of a turn that is out. Takes no memory.
     pub fn give(&mut self, done: Done) -> Result<Given, Done>
         ensures ok { IfOk result (λ given. GivesDone self.old done given self.new) }
         ensures err { IfErr result (λ back. (back ≡ done) × (self.new ≡ self.old)) }
@@ -191,9 +191,9 @@ impl Book {
         Ok(given)
     }
 
-    /// Takes a turn back that wasn't served: its entries are the next ones of its dialogue again, which joins those
-    /// that are ready after the others; or they are dropped, if the dialogue was closed meanwhile. A stale or foreign
-    /// turn comes back, and nothing changes. Takes no memory.
+    /// Takes back a turn that wasn't served: its entries are the next ones of its dialogue again, and the dialogue
+    /// joins the ready ones at the end; or they are dropped, if the dialogue was closed meanwhile. A stale or foreign
+    /// turn is returned, and nothing changes. Takes no memory.
     pub fn put_back(&mut self, turn: Turn) -> Result<(), Turn>
         ensures ok { OnOk result (PutsTurnBack self.old turn self.new) }
         ensures err { IfErr result (λ back. (back ≡ turn) × (self.new ≡ self.old)) }

@@ -5,10 +5,10 @@ use crate::Totals;
 /// The status of a link.
 #[derive(Clone, Copy, Debug, PartialEq, Eq)]
 pub struct Status {
-    /// Whether it is down.
+    /// Whether the link is down.
     pub is_down: bool,
-    /// What it counted.
+    /// The totals of the link.
     pub totals: Totals,
-    /// How many dialogues it holds.
+    /// How many dialogues the link holds.
     pub dialogues: usize,
 }

@@ -1,8 +1,8 @@
-//! What a take hands out.
+//! The answer to a take.
 
 use fp_row::Turn;
 
-/// What a take hands out.
+/// The answer to a take.
 #[must_use]
 #[derive(Debug)]
 pub enum Taken {

@@ -1,10 +1,11 @@
-//! What a tick answers.
+//! The answer to a tick.
 
-/// What comes of a tick.
+/// The result of a tick.
 #[derive(Clone, Copy, Debug, PartialEq, Eq)]
 pub struct Ticked {
     /// How many dialogues were given a Clock.
     pub added: u32,
-    /// How many that are due were left out, because memory ran out for them or for eight before them. They stay due.
+    /// How many dialogues that are due were left out: memory ran out for them, or for eight in a row before them. They
+    /// stay due.
     pub wanting: u32,
 }

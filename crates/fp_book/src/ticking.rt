@@ -17,23 +17,23 @@ use fp_digits::Moment;
 use fp_row::Rows;
 use fp_timers::{Deadlines, Timer};
 
-/// A tick ends after this number of refusals that follow each other.
+/// The number of consecutive refusals after which a tick ends.
 const MOST_REFUSALS: u32 = 8;
 
-/// What becomes of the first dialogue that is due after another.
+/// The outcome for the first dialogue that is due after another.
 #[derive(Clone, Copy, Debug)]
 pub(crate) enum Clocked {
-    /// It is given a Clock.
+    /// The dialogue is given a Clock.
     Given,
-    /// None is due.
+    /// No dialogue is due.
     NoneDue,
-    /// Memory ran out for its Clock. This is its deadline.
+    /// The deadline of a dialogue for whose Clock memory ran out.
     OutOfMemory(Timer),
 }
 
-/// Gives a Clock to the first dialogue that is due at a moment and whose deadline comes after `last`, the first of all
-/// for `None`: the one with the earliest deadline, and with the smallest identifier among those. If none is due, or
-/// memory runs out, nothing changes.
+/// Gives a Clock to the first dialogue that is due at a moment and whose deadline is after `last`, the first of all for
+/// `None`: the one with the earliest deadline, and with the smallest identifier among those. If none is due, or memory
+/// runs out, nothing changes.
 fn clock_next(
     rows: &mut Rows,
     deadlines: &mut Deadlines,
@@ -55,9 +55,9 @@ fn clock_next(
     Clocked::Given
 }
 
-/// Gives each dialogue that is due at a moment a Clock, the one with the earliest deadline first, and the one with the
-/// smallest identifier among those. If memory runs out for one, it is left out. After [`MOST_REFUSALS`] of these that
-/// follow each other, all that come after them are left out. Returns how many were given a Clock.
+/// Gives each dialogue that is due at a moment a Clock, in the order of their deadlines, equal ones in the order of
+/// their identifiers. If memory runs out for one, it is left out. After [`MOST_REFUSALS`] of these in a row, all later
+/// ones are left out. Returns how many were given a Clock.
 fn clock_each(
     rows: &mut Rows,
     deadlines: &mut Deadlines,
@@ -86,7 +86,8 @@ fn clock_each(
     added
 }
 
-/// How many dialogues are due at a moment. If no deadline is due, none is, and the dialogues aren't gone through.
+/// How many dialogues are due at a moment. If no deadline is due, the answer is 0, and the dialogues aren't gone
+/// through.
 fn due_count(rows: &Rows, deadlines: &Deadlines, moment: Moment) -> u32
     requires timed { AreTimed deadlines.now rows.now }
     requires held { len rows.now ≤ most_dialogues }
@@ -98,7 +99,7 @@ fn due_count(rows: &Rows, deadlines: &Deadlines, moment: Moment) -> u32
     }
 }
 
-/// Gives each dialogue that is due at a moment a Clock, and counts these and those that are left out.
+/// Gives each dialogue that is due at a moment a Clock, and counts these and those left out.
 fn clock_all(
     rows: &mut Rows,
     deadlines: &mut Deadlines,
@@ -114,7 +115,7 @@ fn clock_all(
     Ticked { added, wanting }
 }
 
-/// Logs a tick at which a dialogue was due.
+/// Logs a tick that found a dialogue due.
 fn log_tick(log: &mut Log, moment: Moment, ticked: Ticked)
     ensures { log.new ≡ (if nat_eq (ticked.added + ticked.wanting) 0 then log.old else logged log.old (line.Tick moment ticked.added ticked.wanting)) }
 {
@@ -129,10 +130,10 @@ fn log_tick(log: &mut Log, moment: Moment, ticked: Ticked)
 }
 
 impl Book {
-    /// Time goes by: each dialogue whose deadline is at or before this moment is given a Clock, the one with the
-    /// earliest deadline first, and the one with the smallest identifier among those. If memory runs out for one, it is
-    /// left out and stays due, and the tick goes on to the next. After eight of these that follow each other, all that
-    /// come after them are left out, too. None is due once the link accepted [`Book::ALL_ENTRIES`].
+    /// Advances the clock: each dialogue whose deadline is at or before this moment is given a Clock, in the order of
+    /// their deadlines, equal ones in the order of their identifiers. If memory runs out for one, it is left out and
+    /// stays due, and the tick goes on to the next. After eight of these in a row, all later ones are left out, too. No
+    /// dialogue is given a Clock once the link accepted [`Book::ALL_ENTRIES`].
     pub fn tick(&mut self, moment: Moment) -> Ticked
         ensures ticks { Ticks self.old moment result.added result.wanting self.new }
         ensures sound { Sound self.new }

@@ -1,12 +1,12 @@
-//! What a link counts.
+//! The totals of a link.
 
-/// What a link counts, from its beginning.
+/// The totals of a link, from its beginning.
 #[derive(Clone, Copy, Debug, PartialEq, Eq)]
 pub struct Totals {
-    /// How many components it accepted.
+    /// How many components the link accepted.
     pub accepted: u64,
-    /// How many entries it served.
+    /// How many entries the link served.
     pub served: u64,
-    /// How many frames of dialogues it sent.
+    /// How many frames of dialogues the link sent.
     pub sent: u64,
 }

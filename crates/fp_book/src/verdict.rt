@@ -1,4 +1,4 @@
-//! What is to be done with a message.
+//! The verdict on a message.
 
 ghost use Rattle.std.specs.Prelude.{◌≡◌};
 ghost use Rattle.fp_book.specs.Holding.{is_over_a_limit, is_taken, names_a_cause};
@@ -7,35 +7,35 @@ ghost use Rattle.fp_book.specs.Rules.{verdict_by};
 use crate::rules::Rule;
 use fp_q773::{AbortCause, Tid};
 
-/// What is to be done with a message that is posted, by the dialogues that there are.
+/// The decision on a posted message, given the dialogues that there are.
 #[derive(Clone, Copy, Debug)]
 pub enum Verdict {
-    /// Nothing.
+    /// The message is only logged.
     Discard,
-    /// It is refused.
+    /// The message is refused.
     Refuse {
-        /// The cause of an Abort of the provider, where one is named.
+        /// The cause of an Abort of the provider, if one is named.
         cause: Option<AbortCause>,
-        /// The dialogue that ends for it.
+        /// The dialogue that is closed for it.
         closes: Option<u32>,
     },
-    /// A dialogue is opened, which the peer knows by this identifier.
+    /// The message opens a dialogue, which the peer knows by this identifier.
     Open {
         /// The peer's transaction identifier.
         peer: Tid,
     },
-    /// The dialogue accepts it.
+    /// The dialogue accepts the message.
     Extend {
         /// The local transaction identifier of the dialogue.
         local: u32,
-        /// Whether the dialogue ends with it.
+        /// Whether the dialogue ends with the message.
         ends: bool,
     },
 }
 
 impl Verdict {
-    /// What a rule says for the dialogue that a message names, if it names one, and for the identifier by which its
-    /// sender knows the dialogue.
+    /// The verdict of a rule, given the dialogue that the message names, if it names one, and its sender's identifier
+    /// of the dialogue.
     pub(crate) fn of(rule: Rule, dialogue: Option<u32>, sender: Option<Tid>) -> Verdict
         ensures { result ≡ verdict_by rule dialogue sender }
     {
@@ -56,7 +56,7 @@ impl Verdict {
         }
     }
 
-    /// Whether it is a refusal that names a cause.
+    /// Whether the verdict is a refusal that names a cause.
     pub(crate) fn names_a_cause(&self) -> bool
         ensures { result ≡ names_a_cause self.now }
     {
@@ -70,7 +70,7 @@ impl Verdict {
         matches!(self, Verdict::Open { .. } | Verdict::Extend { .. })
     }
 
-    /// Whether it is a refusal because a limit was reached.
+    /// Whether the verdict is a refusal because a limit was reached.
     pub(crate) fn is_over_a_limit(&self) -> bool
         ensures { result ≡ is_over_a_limit self.now }
     {
