@@ -1,4 +1,4 @@
-//! What became of a message, and of requests.
+//! The outcome of a message, and of requests.
 
 ghost use Rattle.std.specs.Prelude.{◌≡◌, ◌++◌, decimal, IfSome, OnErr, OnOk};
 ghost use Rattle.fp_book.specs.declared.answers.Given.{Given};
@@ -14,7 +14,7 @@ use fp_book::{Given, Posted};
 use fp_q773::AbortCause;
 use std::alloc::AllocError;
 
-/// Adds what became of a message to a text.
+/// Adds the outcome of a message to a text.
 pub(crate) fn write_posted(answer: Posted, text: &mut Vec<u8>) -> Result<(), AllocError>
     ensures written { OnOk result (text.new.items ≡ text.old.items ++ posted_text answer) }
     ensures front { OnErr result (KeepsFront text.old.items text.new.items) }
@@ -37,7 +37,7 @@ pub(crate) fn write_posted(answer: Posted, text: &mut Vec<u8>) -> Result<(), All
     }
 }
 
-/// The cause of an Abort whose value a field has.
+/// The cause of an Abort in a field.
 fn cause_in(field: &[u8]) -> Option<AbortCause>
     ensures found { IfSome result (λ cause. field.now ≡ decimal (cause_code cause)) }
     ensures only { (cause : AbortCause) → field.now ≡ decimal (cause_code cause) → result ≡ Some cause }
@@ -48,7 +48,7 @@ fn cause_in(field: &[u8]) -> Option<AbortCause>
     AbortCause::from_code(code as u8)
 }
 
-/// What became of a message, by a field.
+/// The outcome of a message in a field.
 pub(crate) fn posted_in(field: &[u8]) -> Option<Posted>
     ensures found { IfSome result (λ answer. IsInRange answer × (field.now ≡ posted_text answer)) }
     ensures only { (answer : Posted) → IsInRange answer → field.now ≡ posted_text answer → result ≡ Some answer }
@@ -66,7 +66,7 @@ pub(crate) fn posted_in(field: &[u8]) -> Option<Posted>
     }
 }
 
-/// Adds what became of requests to a text.
+/// Adds the outcome of requests to a text.
 pub(crate) fn write_given(given: Given, text: &mut Vec<u8>) -> Result<(), AllocError>
     ensures written { OnOk result (text.new.items ≡ text.old.items ++ given_text given) }
     ensures front { OnErr result (KeepsFront text.old.items text.new.items) }
@@ -84,7 +84,7 @@ pub(crate) fn write_given(given: Given, text: &mut Vec<u8>) -> Result<(), AllocE
     }
 }
 
-/// What became of requests, by a field.
+/// The outcome of requests in a field.
 pub(crate) fn given_in(field: &[u8]) -> Option<Given>
     ensures found { IfSome result (λ given. IsCounted given × (field.now ≡ given_text given)) }
     ensures only { (given : Given) → IsCounted given → field.now ≡ given_text given → result ≡ Some given }

@@ -1,4 +1,4 @@
-//! Why a text is no line.
+//! The reasons why a text isn't a line.
 
 ghost use Rattle.std.specs.Prelude.{◌≡◌};
 ghost use Rattle.fp_replay.specs.declared.fault.LineFault.TheVariants.{Memory};
@@ -9,7 +9,7 @@ use thiserror::Error;
 /// Why a text isn't read as a line of a log.
 #[derive(Clone, Copy, Debug, PartialEq, Eq, Error)]
 pub enum LineFault {
-    /// It is the text of no line.
+    /// The text of no line.
     #[error("bad line")]
     BadLine,
     /// An allocation failed.

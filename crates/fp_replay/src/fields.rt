@@ -1,4 +1,4 @@
-//! Fields: where they end, and what they are.
+//! Fields of a text.
 
 ghost use Rattle.std.specs.Prelude.{◌≡◌, ◌↔◌, ◌++◌, [], ◌∷◌, List, ℕ, IfSome, IsSomeAnd, IsTrue};
 ghost use Rattle.std.specs.List.{join_with_byte};
@@ -11,7 +11,7 @@ pub(crate) fn is_text(field: &[u8], text: &[u8]) -> bool
     field == text
 }
 
-/// What precedes the first blank and what follows it, or `None` if there is no blank.
+/// The text before the first blank and the text after it, or `None` if there is no blank.
 pub(crate) fn cut(text: &[u8]) -> Option<(&[u8], &[u8])>
     ensures found { IfSome result (λ cut. text.now ≡ cut.0.now ++ 32 ∷ cut.1.now) }
     ensures only { (a b : List ℕ) → IsField a → text.now ≡ a ++ 32 ∷ b → IsSomeAnd result (λ cut. (cut.0.now ≡ a) × (cut.1.now ≡ b)) }

@@ -28,7 +28,7 @@ pub(crate) fn write_head(links: u8, tag: u16, text: &mut Vec<u8>) -> Result<(), 
     write_field(u64::from(tag), text)
 }
 
-/// How many links there are, 1 to 8, by a field.
+/// The number of links, 1 to 8, in a field.
 fn link_count_in(field: &[u8]) -> Option<u8>
     ensures found { IfSome result (λ links. (1 ≤ links) × (links ≤ 8) × (field.now ≡ decimal links)) }
     ensures only { (links : ℕ) → 1 ≤ links → links ≤ 8 → field.now ≡ decimal links → result ≡ Some links }
@@ -39,7 +39,7 @@ fn link_count_in(field: &[u8]) -> Option<u8>
     Some(links as u8)
 }
 
-/// The head of the log of a run without a tag, by the field after its version.
+/// The head of the log of a run without a tag, from the field after its version.
 fn untagged_head_in(field: &[u8]) -> Result<Line, LineFault>
     ensures found { IfOk result (λ line. IsLine line × (codes "fplog 4 " ++ field.now ≡ text_of line)) }
     ensures only { (links : ℕ) → 1 ≤ links → links ≤ 8 → field.now ≡ decimal links → result ≡ Ok (lines.Head links 0) }
@@ -50,7 +50,7 @@ fn untagged_head_in(field: &[u8]) -> Result<Line, LineFault>
     Ok(Line::Head { links, tag: 0 })
 }
 
-/// The head of the log of a run with a tag, by the fields after its version.
+/// The head of the log of a run with a tag, from the fields after its version.
 fn tagged_head_in(fields: &[u8]) -> Result<Line, LineFault>
     ensures found { IfOk result (λ line. IsLine line × (codes "fplog 5 " ++ fields.now ≡ text_of line)) }
     ensures only { (links tag : ℕ) → 1 ≤ links → links ≤ 8 → 1 ≤ tag → tag ≤ last_tag
@@ -71,7 +71,7 @@ fn tagged_head_in(fields: &[u8]) -> Result<Line, LineFault>
     })
 }
 
-/// The head of a log, by what follows the name of the format and a blank.
+/// The head of a log, from the text after the name of the format and a blank.
 pub(crate) fn head_in(text: &[u8]) -> Result<Line, LineFault>
     ensures found { IfOk result (λ line. IsLine line × (codes "fplog " ++ text.now ≡ text_of line)) }
     ensures only { (line : Line) → IsLine line → codes "fplog " ++ text.now ≡ text_of line → result ≡ Ok line }

@@ -1,18 +1,19 @@
 //! The log as text: its lines are written, and read again; and its replay.
 //!
 //! A log begins with a head: `fplog 5 LINKS TAG` for a run with a tag, 1 to 4,094, and `fplog 4 LINKS` for one without.
-//! Each other line is a step of a link: the link, a letter and its fields, with single blanks between them. The layer
-//! is handed lines as `fp_book` has them and returns their text, or is handed the text of a line and returns the line.
-//! For a replay it is handed the tables of records, the names of application contexts, a reader and a writer. It knows
-//! no file, and asks the system for nothing but memory.
+//! Each other line is a step of a link: the link, a letter and its fields, with single blanks between them. For
+//! example, `0 T 1 0 2`: on link 0 a turn of the dialogue with birth 1 was taken, from position 0, with two entries.
+//! The layer is handed lines as `fp_book` has them and returns their text, or is handed the text of a line and returns
+//! the line. For a replay it is handed the tables of records, the names of application contexts, a reader and a writer.
+//! It knows no file, and asks the system for nothing but memory.
 //!
 //! * [`write_line`] appends a line and a line feed to a text.
-//! * [`read_line`] returns the line that was written so.
-//! * [`replay`] replays the steps of a log, link by link, compares each line with the one that a log has of its step,
-//!   and writes the totals of each link.
+//! * [`read_line`] returns the line of such a text.
+//! * [`replay`] replays the steps of a log, link by link, compares each line with the line that the replayed step has
+//!   in a log, and writes the totals of each link.
 //! * [`report_line`] returns the line of a link in that report.
 //!
-//! | File | What it writes and reads |
+//! | File | Writes and reads |
 //! |---|---|
 //! | `line.rt` | a line: the head, or a link and its step |
 //! | `head.rt` | the head: its version, the number of links, and the tag of the run |
@@ -21,24 +22,24 @@
 //! | `number.rt`, `octets.rt`, `answer.rt` | the fields themselves |
 //! | `fields.rt` | where a field ends |
 //!
-//! | File | What it does in a replay |
+//! | File | In a replay |
 //! |---|---|
 //! | `replaying.rt` | takes the lines that [`follow_lines`](fp_streams::follow_lines) hands it, and writes the report |
 //! | `links.rt` | the run of each link: a line is a step of one of them |
-//! | `logged.rt`, `same_line.rt` | the step that a line is of, and whether two lines are the same |
+//! | `logged.rt`, `same_line.rt` | the step of a line, and whether two lines are the same |
 //! | `report.rt`, `replay_fault.rt` | the report, and why there is none |
 //!
 //! The layer above may rely on this: `text_of` is the one definition of the format, and `IsLine` says which lines there
-//! are (`specs/Format.antt`). What is read has the text that was read, and each line is read from its text, unless
-//! memory runs out; [`texts_are_of_one_line`] says that there is no other. So a number with a leading zero, a digit in
-//! lower case, a second blank, a carriage return, or the tag 0 in a head makes a bad line.
+//! are (`specs/Format.antt`). A line that was read has the text that it was read from, and each line is read from its
+//! text, unless memory runs out; by [`texts_are_of_one_line`] there is no other. So a number with a leading zero, a
+//! digit in lower case, a second blank, a carriage return, or the tag 0 in a head makes a bad line.
 //!
 //! A log is replayed if its lines are of the format and in their places, its messages are read by tables that were
-//! handed in (the first 1,000 in a run without a tag, the first 65,536 in one with a tag), and each link has a
-//! history whose events retell its lines: each output is the answer that the history before determines, with the
-//! tag of the head, and a log has just that line of it (`specs/Replayed.antt`). Else the first line at which that
-//! fails is reported, and why (`specs/Stopped.antt`). By [`logs_have_one_report`] a log has one report or one fault
-//! at most, and a report counts the lines of its log.
+//! handed in (the first 1,000 in a run without a tag, the first 65,536 in one with a tag), and each link has a history
+//! whose events retell its lines: each output is the answer that the history before determines, with the tag of the
+//! head, and its line is the log's line (`specs/Replayed.antt`). Else the first line that fails this is reported, and
+//! why (`specs/Stopped.antt`). By [`logs_have_one_report`] a log has one report or one fault at most, and a report has
+//! the counts of the lines of its log.
 #![tactic(auto)]
 
 mod answer;

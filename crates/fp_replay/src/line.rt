@@ -47,8 +47,8 @@ fn write_ended(line: &Line, text: &mut Vec<u8>) -> Result<(), AllocError>
 
 /// Adds a line to a text: its own text, and a line feed. If memory runs out, the text is unchanged.
 ///
-/// A line that no log has is written, too, as a head of nine links, one with the tag 4,095 or a step of link 8; it
-/// isn't read again.
+/// A line that no log has is written, too, but isn't read again. For example, a head of nine links, one with the tag
+/// 4,095 or a step of link 8.
 pub fn write_line(line: &Line, text: &mut Vec<u8>) -> Result<(), AllocError>
     ensures written { OnOk result (text.new.items ≡ text.old.items ++ text_of line.now ++ 10 ∷ []) }
     ensures unchanged { OnErr result (text.new.items ≡ text.old.items) }
@@ -85,9 +85,9 @@ pub fn write_step_line(link: u8, step: &LoggedStep, text: &mut Vec<u8>) -> Resul
 
 /// The line of this text, which has no line feed: a head of 1 to 8 links, or a step of a link below 8.
 pub(crate) fn line_in(alloc: Global, text: &[u8]) -> Result<Line, LineFault>
-    // What is read has this text.
+    // A line that is read has this text.
     ensures found { IfOk result (λ line. IsLine line × (text.now ≡ text_of line)) }
-    // What has this text is read, unless memory runs out.
+    // A line with this text is read, unless memory runs out.
     ensures only { (line : Line) → IsLine line → text.now ≡ text_of line → MatchResult result (λ read. read ≡ line) (λ fault. fault ≡ Memory) }
 {
     let Some((first, behind)) = cut(text) else {
@@ -109,14 +109,13 @@ pub(crate) fn line_in(alloc: Global, text: &[u8]) -> Result<Line, LineFault>
     })
 }
 
-/// The line that a text is, with its line feed at the end: a head of 1 to 8 links, or a step of a link below 8.
+/// The line of a text, with its line feed at the end: a head of 1 to 8 links, or a step of a link below 8.
 ///
-/// What isn't just what [`write_line`] writes for a line of a log is a bad line. Memory is asked for the message alone
-/// that a line tells.
+/// A text that [`write_line`] writes for no line of a log is a bad line. Only the message of a line takes memory.
 pub fn read_line(alloc: Global, text: &[u8]) -> Result<Line, LineFault>
-    // What is read is written so.
+    // A line that is read is written as this text.
     ensures found { IfOk result (λ line. IsLine line × (text.now ≡ text_of line ++ 10 ∷ [])) }
-    // What is written so is read, unless memory runs out.
+    // A line that is written as this text is read, unless memory runs out.
     ensures only { (line : Line) → IsLine line → text.now ≡ text_of line ++ 10 ∷ [] → MatchResult result (λ read. read ≡ line) (λ fault. fault ≡ Memory) }
 {
     let Some((last, line)) = text.split_last() else {

@@ -1,4 +1,4 @@
-//! The links of a log, each with its run, on which its steps are replayed.
+//! The links of a log, each with the run that its steps are replayed on.
 
 ghost use Rattle.std.specs.Prelude.{◌≡◌, ◌<◌, ◌≤◌, ℕ, [], IfErr, IfOk, List, OnOk, length, string_bytes};
 ghost use Rattle.fp_book.specs.declared.line.Line.TheVariants as lines;
@@ -18,7 +18,7 @@ use fp_steps::{LinkRun, handed_in};
 use fp_tids::LocalIds;
 use std::alloc::{AllocError, Global};
 
-/// The run of each link that the head of a log has, in their order. It must be spent.
+/// The runs of the links that the head of a log names, in their order. You must spend them by [`Links::abandon`].
 pub(crate) struct Links {
     // The tag of the head, 0 before it was read.
     tag: u16,
@@ -26,7 +26,7 @@ pub(crate) struct Links {
 }
 
 impl Links {
-    /// No links: the head wasn't read yet.
+    /// No links yet: the head wasn't read.
     pub(crate) fn new(alloc: Global) -> Links
         ensures { AreNone result }
     {
@@ -36,7 +36,7 @@ impl Links {
         }
     }
 
-    /// Takes the text of a line, without its line feed: the head, or a step of a link that is replayed.
+    /// Takes the text of a line, without its line feed: the head, or a step of a link, which is replayed.
     pub(crate) fn take_line(
         &mut self,
         alloc: Global,
@@ -58,7 +58,7 @@ impl Links {
         }
     }
 
-    /// The head was read: this number of links begin, 1 to 8, in a run with this tag.
+    /// Begins this number of links, 1 to 8, in a run with this tag: the head was read.
     fn begin(&mut self, alloc: Global, links: u8, tag: u16) -> Result<(), Refusal>
         requires most { links ≤ LocalIds.LINKS }
         requires tags { tag ≤ LocalIds.LAST_TAG }
@@ -73,8 +73,8 @@ impl Links {
         Ok(())
     }
 
-    /// Replays the step of a line on its link, by the tables that the run has of these, and compares the line that it
-    /// gives. A line by which a turn comes back that isn't out has no step, and disagrees.
+    /// Replays the step of a line on its link, by the tables that the run has of these, and compares the resulting
+    /// line. A line that gives or puts back a turn that isn't out has no step, and disagrees.
     fn make_again(
         &mut self,
         alloc: Global,
@@ -107,7 +107,7 @@ impl Links {
         Ok(())
     }
 
-    /// The report of a log that has no further line: a line for each link, in their order. A log has a head.
+    /// The report after the last line of a log: a line for each link, in their order. A log without a head is a fault.
     pub(crate) fn report(&self, alloc: Global) -> Result<String, ReplayFault>
         ensures some { OnOk result (0 < length self.now.runs.items) }
         ensures report { IfOk result (λ report. IsReport self.now.runs.items (string_bytes report)) }
@@ -141,7 +141,7 @@ impl Links {
     }
 }
 
-/// Puts runs of this number of links, at most 8, with this tag, on which nothing came yet, into an empty list.
+/// Puts runs of this number of links, at most 8, with this tag, without steps yet, into an empty list.
 fn begin_all(alloc: Global, links: u8, tag: u16, runs: &mut Vec<LinkRun>) -> Result<(), AllocError>
     requires most { links ≤ LocalIds.LINKS }
     requires tags { tag ≤ LocalIds.LAST_TAG }

@@ -1,4 +1,4 @@
-//! The step that a line of a link is of.
+//! The step of a log line.
 
 ghost use Rattle.std.specs.Prelude.{◌≡◌, ◌↔◌, ℕ, List, IfOk, IsTrue};
 ghost use Rattle.fp_records.specs.Table.{Contents};
@@ -24,7 +24,7 @@ pub(crate) fn is_gap(line: &LoggedStep) -> bool
     }
 }
 
-/// Whether the table by which a line's message was read is one of these.
+/// Whether the table that a line's message was read by is in this list.
 pub(crate) fn has_table(tables: &[Table], line: &LoggedStep) -> bool
     ensures { IsTrue result ↔ HasTable tables.now line.now }
 {
@@ -34,8 +34,8 @@ pub(crate) fn has_table(tables: &[Table], line: &LoggedStep) -> bool
     }
 }
 
-/// The step that a line is of, on the run of its link: `None` for lost lines, and for a turn that comes back and isn't
-/// out. A message is shared, and none is copied.
+/// The step of a line, on the run of its link: `None` for lost lines, and for a turn that is given or put back and
+/// isn't out. A message is shared, not copied.
 pub(crate) fn step_of(run: &LinkRun, line: &LoggedStep) -> Result<Option<Step>, AllocError>
     ensures { IfOk result (λ step. (tables : List Contents) (contexts : List (List ℕ)) (h : List Event)
         → IsAfter tables contexts h run.now → step ≡ step_of h line.now) }

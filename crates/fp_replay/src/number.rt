@@ -9,7 +9,17 @@ use fp_digits::Moment;
 use itoa::Buffer;
 use std::alloc::AllocError;
 
-/// Adds a number to a text.
+/// Adds a number of two digits or more to a text.
+#[inline(never)]
+fn write_long_number(number: u64, text: &mut Vec<u8>) -> Result<(), AllocError>
+    ensures written { OnOk result (text.new.items ≡ text.old.items ++ decimal number) }
+    ensures front { OnErr result (KeepsFront text.old.items text.new.items) }
+{
+    text.extend_from_slice(Buffer::new().format(number).as_bytes())
+}
+
+/// Adds a number to a text. Most have one digit.
+#[inline(always)]
 pub(crate) fn write_number(number: u64, text: &mut Vec<u8>) -> Result<(), AllocError>
     ensures written { OnOk result (text.new.items ≡ text.old.items ++ decimal number) }
     ensures front { OnErr result (KeepsFront text.old.items text.new.items) }
@@ -18,7 +28,7 @@ pub(crate) fn write_number(number: u64, text: &mut Vec<u8>) -> Result<(), AllocE
         text.push(b'0' + number as u8)?;
         return Ok(());
     }
-    text.extend_from_slice(Buffer::new().format(number).as_bytes())
+    write_long_number(number, text)
 }
 
 /// Adds a blank and a number to a text.
@@ -30,7 +40,8 @@ pub(crate) fn write_field(number: u64, text: &mut Vec<u8>) -> Result<(), AllocEr
     write_number(number, text)
 }
 
-/// The number of a field, if it is at most `most`: the field must be what is written for it.
+/// The number in a field, if it is at most `most`: the field must be the text that is written for
+/// it. For example, `07` isn't read as 7.
 pub(crate) fn number_in(field: &[u8], most: u64) -> Option<u64>
     ensures found { IfSome result (λ number. (number ≤ most) × (field.now ≡ decimal number)) }
     ensures only { (number : ℕ) → number ≤ most → field.now ≡ decimal number → result ≡ Some number }
@@ -47,7 +58,7 @@ pub(crate) fn number_in(field: &[u8], most: u64) -> Option<u64>
     Some(number)
 }
 
-/// The number of a field, if it is 1 to `most`.
+/// The number in a field, if it is 1 to `most`.
 pub(crate) fn positive_number_in(field: &[u8], most: u64) -> Option<u64>
     ensures found { IfSome result (λ number. (1 ≤ number) × (number ≤ most) × (field.now ≡ decimal number)) }
     ensures only { (number : ℕ) → 1 ≤ number → number ≤ most → field.now ≡ decimal number → result ≡ Some number }
@@ -61,7 +72,7 @@ pub(crate) fn positive_number_in(field: &[u8], most: u64) -> Option<u64>
     Some(number)
 }
 
-/// The number of at most 64 bits of a field, as a birth or a position.
+/// The number of at most 64 bits in a field, as a birth or a position.
 pub(crate) fn long_number_in(field: &[u8]) -> Option<u64>
     ensures found { IfSome result (λ number. (number < 2 ^ 64) × (field.now ≡ decimal number)) }
     ensures only { (number : ℕ) → number < 2 ^ 64 → field.now ≡ decimal number → result ≡ Some number }
@@ -69,7 +80,7 @@ pub(crate) fn long_number_in(field: &[u8]) -> Option<u64>
     number_in(field, u64::MAX)
 }
 
-/// The number of at most 32 bits of a field.
+/// The number of at most 32 bits in a field.
 pub(crate) fn short_number_in(field: &[u8]) -> Option<u32>
     ensures found { IfSome result (λ number. (number < 2 ^ 32) × (field.now ≡ decimal number)) }
     ensures only { (number : ℕ) → number < 2 ^ 32 → field.now ≡ decimal number → result ≡ Some number }
@@ -80,7 +91,7 @@ pub(crate) fn short_number_in(field: &[u8]) -> Option<u32>
     Some(number as u32)
 }
 
-/// The place of a table, among those handed in, of a field.
+/// The place of a table in a field: its index in the list passed in.
 pub(crate) fn table_in(field: &[u8]) -> Option<u16>
     ensures found { IfSome result (λ table. (table ≤ greatest_place) × (field.now ≡ decimal table)) }
     ensures only { (table : ℕ) → table ≤ greatest_place → field.now ≡ decimal table → result ≡ Some table }
@@ -91,7 +102,7 @@ pub(crate) fn table_in(field: &[u8]) -> Option<u16>
     Some(number as u16)
 }
 
-/// The moment of a field.
+/// The moment in a field.
 pub(crate) fn moment_in(field: &[u8]) -> Option<Moment>
     ensures found { IfSome result (λ moment. (moment < END) × (field.now ≡ decimal moment)) }
     ensures only { (moment : ℕ) → moment < END → field.now ≡ decimal moment → result ≡ Some moment }

@@ -24,6 +24,7 @@ fn digit(value: u8) -> u8
 }
 
 /// Writes the digits of octets over others.
+#[inline(always)]
 fn put_digits(octets: &[u8], digits: &mut [u8])
     requires { length digits.old ≡ 2 * length octets.now }
     ensures { digits.new ≡ encode_upper octets.now }
@@ -52,17 +53,20 @@ pub(crate) fn write_identifier(local: u32, text: &mut Vec<u8>) -> Result<(), All
     ensures written { OnOk result (text.new.items ≡ text.old.items ++ identifier_text local) }
     ensures front { OnErr result (KeepsFront text.old.items text.new.items) }
 {
-    write_octets(&local.to_be_bytes(), text)
+    // An array of fixed length is written without a loop.
+    let mut digits = [0; 8];
+    put_digits(&local.to_be_bytes(), &mut digits);
+    text.extend_from_slice(&digits)
 }
 
-/// Whether a field has no letter in lower case: each of them comes after the digits and the letters in upper case.
+/// Whether a field has no letter in lower case: their codes are above the digits' and the upper-case letters'.
 fn is_upper_case(field: &[u8]) -> bool
     ensures { IsTrue result ↔ EachIndex field.now (λ k. slice_index field.now k < 97) }
 {
     field.iter().all(|octet| *octet < b'a')
 }
 
-/// The local transaction identifier of a field.
+/// The local transaction identifier in a field.
 pub(crate) fn identifier_in(field: &[u8]) -> Option<u32>
     ensures found { IfSome result (λ local. (local < 2 ^ 32) × (field.now ≡ identifier_text local)) }
     ensures only { (local : ℕ) → local < 2 ^ 32 → field.now ≡ identifier_text local → result ≡ Some local }
@@ -76,7 +80,7 @@ pub(crate) fn identifier_in(field: &[u8]) -> Option<u32>
     Some(u32::from_be_bytes(octets))
 }
 
-/// Why digits aren't read: memory ran out, or they are no pairs of digits.
+/// The fault of digits that aren't read: memory ran out, or they aren't pairs of digits.
 fn fault_of(error: FromHexError) -> LineFault
     ensures { error ≡ OutOfMemory → result ≡ Memory }
 {
@@ -86,7 +90,7 @@ fn fault_of(error: FromHexError) -> LineFault
     }
 }
 
-/// The message of a field.
+/// The message in a field.
 pub(crate) fn message_in(alloc: Global, field: &[u8]) -> Result<Frame, LineFault>
     ensures found { IfOk result (λ message. IsMessageLength (length message) × IsBytes message × (field.now ≡ encode_upper message)) }
     ensures only { (message : List ℕ) → IsMessageLength (length message) → IsBytes message → field.now ≡ encode_upper message → MatchResult result (λ read. read ≡ message) (λ fault. fault ≡ Memory) }

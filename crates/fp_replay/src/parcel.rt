@@ -11,6 +11,7 @@ use fp_book::LoggedStep;
 use std::alloc::AllocError;
 
 /// Adds the letter and the field of a parcel to a text.
+#[inline(always)]
 pub(crate) fn write_parcel(letter: u8, birth: u64, text: &mut Vec<u8>) -> Result<(), AllocError>
     ensures written { OnOk result (text.new.items ≡ text.old.items ++ letter ∷ parcel_fields birth) }
     ensures front { OnErr result (KeepsFront text.old.items text.new.items) }
@@ -19,7 +20,7 @@ pub(crate) fn write_parcel(letter: u8, birth: u64, text: &mut Vec<u8>) -> Result
     write_field(birth, text)
 }
 
-/// The birth of a parcel's dialogue, by its field.
+/// The birth of a parcel's dialogue, from its field.
 fn parcel_in(fields: &[u8]) -> Option<u64>
     ensures found { IfSome result (λ birth. (birth < 2 ^ 64) × (fields.now ≡ parcel_fields birth)) }
     ensures only { (birth : ℕ) → birth < 2 ^ 64 → fields.now ≡ parcel_fields birth → result ≡ Some birth }
@@ -30,7 +31,7 @@ fn parcel_in(fields: &[u8]) -> Option<u64>
     long_number_in(field)
 }
 
-/// The parcel that was picked, by the field after its letter.
+/// The parcel that was picked, from the field after its letter.
 pub(crate) fn pick_in(fields: &[u8]) -> Result<LoggedStep, LineFault>
     ensures { ReadsStep 81 fields.now result }
 {
@@ -40,7 +41,7 @@ pub(crate) fn pick_in(fields: &[u8]) -> Result<LoggedStep, LineFault>
     Ok(LoggedStep::Pick { birth })
 }
 
-/// The parcel that was sent, by the field after its letter.
+/// The parcel that was sent, from the field after its letter.
 pub(crate) fn sent_in(fields: &[u8]) -> Result<LoggedStep, LineFault>
     ensures { ReadsStep 89 fields.now result }
 {
@@ -50,7 +51,7 @@ pub(crate) fn sent_in(fields: &[u8]) -> Result<LoggedStep, LineFault>
     Ok(LoggedStep::Sent { birth })
 }
 
-/// The parcel that couldn't be sent, by the field after its letter.
+/// The parcel that couldn't be sent, from the field after its letter.
 pub(crate) fn unsent_in(fields: &[u8]) -> Result<LoggedStep, LineFault>
     ensures { ReadsStep 85 fields.now result }
 {

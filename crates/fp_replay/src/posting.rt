@@ -1,4 +1,4 @@
-//! A message that was posted, or for which memory ran out.
+//! A posted message, and one that ran out of memory.
 
 ghost use Rattle.std.specs.Prelude.{◌≡◌, ◌++◌, ◌∷◌, ℕ, List, decimal, IfOk, MatchResult, OnErr, OnOk};
 ghost use Rattle.hex.specs.Hex.{encode_upper};
@@ -18,7 +18,7 @@ use fp_digits::Moment;
 use fp_frames::Frame;
 use std::alloc::{AllocError, Global};
 
-/// When a message came, what it is, and what became of it.
+/// A message with its moment and its outcome.
 #[derive(Drop)]
 struct Posting {
     moment: Moment,
@@ -26,7 +26,7 @@ struct Posting {
     answer: Posted,
 }
 
-/// Adds a message and what became of it to a text, each after a blank.
+/// Adds a message and its outcome to a text, each after a blank.
 fn write_answered(message: &Frame, answer: Posted, text: &mut Vec<u8>) -> Result<(), AllocError>
     ensures written { OnOk result (text.new.items ≡ text.old.items ++ 32 ∷ encode_upper message.now ++ 32 ∷ posted_text answer) }
     ensures front { OnErr result (KeepsFront text.old.items text.new.items) }
@@ -54,7 +54,7 @@ pub(crate) fn write_post(
     write_answered(message, answer, text)
 }
 
-/// Adds the letter and the fields of a message for which memory ran out to a text.
+/// Adds the letter and the fields of a message that ran out of memory to a text.
 pub(crate) fn write_lost(
     moment: Moment,
     message: &Frame,
@@ -69,7 +69,7 @@ pub(crate) fn write_lost(
     write_answered(message, answer, text)
 }
 
-/// When a message came, what it is and what became of it, by the fields of these.
+/// A message with its moment and its outcome, from their fields.
 fn posting_in(
     alloc: Global,
     first: &[u8],
@@ -96,7 +96,7 @@ fn posting_in(
     })
 }
 
-/// The step of a message that was posted, by the fields after its letter.
+/// The step of a message that was posted, from the fields after its letter.
 pub(crate) fn post_in(alloc: Global, fields: &[u8]) -> Result<LoggedStep, LineFault>
     ensures { ReadsStep 80 fields.now result }
 {
@@ -119,7 +119,7 @@ pub(crate) fn post_in(alloc: Global, fields: &[u8]) -> Result<LoggedStep, LineFa
     })
 }
 
-/// The step of a message for which memory ran out, by the fields after its letter.
+/// The step of a message that ran out of memory, from the fields after its letter.
 pub(crate) fn lost_in(alloc: Global, fields: &[u8]) -> Result<LoggedStep, LineFault>
     ensures { ReadsStep 76 fields.now result }
 {

@@ -9,25 +9,23 @@ use fp_streams::LinesFault;
 use std::alloc::AllocError;
 use thiserror::Error;
 
-/// Why a log isn't replayed. Lines are counted from 1, the head too.
+/// Why a log isn't replayed. Lines are counted from 1, including the head.
 #[derive(Clone, Copy, Debug, PartialEq, Eq, Error)]
 pub enum ReplayFault {
-    /// There is no line of this number, though a log has a head, or it isn't a line of the format in its place, ended
-    /// by a line feed; or its message was read by a table that wasn't handed in, or that has a place after the last one
-    /// of the run.
+    /// Line N is missing (a log without a head), malformed, out of place, not ended by a line feed, or its message was
+    /// read by a table that wasn't passed in or that has a place after the last one of the run.
     #[error("line {0}: bad line")]
     BadLine(u128),
-    /// The line of this number says that lines were lost, or that memory ran out for a Clock.
+    /// Line N says that lines were lost, or that memory ran out for a Clock.
     #[error("line {0}: gap")]
     Gap(u128),
-    /// The step of the line of this number, when replayed, gives another line, or a turn comes back by it that isn't
-    /// out.
+    /// Line N differs from the line of its replayed step, or it gives or puts back a turn that isn't out.
     #[error("line {0}: disagrees")]
     Disagrees(u128),
-    /// The device that is read from failed.
+    /// The reader failed.
     #[error("input: cannot be read")]
     ReadFault,
-    /// The device that is written to failed.
+    /// The writer failed.
     #[error("output: cannot be written")]
     WriteFault,
     /// The limit on reads was reached before the end of the input.
@@ -49,11 +47,11 @@ impl From<AllocError> for ReplayFault {
 /// Why a line isn't taken.
 #[derive(Clone, Copy, Debug, PartialEq, Eq)]
 pub(crate) enum Refusal {
-    /// It isn't a line of the format in its place, or its message was read by a table that the run doesn't have.
+    /// A line that is malformed or out of place, or whose message was read by a table that the run doesn't have.
     BadLine,
-    /// It says that lines were lost, or that memory ran out for a Clock.
+    /// A line that says that lines were lost, or that memory ran out for a Clock.
     Gap,
-    /// Its step, when replayed, gives another line, or a turn comes back by it that isn't out.
+    /// A line that differs from the line of its replayed step, or that gives or puts back a turn that isn't out.
     Disagrees,
     /// An allocation failed.
     Memory,

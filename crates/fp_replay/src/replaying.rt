@@ -17,24 +17,23 @@ use fp_records::Table;
 use fp_streams::{LinkRead, LinkWrite, TakesLine, follow_lines};
 use std::alloc::Global;
 
-/// The most octets of a line, its line feed not counted.
+/// The most octets of a line, without its line feed.
 const MOST_OCTETS: usize = 8300;
 
-/// Replays the steps of a log, and writes what each link did: how many components it accepted, how many entries it
-/// served and how many frames of dialogues it sent, a line a link.
+/// Replays the steps of a log, and writes the totals of each link: how many components it accepted, how many entries it
+/// served and how many frames of dialogues it sent, a line for each link.
 ///
 /// The first line is the head, and each other one a step of a link that the head has, with its answer, as
 /// [`write_line`](crate::write_line) writes them: at most 8,300 octets and a line feed. A step is replayed on the run
-/// of its link, and the line that a log has of it then is compared with this one. The local transaction identifiers of
-/// these runs have the tag of the head, 0 if it has none. The tables and the names are those by which the log was
-/// written: a message is read by the table in the place that its line has, 0 to 65,535 if the head has a tag and else 0
-/// to 999. At most `most_reads` reads are made, of up to 4,096 octets each, and (no clause says so) one line is held at
-/// a time.
+/// of its link, and its line there is compared with this one. The local transaction identifiers of these runs have the
+/// tag of the head, 0 if it has none. You pass the tables and the names that the log was written with: a message is
+/// read by the table in the place that its line has, 0 to 65,535 if the head has a tag and else 0 to 999. At most
+/// `most_reads` reads are made, of up to 4,096 octets each. One line is held at a time; no clause says this.
 ///
-/// A line is first tried for a bad one (that of a table that wasn't handed in is one, and that of a later place), then for a gap, then for one
-/// that disagrees (one by which a turn comes back that isn't out is one), and the first fault ends the replay. The
-/// report is written after the last line: after [`ReplayFault::WriteFault`] a prefix of it was written, after any other
-/// fault nothing.
+/// Each line is checked in this order: whether it is bad (also if its table wasn't passed in or has a later place),
+/// whether it is a gap, whether it disagrees (also if it gives or puts back a turn that isn't out). The first fault
+/// ends the replay. The report is written after the last line: after [`ReplayFault::WriteFault`] a prefix of it was
+/// written, after any other fault nothing.
 pub fn replay<R: LinkRead, W: LinkWrite>(
     alloc: Global,
     tables: &[Table],
@@ -74,7 +73,7 @@ pub fn replay<R: LinkRead, W: LinkWrite>(
     }
 }
 
-/// The links of a log, and the tables and names by which its lines are replayed. The links must be spent.
+/// The links of a log, and the tables and names that its lines are replayed by. You must spend the links.
 pub(crate) struct Replaying<'a> {
     alloc: Global,
     tables: &'a [Table],
@@ -89,7 +88,7 @@ impl TakesLine for Replaying<'_> {
 
     ghost refuses = { refuses };
 
-    /// Takes the head, or a step that is replayed. Each line of a log ends with its line feed.
+    /// Takes the head, or a step, which is replayed. Each line of a log ends with its line feed.
     fn take_line(&mut self, line: &[u8], has_line_feed: bool) -> Result<(), Refusal> {
         if !has_line_feed {
             return Err(Refusal::BadLine);
@@ -100,7 +99,7 @@ impl TakesLine for Replaying<'_> {
 }
 
 impl Replaying<'_> {
-    /// The report of a log of which no line was taken.
+    /// The report of a log without any line taken yet.
     fn report_of<R: LinkRead>(
         &mut self,
         most_reads: u64,

@@ -1,10 +1,10 @@
-//! Whether two lines tell the same step with the same answer.
+//! Whether two lines are of the same step with the same answer.
 
 ghost use Rattle.std.specs.Prelude.{◌≡◌, ◌↔◌, IsTrue, Some};
 
 use fp_book::LoggedStep;
 
-/// Whether a step was told, and just as this line tells it.
+/// Whether there is a line `told`, equal to this line.
 pub(crate) fn is_told(told: &Option<LoggedStep>, line: &LoggedStep) -> bool
     ensures { IsTrue result ↔ (told.now ≡ Some line.now) }
 {
@@ -14,7 +14,7 @@ pub(crate) fn is_told(told: &Option<LoggedStep>, line: &LoggedStep) -> bool
     }
 }
 
-/// Whether a step is told just as this line tells it.
+/// Whether two lines are equal.
 fn is_same(step: &LoggedStep, line: &LoggedStep) -> bool
     ensures { IsTrue result ↔ (step.now ≡ line.now) }
 {

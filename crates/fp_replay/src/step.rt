@@ -54,7 +54,7 @@ pub(crate) fn write_step(step: &LoggedStep, text: &mut Vec<u8>) -> Result<(), Al
     }
 }
 
-/// The step that has no fields, by what follows its letter.
+/// The step without fields, from the text after its letter.
 fn down_in(fields: &[u8]) -> Result<LoggedStep, LineFault>
     ensures { ReadsStep 78 fields.now result }
 {
@@ -65,7 +65,7 @@ fn down_in(fields: &[u8]) -> Result<LoggedStep, LineFault>
     }
 }
 
-/// The step of this letter, by the fields after it.
+/// The step of this letter, from the fields after it.
 pub(crate) fn step_in(alloc: Global, letter: u8, fields: &[u8]) -> Result<LoggedStep, LineFault>
     ensures { ReadsStep letter fields.now result }
 {

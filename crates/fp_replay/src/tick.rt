@@ -27,7 +27,7 @@ pub(crate) fn write_tick(
     write_field(u64::from(wanting), text)
 }
 
-/// The tick, by the fields after its letter.
+/// The tick, from the fields after its letter.
 pub(crate) fn tick_in(fields: &[u8]) -> Result<LoggedStep, LineFault>
     ensures { ReadsStep 75 fields.now result }
 {
@@ -59,7 +59,7 @@ pub(crate) fn write_gap(lost: u64, text: &mut Vec<u8>) -> Result<(), AllocError>
     write_field(lost, text)
 }
 
-/// The gap, by the field after its letter.
+/// The gap, from the field after its letter.
 pub(crate) fn gap_in(fields: &[u8]) -> Result<LoggedStep, LineFault>
     ensures { ReadsStep 90 fields.now result }
 {

@@ -12,6 +12,7 @@ use fp_book::{Given, LoggedStep};
 use std::alloc::AllocError;
 
 /// Adds the letter and the fields of a turn to a text.
+#[inline(always)]
 pub(crate) fn write_turn(
     letter: u8,
     birth: u64,
@@ -26,7 +27,7 @@ pub(crate) fn write_turn(
     write_field(position, text)
 }
 
-/// The birth of a turn's dialogue and the position of the turn, by its fields.
+/// The birth of a turn's dialogue and the position of the turn, from its fields.
 fn turn_in(fields: &[u8]) -> Option<(u64, u64)>
     ensures found { IfSome result (λ turn. (turn.0 < 2 ^ 64) × (turn.1 < 2 ^ 64) × (fields.now ≡ turn_fields turn.0 turn.1)) }
     ensures only { (birth position : ℕ) → birth < 2 ^ 64 → position < 2 ^ 64 → fields.now ≡ turn_fields birth position → IsSomeAnd result (λ turn. (turn.0 ≡ birth) × (turn.1 ≡ position)) }
@@ -44,6 +45,7 @@ fn turn_in(fields: &[u8]) -> Option<(u64, u64)>
 }
 
 /// Adds the letter and the fields of a turn and of this number of its entries to a text.
+#[inline(always)]
 pub(crate) fn write_entries(
     letter: u8,
     birth: u64,
@@ -58,7 +60,7 @@ pub(crate) fn write_entries(
     write_field(u64::from(count), text)
 }
 
-/// The turn that was taken, by the fields after its letter.
+/// The turn that was taken, from the fields after its letter.
 pub(crate) fn take_in(fields: &[u8]) -> Result<LoggedStep, LineFault>
     ensures { ReadsStep 84 fields.now result }
 {
@@ -81,7 +83,7 @@ pub(crate) fn take_in(fields: &[u8]) -> Result<LoggedStep, LineFault>
     })
 }
 
-/// The turn that was put back, by the fields after its letter.
+/// The turn that was put back, from the fields after its letter.
 pub(crate) fn put_back_in(fields: &[u8]) -> Result<LoggedStep, LineFault>
     ensures { ReadsStep 66 fields.now result }
 {
@@ -107,7 +109,7 @@ pub(crate) fn write_give(
     write_given(given, text)
 }
 
-/// The turn that was given, by the fields after its letter.
+/// The turn that was given, from the fields after its letter.
 pub(crate) fn give_in(fields: &[u8]) -> Result<LoggedStep, LineFault>
     ensures { ReadsStep 71 fields.now result }
 {
