@@ -13,7 +13,7 @@ use Rattle.fp_network.specs.declared.event.Closing.{Closing}
 use Rattle.fp_network.specs.declared.node.Node.{Node}
 use Rattle.fp_network.specs.Changes.{closing}
 use Rattle.fp_network.specs.Course.{closed, closing_of}
-use Rattle.fp_network.specs.Endings.{AreEnded, ClosesOnly, ClosesRefused, EndsClosed, IsRefused, ends}
+use Rattle.fp_network.specs.Endings.{Adds, AreEnded, Closes, ClosesOnly, ClosesRefused, EndsClosed, IsRefused, ends}
 use Rattle.fp_network.specs.Node.{LeavesOthers, connection_at, connection_in, ended_unless, is_over_at, is_over_of, refusal_of}
 
 pub closed_led : (over : Bool) (place : ℕ) (old new : Adaptor) (setting : Setting) (history : List Event)
@@ -48,28 +48,34 @@ two_steps false false true first then = refl
 two_steps false false false first then = refl
 
 -- nothing is closed
-pub closes_none : (node : Node) → EndsClosed node node
-closes_none node = ([], record { are_ended = tt; those = λ place. same (is_over_at node place); stay = λ place over. over }, λ setting history led. led)
+pub none_closed : (node : Node) → Closes node node []
+none_closed node = record { are_ended = tt; those = λ place. same (is_over_at node place); stay = λ place over. over }
   where
     same : (over : Bool) → false ≡ (not over && over)
     same true = refl
     same false = refl
 
+pub closes_none : (node : Node) → EndsClosed node node
+closes_none node = ([], none_closed node, λ setting history led. led)
+
 -- some connections are closed, and then others
+pub closes_then : (old mid new : Node) (first then : List Event) → Closes old mid first → Closes mid new then → Closes old new (then ++ first)
+closes_then old mid new first then is then_is = record {
+  are_ended = ended_append then first then_is.are_ended is.are_ended;
+  those = λ place.
+      ends_append place then first ∙ (λ i. then_is.those place i || is.those place i)
+      ∙ two_steps (is_over_at old place) (is_over_at mid place) (is_over_at new place) (is.stay place) (then_is.stay place);
+  stay = λ place over. then_is.stay place (is.stay place over);
+}
+
+pub adds_then : (old mid new : Adaptor) (first then : List Event) → Adds old mid first → Adds mid new then → Adds old new (then ++ first)
+adds_then old mid new first then adds then_adds setting history led =
+    subst (λ (l : List Event). Led new setting l) (sym (append_assoc then first history))
+    (then_adds setting (first ++ history) (adds setting history led))
+
 pub closes_more : (old mid new : Node) → EndsClosed old mid → EndsClosed mid new → EndsClosed old new
-closes_more old mid new (first, is, adds) (then, then_is, then_adds) = (
-  then ++ first,
-  record {
-    are_ended = ended_append then first then_is.are_ended is.are_ended;
-    those = λ place.
-        ends_append place then first ∙ (λ i. then_is.those place i || is.those place i)
-        ∙ two_steps (is_over_at old place) (is_over_at mid place) (is_over_at new place) (is.stay place) (then_is.stay place);
-    stay = λ place over. then_is.stay place (is.stay place over);
-  },
-  λ setting history led.
-      subst (λ (l : List Event). Led new.adaptor setting l) (sym (append_assoc then first history))
-      (then_adds setting (first ++ history) (adds setting history led)),
-)
+closes_more old mid new (first, is, adds) (then, then_is, then_adds) =
+    (then ++ first, closes_then old mid new first then is then_is, adds_then old.adaptor mid.adaptor new.adaptor first then adds then_adds)
 
 -- a connection that is closed is over
 closed_over : (why : Closing) (course : Course) → is_some (closing_of (closed why course)) ≡ true
@@ -83,25 +89,24 @@ over_closed why None = refl
 over_closed why (Some own) = closed_over why own.course
 
 -- the connection in one place is closed
-pub closes_one : (why : Closing) (place : ℕ) (old new : Node) → connection_in new place ≡ option_map (closing why) (connection_in old place)
-    → LeavesOthers place old new → (is_over_at old place ≡ true → new.adaptor ≡ old.adaptor)
+pub adds_one : (place : ℕ) (old new : Node) → (is_over_at old place ≡ true → new.adaptor ≡ old.adaptor)
     → (is_over_at old place ≡ false → (setting : Setting) (history : List Event) → Led old.adaptor setting history
-    → Led new.adaptor setting (ended place ∷ history)) → EndsClosed old new
-closes_one why place old new here others stays tells = (
-  ended_unless (is_over_at old place) place,
-  record {
-    are_ended = are (is_over_at old place);
-    those = λ other. elim (cases_Bool (nat_eq place other)) [
-      | inl is ↦ at other (eqb-true place other is)
-      | inr apart ↦ away other apart
-    ];
-    stay = λ other over. elim (cases_Bool (nat_eq place other)) [
-      | inl is ↦ subst (λ (other : ℕ). is_over_at new other ≡ true) (eqb-true place other is) over_here
-      | inr apart ↦ ap is_over_of (others other (λ is. eqb-false place other apart (sym is))) ∙ over
-    ];
-  },
-  λ setting history. closed_led _ place _ _ setting history stays (λ lives. tells lives setting history),
-)
+    → Led new.adaptor setting (ended place ∷ history)) → Adds old.adaptor new.adaptor (ended_unless (is_over_at old place) place)
+adds_one place old new stays tells setting history = closed_led _ place _ _ setting history stays (λ lives. tells lives setting history)
+
+pub closes_place : (why : Closing) (place : ℕ) (old new : Node) → connection_in new place ≡ option_map (closing why) (connection_in old place)
+    → LeavesOthers place old new → Closes old new (ended_unless (is_over_at old place) place)
+closes_place why place old new here others = record {
+  are_ended = are (is_over_at old place);
+  those = λ other. elim (cases_Bool (nat_eq place other)) [
+    | inl is ↦ at other (eqb-true place other is)
+    | inr apart ↦ away other apart
+  ];
+  stay = λ other over. elim (cases_Bool (nat_eq place other)) [
+    | inl is ↦ subst (λ (other : ℕ). is_over_at new other ≡ true) (eqb-true place other is) over_here
+    | inr apart ↦ ap is_over_of (others other (λ is. eqb-false place other apart (sym is))) ∙ over
+  ];
+}
   where
     over_here : is_over_at new place ≡ true
     over_here = ap is_over_of here ∙ over_closed why (connection_in old place)
@@ -131,6 +136,13 @@ closes_one why place old new here others stays tells = (
     at other is =
         subst (λ (other : ℕ). ends other (ended_unless (is_over_at old place) place) ≡ (not (is_over_at old other) && is_over_at new other))
         is (at_by (is_over_at old place) ∙ ap (λ (b : Bool). not (is_over_at old place) && b) (sym over_here))
+
+pub closes_one : (why : Closing) (place : ℕ) (old new : Node) → connection_in new place ≡ option_map (closing why) (connection_in old place)
+    → LeavesOthers place old new → (is_over_at old place ≡ true → new.adaptor ≡ old.adaptor)
+    → (is_over_at old place ≡ false → (setting : Setting) (history : List Event) → Led old.adaptor setting history
+    → Led new.adaptor setting (ended place ∷ history)) → EndsClosed old new
+closes_one why place old new here others stays tells =
+    (ended_unless (is_over_at old place) place, closes_place why place old new here others, adds_one place old new stays tells)
 
 -- a connection is closed for the first reason
 twice : (first then : Closing) (course : Course) → closed then (closed first course) ≡ closed first course

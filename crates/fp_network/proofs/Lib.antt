@@ -5,7 +5,11 @@ mod First
 mod Following
 mod Growing
 mod Hearing
+mod Keeping
 mod Leaves
+mod News
+mod Tallied
 mod Ticking
 mod Tied
 mod Waits
+mod Way

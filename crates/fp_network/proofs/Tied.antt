@@ -17,7 +17,7 @@ without_is over place other false is had =
     let here = same_some _ _ had in
     (here, ne_eqb over place (λ same. eqb-false other over is (here ∙ sym same)))
 
-without_some : (over place : ℕ) (had : Option ℕ) → without over had ≡ Some place
+pub without_some : (over place : ℕ) (had : Option ℕ) → without over had ≡ Some place
     → (had ≡ Some place) × (nat_eq over place ≡ false)
 without_some over place None is = absurd (none-some _ is)
 without_some over place (Some other) is =

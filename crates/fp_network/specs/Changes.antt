@@ -49,7 +49,8 @@ is_slow own = nat_le 1048576 (length own.waiting)
 
 -- why it takes no message of the link: it isn't written, or a megabyte waits for it
 abbrev pub refusal : Connection → Option Closing
-refusal own = if is_written own.course then (if is_slow own then Some Slow else None) else Some Draining
+refusal own =
+    if is_written own.course then (if is_slow own then Some Slow else None) else Some Draining
 
 -- the octets that waited still wait, and others after them
 abbrev pub IsLonger : List ℕ → List ℕ → Type 0

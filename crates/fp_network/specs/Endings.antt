@@ -34,6 +34,13 @@ abbrev pub IsTied : Node → List Event → Type 0
 IsTied node history =
     (unit place : ℕ) → connection_after history unit ≡ Some place → is_over_at node place ≡ false
 
+-- A call keeps nodes tied: if one was after the events that led to its adaptor, the one after the call is after all events
+-- that lead to its own.
+abbrev pub KeepsTied : Node → Node → Type 0
+KeepsTied old new =
+    (setting : Setting) (history later : List Event) → Led old.adaptor setting history
+    → IsTied old history → Led new.adaptor setting later → IsTied new later
+
 -- what an adaptor holds after these events, if it held what other events led to
 abbrev pub Adds : Adaptor → Adaptor → List Event → Type 0
 Adds old new more =

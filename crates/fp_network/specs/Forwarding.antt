@@ -1,15 +1,18 @@
 -- What becomes of a message of the link at a node.
-use Rattle.std.specs.Prelude.{◌≡◌, ℕ, false, List, [], ◌∷◌, ◌++◌, None, length}
+use Rattle.std.specs.Prelude.{◌≡◌, ℕ, ◌<◌, false, List, [], ◌∷◌, ◌++◌, None, Some, length}
 use Rattle.std.specs.Option.{option_map}
 use Rattle.fp_adaptor.specs.declared.adaptor.Sending.{Sending}
 use Rattle.fp_adaptor.specs.declared.adaptor.Sending.TheVariants as sendings
 use Rattle.fp_adaptor.specs.declared.setting.Setting.{Setting}
-use Rattle.fp_adaptor.specs.Adaptor.{Led, Sends, what_became}
-use Rattle.fp_adaptor.specs.History.{Event, IsRead, Message, said}
-use Rattle.fp_frames.specs.Stream.{Frames, IsIncomplete}
+use Rattle.fp_adaptor.specs.Adaptor.{Led, Sends, most_data, what_became}
+use Rattle.fp_adaptor.specs.Connections.{IsFirst}
+use Rattle.fp_adaptor.specs.History.{Event, IsRead, Message, connection_after, ended, said}
+use Rattle.fp_frames.specs.Stream.{Frames, IsBad, IsIncomplete}
+use Rattle.fp_network.specs.declared.fault.NetworkFault.{NetworkFault}
+use Rattle.fp_network.specs.declared.fault.NetworkFault.TheVariants as faults
 use Rattle.fp_network.specs.declared.node.Node.{Node}
 use Rattle.fp_network.specs.Changes.{sending}
-use Rattle.fp_network.specs.Endings.{Closes, ClosesRefused, IsTied}
+use Rattle.fp_network.specs.Endings.{Adds, Closes, ClosesRefused, IsTied}
 use Rattle.fp_network.specs.Node.{LeavesOthers, WaitsOn, connection_in, is_over_at, refusal_of}
 
 -- the octets of a message that is sent wait for the connection that is named, and nothing waits for any other
@@ -29,12 +32,39 @@ Takes (sendings.By unit_data) node =
 Takes sendings.NoConnection node = Unit {0}
 Takes sendings.TooLong node = Unit {0}
 
--- A message of the link goes where its adaptor sends it, after connections that take none are closed.
+-- Connections were over one after another, the last one first, after the events of a history: each was the one by which a
+-- message would have gone then.
+abbrev pub InTheWay : List Event → List Event → Type 0
+InTheWay history [] = Unit {0}
+InTheWay history (ended place ∷ earlier) =
+    IsFirst (connection_after (earlier ++ history)) (Some place) × InTheWay history earlier
+InTheWay history (event ∷ earlier) = ⊥
+
+-- connections are closed, and each was in the way of a message
+abbrev pub MakesWay : Node → Node → Type 0
+MakesWay old new =
+    (closed : List Event) × Closes old new closed × Adds old.adaptor new.adaptor closed
+    × ((setting : Setting) (history : List Event) → Led old.adaptor setting history
+    → InTheWay history closed)
+
+-- connections are closed, and each was in the way of this message; none is in the way of one that is too long to be sent
+abbrev pub MakesWayFor : List ℕ → Node → Node → Type 0
+MakesWayFor message old new =
+    (closed : List Event) × Closes old new closed × Adds old.adaptor new.adaptor closed
+    × ((setting : Setting) (history : List Event) → Led old.adaptor setting history
+    → InTheWay history closed)
+    × (most_data < length message → closed ≡ [])
+
+-- A message of the link goes where its adaptor sends it, after connections that take none are closed: those by which it
+-- would have gone, and no others. For a message that is too long to be sent none is closed. The units and whether the
+-- node drains stay the same.
 pub record Forwards (setting : Setting) (history : List Event) (message : List ℕ)
     (old new : Node) : Type 0 where
   pub closed : List Event
   pub between : Node
   pub closes : Closes old between closed
+  pub way : InTheWay history closed
+  pub too_long : most_data < length message → closed ≡ []
   pub refused : ClosesRefused old between
   pub rest : WaitsOn old between
   pub sent : Sending
@@ -44,12 +74,14 @@ pub record Forwards (setting : Setting) (history : List Event) (message : List �
   pub read : Message
   pub is_read : IsRead message read
   pub led : Led new.adaptor setting (said read (what_became sent) ∷ (closed ++ history))
+  pub names : new.names.items ≡ old.names.items
+  pub draining : new.is_draining ≡ old.is_draining
 
 -- messages of the link are forwarded one after another
 abbrev pub ForwardsEach : Setting → List Event → List (List ℕ) → Node → Node → Type 0
 ForwardsEach setting history [] old new =
     (new.places ≡ old.places) × (new.names.items ≡ old.names.items)
-    × Led new.adaptor setting history
+    × (new.is_draining ≡ old.is_draining) × Led new.adaptor setting history
 ForwardsEach setting history (message ∷ more) old new =
     (mid : Node) × (way : Forwards setting history message old mid)
     × ForwardsEach setting (said way.read (what_became way.sent) ∷ (way.closed ++ history))
@@ -63,3 +95,15 @@ ForwardsOctets octets old new =
     × IsIncomplete new.from_link
     × ((setting : Setting) (history : List Event) → Led old.adaptor setting history
     → ForwardsEach setting history messages old new)
+
+-- why the next message of the link isn't taken from octets: memory ran out, or they begin with the head of no frame
+abbrev pub StopsBefore : List ℕ → NetworkFault → Type 0
+StopsBefore octets faults.Memory = Unit {0}
+StopsBefore octets faults.BadFrames = IsBad octets
+StopsBefore octets faults.NoReadiness = ⊥
+
+-- why octets of the link aren't all taken: they are the frames of some messages, and then octets from which no message
+-- is taken for this fault
+abbrev pub StopsIn : List ℕ → NetworkFault → Type 0
+StopsIn octets fault =
+    (messages : List (List ℕ)) × (rest : List ℕ) × Frames octets messages rest × StopsBefore rest fault

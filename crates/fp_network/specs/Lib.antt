@@ -1,5 +1,6 @@
 pub mod Changes
 pub mod Connection
+pub mod Counting
 pub mod Course
 pub mod Endings
 pub mod Forwarding

@@ -18,7 +18,7 @@ use Rattle.fp_network.specs.declared.node.Node.{Node}
 use Rattle.fp_network.specs.Changes.{sending}
 use Rattle.fp_network.specs.Course.{closing_of}
 use Rattle.fp_network.specs.Endings.{ClosesOnly}
-use Rattle.fp_network.specs.Node.{LeavesLink, LeavesOthers, connection_in, ended_at, ended_unless, for_link, frames_for, is_over_at}
+use Rattle.fp_network.specs.Node.{Keeps, LeavesLink, LeavesOthers, connection_in, ended_at, ended_unless, for_link, frames_for, is_over_at}
 use Rattle.fp_network.specs.Stepping.{ArrivesIn}
 
 -- nothing changes but the connection in a place
@@ -93,6 +93,7 @@ pub record Steps (setting : Setting) (history : List Event) (place : ℕ) (messa
   pub only : OnlyAt place old between
   pub more : List Event
   pub comes_to : ComesTo setting history place message.octets arrival between new more
+  pub keeps : Keeps old new
   pub led : Led new.adaptor setting (more ++ history)
 
 -- the connection in a place has no next message; or the next one is too long, and it is closed

@@ -1,5 +1,7 @@
--- The numbers of connections that were closed, by the reason.
+-- The numbers of messages by their kind, and of connections that were closed by the reason.
 use Rattle.std.specs.Prelude.{◌≡◌, ℕ, ◌==◌, if◌then◌else◌, List, Option, None, Some, get_or, slice_get}
+use Rattle.fp_adaptor.specs.declared.counts.Counted.{Counted}
+use Rattle.fp_adaptor.specs.Counted as kinds
 use Rattle.fp_adaptor.specs.Counted.{one_more}
 use Rattle.fp_network.specs.declared.event.Closing.{Closing}
 use Rattle.fp_network.specs.declared.event.Closing.TheVariants as reasons
@@ -26,6 +28,10 @@ AreListed all = (why : Closing) → slice_get all (place_of why) ≡ Some why
 -- the number of connections that were closed for a reason
 abbrev pub closings_of : Tally → Closing → ℕ
 closings_of tally why = get_or tally.closings (place_of why) 0
+
+-- the number of messages of a kind
+abbrev pub messages_of : Tally → Counted → ℕ
+messages_of tally kind = get_or tally.messages (kinds.place_of kind) 0
 
 -- the number for a reason once a connection is closed for this one
 abbrev pub closed_once_more : Closing → Closing → ℕ → ℕ

@@ -1,4 +1,4 @@
-//! What a message of a connection comes to.
+//! The effect of a message of a connection.
 
 ghost use Rattle.std.specs.Prelude.{◌≡◌, ◌<◌, ◌-◌};
 ghost use Rattle.fp_ipa.specs.declared.connection.State.TheVariants.{Asked};
@@ -8,10 +8,10 @@ ghost use Rattle.fp_network.specs.Course.{closed};
 use crate::Closing;
 use fp_ipa::{Action, Received, State, Step};
 
-/// What a message of a connection comes to.
+/// The effect of a message of a connection.
 #[derive(Clone, Copy, Debug, PartialEq, Eq)]
 pub(crate) enum Arrival {
-    /// Nothing more than what waits to be written now.
+    /// No effect beyond the octets that wait to be written now.
     Nothing,
     /// The message is skipped.
     Skipped,
@@ -51,7 +51,7 @@ fn is_refused(drains: bool, units: usize, received: Received) -> bool
     drains && names_common(units, received)
 }
 
-/// Why a connection is closed whose peer sent this.
+/// Why a connection is closed if its peer sent this message.
 fn fault_of(received: Received) -> Closing
     ensures { result ≡ fault_of received }
 {
@@ -101,7 +101,7 @@ fn activated(state: State) -> Arrival
     }
 }
 
-/// What a message comes to, by the step that it makes, and the reason if that is to close.
+/// The effect of a message, by its step, and by the reason if the step is to close.
 pub(crate) fn arrival_by(step: Step, why: Closing) -> Arrival
     ensures { result ≡ arrival_by step.state step.action why }
 {

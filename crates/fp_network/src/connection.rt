@@ -30,19 +30,20 @@ const MOST_WAITING: usize = 1_048_576;
 /// A connection of a transfer point.
 #[derive(Drop)]
 pub(crate) struct Connection {
-    // Its number among those that came.
+    // Its number, in the order of acceptance.
     number: u64,
     state: State,
     reader: IpaReader,
-    // What waits to be written to it.
+    // Octets that wait to be written to it.
     waiting: Waiting,
-    // When it came, in milliseconds.
+    // When it was accepted, in milliseconds.
     came_at: u64,
     course: Course,
 }
 
 impl Connection {
-    /// A connection of this number that came at this time. It is asked for a unit. `Err`: memory ran out.
+    /// A connection of this number that was accepted at this time. The peer is asked for a unit.
+    /// `Err`: memory ran out.
     pub(crate) fn new(alloc: Global, number: u64, came_at: u64) -> Result<Connection, AllocError>
         ensures number { IfOk result (λ own. own.number ≡ number) }
         ensures state { IfOk result (λ own. own.state ≡ Asked) }
@@ -108,10 +109,12 @@ impl Connection {
         self.course = closed(why, self.course);
     }
 
-    /// The node, which has this number of units, drains since this time. If the connection is that of the common unit, the
-    /// writing side is to be shut.
+    /// The node, which has this number of units, drains since this time. If the connection has the
+    /// common unit, the writing side is to be shut.
     pub(crate) fn drain(&mut self, units: usize, at: u64)
-        ensures { self.new ≡ record self.old { course = drained (is_of_common units self.old.state) at self.old.course } }
+        ensures { self.new ≡ record self.old {
+          course = drained (is_of_common units self.old.state) at self.old.course;
+        } }
     {
         self.course = drained(self.is_of_common(units), at, self.course);
     }
@@ -130,7 +133,7 @@ impl Connection {
         overdue(self.course, self.state, self.came_at, at)
     }
 
-    /// Whether it is that of the last of this number of units, which several nodes have in common.
+    /// Whether it has the last of this number of units, which several nodes have in common.
     pub(crate) fn is_of_common(&self, units: usize) -> bool
         ensures { result ≡ is_of_common units self.now.state }
     {
@@ -144,7 +147,8 @@ impl Connection {
 
     /// Takes the next piece of its stream. `Err`: memory ran out.
     pub(crate) fn feed(&mut self, octets: &[u8]) -> Result<(), AllocError>
-        ensures ok { OnOk result (self.new ≡ record self.old { reader = self.old.reader ++ octets.now }) }
+        ensures ok { OnOk result (self.new
+            ≡ record self.old { reader = self.old.reader ++ octets.now }) }
     {
         self.reader.feed(octets)?;
         Ok(())
@@ -161,7 +165,8 @@ impl Connection {
     pub(crate) fn next_message(&mut self) -> Result<Option<IpaMessage>, IpaFault>
         ensures next { IfOk result (NextIf (is_some (closing_of self.old.course)) self.old
             (Some self.new)) }
-        ensures named { IfOk result (λ message. IfSome message (λ message. IsByName message.stream)) }
+        ensures named { IfOk result (λ message.
+            IfSome message (λ message. IsByName message.stream)) }
         ensures fault { IfErr result (FaultSays self.old.reader) }
         ensures same { self.new ≡ record self.old { reader = self.new.reader } }
         ensures kept { OnErr result (self.new.reader ≡ self.old.reader) }
@@ -172,7 +177,7 @@ impl Connection {
         self.reader.next()
     }
 
-    /// A message came, of a node that drains or doesn't. `Err`: memory ran out for an answer.
+    /// Takes a message, of a node that drains or doesn't. `Err`: memory ran out for an answer.
     fn take(
         &mut self,
         names: &[UnitName],
@@ -180,7 +185,8 @@ impl Connection {
         stream: StreamIdentifier,
         octets: &[u8],
     ) -> Result<Arrival, AllocError>
-        ensures stepped { IfOk result (Stepped names.now drains stream octets.now self.old self.new) }
+        ensures stepped { IfOk result
+            (Stepped names.now drains stream octets.now self.old self.new) }
     {
         let received = received_of(names, stream, octets);
         let step = step_of(drains, names.len(), self.state, received);
@@ -189,14 +195,15 @@ impl Connection {
         Ok(arrival_by(step, why_closed(drains, names.len(), received)))
     }
 
-    /// Whether so much waits for it that nothing more is to be sent.
+    /// Whether a megabyte waits for it, so that nothing more is to be sent.
     pub(crate) fn is_slow(&self) -> bool
         ensures { result ≡ is_slow self.now }
     {
         self.waiting.count() >= MOST_WAITING
     }
 
-    /// Why it takes no message of the link, if it doesn't: too much waits for it already, or its writing side is shut.
+    /// Why it takes no message of the link, if it doesn't: too much waits for it already, or its
+    /// writing side is shut.
     pub(crate) fn refusal(&self) -> Option<Closing>
         ensures { result ≡ refusal self.now }
     {
@@ -209,8 +216,9 @@ impl Connection {
         None
     }
 
-    /// What a message comes to, of a node that drains or doesn't. If too much waits to be written already, the connection is
-    /// to be closed, since the message may have to be answered. `Err`: memory ran out for an answer.
+    /// The effect of a message, of a node that drains or doesn't. If a megabyte waits to be written
+    /// already, the connection is to be closed, since the message may have to be answered. `Err`:
+    /// memory ran out for an answer.
     pub(crate) fn arrival(
         &mut self,
         names: &[UnitName],
@@ -229,11 +237,14 @@ impl Connection {
         Ok(arrival)
     }
 
-    /// A message of SCCP, at most 65,535 octets, waits to be written. `Err`: memory ran out, and the network must end.
+    /// A message of SCCP, at most 65,535 octets, waits to be written. `Err`: memory ran out, and
+    /// the network must end.
     fn push(&mut self, octets: &[u8]) -> Result<(), AllocError>
         requires { length octets.now < 2 ^ 16 }
         ensures { OnOk result (self.new
-            ≡ record self.old { waiting = self.old.waiting ++ (head_of 253 (length octets.now) ++ octets.now) }) }
+            ≡ record self.old {
+              waiting = self.old.waiting ++ (head_of 253 (length octets.now) ++ octets.now);
+            }) }
     {
         let head = message_head(StreamIdentifier::Sccp, octets.len() as u16);
         self.waiting.push(&head)?;
@@ -241,8 +252,8 @@ impl Connection {
         Ok(())
     }
 
-    /// A message of SCCP waits to be written, if it is written and the message has at most 65,535 octets. `Err`: memory ran
-    /// out, and the network must end.
+    /// A message of SCCP waits to be written, if it is written and the message has at most 65,535
+    /// octets. `Err`: memory ran out, and the network must end.
     pub(crate) fn send(&mut self, octets: &[u8]) -> Result<(), AllocError>
         ensures { OnOk result (self.new ≡ sending octets.now self.old) }
     {
@@ -256,14 +267,14 @@ impl Connection {
         Ok(())
     }
 
-    /// What waits to be written.
+    /// The octets that wait to be written.
     pub(crate) fn waiting(&self) -> &[u8]
         ensures { result.now ≡ self.now.waiting }
     {
         self.waiting.octets()
     }
 
-    /// This number of octets was written.
+    /// Removes this number of octets, once they were written.
     pub(crate) fn written(&mut self, count: usize)
         ensures { self.new ≡ record self.old { waiting = drop count self.old.waiting } }
     {

@@ -11,15 +11,17 @@ use fp_ipa::{Action, State};
 /// For how many milliseconds a connection may be there without being active.
 const MILLISECONDS_TO_NAME: u64 = 5_000;
 
-/// For how many milliseconds a connection is read once its node drains, if its peer doesn't close it.
-const MILLISECONDS_TO_DRAIN: u64 = 2_000;
+/// For how many milliseconds a connection is read once its node drains, if its peer doesn't close
+/// it.
+pub const MILLISECONDS_TO_DRAIN: u64 = 2_000;
 
 /// How far a connection is from its end. Moments are milliseconds.
 #[derive(Clone, Copy, Debug, PartialEq, Eq)]
 pub(crate) enum Course {
     /// The connection is read and written.
     Open,
-    /// The node drains since this moment, and the writing side is to be shut. The connection is read and written.
+    /// The node drains since this moment, and the writing side is to be shut. The connection is
+    /// read and written.
     Draining(u64),
     /// The node drains since this moment, and the writing side is shut. The connection is read.
     Shut(u64),
@@ -34,7 +36,7 @@ fn went_by(milliseconds: u64, since: u64, at: u64) -> bool
     at.saturating_sub(since) >= milliseconds
 }
 
-/// Whether a connection isn't active yet at this time, although five seconds went by since it came.
+/// Whether a connection isn't active yet at this time, five seconds after it was accepted.
 fn is_unnamed(state: State, came_at: u64, at: u64) -> bool
     ensures { result ≡ is_unnamed state came_at at }
 {
@@ -89,7 +91,8 @@ pub(crate) fn closed(why: Closing, course: Course) -> Course
     }
 }
 
-/// The course of a connection, of the common unit or of another one, whose node drains since this time.
+/// The course of a connection, of the common unit or of another one, whose node drains since this
+/// time.
 pub(crate) fn drained(is_common: bool, at: u64, course: Course) -> Course
     ensures { result ≡ drained is_common at course }
 {

@@ -4,8 +4,8 @@ ghost use Rattle.std.specs.Prelude.{◌≡◌};
 
 use std::sync::atomic::{AtomicBool, Ordering};
 
-/// Whether a node is to drain: it asks the network for no new dialogues from then on, and serves those that are open.
-/// The thread that follows commands and the one that reads the link share it.
+/// Whether a node is to drain: it asks the network for no new dialogues from then on, and serves
+/// those that are open. The thread that follows commands and the one that reads the link share it.
 #[derive(Drop)]
 pub struct Drain {
     is_set: AtomicBool,
@@ -23,8 +23,8 @@ impl Drain {
         }
     }
 
-    /// The node is to drain, from now on until it ends. `false`: it has no unit of its own, so that no way would be left for
-    /// its answers, and nothing changes.
+    /// The node is to drain, from now on until it ends. `false`: it has no unit of its own, so that
+    /// no way would be left for its answers, and nothing changes.
     pub fn set(&self) -> bool
         ensures { result ≡ self.now.has_own_unit }
     {

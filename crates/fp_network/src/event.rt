@@ -1,4 +1,4 @@
-//! What happened on a network.
+//! Events on a network.
 
 ghost use Rattle.std.specs.Prelude.{◌≡◌, ◌<◌};
 ghost use Rattle.fp_network.specs.Tally.{AreListed, place_of};
@@ -15,7 +15,7 @@ pub enum Closing {
     PeerClosed,
     /// A read or a write failed.
     Failed,
-    /// Another connection came for the unit.
+    /// A later connection took the unit.
     Replaced,
     /// The peer named no unit of the node.
     UnknownUnit,
@@ -36,7 +36,7 @@ pub enum Closing {
 }
 
 impl Closing {
-    /// All reasons, in the order in which their numbers are written.
+    /// All reasons, in the order of their numbers.
     pub const ALL: [Closing; Tally::REASONS] = [
         Closing::PeerClosed,
         Closing::Failed,
@@ -95,15 +95,15 @@ impl fmt::Display for Closing {
     }
 }
 
-/// Each reason has the place in [`Closing::ALL`] that its number has among those of a [`Tally`].
+/// Each reason has the place in [`Closing::ALL`] that its number has in a [`Tally`].
 pub fn reasons_are_listed()
     ensures { AreListed Closing.ALL }
 {}
 
-/// What happened on a network. Connections are numbered from 1 in the order in which they came.
+/// An event on a network. Connections are numbered from 1, in the order of their events `Came`.
 #[derive(Clone, Copy, Debug, PartialEq, Eq)]
 pub enum NetworkEvent {
-    /// A connection came.
+    /// A transfer point connected.
     Came {
         /// The number of the connection.
         connection: u64,

@@ -15,15 +15,16 @@ use std::sync::{Arc, Mutex, Wait};
 use std::time::{Duration, Instant};
 use std::{io, net};
 
-/// How many milliseconds go by at most before it is looked whether the node is to drain, and which connections are late.
+/// After this number of milliseconds at most the thread looks whether the node is to drain, and
+/// which connections are late.
 const LOOK_MILLISECONDS: u64 = 200;
 
-/// What the reading thread waits with.
+/// The poll of the reading thread.
 #[derive(Drop)]
 struct Waiter {
     poll: Poll,
     events: Events,
-    // Room for what is read.
+    // Room for octets that are read.
     room: Vec<u8>,
     // For how long a read of the link waits at most.
     most: Duration,
@@ -31,8 +32,8 @@ struct Waiter {
 
 /// The link of a node: frames that its network brings, and frames that go there.
 ///
-/// One thread reads it, and drives the network while it waits. Any thread may write it and end it. The table at the crate's root
-/// says which thread does what.
+/// One thread reads it, and drives the network while it waits. Any thread may write it and end it.
+/// The list at the crate's root says what each thread does.
 #[derive(Drop)]
 pub struct NetworkLink {
     waiter: Mutex<Waiter>,
@@ -49,7 +50,8 @@ fn no_readiness(_error: io::Error) -> NetworkFault {
 impl NetworkLink {
     /// The link of this node, whose transfer points connect to this listener.
     ///
-    /// [`NetworkFault::NoReadiness`] if the system can't watch sockets; [`NetworkFault::Memory`] if memory runs out.
+    /// [`NetworkFault::NoReadiness`] if the system can't watch sockets; [`NetworkFault::Memory`] if
+    /// memory runs out.
     pub fn new<R: Net + Clock>(
         rt: &R,
         alloc: Global,
@@ -83,7 +85,7 @@ impl NetworkLink {
         })
     }
 
-    /// How many milliseconds went by since it was made. If the clock gives no time, none.
+    /// The number of milliseconds since the link was made, or 0 if the clock gives no time.
     fn time<R: Clock>(&self, rt: &R) -> u64 {
         match self.start.and_then(|start| start.elapsed(rt).ok()) {
             Some(since) => u64::try_from(since.as_millis()).unwrap_or(u64::MAX),
@@ -91,13 +93,13 @@ impl NetworkLink {
         }
     }
 
-    /// For how long a read waits at most from now on, but never longer than a fifth of a second.
+    /// Sets how long a read waits at most, but never longer than a fifth of a second.
     pub fn set_read_timeout<R: Wait>(&self, rt: &R, most: Duration) {
         self.waiter.lock(rt).most = most;
     }
 
-    /// Waits until a socket is ready, for this time at most, reads what is, and writes what waits. The lock of the sockets is
-    /// free while it waits.
+    /// Waits until a socket is ready, for this time at most. Then reads the sockets that are, and
+    /// writes the octets that wait. The lock of the sockets is free during the wait.
     fn drive<R: Wait + Clock>(&self, rt: &R, waiter: &mut Waiter, most: Duration) {
         let most = self.prepare(rt, waiter, most);
         let answer = waiter.poll.poll(&mut waiter.events, Some(most));
@@ -106,16 +108,16 @@ impl NetworkLink {
         sockets.turn(answer, &waiter.events, waiter.room.as_mut_slice(), at);
     }
 
-    /// Watches all sources for what is to be known of them. Returns for how long they are awaited: for this time at most, and a
-    /// fifth of a second.
+    /// Watches all sources. Returns how long the thread must wait for them: at most this time, and
+    /// at most a fifth of a second.
     fn prepare<R: Wait>(&self, rt: &R, waiter: &Waiter, most: Duration) -> Duration {
         let mut sockets = self.sockets.lock(rt);
         sockets.watch_all(waiter.poll.registry());
         sockets.rest(most.min(Duration::from_millis(LOOK_MILLISECONDS)))
     }
 
-    /// Drives the network for this time, before somebody reads the link: connections are accepted and asked for their units, and
-    /// what they send waits for the link.
+    /// Drives the network for this time, before the link is read: connections are accepted and
+    /// asked for their units, and their messages wait for the link.
     pub fn wait<R: Wait + Clock>(&self, rt: &R, most: Duration) {
         let start = Instant::now(rt).ok();
         let mut waiter = self.waiter.lock(rt);
@@ -131,11 +133,12 @@ impl NetworkLink {
         }
     }
 
-    /// Reads frames, whole or in part, that wait for the link. If none do, waits for a while until the network is ready for
-    /// something, and does that. One thread alone reads.
+    /// Reads frames, whole or in part, that wait for the link. If none do, waits for a while until
+    /// the network is ready for something, and does that. You must read from one thread alone.
     ///
-    /// `Ok(0)`: the link ended in both directions; or it ended for writing, and its connections are over, or two seconds went
-    /// by. [`ErrorKind::WouldBlock`]: nothing came. Any other error: the network had a fault, and ended.
+    /// `Ok(0)`: the link ended in both directions; or it ended for writing, and its connections are
+    /// over, or two seconds went by. [`ErrorKind::WouldBlock`]: no frames arrived. Any other error:
+    /// the network had a fault, and ended.
     pub fn read<R: Wait + Clock>(&self, rt: &R, octets: &mut [u8]) -> io::Result<usize>
         ensures { ReadsAtMost result octets.new }
     {
@@ -151,10 +154,11 @@ impl NetworkLink {
         }
     }
 
-    /// Writes frames of the link, whole or in part. Takes all octets; a frame goes out once it is whole.
+    /// Writes frames of the link, whole or in part. Takes all octets; a frame goes out once it is
+    /// whole.
     ///
-    /// [`ErrorKind::BrokenPipe`]: the link ended. Any other error: they are no frames, or memory ran out, and the network
-    /// ended.
+    /// [`ErrorKind::BrokenPipe`]: the link ended. Any other error: they are no frames, or memory
+    /// ran out, and the network ended.
     pub fn write<R: Wait>(&self, rt: &R, octets: &[u8]) -> io::Result<usize>
         ensures { WritesAtMost result octets.now }
     {
@@ -166,7 +170,8 @@ impl NetworkLink {
         answer
     }
 
-    /// Writes frames of the link. Returns the answer, and whether the reading thread has to be woken.
+    /// Writes frames of the link. Returns the answer, and whether the reading thread has to be
+    /// woken.
     fn write_under_lock<R: Wait>(&self, rt: &R, octets: &[u8]) -> (io::Result<usize>, bool)
         ensures { WritesAtMost result.0 octets.now }
     {
@@ -175,17 +180,19 @@ impl NetworkLink {
         (answer, sockets.has_changed())
     }
 
-    /// The link ends. What waits for connections is written, their sending sides are shut then, and what they bring is
-    /// dropped, until all are closed by their peers or two seconds are over. If it ended before, the end of both directions
-    /// closes all connections.
+    /// Ends the link. The octets that wait for connections are written, and then their sending
+    /// sides are shut. Octets that connections bring are dropped, until all are closed by their
+    /// peers or two seconds are over. If the link ended before, the end of both directions closes
+    /// all connections.
     pub fn shutdown<R: Wait + Clock>(&self, rt: &R, how: Shutdown) {
         let at = self.time(rt);
         self.sockets.lock(rt).shut_down(at, how);
         let _ = self.waker.wake();
     }
 
-    /// Once nobody reads or writes the link any more: waits until its end is over, and closes all connections. No more come
-    /// from then on. Ends it first, if that wasn't done.
+    /// Waits until the end of the link is over, and closes all connections. No more are accepted
+    /// from then on. Ends the link first, if that wasn't done. Nobody may read or write the link
+    /// any more.
     ///
     /// The error: why the network ended before its link did.
     pub fn finish<R: Wait + Clock>(&self, rt: &R) -> Result<(), NetworkFault> {
@@ -211,7 +218,7 @@ impl NetworkLink {
         self.sockets.lock(rt).next_event()
     }
 
-    /// Whether a connection is there by which messages of the link go.
+    /// Whether messages of the link have a connection to go by.
     pub fn is_connected<R: Wait>(&self, rt: &R) -> bool {
         self.sockets.lock(rt).is_connected()
     }

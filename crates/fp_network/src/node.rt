@@ -1,23 +1,28 @@
 //! A node, as its network and its link see it.
 //!
-//! | File | What it has |
+//! | File | Contents |
 //! |---|---|
-//! | `node.rt` | [`Node`]: its connections as they come and are over |
-//! | `course.rt` | how connections go on to their end: the node drains, time goes by, the link is down |
-//! | `output.rt` | what waits to be written to connections and to the link |
-//! | `receiving.rt` | what comes of the octets of connections |
-//! | `forwarding.rt` | what comes of the octets of the link |
+//! | `node.rt` | [`Node`]: its connections, from the first to the last moment |
+//! | `course.rt` | how connections end: the node drains, time goes by, the link is down |
+//! | `output.rt` | octets that wait to be written to connections and to the link |
+//! | `receiving.rt` | octets of connections, and the messages in them |
+//! | `forwarding.rt` | octets of the link, and the messages in them |
 
-ghost use Rattle.std.specs.Prelude.{◌≡◌, ℕ, List, [], ◌∷◌, false, true, None, Some, ◌<◌, is_none, IfOk, MatchOption, length};
+ghost use Rattle.std.specs.Prelude.{◌≡◌, ℕ, List, [], ◌∷◌, false, true, None, Some, ◌<◌, is_none, IfOk, IfSome, OnOk, MatchOption, length};
 ghost use Rattle.std.specs.Option.{option_map};
 ghost use Rattle.fp_adaptor.specs.declared.setting.Setting.{Setting};
 ghost use Rattle.fp_adaptor.specs.Adaptor.{Led};
 ghost use Rattle.fp_adaptor.specs.Connections.{IsFirst};
+ghost use Rattle.fp_adaptor.specs.Counted.{count_after};
+ghost use Rattle.fp_adaptor.specs.declared.counts.Counted.{Counted};
 ghost use Rattle.fp_adaptor.specs.History.{Event, connection_after, ended};
 ghost use Rattle.fp_network.specs.Changes.{closing};
+ghost use Rattle.fp_network.specs.Counting.{NewsGrow, Notes, number_of};
+ghost use Rattle.fp_network.specs.Endings.{IsTied, KeepsTied};
 ghost use Rattle.fp_network.specs.Node.{Came, IsFree, IsFull, LeavesLink, LeavesOthers, connection_at, connection_in, for_link, is_over_at, setting_of};
 ghost use Rattle.fp_network.specs.declared.event.Closing.{Closing};
-ghost use Rattle.fp_network.specs.Tally.{closed_once_more, closings_of, refused_unless};
+ghost use Rattle.fp_network.specs.declared.event.NetworkEvent.TheVariants.{Gone};
+ghost use Rattle.fp_network.specs.Tally.{closed_once_more, closings_of, messages_of, refused_unless};
 ghost use Rattle.fp_network.specs.Units.{own_first};
 
 mod course;
@@ -36,7 +41,7 @@ use std::alloc::{AllocError, Global};
 use std::collections::VecDeque;
 use std::net::SocketAddr;
 
-/// Places without connections, as many as a node has.
+/// The places of a node, all free.
 fn free_places(alloc: Global) -> Result<Vec<Option<Connection>>, AllocError>
     ensures count { IfOk result (λ places. length places.items ≡ 16) }
     ensures free { IfOk result (λ places. (place : ℕ) → connection_at places.items place ≡ None) }
@@ -50,8 +55,8 @@ fn free_places(alloc: Global) -> Result<Vec<Option<Connection>>, AllocError>
 
 /// A node: the connections of its network, and its link.
 ///
-/// Connections have places, from 0 up to [`Node::PLACES`]. A place is taken when a connection comes, and free again
-/// once it was cleared. Moments are milliseconds of one clock.
+/// Connections have places, from 0 up to [`Node::PLACES`]. A new connection takes a free place. The
+/// place is free again once it was cleared. Moments are milliseconds of one clock.
 #[derive(Drop)]
 pub struct Node {
     alloc: Global,
@@ -59,7 +64,7 @@ pub struct Node {
     names: Vec<UnitName>,
     adaptor: Adaptor,
     places: Vec<Option<Connection>>,
-    // The stream that comes from the link, and what waits to be written to it.
+    // The stream of the link's octets, and the octets that wait to be written to the link.
     from_link: FrameReader,
     to_link: Waiting,
     is_draining: bool,
@@ -79,7 +84,11 @@ impl Node {
         ensures count { IfOk result (λ node. length node.places.items ≡ 16) }
         ensures names { IfOk result (λ node. node.names.items ≡ own_first plan.entry.units.now) }
         ensures led { IfOk result (λ node. Led node.adaptor (setting_of plan.entry) []) }
+        ensures tied { IfOk result (λ node. IsTied node []) }
         ensures stays { IfOk result (λ node. node.is_draining ≡ false) }
+        ensures from_link { IfOk result (λ node. node.from_link ≡ []) }
+        ensures counts { IfOk result (λ node. (why : Closing) → closings_of node.tally why ≡ 0) }
+        ensures news { IfOk result (λ node. node.news.items ≡ []) }
     {
         let names = own_first(alloc, plan.units)?;
         let setting = Setting {
@@ -108,21 +117,26 @@ impl Node {
         ensures places { self.new.places ≡ self.old.places }
         ensures adaptor { self.new.adaptor ≡ self.old.adaptor }
         ensures tally { self.new.tally ≡ self.old.tally }
+        ensures news { Notes event self.old self.new }
     {
         let _ = self.news.push_back(event);
     }
 
-    /// The next event, if there is one that wasn't returned yet.
+    /// The next event, if there is one that wasn't returned yet. Events are returned in order.
     pub fn next_event(&mut self) -> Option<NetworkEvent>
         ensures link { LeavesLink self.old self.new }
         ensures places { self.new.places ≡ self.old.places }
         ensures adaptor { self.new.adaptor ≡ self.old.adaptor }
         ensures tally { self.new.tally ≡ self.old.tally }
+        ensures tied { KeepsTied self.old self.new }
+        ensures news { MatchOption result
+            ((self.old.news.items ≡ []) × (self.new.news.items ≡ []))
+            (λ event. self.old.news.items ≡ event ∷ self.new.news.items) }
     {
         self.news.pop_front()
     }
 
-    /// The place of the connection by which a message of the link goes now.
+    /// The place of the connection that a message of the link would take now.
     pub fn sends_by(&self) -> Option<usize>
         ensures { (setting : Setting) (history : List Event) → Led self.now.adaptor setting history
             → IsFirst (connection_after history) result }
@@ -131,7 +145,15 @@ impl Node {
     }
 
     /// The numbers so far.
-    pub fn tally(&self) -> Tally {
+    pub fn tally(&self) -> Tally
+        ensures closings { (why : Closing)
+            → closings_of result why ≡ closings_of self.now.tally why }
+        ensures messages { (setting : Setting) (history : List Event)
+            → Led self.now.adaptor setting history
+            → (kind : Counted) → messages_of result kind ≡ count_after history kind }
+        ensures connections { result.connections ≡ self.now.tally.connections }
+        ensures skipped { result.skipped ≡ self.now.tally.skipped }
+    {
         self.tally.with_messages(&self.adaptor)
     }
 
@@ -176,18 +198,22 @@ impl Node {
         ensures link { LeavesLink self.old self.new }
         ensures adaptor { self.new.adaptor ≡ self.old.adaptor }
         ensures tally { self.new.tally ≡ self.old.tally }
+        ensures news { self.new.news ≡ self.old.news }
     {
         self.places[place] = Some(connection);
     }
 
-    /// A connection came from this address, at this time. Returns its place; `None` if all are taken, and then it is to
-    /// be closed. `Err`: memory ran out.
+    /// A transfer point connected from this address, at this time. Returns the place of the
+    /// connection, or `None` if all places are taken; then you must close it. `Err`: memory ran
+    /// out.
     pub fn came(&mut self, peer: SocketAddr, at: u64) -> Result<Option<usize>, AllocError>
         ensures came { IfOk result (Came at self.old self.new) }
         ensures counted { IfOk result (λ place. (other : Closing) → closings_of self.new.tally other
             ≡ refused_unless place other (closings_of self.old.tally other)) }
         ensures link { LeavesLink self.old self.new }
         ensures adaptor { self.new.adaptor ≡ self.old.adaptor }
+        ensures news { NewsGrow self.old self.new }
+        ensures tied { OnOk result (KeepsTied self.old self.new) }
     {
         let number = self.tally.connection();
         let event = NetworkEvent::Came {
@@ -212,13 +238,14 @@ impl Node {
         ensures adaptor { self.new.adaptor ≡ self.old.adaptor }
         ensures counted { (other : Closing) → closings_of self.new.tally other
             ≡ closed_once_more why other (closings_of self.old.tally other) }
+        ensures news { Notes (Gone connection why) self.old self.new }
     {
         self.tally.closing(why);
         self.note(NetworkEvent::Gone { connection, why });
     }
 
-    /// The connection in a place is to be closed for this reason, if there is one that isn't to be closed already, and then
-    /// its number is returned.
+    /// The connection in a place is to be closed for this reason, if there is one that isn't to be
+    /// closed already, and then its number is returned.
     fn finish(&mut self, place: usize, why: Closing) -> Option<u64>
         ensures here { connection_in self.new place
             ≡ option_map (closing why) (connection_in self.old place) }
@@ -228,6 +255,9 @@ impl Node {
         ensures tally { self.new.tally ≡ self.old.tally }
         ensures number { MatchOption result (is_over_at self.old place ≡ true)
             (λ number. is_over_at self.old place ≡ false) }
+        ensures is { IfSome result (λ number.
+            number_of (connection_in self.old place) ≡ Some number) }
+        ensures news { self.new.news ≡ self.old.news }
     {
         let Some(slot) = self.places.get_mut(place) else {
             return None;
@@ -244,8 +274,8 @@ impl Node {
         Some(number)
     }
 
-    /// The connection in a place is to be closed for this reason, if there is one that isn't to be closed already. The
-    /// link has it no longer.
+    /// The connection in a place is to be closed for this reason, if there is one that isn't to be
+    /// closed already. The link has it no longer.
     pub fn close(&mut self, place: usize, why: Closing)
         ensures here { connection_in self.new place
             ≡ option_map (closing why) (connection_in self.old place) }
@@ -259,6 +289,11 @@ impl Node {
             → closings_of self.new.tally other
             ≡ closed_once_more why other (closings_of self.old.tally other) }
         ensures uncounted { is_over_at self.old place ≡ true → self.new.tally ≡ self.old.tally }
+        ensures reported { is_over_at self.old place ≡ false → (number : ℕ)
+            × (number_of (connection_in self.old place) ≡ Some number)
+            × Notes (Gone number why) self.old self.new }
+        ensures silent { is_over_at self.old place ≡ true → self.new.news ≡ self.old.news }
+        ensures tied { KeepsTied self.old self.new }
     {
         let Some(number) = self.finish(place, why) else {
             return;
@@ -284,6 +319,9 @@ impl Node {
         ensures others { LeavesOthers place self.old self.new }
         ensures link { LeavesLink self.old self.new }
         ensures adaptor { self.new.adaptor ≡ self.old.adaptor }
+        ensures tally { self.new.tally ≡ self.old.tally }
+        ensures news { self.new.news ≡ self.old.news }
+        ensures tied { KeepsTied self.old self.new }
     {
         if place < self.places.len() {
             self.places[place] = None;

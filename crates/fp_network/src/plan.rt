@@ -7,7 +7,7 @@ use fp_ipa::UnitName;
 use fp_sccp::Address;
 use std::alloc::{AllocError, Global};
 
-/// The addresses between which the link goes, and the units that a transfer point may name.
+/// The addresses at both ends of the link, and the units that a transfer point may name.
 #[derive(Clone, Copy)]
 pub struct Plan<'x> {
     /// The node's own address. Messages are sent from it, and those to its subsystem are taken.
@@ -18,7 +18,7 @@ pub struct Plan<'x> {
     pub units: &'x [UnitName],
 }
 
-/// The names in the order in which their connections are preferred for sending: the common one last.
+/// The names in the order of preference for sending: the common one last.
 pub(crate) fn own_first(alloc: Global, units: &[UnitName]) -> Result<Vec<UnitName>, AllocError>
     ensures { IfOk result (λ names. names.items ≡ own_first units.now) }
 {

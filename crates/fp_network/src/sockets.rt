@@ -1,6 +1,6 @@
-//! A node with its sockets: the end of its link, and what is watched and written.
+//! A node with its sockets: the end of its link, and the sockets that are watched and written.
 //!
-//! `turn.rt` has what the thread that reads the link does once sockets are ready.
+//! `turn.rt` has the work of the reading thread once sockets are ready.
 
 ghost use Rattle.std.specs.Prelude.{IfSome};
 ghost use Rattle.std.specs.Io.{ReadsAtMost, WritesAtMost};
@@ -20,10 +20,10 @@ use std::time::Duration;
 /// How many octets one read of a connection may give.
 pub(crate) const MOST_READ: usize = 16_384;
 
-/// The place of the listener among the sources, after those of connections.
+/// The place of the listener among the sources, after all connections.
 const LISTENER: usize = Node::PLACES;
 
-/// The place of what wakes the reading thread.
+/// The place of the waker of the reading thread.
 pub(crate) const WAKER: usize = LISTENER + 1;
 
 /// How many sources there are.
@@ -34,7 +34,8 @@ pub(crate) const SOURCES: usize = WAKER + 1;
 enum End {
     /// The link is read and written.
     Open,
-    /// The link ended at this time. Octets that wait for connections are written, and octets that they bring are dropped.
+    /// The link ended at this time. Octets that wait for connections are written, and octets that
+    /// they bring are dropped.
     Ended(u64),
     /// All connections are to be closed.
     Over,
@@ -62,7 +63,7 @@ pub(crate) struct Sockets {
     has_changed: bool,
     // No place from this one on has a socket.
     used: usize,
-    // When it was looked last which connections are late, in milliseconds.
+    // The time of the last look for late connections, in milliseconds.
     looked_at: u64,
 }
 
@@ -103,7 +104,7 @@ impl Sockets {
         self.node.next_event()
     }
 
-    /// Whether a connection is there by which messages of the link go.
+    /// Whether messages of the link have a connection to go by.
     pub(crate) fn is_connected(&self) -> bool {
         self.node.sends_by().is_some()
     }
@@ -153,7 +154,7 @@ impl Sockets {
         }
     }
 
-    /// All connections are closed, and no more come.
+    /// Closes all connections, and accepts no more.
     pub(crate) fn close(&mut self) {
         self.end = End::Over;
         self.listener = None;
@@ -161,7 +162,7 @@ impl Sockets {
         self.clear_places();
     }
 
-    /// What a read of the link gives now. `None`: nothing waits for it.
+    /// The result of a read of the link now. `None`: nothing waits for the link.
     pub(crate) fn answer(&mut self, octets: &mut [u8]) -> Option<io::Result<usize>>
         ensures { IfSome result (λ answer. ReadsAtMost answer octets.new) }
     {
@@ -181,7 +182,8 @@ impl Sockets {
         Some(Ok(count))
     }
 
-    /// Frames of the link, of which the last may be there in part. They are written as far as the sockets take them.
+    /// Takes frames of the link, the last one perhaps in part. They are written as far as the
+    /// sockets take them.
     pub(crate) fn write_from_link(&mut self, octets: &[u8]) -> io::Result<usize>
         ensures { WritesAtMost result octets.now }
     {
@@ -196,12 +198,14 @@ impl Sockets {
         Ok(octets.len())
     }
 
-    /// Whether connections are read: so much doesn't wait for the link; or it ended, and what comes is dropped.
+    /// Whether connections are read: few octets wait for the link, or the link ended and the octets
+    /// of connections are dropped.
     fn reads(&self) -> bool {
         self.end != End::Open || !self.node.is_link_busy()
     }
 
-    /// Shuts the sending side of all connections, once the link ended and nothing waits to be written.
+    /// Shuts the sending side of all connections, once the link ended and nothing waits to be
+    /// written.
     fn shut_if_quiet(&mut self) {
         if self.has_shut || self.end == End::Open || !self.node.is_quiet() {
             return;
@@ -209,7 +213,7 @@ impl Sockets {
         self.has_shut = true;
         for slot in &self.streams {
             if let Some(socket) = slot {
-                // One that fails is closed in the end all the same.
+                // If a call fails, the connection is still closed in the end.
                 let _ = socket.stream.shutdown(Shutdown::Write);
             }
         }
@@ -225,7 +229,7 @@ impl Sockets {
             return;
         };
         if let Some(socket) = slot {
-            // One that fails is closed in the end all the same.
+            // If a call fails, the connection is still closed in the end.
             let _ = socket.stream.shutdown(Shutdown::Write);
         }
     }
@@ -243,7 +247,7 @@ impl Sockets {
         }
     }
 
-    /// Watches all sources for what is to be known of them.
+    /// Watches all sources for the readiness that is wanted.
     pub(crate) fn watch_all(&mut self, registry: &Registry) {
         self.has_changed = false;
         for place in 0..self.used {
@@ -276,8 +280,8 @@ impl Sockets {
         listener.has_input && !self.is_refused && self.end == End::Open
     }
 
-    /// For how long sources are awaited: not at all, if one is to be read that was found ready before, and else for this
-    /// time.
+    /// For how long sources are awaited: not at all if a source that is ready is to be read, else
+    /// for this time.
     pub(crate) fn rest(&self, most: Duration) -> Duration {
         let mut is_ready = self.is_to_accept();
         for place in 0..self.used {
@@ -290,8 +294,8 @@ impl Sockets {
         }
     }
 
-    /// Writes to each connection what waits for it, as much as its socket takes, and shuts its sending side if that is due
-    /// then.
+    /// Writes the octets that wait to each connection, as far as its socket takes them. Then shuts
+    /// its sending side if that is due.
     fn write_all(&mut self) {
         for place in 0..self.used {
             self.write(place);
@@ -308,7 +312,7 @@ impl Sockets {
         slot.is_some() && self.node.is_over(place)
     }
 
-    /// Writes to the connection in a place what waits for it, as much as it takes.
+    /// Writes the octets that wait to the connection in a place, as far as it takes them.
     fn write(&mut self, place: usize) {
         let octets = self.node.waiting(place);
         if octets.is_empty() {

@@ -5,9 +5,9 @@ use mio::{Interest, Registry, Token};
 use std::io;
 use std::io::ErrorKind;
 
-/// A socket among the sources of a poll. It is watched for input from when it came, and for room for output only while it had
-/// none for what waits. The system says once that it is ready: so that is noted until a read or a write finds that it isn't any
-/// more.
+/// A socket among the sources of a poll. The socket is always watched for input. It is watched for
+/// room for output only after a write found none. The system reports only once that a socket is
+/// ready. So that is noted until a read or a write finds that it isn't ready any more.
 #[derive(Drop)]
 pub(crate) struct Source<S: mio::event::Source + Drop> {
     pub(crate) stream: S,
@@ -32,7 +32,7 @@ impl<S: mio::event::Source + Drop> Source<S> {
         }
     }
 
-    /// What is to be known of it.
+    /// The readiness that it is watched for.
     fn wanted(&self) -> Interest {
         if self.is_full {
             Interest::READABLE | Interest::WRITABLE
@@ -41,7 +41,7 @@ impl<S: mio::event::Source + Drop> Source<S> {
         }
     }
 
-    /// Watches it for what is to be known of it. `false`: the system refuses.
+    /// Watches it for the readiness that is wanted. `false`: the system refuses.
     pub(crate) fn watch(&mut self, registry: &Registry, place: usize) -> bool {
         let wanted = self.wanted();
         if self.watched == Some(wanted) {
@@ -56,7 +56,7 @@ impl<S: mio::event::Source + Drop> Source<S> {
         answer.is_ok()
     }
 
-    /// The source is ready for what an event says.
+    /// Notes the readiness that an event reports.
     pub(crate) fn note(&mut self, event: &Event) {
         self.has_input |= event.is_readable() || event.is_read_closed() || event.is_error();
         self.is_ended |= event.is_read_closed() || event.is_error();
@@ -68,13 +68,13 @@ impl<S: mio::event::Source + Drop> Source<S> {
         self.has_input = self.is_ended;
     }
 
-    /// A read failed that is to be made again once there is input, or, if a signal ended it, at once.
+    /// A read failed. It is to be retried once there is input, or at once if a signal ended it.
     pub(crate) fn awaits_input(&mut self, error: &io::Error) {
         self.has_input = matches!(error.kind(), ErrorKind::Interrupted);
     }
 }
 
-/// Whether a call that failed is to be made again once the socket is ready.
+/// Whether a call that failed is to be retried once the socket is ready.
 pub(crate) fn is_again(error: &io::Error) -> bool {
     match error.kind() {
         ErrorKind::WouldBlock | ErrorKind::Interrupted => true,

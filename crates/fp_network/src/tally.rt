@@ -1,15 +1,19 @@
 //! The numbers of a network.
 
-ghost use Rattle.std.specs.Prelude.{◌≡◌};
-ghost use Rattle.fp_adaptor.specs.Counted.{one_more};
+ghost use Rattle.std.specs.Prelude.{◌≡◌, List, get_or};
+ghost use Rattle.fp_adaptor.specs.declared.counts.Counted.{Counted};
+ghost use Rattle.fp_adaptor.specs.declared.setting.Setting.{Setting};
+ghost use Rattle.fp_adaptor.specs.Adaptor.{Led};
+ghost use Rattle.fp_adaptor.specs.Counted.{count_after, one_more, place_of};
+ghost use Rattle.fp_adaptor.specs.History.{Event};
 ghost use Rattle.fp_network.specs.declared.event.Closing.{Closing};
-ghost use Rattle.fp_network.specs.Tally.{closed_once_more, closings_of};
+ghost use Rattle.fp_network.specs.Tally.{closed_once_more, closings_of, messages_of};
 
 use crate::Closing;
 use fp_adaptor::{Adaptor, Counted};
 use std::fmt;
 
-/// The kinds of messages that are counted, in the order in which they are written.
+/// The kinds of messages that are counted, in the order of their numbers.
 const KINDS: [Counted; 10] = [
     Counted::HandedOn,
     Counted::Segment,
@@ -39,8 +43,28 @@ fn word_of(kind: Counted) -> &'static str {
     }
 }
 
-/// The numbers of a network so far: of messages by their kind, of connections, of those that were closed by the reason,
-/// and of the messages of IPA that were skipped. A number stays at the greatest one of 64 bits.
+/// The number of messages of each kind that an adaptor counted, each at the place of its kind in
+/// [`KINDS`].
+fn messages_of(adaptor: &Adaptor) -> [u64; 10]
+    ensures { (setting : Setting) (history : List Event) → Led adaptor.now setting history
+        → (kind : Counted) → get_or result (place_of kind) 0 ≡ count_after history kind }
+{
+    [
+        adaptor.count(Counted::HandedOn),
+        adaptor.count(Counted::Segment),
+        adaptor.count(Counted::OtherSubsystem),
+        adaptor.count(Counted::OtherSender),
+        adaptor.count(Counted::Management),
+        adaptor.count(Counted::Returned),
+        adaptor.count(Counted::Unreadable),
+        adaptor.count(Counted::Sent),
+        adaptor.count(Counted::Dropped),
+        adaptor.count(Counted::TooLong),
+    ]
+}
+
+/// The numbers of a network so far: messages by their kind, connections, closed connections by the
+/// reason, and messages of IPA that were skipped. A number stays at the greatest one of 64 bits.
 #[derive(Clone, Copy, Debug, PartialEq, Eq)]
 pub struct Tally {
     messages: [u64; 10],
@@ -50,7 +74,7 @@ pub struct Tally {
 }
 
 impl Tally {
-    /// How many reasons there are for which a connection is closed.
+    /// The number of reasons for closing a connection.
     pub const REASONS: usize = 11;
 
     /// Nothing was counted.
@@ -67,7 +91,7 @@ impl Tally {
         }
     }
 
-    /// One more connection came. Returns its number.
+    /// Counts one more connection. Returns its number.
     pub(crate) fn connection(&mut self) -> u64
         ensures number { result ≡ one_more self.old.connections }
         ensures counted { self.new ≡ record self.old { connections = result } }
@@ -92,12 +116,18 @@ impl Tally {
         self.skipped = self.skipped.saturating_add(1);
     }
 
-    /// The same numbers, with those of messages that an adaptor has.
-    pub(crate) fn with_messages(self, adaptor: &Adaptor) -> Tally {
+    /// The same numbers, with the adaptor's numbers of messages.
+    pub(crate) fn with_messages(self, adaptor: &Adaptor) -> Tally
+        ensures messages { (setting : Setting) (history : List Event)
+            → Led adaptor.now setting history
+            → (kind : Counted) → messages_of result kind ≡ count_after history kind }
+        ensures closings { (why : Closing) → closings_of result why ≡ closings_of self why }
+        ensures connections { result.connections ≡ self.connections }
+        ensures skipped { result.skipped ≡ self.skipped }
+    {
         let mut tally = self;
-        for (place, kind) in KINDS.iter().enumerate() {
-            tally.messages[place] = adaptor.count(*kind);
-        }
+        let messages = messages_of(adaptor);
+        tally.messages = messages;
         tally
     }
 

@@ -1,4 +1,5 @@
-//! How the connections of a node go on to their end: the node drains, time goes by, or the link is down.
+//! How the connections of a node go on to their end: the node drains, time goes by, or the link is
+//! down.
 
 ghost use Rattle.std.specs.Prelude.{◌≡◌, List, false, true, None, Some, ◌<◌, length};
 ghost use Rattle.std.specs.Bool.{Decides};
@@ -8,21 +9,24 @@ ghost use Rattle.fp_adaptor.specs.Adaptor.{Led};
 ghost use Rattle.fp_adaptor.specs.History.{Event};
 ghost use Rattle.fp_network.specs.declared.event.Closing.TheVariants.{LinkDown};
 ghost use Rattle.fp_network.specs.Changes.{closing, draining, shutting, ticking, writing};
-ghost use Rattle.fp_network.specs.Endings.{EndsClosed};
+ghost use Rattle.fp_network.specs.Counting.{Counts};
+ghost use Rattle.fp_network.specs.Endings.{EndsClosed, KeepsTied};
 ghost use Rattle.fp_network.specs.Node.{ChangesEach, IsToShut, LeavesLink, LeavesOthers, connection_in, for_link, is_draining_at, overdue_of, waiting_at};
 
 use crate::{Closing, Node};
 use fp_adaptor::Setting;
 
 impl Node {
-    /// The node drains since this time. If the connection in a place is that of the common unit, its writing side is to be
-    /// shut.
+    /// The node drains since this time. If the connection in a place has the common unit, its
+    /// writing side is to be shut.
     fn drain_place(&mut self, place: usize, at: u64)
-        ensures here { connection_in self.new place
-            ≡ option_map (draining (length self.old.names.items) at) (connection_in self.old place) }
+        ensures here { connection_in self.new place ≡ option_map
+            (draining (length self.old.names.items) at) (connection_in self.old place) }
         ensures others { LeavesOthers place self.old self.new }
         ensures link { LeavesLink self.old self.new }
         ensures adaptor { self.new.adaptor ≡ self.old.adaptor }
+        ensures tally { self.new.tally ≡ self.old.tally }
+        ensures news { self.new.news ≡ self.old.news }
     {
         let units = self.names.len();
         let Some(slot) = self.places.get_mut(place) else {
@@ -34,19 +38,23 @@ impl Node {
         connection.drain(units, at);
     }
 
-    /// The node drains since this time. The connection of the common unit is to be shut for writing.
+    /// The node drains since this time. The connection of the common unit is to be shut for
+    /// writing.
     fn drain_places(&mut self, at: u64)
         ensures each { ChangesEach (draining (length self.old.names.items) at) self.old self.new }
         ensures link { LeavesLink self.old self.new }
         ensures adaptor { self.new.adaptor ≡ self.old.adaptor }
+        ensures tally { self.new.tally ≡ self.old.tally }
+        ensures news { self.new.news ≡ self.old.news }
     {
         for place in 0..self.places.len() {
             self.drain_place(place, at);
         }
     }
 
-    /// The node is to drain, from this time on, if it doesn't already: no connection is accepted for the common unit, and
-    /// the one that is there is to be shut for writing. What it still brings is taken for two seconds at most.
+    /// The node is to drain, from this time on, if it doesn't already. No connection is accepted
+    /// for the common unit, and the one that is there is to be shut for writing. Its messages are
+    /// still taken for two seconds at most.
     pub fn drain(&mut self, at: u64)
         ensures drains { self.new.is_draining ≡ true }
         ensures each { ChangesEach (draining (length self.old.names.items) at) self.old self.new }
@@ -55,18 +63,22 @@ impl Node {
         ensures names { self.new.names.items ≡ self.old.names.items }
         ensures count { length self.new.places.items ≡ length self.old.places.items }
         ensures adaptor { self.new.adaptor ≡ self.old.adaptor }
+        ensures tally { self.new.tally ≡ self.old.tally }
+        ensures news { self.new.news ≡ self.old.news }
+        ensures tied { KeepsTied self.old self.new }
     {
         self.drain_places(at);
         self.is_draining = true;
     }
 
-    /// Whether the writing side of the connection in a place is to be shut now: its node drains, nothing waits for it, and
-    /// what the link sends goes by another one.
+    /// Whether the writing side of the connection in a place is to be shut now: its node drains,
+    /// nothing waits for it, and messages of the link go by another connection.
     pub fn is_to_shut(&self, place: usize) -> bool
         ensures idle { result ≡ true → length (waiting_at self.now place) ≡ 0 }
         ensures drains { result ≡ true → is_draining_at self.now place ≡ true }
         ensures decides { (setting : Setting) (history : List Event)
-            → Led self.now.adaptor setting history → Decides result (IsToShut self.now history place) }
+            → Led self.now.adaptor setting history
+            → Decides result (IsToShut self.now history place) }
     {
         let Some(connection) = self.at(place) else {
             return false;
@@ -83,12 +95,17 @@ impl Node {
         }
     }
 
-    /// The writing side of the connection in a place was shut, if it was to be. Nothing more is written to it.
+    /// The writing side of the connection in a place was shut, if it was to be. Nothing more is
+    /// written to it.
     pub fn shut(&mut self, place: usize)
-        ensures here { connection_in self.new place ≡ option_map shutting (connection_in self.old place) }
+        ensures here { connection_in self.new place
+            ≡ option_map shutting (connection_in self.old place) }
         ensures others { LeavesOthers place self.old self.new }
         ensures link { LeavesLink self.old self.new }
         ensures adaptor { self.new.adaptor ≡ self.old.adaptor }
+        ensures tally { self.new.tally ≡ self.old.tally }
+        ensures news { self.new.news ≡ self.old.news }
+        ensures tied { KeepsTied self.old self.new }
     {
         let Some(slot) = self.places.get_mut(place) else {
             return;
@@ -116,6 +133,7 @@ impl Node {
         ensures others { LeavesOthers place self.old self.new }
         ensures ended { EndsClosed self.old self.new }
         ensures link { LeavesLink self.old self.new }
+        ensures counted { Counts self.old self.new }
     {
         let Some(why) = self.overdue(place, at) else {
             return;
@@ -123,12 +141,14 @@ impl Node {
         self.close(place, why);
     }
 
-    /// Time goes by: connections that aren't active after five seconds are to be closed, and the connection of the common
-    /// unit two seconds after its node began to drain.
+    /// Time goes by: connections that aren't active after five seconds are to be closed, and the
+    /// connection of the common unit two seconds after its node began to drain.
     pub fn tick(&mut self, at: u64)
         ensures each { ChangesEach (ticking at) self.old self.new }
         ensures ended { EndsClosed self.old self.new }
         ensures link { LeavesLink self.old self.new }
+        ensures counted { Counts self.old self.new }
+        ensures tied { KeepsTied self.old self.new }
     {
         for place in 0..self.places.len() {
             self.tick_place(place, at);
@@ -140,6 +160,8 @@ impl Node {
         ensures each { ChangesEach (closing LinkDown) self.old self.new }
         ensures ended { EndsClosed self.old self.new }
         ensures link { LeavesLink self.old self.new }
+        ensures counted { Counts self.old self.new }
+        ensures tied { KeepsTied self.old self.new }
     {
         for place in 0..self.places.len() {
             self.close(place, Closing::LinkDown);

@@ -1,4 +1,4 @@
-//! What a node makes of the octets of its connections.
+//! Octets of connections, and the messages in them.
 
 ghost use Rattle.std.specs.Prelude.{◌≡◌, List, ◌++◌, None, Some, ◌<◌, IfErr, IfOk, OnErr, OnOk, option_map};
 ghost use Rattle.fp_adaptor.specs.declared.adaptor.Outcome.{Outcome};
@@ -7,8 +7,9 @@ ghost use Rattle.fp_adaptor.specs.Adaptor.{Led, Receives};
 ghost use Rattle.fp_adaptor.specs.History.{Event};
 ghost use Rattle.fp_frames.specs.Frame.{framed};
 ghost use Rattle.fp_network.specs.Frames.{frames_of, framed_if};
-ghost use Rattle.fp_network.specs.Endings.{Activates};
+ghost use Rattle.fp_network.specs.Endings.{Activates, KeepsTied};
 ghost use Rattle.fp_network.specs.Changes.{IsLonger};
+ghost use Rattle.fp_network.specs.Counting.{Counts, NewsGrow};
 ghost use Rattle.fp_network.specs.Receiving.{FaultIn, Hearing, NextIn, NextOrEnd, Results, Steps, answering, feeding, reader_of};
 ghost use Rattle.fp_network.specs.Stepping.{ArrivesIn};
 ghost use Rattle.fp_network.specs.Node.{Grows, Keeps, LeavesLink, LeavesOthers, WaitsOn, connection_in, for_link, frames_for, waiting_at};
@@ -40,7 +41,7 @@ fn push_frame_if(waiting: &mut Waiting, frame: &Option<Frame>) -> Result<(), All
     push_frame(waiting, frame)
 }
 
-/// Adds the frames of what an adaptor hands on to octets, in their order.
+/// Adds the frames of messages that an adaptor hands on to octets, in their order.
 fn push_frames(waiting: &mut Waiting, frames: &HandedOn) -> Result<(), AllocError>
     ensures { OnOk result (waiting.new ≡ waiting.old ++ frames_of frames.now) }
 {
@@ -54,6 +55,8 @@ impl Node {
         ensures link { LeavesLink self.old self.new }
         ensures places { self.new.places ≡ self.old.places }
         ensures adaptor { self.new.adaptor ≡ self.old.adaptor }
+        ensures tally { self.new.tally ≡ self.old.tally }
+        ensures news { NewsGrow self.old self.new }
     {
         let Some(connection) = self.at(place) else {
             return;
@@ -65,14 +68,17 @@ impl Node {
         }
     }
 
-    /// A unit has the connection in a place from now on. The earlier one of the unit is to be closed.
+    /// A unit has the connection in a place from now on. The earlier one of the unit is to be
+    /// closed.
     fn replace(&mut self, place: usize, unit: usize)
         ensures came { (setting : Setting) (history : List Event)
-            → Led self.old.adaptor setting history → Activates place unit self.old setting history self.new }
+            → Led self.old.adaptor setting history
+            → Activates place unit self.old setting history self.new }
         ensures rest { WaitsOn self.old self.new }
         ensures reads { reader_of (connection_in self.new place)
             ≡ reader_of (connection_in self.old place) }
         ensures link { LeavesLink self.old self.new }
+        ensures counted { Counts self.old self.new }
     {
         let Some(earlier) = self.adaptor.came(place, unit) else {
             return;
@@ -80,20 +86,23 @@ impl Node {
         self.close(earlier, Closing::Replaced);
     }
 
-    /// The connection in a place carries messages for a unit from now on. The earlier one of the unit is to be closed.
+    /// The connection in a place carries messages for a unit from now on. The earlier one of the
+    /// unit is to be closed.
     fn activate(&mut self, place: usize, unit: usize)
         ensures came { (setting : Setting) (history : List Event)
-            → Led self.old.adaptor setting history → Activates place unit self.old setting history self.new }
+            → Led self.old.adaptor setting history
+            → Activates place unit self.old setting history self.new }
         ensures rest { WaitsOn self.old self.new }
         ensures reads { reader_of (connection_in self.new place)
             ≡ reader_of (connection_in self.old place) }
         ensures link { LeavesLink self.old self.new }
+        ensures counted { Counts self.old self.new }
     {
         self.replace(place, unit);
         self.note_active(place, unit);
     }
 
-    /// A message of SCCP came by the connection in a place.
+    /// Takes a message of SCCP from the connection in a place.
     fn unit_data(&mut self, place: usize, octets: &[u8]) -> Result<(), AllocError>
         ensures handed_on { OnOk result ((setting : Setting) (history : List Event)
             → Led self.old.adaptor setting history → (outcome : Outcome) × (more : List Event)
@@ -107,6 +116,7 @@ impl Node {
         ensures grows { OnOk result (Grows (for_link self.old) (for_link self.new)) }
         ensures rest { OnOk result (WaitsOn self.old self.new) }
         ensures keeps { Keeps self.old self.new }
+        ensures counted { OnOk result (Counts self.old self.new) }
     {
         match self.adaptor.received(place, octets)? {
             Outcome::HandedOn(frames) => push_frames(&mut self.to_link, &frames),
@@ -115,7 +125,8 @@ impl Node {
         }
     }
 
-    /// The next message of the connection in a place that is there whole, if there is one and it isn't to be closed.
+    /// The next message of the connection in a place that is there whole, if there is one and it
+    /// isn't to be closed.
     fn next_message(&mut self, place: usize) -> Result<Option<IpaMessage>, IpaFault>
         ensures next { IfOk result (NextIn (connection_in self.old place)
             (connection_in self.new place)) }
@@ -125,6 +136,8 @@ impl Node {
         ensures others { LeavesOthers place self.old self.new }
         ensures link { LeavesLink self.old self.new }
         ensures adaptor { self.new.adaptor ≡ self.old.adaptor }
+        ensures tally { self.new.tally ≡ self.old.tally }
+        ensures news { self.new.news ≡ self.old.news }
     {
         let Some(slot) = self.places.get_mut(place) else {
             return Ok(None);
@@ -135,12 +148,13 @@ impl Node {
         connection.next_message()
     }
 
-    /// The next message of the connection in a place. If it is too long to be taken, there is none, and the connection is to
-    /// be closed.
+    /// The next message of the connection in a place. If it is too long to be taken, there is none,
+    /// and the connection is to be closed.
     fn next_or_close(&mut self, place: usize) -> Result<Option<IpaMessage>, AllocError>
         ensures next { IfOk result (NextOrEnd place self.old self.new) }
         ensures rest { WaitsOn self.old self.new }
         ensures link { LeavesLink self.old self.new }
+        ensures counted { OnOk result (Counts self.old self.new) }
     {
         match self.next_message(place) {
             Ok(message) => Ok(message),
@@ -152,16 +166,19 @@ impl Node {
         }
     }
 
-    /// What a message of the connection in a place comes to. If too much waits for it already, it is to be closed, since
-    /// the message may have to be answered.
+    /// The effect of a message of the connection in a place. If a megabyte waits for the
+    /// connection, it is to be closed, since the message may have to be answered.
     fn step(&mut self, place: usize, message: &IpaMessage) -> Result<Arrival, AllocError>
         ensures here { OnOk result (IsLonger (waiting_at self.old place)
             (waiting_at self.new place)) }
         ensures arrives { IfOk result (ArrivesIn self.old.names.items self.old.is_draining
-            message.now.stream message.now.octets (connection_in self.old place) (connection_in self.new place)) }
+            message.now.stream message.now.octets (connection_in self.old place)
+            (connection_in self.new place)) }
         ensures others { LeavesOthers place self.old self.new }
         ensures link { LeavesLink self.old self.new }
         ensures adaptor { self.new.adaptor ≡ self.old.adaptor }
+        ensures tally { self.new.tally ≡ self.old.tally }
+        ensures news { self.new.news ≡ self.old.news }
     {
         let Some(slot) = self.places.get_mut(place) else {
             return Ok(Arrival::Nothing);
@@ -175,7 +192,7 @@ impl Node {
         Ok(arrival)
     }
 
-    /// A message of these octets by the connection in a place comes to this.
+    /// Carries out the effect of a message of these octets, from the connection in a place.
     fn arrive(&mut self, place: usize, arrival: Arrival, octets: &[u8]) -> Result<(), AllocError>
         ensures comes_to { OnOk result (Results place octets.now arrival self.old self.new) }
         ensures reads { OnOk result (reader_of (connection_in self.new place)
@@ -183,6 +200,7 @@ impl Node {
         ensures grows { OnOk result (Grows (for_link self.old) (for_link self.new)) }
         ensures rest { OnOk result (WaitsOn self.old self.new) }
         ensures keeps { Keeps self.old self.new }
+        ensures counted { OnOk result (Counts self.old self.new) }
     {
         match arrival {
             Arrival::Nothing => Ok(()),
@@ -202,15 +220,17 @@ impl Node {
         }
     }
 
-    /// A message came by the connection in a place.
+    /// Takes a message from the connection in a place.
     fn take(&mut self, place: usize, message: &IpaMessage) -> Result<(), AllocError>
         ensures steps { OnOk result ((setting : Setting) (history : List Event)
-            → Led self.old.adaptor setting history → Steps setting history place message.now self.old self.new) }
+            → Led self.old.adaptor setting history
+            → Steps setting history place message.now self.old self.new) }
         ensures reads { OnOk result (reader_of (connection_in self.new place)
             ≡ reader_of (connection_in self.old place)) }
         ensures grows { OnOk result (Grows (for_link self.old) (for_link self.new)) }
         ensures rest { OnOk result (WaitsOn self.old self.new) }
         ensures keeps { Keeps self.old self.new }
+        ensures counted { OnOk result (Counts self.old self.new) }
     {
         let arrival = self.step(place, message)?;
         self.arrive(place, arrival, message.octets.as_slice())?;
@@ -225,6 +245,8 @@ impl Node {
         ensures others { LeavesOthers place self.old self.new }
         ensures link { LeavesLink self.old self.new }
         ensures adaptor { self.new.adaptor ≡ self.old.adaptor }
+        ensures tally { self.new.tally ≡ self.old.tally }
+        ensures news { self.new.news ≡ self.old.news }
     {
         let Some(slot) = self.places.get_mut(place) else {
             return Ok(());
@@ -236,12 +258,15 @@ impl Node {
         Ok(())
     }
 
-    /// Octets came by the connection in a place. `Err`: memory ran out, and the network must end.
+    /// Takes each message of the connection in a place that is whole, once these octets follow the
+    /// earlier ones. `Err`: memory ran out, and the network must end.
     pub fn received(&mut self, place: usize, octets: &[u8]) -> Result<(), AllocError>
         ensures hears { OnOk result (Hearing place octets.now self.old self.new) }
         ensures grows { OnOk result (Grows (for_link self.old) (for_link self.new)) }
         ensures rest { OnOk result (WaitsOn self.old self.new) }
         ensures keeps { Keeps self.old self.new }
+        ensures counted { OnOk result (Counts self.old self.new) }
+        ensures tied { OnOk result (KeepsTied self.old self.new) }
     {
         self.feed(place, octets)?;
         loop {

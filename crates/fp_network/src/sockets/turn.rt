@@ -1,4 +1,4 @@
-//! A turn of a node with its sockets: what is accepted, read and written.
+//! A turn of a node with its sockets: connections are accepted, read and written.
 
 use crate::keep_alive::watch_transfer_point;
 use crate::sockets::{End, LISTENER, Sockets};
@@ -15,7 +15,7 @@ use std::net::SocketAddr;
 const MILLISECONDS_TO_END: u64 = 2_000;
 
 impl Sockets {
-    /// The connection in a place, if there is one, is ready for what an event says.
+    /// Notes for the connection in a place, if there is one, the readiness that an event reports.
     fn note_all(&mut self, events: &Events) {
         for event in events.iter() {
             let place = usize::from(event.token());
@@ -32,7 +32,8 @@ impl Sockets {
         }
     }
 
-    /// Reads what is ready, by these events and those before, and writes what waits. `Err`: the network must end.
+    /// Reads the sockets that are ready by these and earlier events, and writes the octets that
+    /// wait. `Err`: the network must end.
     fn take_turn(&mut self, events: &Events, room: &mut [u8], at: u64) -> Result<(), NetworkFault> {
         self.note_all(events);
         if self.is_to_accept() {
@@ -60,8 +61,8 @@ impl Sockets {
         Ok(())
     }
 
-    /// Reads what is ready, by these events and those before, and writes what waits. If the system gave no events, or memory
-    /// runs out, the network ends.
+    /// Reads the sockets that are ready by these and earlier events, and writes the octets that
+    /// wait. If the system gave no events, or memory runs out, the network ends.
     pub(crate) fn turn(
         &mut self,
         answer: io::Result<()>,
@@ -89,8 +90,8 @@ impl Sockets {
         }
     }
 
-    /// Accepts connections, as long as some wait. If the system refuses one, as without descriptors, the next is accepted
-    /// after a turn.
+    /// Accepts connections, as long as some wait. If the system refuses one, as without
+    /// descriptors, the next is accepted after a turn.
     fn accept(&mut self, at: u64) -> Result<(), AllocError> {
         for _ in 0..Node::PLACES {
             let Some(listener) = &mut self.listener else {
@@ -111,12 +112,13 @@ impl Sockets {
         Ok(())
     }
 
-    /// A connection came.
+    /// Accepts a connection.
     fn came(&mut self, stream: TcpStream, peer: SocketAddr, at: u64) -> Result<(), AllocError> {
         let Some(place) = self.node.came(peer, at)? else {
             return Ok(());
         };
-        // Each message goes out at once. If the system refuses that, it goes out all the same.
+        // Each message goes out at once. If the system refuses that option, a message may wait for
+        // an acknowledgement.
         let _ = stream.set_nodelay(true);
         watch_transfer_point(&stream);
         if place < self.streams.len() {
@@ -142,7 +144,7 @@ impl Sockets {
                 if count < most {
                     socket.has_no_more();
                 }
-                // Nothing is made of what comes after the link ended.
+                // Octets that arrive after the link ended are dropped.
                 if self.end == End::Open {
                     let octets = room.get(..count).unwrap_or_default();
                     self.node.received(place, octets)?;

@@ -4,6 +4,7 @@ use Rattle.fp_adaptor.specs.Adaptor.{Led}
 use Rattle.fp_network.specs.Node.{ended_at}
 use Rattle.fp_network.proofs.Ending.{closes_as}
 use Rattle.fp_network.proofs.Waits.{stays_more, waits_same}
+use Rattle.fp_network.proofs.Tallied.{counts_more, counts_places}
 use Rattle.fp_network.proofs.node.Node.activate.Goals as goal
 
 pub returns-clause-came : goal.returns-clause-came
@@ -23,3 +24,9 @@ returns-clause-rest c =
 
 pub returns-clause-reads : goal.returns-clause-reads
 returns-clause-reads c = rw c.note_active.ensures.places c.replace.ensures.reads
+
+pub returns-clause-counted : goal.returns-clause-counted
+returns-clause-counted c =
+    let note = c.note_active.ensures in
+    counts_more c.args.self.now c.replace.new.self c.note_active.new.self c.replace.ensures.link.count c.replace.ensures.counted
+    (counts_places _ _ note.places note.tally note.news)

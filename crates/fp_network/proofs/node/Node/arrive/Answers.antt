@@ -1,11 +1,15 @@
-use Rattle.std.proofs.Common.{[], refl, sym, subst}
+use Rattle.std.proofs.Common.{[], ap, refl, sym, subst}
 use Rattle.std.proofs.lemmas.Result.{on_ok_weaker}
 use Rattle.fp_network.specs.declared.arrival.Arrival.{Arrival}
+use Rattle.fp_network.specs.declared.tally.Tally.{Tally}
 use Rattle.fp_network.specs.Node.{ended_unless, is_over_at}
 use Rattle.fp_network.specs.Receiving.{Results}
+use Rattle.fp_network.specs.Tally.{closings_of}
 use Rattle.fp_network.proofs.Growing.{grows_none}
 use Rattle.fp_network.proofs.Hearing.{closed_event, reads_closed, results_active}
 use Rattle.fp_network.proofs.Waits.{stays_same, waits_closed}
+use Rattle.fp_network.proofs.News.{news_same}
+use Rattle.fp_network.proofs.Tallied.{counts_none, counts_one, counts_same}
 use Rattle.fp_network.proofs.node.Node.arrive.Goals as goal
 
 pub returns-in-Nothing-clause-grows : goal.returns-in-Nothing-clause-grows
@@ -66,3 +70,15 @@ returns-in-Close-clause-comes_to c =
 pub returns-in-Close-clause-reads : goal.returns-in-Close-clause-reads
 returns-in-Close-clause-reads c =
     reads_closed _ c.args.place c.args.place c.args.self.now c.close.new.self c.close.ensures.here c.close.ensures.others
+
+pub returns-in-Nothing-clause-counted : goal.returns-in-Nothing-clause-counted
+returns-in-Nothing-clause-counted c = counts_none _ _ refl refl refl
+
+pub returns-in-Skipped-clause-counted : goal.returns-in-Skipped-clause-counted
+returns-in-Skipped-clause-counted c = counts_same _ _ (λ why. ap (λ (t : Tally). closings_of t why) c.skip.ensures) (λ place. refl) (news_same _ _ refl)
+
+pub returns-in-Close-clause-counted : goal.returns-in-Close-clause-counted
+returns-in-Close-clause-counted c =
+    let close = c.close.ensures in
+    counts_one _ c.args.place c.args.self.now c.close.new.self close.here close.others close.uncounted close.counted close.silent
+    close.reported

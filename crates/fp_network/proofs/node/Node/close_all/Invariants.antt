@@ -1,5 +1,6 @@
 use Rattle.fp_network.specs.declared.event.Closing.TheVariants.{LinkDown}
 use Rattle.fp_network.specs.Changes.{closing}
+use Rattle.fp_network.specs.Counting.{Counts}
 use Rattle.fp_network.specs.Endings.{EndsClosed}
 use Rattle.fp_network.specs.Node.{LeavesLink}
 use Rattle.fp_network.proofs.Changing.{Changing}
@@ -11,4 +12,5 @@ invariant-loop-place l = record {
   so : Changing (closing LinkDown) l.place l.fn.self l.self;
   ended : EndsClosed l.fn.self l.self;
   link : LeavesLink l.fn.self l.self;
+  counted : Counts l.fn.self l.self;
 }

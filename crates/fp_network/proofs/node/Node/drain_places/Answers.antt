@@ -4,7 +4,7 @@ use Rattle.fp_network.proofs.Leaves.{leaves_more, leaves_same}
 use Rattle.fp_network.proofs.node.Node.drain_places.Goals as goal
 
 pub loop-place-init : goal.loop-place-init
-loop-place-init c = record { so = changing_none _ _; link = leaves_same _; adaptor = refl }
+loop-place-init c = record { so = changing_none _ _; link = leaves_same _; adaptor = refl; tally = refl; news = refl }
 
 pub loop-place-preserved : goal.loop-place-preserved
 loop-place-preserved c =
@@ -14,6 +14,8 @@ loop-place-preserved c =
       so = changing_more _ _ _ _ _ inv.so (rw inv.link.names at call.here) call.others;
       link = leaves_more _ _ _ inv.link call.link;
       adaptor = call.adaptor ∙ inv.adaptor;
+      tally = call.tally ∙ inv.tally;
+      news = call.news ∙ inv.news;
     }
 
 pub returns-clause-each : goal.returns-clause-each

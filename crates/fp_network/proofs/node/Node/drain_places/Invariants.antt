@@ -10,4 +10,6 @@ invariant-loop-place l = record {
   so : Changing (draining (length l.fn.self.names.items) l.at) l.place l.fn.self l.self;
   link : LeavesLink l.fn.self l.self;
   adaptor : l.self.adaptor ≡ l.fn.self.adaptor;
+  tally : l.self.tally ≡ l.fn.self.tally;
+  news : l.self.news ≡ l.fn.self.news;
 }

@@ -4,19 +4,22 @@ use Rattle.std.proofs.lemmas.List.{get_or_past}
 use Rattle.std.proofs.lemmas.Option.{none-some}
 use Rattle.fp_adaptor.specs.Connections.{connection_at}
 use Rattle.fp_network.specs.Node.{connection_in, refusal_of}
-use Rattle.fp_network.proofs.Ending.{closes_more, closes_none, closes_one, refused_more}
+use Rattle.fp_network.proofs.Ending.{refused_more}
+use Rattle.fp_network.proofs.Way.{way_more, way_none}
 use Rattle.fp_network.proofs.First.{first_one, none_so_far, same_some}
 use Rattle.fp_network.proofs.Leaves.{leaves_more, leaves_same}
 use Rattle.fp_network.proofs.Tied.{tied_closes}
 use Rattle.fp_network.proofs.Waits.{stays_more, stays_same, waits_closed}
+use Rattle.fp_network.proofs.Tallied.{counts_more, counts_none, counts_one}
 use Rattle.fp_network.proofs.node.Node.make_way.Goals as goal
 
 pub loop-unit-init : goal.loop-unit-init
 loop-unit-init c = record {
-  ended = closes_none _;
+  ended = way_none _;
   refused = λ place. inl refl;
   rest = stays_same _;
   link = leaves_same _;
+  counted = counts_none _ _ refl refl refl;
   none = λ setting history led tied unit below. absurd (omega (arith, below));
 }
 
@@ -26,17 +29,21 @@ loop-unit-preserved c =
     let close = c.close.ensures in
     let place = c.in-Some.place in
     record {
-      ended = closes_more c.args.self.now c.loop-unit.self c.close.new.self inv.ended
-          (closes_one _ _ c.loop-unit.self c.close.new.self close.here close.others close.stays close.ended);
+      ended = way_more c.args.self.now c.loop-unit.self c.close.new.self _ place inv.ended close.here close.others close.stays close.ended
+          c.in-Some.ensures;
       refused = refused_more _ _ c.args.self.now c.loop-unit.self c.close.new.self inv.refused
           (sym c.refusal.ensures ∙ c.in-Some-refusal.is) close.here close.others;
       rest = stays_more _ _ _ inv.rest (waits_closed _ _ c.loop-unit.self c.close.new.self close.here close.others);
       link = leaves_more _ _ _ inv.link close.link;
+      counted = counts_more c.args.self.now c.loop-unit.self c.close.new.self inv.link.count inv.counted
+          (counts_one _ _ c.loop-unit.self c.close.new.self close.here close.others close.uncounted close.counted close.silent
+          close.reported);
       none = λ setting history led tied.
-          let closed = inv.ended.0 in
-          let before = inv.ended.2 setting history led in
+          let way = inv.ended in
+          let closed = way.0 in
+          let before = way.2 setting history led in
           let first = c.in-Some.ensures setting (closed ++ history) before in
-          let lives = tied_closes c.args.self.now c.loop-unit.self history closed inv.ended.1 tied first.0 place first.1 in
+          let lives = tied_closes c.args.self.now c.loop-unit.self history closed way.1 tied first.0 place first.1 in
           let after = close.ended lives setting (closed ++ history) before in
           none_so_far _ _ (closed ++ history) place c.loop-unit._unit before.connections after.connections first (inv.none setting history led tied);
     }

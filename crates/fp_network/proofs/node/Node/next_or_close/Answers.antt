@@ -3,10 +3,12 @@ use Rattle.std.proofs.Common.{Bool, ◌++◌, inr, refl, subst, ap, ◌∙◌}
 use Rattle.std.specs.Option.{option_map}
 use Rattle.fp_adaptor.specs.Adaptor.{Led}
 use Rattle.fp_network.specs.Changes.{closing}
+use Rattle.fp_network.specs.Counting.{course_of}
 use Rattle.fp_network.specs.Node.{ended_unless, is_over_at, is_over_of}
 use Rattle.fp_network.proofs.Hearing.{closed_event, next_or_end, same_led}
 use Rattle.fp_network.proofs.Leaves.{leaves_more}
 use Rattle.fp_network.proofs.Waits.{stays_more, waits_closed, waits_same_at}
+use Rattle.fp_network.proofs.Tallied.{counts_at, counts_more, counts_one, courses_next}
 use Rattle.fp_network.proofs.node.Node.next_or_close.Goals as goal
 
 pub returns-in-Ok-clause-rest : goal.returns-in-Ok-clause-rest
@@ -45,3 +47,17 @@ returns-in-Err-TooLong-clause-next c setting history led =
           (closed_event c.args.place c.next_message.new.self c.close.new.self setting history close.stays close.ended
           (same_led _ _ setting history next.adaptor led)),
     )
+
+pub returns-in-Ok-clause-counted : goal.returns-in-Ok-clause-counted
+returns-in-Ok-clause-counted c =
+    let next = c.next_message.ensures in
+    counts_at c.args.place c.args.self.now c.next_message.new.self (courses_next _ _ c.in-Ok.message c.in-Ok.ensures.next) next.others next.tally next.news
+
+pub returns-in-Err-TooLong-clause-counted : goal.returns-in-Err-TooLong-clause-counted
+returns-in-Err-TooLong-clause-counted c =
+    let next = c.next_message.ensures in
+    let close = c.close.ensures in
+    counts_more c.args.self.now c.next_message.new.self c.close.new.self next.link.count
+    (counts_at c.args.place c.args.self.now c.next_message.new.self (ap course_of c.in-Err-TooLong.ensures.kept) next.others next.tally next.news)
+    (counts_one TooLong c.args.place c.next_message.new.self c.close.new.self close.here close.others close.uncounted close.counted close.silent
+    close.reported)

@@ -1,8 +1,11 @@
-use Rattle.std.proofs.Common.{[]}
+use Rattle.std.proofs.Common.{[], ap, ◌∙◌}
+use Rattle.fp_network.specs.Counting.{course_of}
 use Rattle.fp_network.proofs.Growing.{grows_more, grows_none}
 use Rattle.fp_network.proofs.Hearing.{heard_all, heard_more, same_led}
 use Rattle.fp_network.proofs.Leaves.{keeps_left, keeps_more}
 use Rattle.fp_network.proofs.Waits.{stays_more, waits_same_at}
+use Rattle.fp_network.proofs.Tallied.{counts_at, counts_more, courses_fed}
+use Rattle.fp_network.proofs.Keeping.{keeps_hearing}
 use Rattle.fp_network.proofs.node.Node.received.Goals as goal
 
 pub loop-message-init : goal.loop-message-init
@@ -21,6 +24,7 @@ loop-message-init c =
       grows = rw feed.link.for_link (grows_none _);
       rest = waits_same_at c.args.place c.args.self.now c.feed.new.self feed.here feed.others;
       keeps = keeps_left c.args.self.now c.feed.new.self feed.link;
+      counted = counts_at c.args.place c.args.self.now c.feed.new.self (ap course_of feed.fed ∙ courses_fed _ _) feed.others feed.tally feed.news;
     }
 
 -- a message is dropped in two ways
@@ -38,6 +42,9 @@ loop-message-preserved c =
       rest = stays_more _ _ _ inv.rest (stays_more _ _ _ next.rest take.rest);
       keeps = keeps_more c.args.self.now c.loop-message.self c.take.new.self inv.keeps
           (keeps_more c.loop-message.self c.next_or_close.new.self c.take.new.self (keeps_left _ _ next.link) c.take.ensures.keeps);
+      counted = counts_more c.args.self.now c.loop-message.self c.take.new.self inv.keeps.count inv.counted
+          (counts_more c.loop-message.self c.next_or_close.new.self c.take.new.self next.link.count c.in_ok-message.ensures.counted
+          take.counted);
     }
 
 pub loop-message-preserved-in_ok-take : goal.loop-message-preserved-in_ok-take
@@ -54,6 +61,9 @@ loop-message-preserved-in_ok-take c =
       rest = stays_more _ _ _ inv.rest (stays_more _ _ _ next.rest take.rest);
       keeps = keeps_more c.args.self.now c.loop-message.self c.take.new.self inv.keeps
           (keeps_more c.loop-message.self c.next_or_close.new.self c.take.new.self (keeps_left _ _ next.link) c.take.ensures.keeps);
+      counted = counts_more c.args.self.now c.loop-message.self c.take.new.self inv.keeps.count inv.counted
+          (counts_more c.loop-message.self c.next_or_close.new.self c.take.new.self next.link.count c.in_ok-message.ensures.counted
+          take.counted);
     }
 
 pub returns-in_default-clause-hears : goal.returns-in_default-clause-hears
@@ -71,3 +81,12 @@ pub returns-in_default-clause-keeps : goal.returns-in_default-clause-keeps
 returns-in_default-clause-keeps c =
     keeps_more c.args.self.now c.loop-message.self c.next_or_close.new.self c.loop-message.invariant.keeps
     (keeps_left _ _ c.next_or_close.ensures.link)
+
+pub returns-in_default-clause-counted : goal.returns-in_default-clause-counted
+returns-in_default-clause-counted c =
+    let inv = c.loop-message.invariant in
+    counts_more c.args.self.now c.loop-message.self c.next_or_close.new.self inv.keeps.count inv.counted c.in_ok-message.ensures.counted
+
+pub returns-in_default-clause-tied : goal.returns-in_default-clause-tied
+returns-in_default-clause-tied c =
+    keeps_hearing c.args.place c.args.octets.now c.args.self.now c.next_or_close.new.self (returns-in_default-clause-hears c)

@@ -3,6 +3,7 @@ use Rattle.fp_network.specs.declared.event.Closing.TheVariants.{Replaced}
 use Rattle.fp_network.proofs.Ending.{closed_led}
 use Rattle.fp_network.proofs.Hearing.{reads_closed}
 use Rattle.fp_network.proofs.Waits.{stays_same, waits_closed}
+use Rattle.fp_network.proofs.Tallied.{counts_none, counts_one}
 use Rattle.fp_network.proofs.node.Node.replace.Goals as goal
 
 pub returns-in_default-clause-came : goal.returns-in_default-clause-came
@@ -31,3 +32,12 @@ returns-clause-rest c =
 pub returns-clause-reads : goal.returns-clause-reads
 returns-clause-reads c =
     reads_closed Replaced c.in-Some.earlier c.args.place c.args.self.now c.close.new.self c.close.ensures.here c.close.ensures.others
+
+pub returns-in_default-clause-counted : goal.returns-in_default-clause-counted
+returns-in_default-clause-counted c = counts_none _ _ refl refl refl
+
+pub returns-clause-counted : goal.returns-clause-counted
+returns-clause-counted c =
+    let close = c.close.ensures in
+    counts_one Replaced c.in-Some.earlier c.args.self.now c.close.new.self close.here close.others close.uncounted close.counted close.silent
+    close.reported

@@ -1,6 +1,8 @@
 use Rattle.std.proofs.Common.{◌∙◌}
 use Rattle.fp_network.proofs.Hearing.{reads_arrived, same_led}
+use Rattle.fp_network.proofs.Leaves.{keeps_left, keeps_more}
 use Rattle.fp_network.proofs.Waits.{stays_more, waits_longer_at}
+use Rattle.fp_network.proofs.Tallied.{counts_at, counts_more, courses_arrived}
 use Rattle.fp_network.proofs.node.Node.take.Goals as goal
 
 pub returns-clause-grows : goal.returns-clause-grows
@@ -23,8 +25,16 @@ returns-clause-steps c setting history led =
       only = record { others = step.others; link = step.link; adaptor = step.adaptor };
       more = so.0;
       comes_to = so.1;
+      keeps = keeps_more _ _ _ (keeps_left _ _ step.link) c.in_ok-arrive.ensures.keeps;
       led = so.2;
     }
 
 pub returns-clause-reads : goal.returns-clause-reads
 returns-clause-reads c = c.in_ok-arrive.ensures.reads ∙ reads_arrived _ _ _ _ _ _ _ c.in_ok-arrival.ensures.arrives
+
+pub returns-clause-counted : goal.returns-clause-counted
+returns-clause-counted c =
+    let step = c.in_ok-arrival.ensures in
+    counts_more c.args.self.now c.step.new.self c.arrive.new.self step.link.count
+    (counts_at c.args.place c.args.self.now c.step.new.self (courses_arrived _ _ _ _ _ _ _ step.arrives) step.others step.tally step.news)
+    c.in_ok-arrive.ensures.counted

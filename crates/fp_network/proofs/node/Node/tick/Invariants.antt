@@ -1,4 +1,5 @@
 use Rattle.fp_network.specs.Changes.{ticking}
+use Rattle.fp_network.specs.Counting.{Counts}
 use Rattle.fp_network.specs.Endings.{EndsClosed}
 use Rattle.fp_network.specs.Node.{LeavesLink}
 use Rattle.fp_network.proofs.Changing.{Changing}
@@ -10,4 +11,5 @@ invariant-loop-place l = record {
   so : Changing (ticking l.at) l.place l.fn.self l.self;
   ended : EndsClosed l.fn.self l.self;
   link : LeavesLink l.fn.self l.self;
+  counted : Counts l.fn.self l.self;
 }

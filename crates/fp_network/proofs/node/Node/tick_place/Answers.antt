@@ -1,6 +1,7 @@
-use Rattle.std.proofs.Common.{sym, ◌∙◌}
+use Rattle.std.proofs.Common.{refl, sym, ◌∙◌}
 use Rattle.fp_network.proofs.Ending.{closes_none, closes_one}
 use Rattle.fp_network.proofs.Ticking.{ticking_none, ticking_some}
+use Rattle.fp_network.proofs.Tallied.{counts_none, counts_one}
 use Rattle.fp_network.proofs.node.Node.tick_place.Goals as goal
 
 pub returns-in_default-clause-here : goal.returns-in_default-clause-here
@@ -16,3 +17,12 @@ pub returns-clause-ended : goal.returns-clause-ended
 returns-clause-ended c =
     let close = c.close.ensures in
     closes_one _ _ _ _ close.here close.others close.stays close.ended
+
+pub returns-in_default-clause-counted : goal.returns-in_default-clause-counted
+returns-in_default-clause-counted c = counts_none _ _ refl refl refl
+
+pub returns-clause-counted : goal.returns-clause-counted
+returns-clause-counted c =
+    let close = c.close.ensures in
+    counts_one _ _ _ _ close.here close.others close.uncounted close.counted close.silent
+    close.reported

@@ -3,11 +3,13 @@ use Rattle.std.proofs.lemmas.Result.{on_ok_weaker}
 use Rattle.fp_adaptor.specs.declared.adaptor.Adaptor.{Adaptor}
 use Rattle.fp_adaptor.specs.declared.adaptor.Outcome.TheVariants as outcomes
 use Rattle.fp_adaptor.specs.Adaptor.{Led}
+use Rattle.fp_network.specs.Counting.{course_of}
 use Rattle.fp_network.specs.Node.{connection_in}
 use Rattle.fp_network.specs.Receiving.{reader_of}
 use Rattle.fp_network.proofs.Hearing.{reads_sent}
 use Rattle.fp_network.proofs.Growing.{grown_by, on_ok}
 use Rattle.fp_network.proofs.Waits.{sending_adds, stays_same, waits_change}
+use Rattle.fp_network.proofs.Tallied.{counts_at, counts_none, courses_sent}
 use Rattle.fp_network.proofs.node.Node.unit_data.Goals as goal
 
 pub returns-in-HandedOn-clause-handed_on : goal.returns-in-HandedOn-clause-handed_on
@@ -54,3 +56,16 @@ returns-in-HandedOn-clause-reads c = on_ok c.push_frames.result _ refl
 pub returns-in-Answered-clause-reads : goal.returns-in-Answered-clause-reads
 returns-in-Answered-clause-reads c =
     on_ok_weaker c.send.result (λ here. ap reader_of here ∙ reads_sent _ (connection_in c.args.self.now c.args.place)) c.send.ensures.here
+
+pub returns-in-HandedOn-clause-counted : goal.returns-in-HandedOn-clause-counted
+returns-in-HandedOn-clause-counted c = on_ok c.push_frames.result _ (counts_none _ _ refl refl refl)
+
+pub returns-in-Answered-clause-counted : goal.returns-in-Answered-clause-counted
+returns-in-Answered-clause-counted c =
+    let send = c.send.ensures in
+    on_ok_weaker c.send.result (λ here.
+    counts_at c.args.place c.args.self.now c.send.new.self (ap course_of here ∙ courses_sent _ (connection_in c.args.self.now c.args.place))
+    send.others send.tally send.news) send.here
+
+pub returns-in-Nothing-clause-counted : goal.returns-in-Nothing-clause-counted
+returns-in-Nothing-clause-counted c = counts_none _ _ refl refl refl

@@ -1,0 +1,68 @@
+-- How the connections that a call closes are counted and reported.
+use Rattle.std.specs.Prelude.{◌≡◌, ℕ, zero, suc, ◌==◌, Bool, true, false, not, ◌&&◌, if◌then◌else◌, List, [], ◌∷◌, ◌++◌, ◌⊎◌, Option, Some, None, length}
+use Rattle.fp_adaptor.specs.Counted.{one_more}
+use Rattle.fp_network.specs.declared.connection.Connection.{Connection}
+use Rattle.fp_network.specs.declared.course.Course.{Course}
+use Rattle.fp_network.specs.declared.event.Closing.{Closing}
+use Rattle.fp_network.specs.declared.event.NetworkEvent.{NetworkEvent}
+use Rattle.fp_network.specs.declared.node.Node.{Node}
+use Rattle.fp_network.specs.Course.{closing_of}
+use Rattle.fp_network.specs.Node.{connection_in, is_over_at}
+use Rattle.fp_network.specs.Tally.{closings_of, place_of}
+
+-- how far the connection in a place is from its end, if there is one
+abbrev pub course_of : Option Connection → Option Course
+course_of None = None
+course_of (Some own) = Some own.course
+
+abbrev pub course_at : Node → ℕ → Option Course
+course_at node place = course_of (connection_in node place)
+
+-- why a connection is to be closed, if there is one and it is
+abbrev pub reason_of : Option Connection → Option Closing
+reason_of None = None
+reason_of (Some own) = closing_of own.course
+
+-- it is this reason
+abbrev pub is_reason : Closing → Option Closing → Bool
+is_reason why None = false
+is_reason why (Some other) = place_of why == place_of other
+
+-- a call closes the connection in a place for this reason: it wasn't to be closed before
+abbrev pub closes_for : Closing → Node → Node → ℕ → Bool
+closes_for why old new place =
+    not (is_over_at old place) && is_reason why (reason_of (connection_in new place))
+
+-- a number once one more is counted, if it is so
+abbrev pub counted_if : Bool → ℕ → ℕ
+counted_if is count = if is then one_more count else count
+
+-- a number once one more is counted for each of the places below this one that are such
+abbrev pub counted_below : ℕ → (ℕ → Bool) → ℕ → ℕ
+counted_below zero are count = count
+counted_below (suc place) are count = counted_if (are place) (counted_below place are count)
+
+-- the events that weren't returned are still the next ones, and others may follow them
+pub record NewsGrow (old new : Node) : Type 0 where
+  pub more : List NetworkEvent
+  pub grow : new.news.items ≡ old.news.items ++ more
+
+-- this event follows the others; or no event does, as when memory runs out for it
+abbrev pub Notes : NetworkEvent → Node → Node → Type 0
+Notes event old new =
+    (new.news.items ≡ old.news.items ++ event ∷ []) ⊎ (new.news.items ≡ old.news.items)
+
+-- the number of a connection, if there is one
+abbrev pub number_of : Option Connection → Option ℕ
+number_of None = None
+number_of (Some own) = Some own.number
+
+-- Each connection that a call closes is counted once, for its reason. One that was to be closed before still is, for the
+-- same reason, and isn't counted. Events only follow those that weren't returned.
+pub record Counts (old new : Node) : Type 0 where
+  pub each :
+      (why : Closing)
+      → closings_of new.tally why
+      ≡ counted_below (length old.places.items) (closes_for why old new) (closings_of old.tally why)
+  pub stay : (place : ℕ) → is_over_at old place ≡ true → course_at new place ≡ course_at old place
+  pub news : NewsGrow old new
