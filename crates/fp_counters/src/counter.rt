@@ -1,22 +1,22 @@
-//! What is counted on a link.
+//! The events that are counted on a link.
 
 ghost use Rattle.std.specs.Prelude.{◌≡◌, ◌<◌};
 ghost use Rattle.fp_counters.specs.Counter.{AreListed, all_counters, most_counters, place_of};
 
-/// An event that is counted on a link: of a message that came, of its dialogues, or of what was sent.
+/// An event that is counted on a link: of a received message, of its dialogues, or of a sent frame.
 #[derive(Clone, Copy, Debug, PartialEq, Eq)]
 pub enum Counter {
-    /// A Begin came.
+    /// A Begin was received.
     Begins,
-    /// A Continue came.
+    /// A Continue was received.
     Continues,
-    /// An End came.
+    /// An End was received.
     Ends,
-    /// An Abort came.
+    /// An Abort was received.
     Aborts,
-    /// A Unidirectional came.
+    /// A Unidirectional was received.
     Unidirectionals,
-    /// Octets came whose first one is that of no message.
+    /// A message with an unknown tag was received.
     UnknownMessages,
     /// A Begin opened a dialogue.
     Opened,
@@ -28,13 +28,16 @@ pub enum Counter {
     Discarded,
     /// A message was refused, and an Abort of the provider waits to be sent, with cause 0, unrecognized message type.
     RefusedUnknownMessage,
-    /// The same with cause 1, unrecognized transaction identifier.
+    /// A message was refused, and an Abort of the provider waits to be sent, with cause 1, unrecognized transaction
+    /// identifier.
     RefusedUnknownTransaction,
-    /// The same with cause 2, badly formatted transaction portion.
+    /// A message was refused, and an Abort of the provider waits to be sent, with cause 2, badly formatted transaction
+    /// portion.
     RefusedBadTransaction,
-    /// The same with cause 3, incorrect transaction portion.
+    /// A message was refused, and an Abort of the provider waits to be sent, with cause 3, incorrect transaction
+    /// portion.
     RefusedIncorrectTransaction,
-    /// The same with cause 4, resource limitation.
+    /// A message was refused, and an Abort of the provider waits to be sent, with cause 4, resource limitation.
     RefusedLimit,
     /// Memory ran out for a message.
     OutOfMemory,
@@ -72,23 +75,23 @@ pub enum Counter {
     EndedByService,
     /// An Abort of the provider was sent, with cause 0, unrecognized message type.
     SentUnknownMessage,
-    /// The same with cause 1, unrecognized transaction identifier.
+    /// An Abort of the provider was sent, with cause 1, unrecognized transaction identifier.
     SentUnknownTransaction,
-    /// The same with cause 2, badly formatted transaction portion.
+    /// An Abort of the provider was sent, with cause 2, badly formatted transaction portion.
     SentBadTransaction,
-    /// The same with cause 3, incorrect transaction portion.
+    /// An Abort of the provider was sent, with cause 3, incorrect transaction portion.
     SentIncorrectTransaction,
-    /// The same with cause 4, resource limitation.
+    /// An Abort of the provider was sent, with cause 4, resource limitation.
     SentLimit,
     /// An Invoke of Connect was sent.
     Connect,
     /// An Invoke of ReleaseCall was sent, with cause 3, no route to destination.
     ReleaseNoRoute,
-    /// The same with cause 17, user busy.
+    /// An Invoke of ReleaseCall was sent, with cause 17, user busy.
     ReleaseBusy,
-    /// The same with cause 19, no answer from user.
+    /// An Invoke of ReleaseCall was sent, with cause 19, no answer from user.
     ReleaseNoAnswer,
-    /// The same with cause 21, call rejected.
+    /// An Invoke of ReleaseCall was sent, with cause 21, call rejected.
     ReleaseRejected,
     /// An Invoke of RequestReportBCSMEvent was sent.
     RequestReport,
@@ -98,33 +101,33 @@ pub enum Counter {
     ActivityTest,
     /// A ReturnError was sent, with error 6, missingCustomerRecord.
     MissingCustomerRecord,
-    /// The same with error 7, missingParameter.
+    /// A ReturnError was sent, with error 7, missingParameter.
     MissingParameter,
-    /// The same with error 14, unexpectedComponentSequence.
+    /// A ReturnError was sent, with error 14, unexpectedComponentSequence.
     UnexpectedComponentSequence,
-    /// The same with error 15, unexpectedDataValue.
+    /// A ReturnError was sent, with error 15, unexpectedDataValue.
     UnexpectedDataValue,
     /// A Reject was sent, with General problem 0, unrecognized component.
     RejectUnrecognizedComponent,
-    /// The same with General problem 1, mistyped component.
+    /// A Reject was sent, with General problem 1, mistyped component.
     RejectMistypedComponent,
-    /// The same with Invoke problem 1, unrecognized operation.
+    /// A Reject was sent, with Invoke problem 1, unrecognized operation.
     RejectUnrecognizedOperation,
-    /// The same with Invoke problem 2, mistyped parameter.
+    /// A Reject was sent, with Invoke problem 2, mistyped parameter.
     RejectMistypedParameter,
-    /// The same with Invoke problem 5, unrecognized linked identifier.
+    /// A Reject was sent, with Invoke problem 5, unrecognized linked identifier.
     RejectUnrecognizedLinkedIdentifier,
-    /// The same with Invoke problem 6, linked response unexpected.
+    /// A Reject was sent, with Invoke problem 6, linked response unexpected.
     RejectLinkedResponseUnexpected,
-    /// The same with ReturnResult problem 0, unrecognized invoke identifier.
+    /// A Reject was sent, with ReturnResult problem 0, unrecognized invoke identifier.
     RejectUnrecognizedResult,
-    /// The same with ReturnResult problem 1, return result unexpected.
+    /// A Reject was sent, with ReturnResult problem 1, return result unexpected.
     RejectResultUnexpected,
-    /// The same with ReturnError problem 0, unrecognized invoke identifier.
+    /// A Reject was sent, with ReturnError problem 0, unrecognized invoke identifier.
     RejectUnrecognizedError,
-    /// The same with ReturnError problem 1, return error unexpected.
+    /// A Reject was sent, with ReturnError problem 1, return error unexpected.
     RejectErrorUnexpected,
-    /// The same with any other problem.
+    /// A Reject was sent, with any other problem.
     RejectOther,
     /// A message was held back, since its link was too busy to take it.
     HeldBack,
@@ -132,27 +135,27 @@ pub enum Counter {
     LinesWritten,
     /// The link went down: the peer closed the connection, or its sending side, between two frames.
     EndPeerClosed,
-    /// The same: a length came that no frame has.
+    /// The link went down: no frame has the length that was read.
     EndBadFrameLength,
-    /// The same: the peer closed the connection inside a frame.
+    /// The link went down: the peer closed the connection inside a frame.
     EndInsideFrame,
-    /// The same: a read failed.
+    /// The link went down: a read failed.
     EndReadFault,
-    /// The same: a write failed.
+    /// The link went down: a write failed.
     EndWriteFault,
-    /// The same: an allocation for a frame failed.
+    /// The link went down: an allocation for a frame failed.
     EndMemory,
-    /// The same: the dialogues of the link keep too many entries.
+    /// The link went down: its dialogues keep too many entries.
     EndEntries,
-    /// The same: the log can't be written.
+    /// The link went down: the log can't be written.
     EndLogFault,
-    /// The same: the peer acknowledges nothing any more.
+    /// The link went down: the peer acknowledges nothing any more.
     EndPeerGone,
-    /// The same: the run had another fault.
+    /// The link went down: the run had another fault.
     EndRunFault,
-    /// The same: the limit on reads or frames of a link was reached.
+    /// The link went down: the limit on reads or frames of a link was reached.
     EndLimit,
-    /// The same: the command `quit` came.
+    /// The link went down: the command `quit` was given.
     EndQuit,
 }
 
@@ -160,7 +163,7 @@ pub enum Counter {
 pub const COUNTERS: usize = 74;
 
 impl Counter {
-    /// The place of the counter, from 0, in the order in which they are declared.
+    /// The place of the counter, from 0, in the order of the declaration.
     pub fn place(self) -> usize
         ensures value { result ≡ place_of self }
         ensures range { place_of self < most_counters }

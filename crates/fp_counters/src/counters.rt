@@ -15,7 +15,7 @@ pub struct Counters {
 }
 
 impl Counters {
-    /// Nothing was counted.
+    /// Counters of 0.
     pub fn new() -> Counters
         ensures { Counted result [] }
     {
@@ -55,7 +55,7 @@ impl Counters {
         self.add(counter, 1);
     }
 
-    /// Adds the numbers of other counters, as a thread of the same link keeps them.
+    /// Adds the numbers of other counters, kept by a thread of the same link.
     fn add_numbers(&mut self, other: &Counters)
         ensures { (counter : Counter) → number_of self.new counter
             ≡ capped (number_of self.old counter + number_of other.now counter) }
@@ -65,7 +65,7 @@ impl Counters {
         }
     }
 
-    /// Counts all events of other counters, too, as a thread of the same link keeps them.
+    /// Counts all events of other counters, too, kept by a thread of the same link.
     pub fn merge(&mut self, other: &Counters)
         ensures { (own others : List Increase) → Counted self.old own → Counted other.now others
             → Counted self.new (own ++ others) }

@@ -1,4 +1,4 @@
-//! What the end of a link counts.
+//! The count of a link's end.
 
 ghost use Rattle.std.specs.Prelude.{◌≡◌, ◌∷◌, List};
 ghost use Rattle.fp_counters.specs.Counted.{Counted, Increase, once};
@@ -7,7 +7,7 @@ ghost use Rattle.fp_counters.specs.Ends.{end_counter};
 use crate::{Counter, Counters};
 use fp_linkstate::Why;
 
-/// The counter of the ends for a reason.
+/// The counter of the ends with this reason.
 fn end_counter(why: Why) -> Counter
     ensures { result ≡ end_counter why }
 {

@@ -4,8 +4,8 @@ ghost use Rattle.std.specs.Prelude.{◌≡◌, max};
 
 use std::marker::Model;
 
-/// The greatest number that was noted, 0 if none was. For example of the dialogues that a link held, or of the log lines
-/// that waited. Contracts see it as that number.
+/// The greatest number that was noted, 0 if none was. For example, the most dialogues that a link held, or the most log
+/// lines that waited. Contracts see that number.
 #[derive(Clone, Copy, Debug)]
 pub struct Highest {
     number: u64,
@@ -24,7 +24,7 @@ impl Model for Highest {
 }
 
 impl Highest {
-    /// None was noted.
+    /// The value before any number is noted.
     pub fn new() -> Highest
         ensures { result ≡ 0 }
     {

@@ -1,4 +1,4 @@
-//! How many times lay between each two of a list of bounds.
+//! A histogram of times over a fixed list of bounds.
 
 ghost use Rattle.std.specs.Prelude.{◌≡◌, ◌+◌, ◌<◌, ◌==◌, ℕ, List, [], ◌∷◌, nat_lt, if◌then◌else◌};
 ghost use Rattle.fp_counters.specs.Histogram.{Observed, bucket_of, number_in, sum_in};
@@ -13,15 +13,15 @@ pub const BOUNDS: [u64; 17] = [
 /// The number of buckets: one up to each bound, and one for the times above all of them.
 pub const BUCKETS: usize = 18;
 
-/// How many times of those that were observed are in each bucket, and their sum, each up to the greatest number of 64
-/// bits.
+/// How many observed times are in each bucket, and the sum of all, each up to the greatest number of 64 bits. For
+/// example, 60 microseconds are in bucket 1, the times above 50 and up to 100.
 #[derive(Clone, Copy, Debug)]
 pub struct Histogram {
     numbers: [u64; BUCKETS],
     sum: u64,
 }
 
-/// One more, if a bound is below a time.
+/// `below + 1` if a bound is below a time, else `below`.
 fn with_bound(below: usize, bound: u64, microseconds: u64) -> usize
     requires { below < 17 }
     ensures { result ≡ below + (if nat_lt bound microseconds then 1 else 0) }
@@ -46,7 +46,7 @@ fn bucket_of(microseconds: u64) -> usize
 }
 
 impl Histogram {
-    /// Nothing was observed.
+    /// An empty histogram.
     pub fn new() -> Histogram
         ensures { Observed result [] }
     {
@@ -81,8 +81,8 @@ impl Histogram {
         self.add(microseconds);
     }
 
-    /// The number of times in a bucket, those above the bound before it up to its own. The last bucket has the times above
-    /// all bounds.
+    /// The number of times in a bucket, those above the bound before it up to its own. The last bucket has the times
+    /// above all bounds.
     pub fn number(&self, bucket: usize) -> u64
         requires { bucket < BUCKETS }
         ensures { result ≡ number_in self.now bucket }

@@ -37,7 +37,7 @@ pub(crate) fn kind_counter(kind: Kind) -> Counter
     }
 }
 
-/// The counter of the messages that are refused for a cause.
+/// The counter of the messages that are refused with this cause.
 pub(crate) fn cause_counter(cause: AbortCause) -> Counter
     ensures { result ≡ cause_counter cause }
 {

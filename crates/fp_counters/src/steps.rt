@@ -1,4 +1,4 @@
-//! What the steps of a link's log count.
+//! The counts of the steps of a link's log.
 
 ghost use Rattle.std.specs.Prelude.{◌≡◌, ◌++◌, ◌∷◌, List, map};
 ghost use Rattle.fp_counters.specs.Counted.{Counted, Increase, once};
@@ -9,7 +9,7 @@ use crate::{Counter, Counters};
 use fp_book::{Given, LoggedStep, Posted};
 use fp_q773::Kind;
 
-/// The counter of what became of a message.
+/// The counter of a message's outcome.
 fn posted_counter(answer: Posted) -> Counter
     ensures { result ≡ posted_counter answer }
 {
@@ -34,7 +34,7 @@ impl Counters {
         }
     }
 
-    /// Counts a message that came.
+    /// Counts a received message.
     fn count_message(&mut self, octets: &[u8], answer: Posted)
         ensures { (events : List Increase) → Counted self.old events
             → Counted self.new (message_counts octets.now answer ++ events) }
@@ -45,7 +45,7 @@ impl Counters {
         self.count_ended_by_peer(kind, answer);
     }
 
-    /// Counts what became of the requests of a turn.
+    /// Counts the requests of a turn, by their outcome.
     fn count_given(&mut self, given: Given)
         ensures { (events : List Increase) → Counted self.old events
             → Counted self.new (given_counts given ++ events) }
@@ -57,7 +57,7 @@ impl Counters {
         }
     }
 
-    /// Counts a step of the log of a link. Of a gap it counts the lines that are lost, and of those steps nothing else.
+    /// Counts a step of the log of a link. For a gap it counts the lost lines, and nothing of their steps.
     pub fn count_step(&mut self, step: &LoggedStep)
         ensures { (events : List Increase) → Counted self.old events
             → Counted self.new (step_counts step.now ++ events) }
