@@ -3,23 +3,29 @@
 //! | Case | What it gives |
 //! |---|---|
 //! | `counted TEXT` | the counters that aren't 0 after the steps of these log lines: each is counted apart, and they are added up. A `;` and a blank stand for a line feed |
-//! | `sent MESSAGE COMPONENT ..` | the same after a message of the service, `continue`, `end` or `abort`, was sent |
-//! | `aborted CAUSE` | the same after an Abort of the provider for a cause was sent |
+//! | `sent MESSAGE COMPONENT ..` | the same after the frame of a message of the service, `continue`, `end` or `abort`, was sent |
+//! | `aborted CAUSE` | the same after the frame of an Abort of the provider for a cause was sent |
+//! | `octets-sent OCTETS` | the same after a frame with these octets was sent |
 //! | `ended` | the same after the peer closed the connection |
 //! | `times TIME ..` | the numbers of the buckets that aren't 0, each by its place, and the sum |
 //! | `highest NUMBER ..` | the greatest of these numbers |
 
+use crate::texts::peer_of;
 use anyhow::bail;
-use cases::first_word;
+use cases::{first_word, octets_of};
 use fp_book::Line;
-use fp_counters::{BUCKETS, Counter, Counters, Highest, Histogram};
+use fp_counters::{BUCKETS, Counter, Counters, Highest, Histogram, frame_counts};
 use fp_digits::Cause;
 use fp_linkstate::Why;
 use fp_q773::{AbortCause, InvokeProblem, Problem};
 use fp_replay::read_line;
+use fp_reply::{abort_frame, bytes_of};
 use fp_service::{AbortPortion, Component, Components, Instruction, Request};
 use std::alloc::Global;
 use std::fmt::Write;
+
+/// The local transaction identifier of the dialogues.
+const LOCAL: u32 = 1;
 
 /// Writes the counters that aren't 0.
 fn push_numbers(out: &mut String, counters: &Counters) -> anyhow::Result<()> {
@@ -93,8 +99,15 @@ fn components_of(words: &str) -> anyhow::Result<Components> {
     Ok(Components::one(component))
 }
 
+/// Writes the counters that aren't 0 after a frame was sent.
+fn push_sent(out: &mut String, frame: &[u8]) -> anyhow::Result<()> {
+    let mut counters = Counters::new();
+    counters.count_frame(&frame_counts(frame));
+    push_numbers(out, &counters)
+}
+
 /// The counters after a message of the service was sent.
-fn sent(words: &str, out: &mut String) -> anyhow::Result<()> {
+fn sent(alloc: Global, words: &str, out: &mut String) -> anyhow::Result<()> {
     let (kind, rest) = first_word(words);
     let request = match kind {
         "continue" => Request::Continue {
@@ -108,9 +121,8 @@ fn sent(words: &str, out: &mut String) -> anyhow::Result<()> {
         "abort" => Request::Abort(AbortPortion::Absent),
         _ => bail!("no message: {kind}"),
     };
-    let mut counters = Counters::new();
-    counters.count_request(&request);
-    push_numbers(out, &counters)
+    let frame = bytes_of(alloc, &request, LOCAL, &peer_of("2a")?)?;
+    push_sent(out, frame.as_slice())
 }
 
 /// The counters after an Abort of the provider was sent.
@@ -118,9 +130,14 @@ fn aborted(cause: &str, out: &mut String) -> anyhow::Result<()> {
     let Some(cause) = AbortCause::from_code(cause.parse()?) else {
         bail!("no cause");
     };
-    let mut counters = Counters::new();
-    counters.count_abort(cause);
-    push_numbers(out, &counters)
+    push_sent(out, abort_frame(peer_of("0000002a")?, cause).as_slice())
+}
+
+/// The counters after a frame with a message of these octets was sent.
+fn octets_sent(alloc: Global, text: &str, out: &mut String) -> anyhow::Result<()> {
+    let mut frame = Vec::from_slice(alloc, &[0, 0, 0, 0])?;
+    frame.extend_from_slice(octets_of(alloc, text)?.as_slice())?;
+    push_sent(out, frame.as_slice())
 }
 
 /// The counters after the peer closed the connection.
@@ -165,8 +182,9 @@ pub(crate) fn answer(
 ) -> anyhow::Result<bool> {
     let written = match kind {
         "counted" => counted(alloc, rest, out),
-        "sent" => sent(rest, out),
+        "sent" => sent(alloc, rest, out),
         "aborted" => aborted(rest, out),
+        "octets-sent" => octets_sent(alloc, rest, out),
         "ended" => ended(out),
         "times" => times(rest, out),
         "highest" => highest(rest, out),

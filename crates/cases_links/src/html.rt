@@ -8,7 +8,8 @@
 //! | `troubles STATE` | how much is wrong in this state, and what |
 //! | `html STATE PEER EVENT` | the page in this state, `|` for a line feed |
 //!
-//! A state is `rest`, `load`, `down`, `full`, `gap` or `many`.
+//! A state is `rest`, `load`, `down`, `full`, `hang`, `gap` or `many`. In `down` the run is a node, and one call came in 200
+//! seconds; in `many` 1,234 come each second, and in the others five.
 
 use cases::first_word;
 use fp_counters::{Counter, Counters, Histogram};
@@ -16,6 +17,9 @@ use fp_metrics::{Gauges, LinkNumbers};
 use fp_page::{History, LinkView, PageNumbers, RunHistory, Span, escaped, page_text, troubles_of};
 use std::alloc::Global;
 use std::fmt::Write;
+
+/// The events of the network of a node that is alone.
+const GONE: [&str; 1] = ["2024-05-06T11:59:57.000Z connection 1 over: peer-closed"];
 
 /// A text, escaped.
 fn escapes(alloc: Global, text: &str, out: &mut String) -> anyhow::Result<()> {
@@ -62,6 +66,21 @@ fn steady(alloc: Global, seconds: u64, rate: u64) -> anyhow::Result<History> {
     Ok(history)
 }
 
+/// The history of a link in a state.
+fn history_of(alloc: Global, state: &str) -> anyhow::Result<History> {
+    match state {
+        "rest" => Ok(History::new(alloc)?),
+        "down" => {
+            let mut history = History::new(alloc)?;
+            history.note(70_000, 1);
+            history.note(199_000, 1);
+            Ok(history)
+        }
+        "many" => steady(alloc, 200, 1_234),
+        _ => steady(alloc, 200, 5),
+    }
+}
+
 /// The numbers of a steady history.
 fn history(alloc: Global, words: &str, out: &mut String) -> anyhow::Result<()> {
     let (seconds, rate) = first_word(words);
@@ -83,7 +102,7 @@ fn counters_of(state: &str) -> Counters {
     counters.add(Counter::Connect, 9_000);
     counters.add(Counter::ReleaseBusy, 345);
     counters.add(Counter::SentUnknownTransaction, 7);
-    counters.add(Counter::LinesWritten, 61_000);
+    counters.add(Counter::LinesWritten, 1_002_030_004);
     match state {
         "gap" => counters.add(Counter::LinesLost, 4_000),
         "many" => counters.add(Counter::RefusedLimit, 3),
@@ -100,8 +119,8 @@ fn gauges_of(state: &str) -> Gauges {
         up_since: if state == "rest" { 0 } else { 1_700_000_000 },
         dialogues: if state == "many" { 3_900 } else { 2 },
         most_dialogues: if state == "many" { 4_096 } else { 10 },
-        lines: if state == "full" { 40_000 } else { 1 },
-        most_lines: if state == "full" { 41_000 } else { 100 },
+        lines: 1,
+        most_lines: if state == "many" { 24_576 } else { 100 },
     }
 }
 
@@ -133,10 +152,13 @@ fn view<'a>(
         answer_times: times_of(state),
         links,
         history,
+        line_places: 32_768,
         log_fails: state == "full",
+        log_hangs: state == "hang",
         lacks_network: state == "down",
         is_ending: state == "down",
         events,
+        network_events: if state == "down" { &GONE } else { &[] },
     }
 }
 
@@ -144,11 +166,7 @@ fn view<'a>(
 fn page(alloc: Global, is_html: bool, words: &str, out: &mut String) -> anyhow::Result<()> {
     let (state, rest) = first_word(words);
     let (peer, event) = first_word(rest);
-    let history = if state == "rest" {
-        History::new(alloc)?
-    } else {
-        steady(alloc, 200, 5)?
-    };
+    let history = history_of(alloc, state)?;
     let link = LinkView {
         numbers: LinkNumbers {
             link: 3,
@@ -158,6 +176,7 @@ fn page(alloc: Global, is_html: bool, words: &str, out: &mut String) -> anyhow::
         peer,
         since: "2024-05-06 11:00:00 UTC",
         calls: &history,
+        hangs: state == "hang",
     };
     let runs = RunHistory {
         calls: &history,

@@ -1,5 +1,5 @@
 -- What is counted of a called number, on all links of a run: a line for each of the counters that a number has, in the
--- order of their places, with the names and labels of /metrics, but for the link, in whose place the number comes first.
+-- order of their places, with the names and labels of /metrics. The number takes the place of the link, as first label.
 use Rattle.std.specs.Prelude.{ℕ, List, [], ◌∷◌, ◌++◌, codes, decimal}
 use Rattle.fp_counters.specs.Counted.{number_of}
 use Rattle.fp_counters.specs.declared.counter.Counter.{Counter}

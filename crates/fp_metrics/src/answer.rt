@@ -1,11 +1,11 @@
-//! What a request gets.
+//! The answers to requests.
 
 ghost use Rattle.std.specs.Prelude.{◌≡◌};
 ghost use Rattle.fp_metrics.specs.Answer.{answer_at, answer_to, content_of, status_of, text_of, well_if};
 
 use http::{HeaderValue, StatusCode};
 
-/// How a run is.
+/// The health of a run.
 #[derive(Clone, Copy, Debug, PartialEq, Eq)]
 pub struct Health {
     /// The clocks of its links and the thread that writes its log move.
@@ -14,24 +14,24 @@ pub struct Health {
     pub is_ready: bool,
 }
 
-/// What a request gets.
+/// The answer to a request.
 #[derive(Clone, Copy, Debug, PartialEq, Eq)]
 pub enum Answer {
     /// The page for a browser.
     Page,
     /// The numbers.
     Metrics,
-    /// The run is as it should be.
+    /// The run is well.
     Well,
-    /// The run isn't as it should be.
+    /// The run isn't well.
     Unwell,
-    /// No page is there.
+    /// The path has no page.
     NotFound,
-    /// A page is only read.
+    /// The method isn't allowed: a page is only read.
     NotAllowed,
 }
 
-/// What the page at this path says of a run.
+/// The answer of the page at this path, for a run of this health.
 fn answer_at(path: &str, health: Health) -> Answer
     ensures { result ≡ answer_at path.now health }
 {
@@ -44,7 +44,8 @@ fn answer_at(path: &str, health: Health) -> Answer
     }
 }
 
-/// What a request of this method (RFC 9110, 9) and this path gets from a run.
+/// The answer to a request of this method (RFC 9110, 9) and this path, from a run of this health.
+/// For example, `GET /ready` of a run that isn't ready gets the status 503.
 pub fn answer_to(method: &str, path: &str, health: Health) -> Answer
     ensures { result ≡ answer_to method.now path.now health }
 {
@@ -60,7 +61,7 @@ pub fn answer_to(method: &str, path: &str, health: Health) -> Answer
 }
 
 impl Answer {
-    /// The run is as it should be, or not.
+    /// The answer for a run that is well, or isn't.
     fn well_if(is_well: bool) -> Answer
         ensures { result ≡ well_if is_well }
     {
@@ -93,7 +94,7 @@ impl Answer {
         }
     }
 
-    /// The body, these being the page and the numbers.
+    /// The body, given the page and the numbers.
     pub fn body<'a>(self, page: &'a str, metrics: &'a str) -> &'a str
         ensures { result.now ≡ text_of self page.now metrics.now }
     {

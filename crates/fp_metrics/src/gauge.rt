@@ -1,44 +1,44 @@
-//! What a link has now, and the most that it had.
+//! The current values of a link, and its maxima.
 
 ghost use Rattle.std.specs.Prelude.{◌≡◌, if◌then◌else◌};
 ghost use Rattle.fp_metrics.specs.Gauge.{all_gauges, gauge_front, gauge_heading, gauge_value};
 
-/// What a link has now, and the most that it had.
+/// The current values of a link, and its maxima.
 #[derive(Clone, Copy, Debug, PartialEq, Eq)]
 pub struct Gauges {
-    /// Whether it is up.
+    /// Whether the link is up.
     pub is_up: bool,
-    /// When it came up, in seconds since 1970-01-01T00:00:00Z, 0 if it never did.
+    /// When the link went up, in seconds since 1970-01-01T00:00:00Z, 0 if it never did.
     pub up_since: u64,
-    /// How many dialogues it holds.
+    /// How many dialogues the link holds.
     pub dialogues: u64,
-    /// The most that it held.
+    /// The most dialogues that the link held.
     pub most_dialogues: u64,
-    /// How many of its log lines aren't written yet.
+    /// How many log lines of the link aren't written yet.
     pub lines: u64,
-    /// The most that weren't.
+    /// The most log lines of the link that weren't written yet.
     pub most_lines: u64,
 }
 
-/// One of these numbers.
+/// The name of one of the values.
 #[derive(Clone, Copy, Debug, PartialEq, Eq)]
 pub(crate) enum Gauge {
     /// Whether the link is up.
     Up,
-    /// When it came up.
+    /// The moment since which the link is up.
     UpSince,
-    /// The dialogues that it holds.
+    /// The dialogues that the link holds.
     Dialogues,
-    /// The most that it held.
+    /// The most dialogues that the link held.
     MostDialogues,
-    /// Its log lines.
+    /// The log lines that wait to be written.
     Lines,
-    /// The most that waited.
+    /// The most log lines that waited.
     MostLines,
 }
 
 impl Gauge {
-    /// Each of them once.
+    /// Each value once.
     pub(crate) fn all() -> [Gauge; 6]
         ensures { result ≡ all_gauges }
     {
@@ -52,7 +52,7 @@ impl Gauge {
         ]
     }
 
-    /// How the lines of a number begin: its name, up to the number of the link.
+    /// The front of a value's lines: its name, up to the number of the link.
     pub(crate) fn front(self) -> &'static str
         ensures { result.now ≡ gauge_front self }
     {
@@ -66,7 +66,7 @@ impl Gauge {
         }
     }
 
-    /// The comments before them.
+    /// The comments before the lines of a value.
     pub(crate) fn heading(self) -> &'static str
         ensures { result.now ≡ gauge_heading self }
     {
@@ -93,7 +93,7 @@ impl Gauge {
     }
 }
 
-/// One if it is, and else nothing.
+/// 1 if `is`, else 0.
 fn one_if(is: bool) -> u64
     ensures { result ≡ (if is then 1 else 0) }
 {
@@ -101,7 +101,7 @@ fn one_if(is: bool) -> u64
 }
 
 impl Gauges {
-    /// One of the numbers.
+    /// The number of one of the values.
     pub(crate) fn value(&self, gauge: Gauge) -> u64
         ensures { result ≡ gauge_value self.now gauge }
     {

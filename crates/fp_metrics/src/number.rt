@@ -1,4 +1,4 @@
-//! The text of what is counted of a called number.
+//! The text of a called number's counters.
 
 ghost use Rattle.std.specs.Prelude.{◌≡◌, ◌++◌, IfOk, OnOk, codes, decimal, string_bytes};
 ghost use Rattle.fp_metrics.specs.Number.{number_counters, number_front, number_labels, number_line, number_text};
@@ -6,10 +6,10 @@ ghost use Rattle.fp_metrics.specs.Number.{number_counters, number_front, number_
 use fp_counters::{Counter, Counters};
 use std::alloc::{AllocError, Global};
 
-/// How many counters a called number has.
+/// The number of counters of a called number.
 pub const NUMBER_COUNTERS: usize = 29;
 
-/// The counters that a called number has: of its dialogues, and of what was sent in them.
+/// The counters of a called number: of its dialogues, and of the messages and components sent in them.
 pub fn number_counters() -> [Counter; NUMBER_COUNTERS]
     ensures { result ≡ number_counters }
 {
@@ -46,7 +46,7 @@ pub fn number_counters() -> [Counter; NUMBER_COUNTERS]
     ]
 }
 
-/// How the line of a counter begins: the name of its family, up to the number that was called.
+/// The front of a counter's line: the name of its family, up to the called number.
 fn number_front(counter: Counter) -> &'static str
     ensures { result.now ≡ number_front counter }
 {
@@ -61,7 +61,7 @@ fn number_front(counter: Counter) -> &'static str
     }
 }
 
-/// What comes between the number that was called and the value of a counter: its labels.
+/// The text between the called number and the value of a counter: its labels.
 fn number_labels(counter: Counter) -> &'static str
     ensures { result.now ≡ number_labels counter }
 {
@@ -128,8 +128,8 @@ fn push_number_line(
     Ok(())
 }
 
-/// What is counted of the called number with the digits `called`, on all links of a run: a line for each counter that a
-/// number has, with the names and labels of `metrics_text`, and the number in the place of the link. `Err`: memory ran out.
+/// The counters of the called number with the digits `called`, on all links of a run: a line for each, with the names
+/// and labels of `metrics_text`, and the number in place of the link. `Err`: memory ran out.
 pub fn number_text(alloc: Global, called: &str, counters: &Counters) -> Result<String, AllocError>
     ensures { IfOk result (λ text. string_bytes text ≡ number_text called.now counters.now) }
 {
@@ -138,7 +138,7 @@ pub fn number_text(alloc: Global, called: &str, counters: &Counters) -> Result<S
     Ok(out)
 }
 
-/// Adds the lines of all counters that a called number has.
+/// Adds the lines of all counters of a called number.
 fn push_number_lines(
     alloc: Global,
     out: &mut String,

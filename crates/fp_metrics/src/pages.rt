@@ -12,14 +12,14 @@ use http::{HeaderValue, Request, header};
 use http_server::{Response, Service};
 use std::alloc::AllocError;
 
-/// The pages of a run: its numbers, and how it is.
+/// The pages of a run: its numbers, and its health.
 #[derive(Drop)]
 pub struct Pages<'a> {
     /// The page for a browser, as an HTML text.
     pub page: &'a str,
     /// The numbers, as a text.
     pub metrics: &'a str,
-    /// How the run is.
+    /// The health of the run.
     pub health: Health,
 }
 
@@ -51,7 +51,7 @@ impl Service for Pages<'_> {
     ghost use Rattle.http_uri.specs.Uri.{uri_path};
     ghost use Rattle.fp_metrics.specs.Answer.{answer_to, fields_for, status_of, text_of};
 
-    // The answer goes by the method, the path, the health and the numbers, and changes nothing.
+    // The answer depends on the method, the path, the health and the numbers, and changes nothing.
     ghost answers = { λ old request response new.
         IsResponse (status_of (answer_to (head_of request).method (uri_path (head_of request).uri) old.health))
         (fields_for (answer_to (head_of request).method (uri_path (head_of request).uri) old.health))

@@ -5,7 +5,7 @@ ghost use Rattle.fp_metrics.specs.Series.{front_of, heading_of};
 
 use fp_counters::Counter;
 
-/// How the lines of a counter begin: the name of its family and its labels, up to the number of the link.
+/// The front of a counter's lines: the name of its family and its labels, up to the number of the link.
 pub(crate) fn front(counter: Counter) -> &'static str
     ensures { result.now ≡ front_of counter }
 {
@@ -115,7 +115,7 @@ pub(crate) fn front(counter: Counter) -> &'static str
     }
 }
 
-/// The comments before the lines of a counter: those of its family if it is the first of it, and else none.
+/// The comments before the lines of a counter: its family's if it is the first of the family, and else none.
 pub(crate) fn heading(counter: Counter) -> &'static str
     ensures { result.now ≡ heading_of counter }
 {

@@ -1,4 +1,4 @@
-//! The text that a scrape gets.
+//! The text for a scrape.
 
 ghost use Rattle.std.specs.Prelude.{◌≡◌, ◌++◌, IfOk, OnOk, string_bytes};
 ghost use Rattle.fp_metrics.specs.Text.{block, counter_lines, counters_text, each, gauge_block, gauge_line, gauges_text, links_text, metrics_text, build_heading, build_line, build_text, label, needs_escapes, reloads_heading, reloads_line, reloads_text, sample};
@@ -9,33 +9,35 @@ use crate::times::push_times;
 use fp_counters::{Counter, Counters, Histogram};
 use std::alloc::{AllocError, Global};
 
-/// What was counted on a link, and what it has now.
+/// The counters of a link, and its current values.
 #[derive(Clone, Copy, Debug)]
 pub struct LinkNumbers {
     /// The number of the link, 0 to 7.
     pub link: u8,
-    /// What it has now.
+    /// The current values.
     pub gauges: Gauges,
     /// The numbers of its counters.
     pub counters: Counters,
 }
 
-/// What a run has.
+/// The numbers of a run.
 #[derive(Clone, Copy, Debug)]
 pub struct RunNumbers<'a> {
-    /// The version of the program. One with a quotation mark, a backslash or a line feed isn't told.
+    /// The version of the program. If it has a quotation mark, a backslash or a line feed, the text has an empty label
+    /// instead.
     pub version: &'a str,
-    /// The SHA-256 digest of the records from which calls are answered, in hexadecimal digits. The same holds of it.
+    /// The SHA-256 digest of the records that calls are answered from, in hexadecimal digits; an empty label as for the
+    /// version.
     pub records: &'a str,
     /// How often the records were replaced.
     pub reloads: u64,
     /// From the read of a message to the write of its answer, of a sample.
     pub answer_times: Histogram,
-    /// What its links have, each link once: Prometheus refuses a text that has two lines of one name and link.
+    /// The numbers of its links, each link once: Prometheus refuses a text that has two lines of one name and link.
     pub links: &'a [LinkNumbers],
 }
 
-/// The line of a value: its name and labels, the last of which is the number of the link.
+/// The line of a value: its name and labels, the last of them the number of the link.
 fn sample(alloc: Global, front: &str, link: u8, value: u64) -> Result<String, AllocError>
     ensures { IfOk result (λ text. string_bytes text ≡ sample front.now link value) }
 {
@@ -97,7 +99,7 @@ fn push_counters(alloc: Global, out: &mut String, links: &[LinkNumbers]) -> Resu
     Ok(())
 }
 
-/// Adds the line of a number that each of these links has now.
+/// Adds the line of a current value for each of these links.
 fn push_gauge(
     alloc: Global,
     out: &mut String,
@@ -113,7 +115,7 @@ fn push_gauge(
     Ok(())
 }
 
-/// Adds these lines, after their comments.
+/// Adds the lines of a current value, after their comments.
 fn push_gauge_block(
     alloc: Global,
     out: &mut String,
@@ -126,7 +128,7 @@ fn push_gauge_block(
     push_gauge(alloc, out, gauge, links)
 }
 
-/// Adds what each of these links has now.
+/// Adds the current values of these links.
 fn push_gauges(alloc: Global, out: &mut String, links: &[LinkNumbers]) -> Result<(), AllocError>
     ensures { OnOk result (string_bytes out.new ≡ string_bytes out.old ++ gauges_text links.now) }
 {
@@ -153,7 +155,7 @@ fn needs_escapes(text: &str) -> bool
     octets.contains(&b'"') || octets.contains(&b'\\') || octets.contains(&b'\n')
 }
 
-/// A text as the value of a label: no text, if it can't be that as it is.
+/// A text as the value of a label: an empty one if it needs escapes.
 fn label(text: &str) -> &str
     ensures { result.now ≡ label text.now }
 {
@@ -174,7 +176,7 @@ fn reloads_line(alloc: Global, reloads: u64) -> Result<String, AllocError>
     format!(in alloc; "freephone_scp_reloads_total {reloads}\n")
 }
 
-/// Adds which program runs, and by which records, after the comments.
+/// Adds the version and the digest of the records, after the comments.
 fn push_build(alloc: Global, out: &mut String, run: &RunNumbers<'_>) -> Result<(), AllocError>
     ensures { OnOk result (string_bytes out.new ≡ string_bytes out.old ++ build_text run.now) }
 {
@@ -184,7 +186,7 @@ fn push_build(alloc: Global, out: &mut String, run: &RunNumbers<'_>) -> Result<(
     Ok(())
 }
 
-/// Adds how often the records were replaced, after the comments.
+/// Adds the number of reloads, after the comments.
 fn push_reloads(alloc: Global, out: &mut String, reloads: u64) -> Result<(), AllocError>
     ensures { OnOk result (string_bytes out.new ≡ string_bytes out.old ++ reloads_text reloads) }
 {
@@ -208,7 +210,7 @@ fn reloads_heading() -> &'static str
     "# HELP freephone_scp_reloads_total How often the records were replaced.\n# TYPE freephone_scp_reloads_total counter\n"
 }
 
-/// The numbers of a run in the text format of Prometheus (version 0.0.4), those of one name together, after its comments.
+/// The numbers of a run in the text format of Prometheus (version 0.0.4), all of one name together, after its comments.
 /// `Err`: memory ran out.
 pub fn metrics_text(alloc: Global, run: &RunNumbers<'_>) -> Result<String, AllocError>
     ensures { IfOk result (λ text. string_bytes text ≡ metrics_text run.now) }

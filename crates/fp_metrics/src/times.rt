@@ -39,7 +39,7 @@ fn times_heading() -> &'static str
     "# HELP freephone_scp_answer_seconds From the read of a message to the write of its answer, of a sample.\n# TYPE freephone_scp_answer_seconds histogram\n"
 }
 
-/// The line of a bucket: how many times aren't above its bound.
+/// The line of a bucket: how many times are at most its bound.
 fn bucket_line(alloc: Global, bound: &str, count: u64) -> Result<String, AllocError>
     ensures { IfOk result (λ text. string_bytes text ≡ bucket_line bound.now count) }
 {
@@ -64,7 +64,7 @@ fn sum_and_count(alloc: Global, sum: u64, count: u64) -> Result<String, AllocErr
     )
 }
 
-/// Adds the lines of the buckets, and gives the number of all times.
+/// Adds the lines of the buckets, and sets `total` to the number of all times.
 fn push_buckets(
     alloc: Global,
     out: &mut String,
@@ -82,7 +82,7 @@ fn push_buckets(
     Ok(())
 }
 
-/// Adds the text of a histogram of times, which counts microseconds, in seconds.
+/// Adds the text of a histogram of microseconds, in seconds.
 pub(crate) fn push_times(
     alloc: Global,
     out: &mut String,

@@ -1,3 +1,2 @@
 pub mod Counts
 pub mod Escapes
-pub mod Joins

@@ -33,6 +33,10 @@ width_of span = span.width
 abbrev pub most_of : Span → ℕ
 most_of span = vec_len span.totals - 2
 
+-- a span of periods of this many milliseconds, of which this many are kept before the one that goes on
+abbrev pub IsSpan : Span → ℕ → ℕ → Type 0
+IsSpan span width most = (width_of span ≡ width) × (most_of span ≡ most)
+
 -- what was counted in the period that is this many before the one that goes on; before the run nothing was
 abbrev pub counted : Span → List Note → ℕ → ℕ
 counted span notes age =

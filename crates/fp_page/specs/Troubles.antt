@@ -20,13 +20,13 @@ has_counted view counter = nat_lt 0 (number_of view.numbers.counters counter)
 abbrev pub is_down : LinkView → Bool
 is_down view = not view.numbers.gauges.is_up && nat_lt 0 view.numbers.gauges.up_since
 
--- the troubles of a link: four fifths of 4,096 dialogues are many, and so are 30,000 lines
+-- the troubles of a link: four fifths of 4,096 dialogues are many
 abbrev pub link_troubles : LinkView → List Trouble
 link_troubles view =
     trouble_if (is_down view) (troubles.LinkDown view.numbers.link)
+    ++ (trouble_if view.hangs (troubles.LinkHangs view.numbers.link)
     ++ (trouble_if (has_counted view counters.LinesLost) (troubles.Gap view.numbers.link)
     ++ (trouble_if (nat_lt 3276 view.numbers.gauges.dialogues) (troubles.ManyDialogues view.numbers.link)
-    ++ (trouble_if (nat_lt 30000 view.numbers.gauges.lines) (troubles.ManyLines view.numbers.link)
     ++ (trouble_if (has_counted view counters.RefusedLimit) (troubles.Refused view.numbers.link)
     ++ trouble_if (has_counted view counters.OutOfMemory) (troubles.OutOfMemory view.numbers.link)))))
 
@@ -37,7 +37,8 @@ links_troubles links = flat_map link_troubles links
 abbrev pub run_troubles : PageNumbers → List Trouble
 run_troubles page =
     trouble_if page.log_fails troubles.LogFails
-    ++ (trouble_if page.lacks_network troubles.NoNetwork ++ trouble_if page.is_ending troubles.Ending)
+    ++ (trouble_if page.log_hangs troubles.LogHangs
+    ++ (trouble_if page.lacks_network troubles.NoNetwork ++ trouble_if page.is_ending troubles.Ending))
 
 abbrev pub troubles_of : PageNumbers → List Trouble
 troubles_of page = run_troubles page ++ links_troubles page.links.now

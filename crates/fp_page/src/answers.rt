@@ -1,4 +1,4 @@
-//! What was answered, by kind, and aborted, by cause.
+//! The components sent, by kind, and the Aborts sent, by cause.
 
 use crate::PageNumbers;
 use crate::bars::add_row;
@@ -7,7 +7,7 @@ use crate::names::{abort_counters, answer_counters, name};
 use fp_counters::Counter;
 use std::alloc::AllocError;
 
-/// A table with a row for each of these counters that isn't 0, and a bar that goes by the greatest of them.
+/// A table with a row for each of these counters that isn't 0, and a bar in proportion to the greatest of them.
 fn add_table(
     html: &mut Html,
     page: &PageNumbers<'_>,

@@ -1,4 +1,4 @@
-//! Bars: how long they are, and their marks.
+//! Bars: their lengths and their marks.
 
 ghost use Rattle.std.specs.Prelude.{◌≡◌, ◌≤◌};
 ghost use Rattle.fp_page.specs.Bars.{bar_length};
@@ -6,7 +6,8 @@ ghost use Rattle.fp_page.specs.Bars.{bar_length};
 use crate::html::{Html, Piece};
 use std::alloc::AllocError;
 
-/// How long the bar of a number is where that of the greatest number fills this room.
+/// The length of a number's bar, if the bar of the greatest number has the length `room`. For
+/// example, 3 of 12 in a room of 100 is 25.
 pub(crate) fn bar_length(number: u64, most: u64, room: u16) -> u64
     ensures value { result ≡ bar_length number most room }
     ensures range { bar_length number most room ≤ room }

@@ -1,30 +1,60 @@
-//! Curves of what was counted.
+//! Curves of rates.
+
+ghost use Rattle.std.specs.Prelude.{◌≡◌, ◌<◌};
+ghost use Rattle.fp_page.specs.Numbers.{nearest, rate_text};
+ghost use Rattle.fp_page.specs.Pieces.{piece_text};
+ghost use Rattle.std.specs.Prelude.{◌≡◌, ◌<◌};
+ghost use Rattle.fp_page.specs.Numbers.{nearest, rate_text};
+ghost use Rattle.fp_page.specs.Pieces.{piece_text};
 
 use crate::bars::bar_length;
 use crate::html::{Html, Piece};
 use crate::{History, Span};
 use std::alloc::AllocError;
 
-/// How many steps a curve is high.
+/// The height of a curve, in steps.
 const ROOM: u16 = 100;
 
-/// A number in this many milliseconds is a number of tenths in a second.
+/// The factor from a number in a period of milliseconds to tenths a second: 3 in 5,000 milliseconds are 6 tenths.
 const TENTHS_OF_MILLISECONDS: u64 = 10_000;
 
-/// What was counted in a period of this many milliseconds, as tenths a second.
-fn rate(number: u64, width: u64) -> u64 {
-    number
-        .saturating_mul(TENTHS_OF_MILLISECONDS)
-        .checked_div(width)
-        .unwrap_or(0)
+/// A number in this many milliseconds is the number in a second.
+const MILLISECONDS_OF_A_SECOND: u64 = 1_000;
+
+/// From this number of tenths on a rate is a whole number.
+const MANY_TENTHS: u64 = 1_000;
+
+/// This many times a number in a period, divided by the length of the period, rounded to the nearest whole number.
+fn nearest(times: u64, number: u64, width: u64) -> u64
+    requires { 0 < width }
+    ensures { result ≡ nearest times number width }
+{
+    let product = u128::from(number) * u128::from(times) + u128::from(width / 2);
+    u64::try_from(product / u128::from(width)).unwrap_or(u64::MAX)
 }
 
-/// The rate in the period before the one that goes on, as tenths a second.
-pub(crate) fn rate_now(span: &Span) -> u64 {
+/// What was counted in a period of this many milliseconds, as a rate a second: in tenths, and from 100 on as a whole number.
+fn rate(number: u64, width: u64) -> Piece<'static>
+    requires { 0 < width }
+    ensures { piece_text result ≡ rate_text number width }
+{
+    let tenths = nearest(TENTHS_OF_MILLISECONDS, number, width);
+    if tenths >= MANY_TENTHS {
+        return Piece::Number(nearest(MILLISECONDS_OF_A_SECOND, number, width));
+    }
+    if number > 0 && tenths == 0 {
+        Piece::Fixed("under 0.1")
+    } else {
+        Piece::Tenths(tenths)
+    }
+}
+
+/// The rate a second in the last period that is over.
+pub(crate) fn rate_now(span: &Span) -> Piece<'static> {
     rate(span.number(1), span.width())
 }
 
-/// The greatest number of the periods before the one that goes on.
+/// The greatest number of the periods that are over.
 fn highest(span: &Span) -> u64 {
     let mut highest = 0;
     for before in 0..span.most() {
@@ -33,7 +63,7 @@ fn highest(span: &Span) -> u64 {
     highest
 }
 
-/// The points of a curve, from the oldest period to the one before that which goes on. None, if nothing was counted.
+/// The points of a curve, from the oldest period to the last one that is over. None, if all numbers are 0.
 fn add_points(html: &mut Html, span: &Span, highest: u64) -> Result<(), AllocError> {
     if highest == 0 {
         return Ok(());
@@ -67,7 +97,7 @@ fn add_curve(html: &mut Html, name: &'static str, span: &Span) -> Result<(), All
         Piece::Fixed(",100\"/></svg><figcaption>last "),
         Piece::Fixed(name),
         Piece::Fixed("<br>most "),
-        Piece::Tenths(rate(highest, span.width())),
+        rate(highest, span.width()),
         Piece::Fixed("/s</figcaption></figure>\n"),
     ])
 }

@@ -1,4 +1,4 @@
-//! Texts from outside, as a page may have them.
+//! Texts from outside, escaped for a page.
 
 ghost use Rattle.std.specs.Prelude.{◌≡◌, ◌++◌, ℕ, List, IfOk, OnOk, false, string_bytes};
 ghost use Rattle.std.specs.List.{list_any};
@@ -7,7 +7,7 @@ ghost use Rattle.fp_page.specs.Escaped.{escaped, is_mark};
 
 use std::alloc::{AllocError, Global};
 
-/// Adds a character, or the reference that stands for it.
+/// Adds a character, or its reference.
 fn push_escaped(out: &mut String, character: char) -> Result<(), AllocError>
     ensures { OnOk result (string_bytes out.new ≡ string_bytes out.old ++ escaped (encode_utf8 character)) }
 {
@@ -21,7 +21,7 @@ fn push_escaped(out: &mut String, character: char) -> Result<(), AllocError>
     }
 }
 
-/// Adds a text with a reference in place of each character that marks something in HTML, between tags and in the value of an
+/// Adds a text with a reference in place of each character that is a mark in HTML, between tags and in the value of an
 /// attribute (HTML Standard, 13.1.2.3 and 13.1.4).
 pub(crate) fn push_text(out: &mut String, text: &str) -> Result<(), AllocError>
     ensures { OnOk result (string_bytes out.new ≡ string_bytes out.old ++ escaped text.now) }
@@ -32,7 +32,8 @@ pub(crate) fn push_text(out: &mut String, text: &str) -> Result<(), AllocError>
     Ok(())
 }
 
-/// A text with a reference in place of each of `&`, `<`, `>`, `"` and `'`. `Err`: memory ran out.
+/// A text with a reference in place of each of `&`, `<`, `>`, `"` and `'`. For example, `a<b` gives `a&lt;b`. `Err`:
+/// memory ran out.
 pub fn escaped(alloc: Global, text: &str) -> Result<String, AllocError>
     ensures { IfOk result (λ out. string_bytes out ≡ escaped text.now) }
 {
@@ -41,7 +42,7 @@ pub fn escaped(alloc: Global, text: &str) -> Result<String, AllocError>
     Ok(out)
 }
 
-/// An escaped text has none of `<`, `>`, `"` and `'`, and is that of one text alone.
+/// An escaped text has none of `<`, `>`, `"` and `'`, and belongs to one text alone.
 pub fn escapes_mark_nothing()
     ensures marks { (text : List ℕ) → list_any is_mark (escaped text) ≡ false }
     ensures one { (a b : List ℕ) → escaped a ≡ escaped b → a ≡ b }

@@ -1,4 +1,4 @@
-//! The top of the page: what is wrong, and the curves of the run.
+//! The top of the page: the troubles, and the curves of the run.
 
 use crate::curves::{add_curves, rate_now};
 use crate::html::{Html, Piece};
@@ -17,7 +17,7 @@ pub(crate) fn add_top(html: &mut Html, page: &PageNumbers<'_>) -> Result<(), All
     ])
 }
 
-/// What is wrong.
+/// The troubles.
 pub(crate) fn add_troubles(html: &mut Html, troubles: &[Trouble]) -> Result<(), AllocError> {
     if troubles.is_empty() {
         return html.add(&[Piece::Fixed("<p class=\"t ok\">All is as it should be.</p>\n")]);
@@ -29,23 +29,23 @@ pub(crate) fn add_troubles(html: &mut Html, troubles: &[Trouble]) -> Result<(), 
     html.add(&[Piece::Fixed("</ul>\n")])
 }
 
-/// What happens in the whole run: calls, answers and Aborts.
+/// The rates of the whole run: calls, answers and Aborts.
 pub(crate) fn add_run(html: &mut Html, page: &PageNumbers<'_>) -> Result<(), AllocError> {
     html.add(&[
         Piece::Fixed("<div class=\"g\">\n<section><h2>Calls</h2>\n<p><strong>"),
-        Piece::Tenths(rate_now(page.history.calls.minute())),
+        rate_now(page.history.calls.minute()),
         Piece::Fixed("</strong> a second now</p>\n"),
     ])?;
     add_curves(html, page.history.calls)?;
     html.add(&[
         Piece::Fixed("</section>\n<section><h2>Components sent</h2>\n<p><strong>"),
-        Piece::Tenths(rate_now(page.history.answers.minute())),
+        rate_now(page.history.answers.minute()),
         Piece::Fixed("</strong> a second now</p>\n"),
     ])?;
     add_curves(html, page.history.answers)?;
     html.add(&[
         Piece::Fixed("</section>\n<section><h2>Aborts sent</h2>\n<p><strong>"),
-        Piece::Tenths(rate_now(page.history.aborts.minute())),
+        rate_now(page.history.aborts.minute()),
         Piece::Fixed("</strong> a second now</p>\n"),
     ])?;
     add_curves(html, page.history.aborts)?;

@@ -1,30 +1,35 @@
-//! What was counted in the last minute, hour and day.
+//! The history of a number over the last minute, hour and day.
+
+ghost use Rattle.fp_page.specs.Spans.{IsSpan};
 
 use crate::Span;
 use std::alloc::{AllocError, Global};
 
-/// How many milliseconds a period of the last minute has, and how many of them are kept: 12.
+/// The length of a period of the last minute, in milliseconds, and the number of periods: 12.
 const FIVE_SECONDS: u64 = 5_000;
 
 const OF_A_MINUTE: u16 = 12;
 
-/// Those of the last hour: 60 minutes.
+/// The length of a period of the last hour, in milliseconds, and the number of periods: 60.
 const MINUTE: u64 = 60_000;
 
 const OF_AN_HOUR: u16 = 60;
 
-/// Those of the last day: 96 quarters of an hour.
+/// The length of a period of the last day, a quarter of an hour, in milliseconds, and the number of periods: 96.
 const QUARTER: u64 = 900_000;
 
 const OF_A_DAY: u16 = 96;
 
-/// What was counted in the last minute by five seconds, in the last hour by minutes, and in the last day by quarters of an
-/// hour.
+/// The history of a number over the last minute by five seconds, the last hour by minutes, and the last day by quarters
+/// of an hour.
 #[derive(Drop)]
 pub struct History {
     minute: Span,
     hour: Span,
     day: Span,
+    ghost is_minute: { IsSpan minute 5000 12 },
+    ghost is_hour: { IsSpan hour 60000 60 },
+    ghost is_day: { IsSpan day 900000 96 },
 }
 
 impl History {
@@ -32,7 +37,7 @@ impl History {
     ghost use Rattle.fp_page.specs.History.{HistoryShows, day_of, hour_of, minute_of};
     ghost use Rattle.fp_page.specs.Spans.{IsNext, Note};
 
-    /// Nothing was counted.
+    /// An empty history.
     pub fn new(alloc: Global) -> Result<History, AllocError>
         ensures { IfOk result (λ history. HistoryShows history []) }
     {
@@ -43,7 +48,7 @@ impl History {
         })
     }
 
-    /// At this time, in milliseconds since the run began, this had been counted since it began.
+    /// Notes a total since the run began, at this time in milliseconds since then.
     pub fn note(&mut self, time: u64, total: u64)
         ensures { (notes : List Note) → HistoryShows self.old notes → IsNext time notes
             → HistoryShows self.new (record { time = time; total = total } ∷ notes) }
@@ -55,21 +60,24 @@ impl History {
 
     /// The last minute, by five seconds.
     pub fn minute(&self) -> &Span
-        ensures { result.now ≡ minute_of self.now }
+        ensures value { result.now ≡ minute_of self.now }
+        ensures span { IsSpan result.now 5000 12 }
     {
         &self.minute
     }
 
     /// The last hour, by minutes.
     pub fn hour(&self) -> &Span
-        ensures { result.now ≡ hour_of self.now }
+        ensures value { result.now ≡ hour_of self.now }
+        ensures span { IsSpan result.now 60000 60 }
     {
         &self.hour
     }
 
     /// The last day, by quarters of an hour.
     pub fn day(&self) -> &Span
-        ensures { result.now ≡ day_of self.now }
+        ensures value { result.now ≡ day_of self.now }
+        ensures span { IsSpan result.now 900000 96 }
     {
         &self.day
     }

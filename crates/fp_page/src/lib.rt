@@ -1,17 +1,17 @@
-//! A page on which an operator sees how a run is: an HTML text that is read by a browser, without scripts.
+//! A page for an operator with the health of a run: an HTML text for a browser, without scripts.
 //!
-//! The layer is handed what was counted on each link, when, and what happened last, and gives a text. It asks the system for
-//! nothing but memory: it has no clock, no lock and no socket.
+//! The layer is handed the counters of each link, their history and the last events, and gives a text. It asks the
+//! system for nothing but memory: it has no clock, no lock and no socket.
 //!
 //! * [`page_text`]: the page of a run, [`PageNumbers`].
-//! * [`History`]: what was counted in the last minute, hour and day, in bounded memory. Each is a [`Span`].
-//! * [`Trouble`]: what is wrong with a run. [`troubles_of`] are all of them, and the page begins with what to do about each.
+//! * [`History`]: the history of a number over the last minute, hour and day, in bounded memory. Each is a [`Span`].
+//! * [`Trouble`]: a fault of a run. [`troubles_of`] are all of them, and the page begins with the advice for each.
 //!
-//! The layer above may rely on this: `escaped` of `specs/Escaped.antt` marks nothing in a page, and no two texts have the
-//! same octets there. A place of a span has what was counted in its period, by what was noted (`specs/Spans.antt`). The
-//! troubles are `troubles_of` of `specs/Troubles.antt`. No contract says what is on the page: that a text which is no part
-//! of this program is there only as `escaped` lies in the types of `src/html.rt`, and the cases of `cases_links` show the
-//! page octet by octet.
+//! The layer above may rely on this: `escaped` of `specs/Escaped.antt` has no marks, and no two texts have the same
+//! octets there. A place of a span has the count of its period, by the totals that were noted (`specs/Spans.antt`). The
+//! troubles are `troubles_of` of `specs/Troubles.antt`. No contract speaks of the page's text: the types of
+//! `src/html.rt` guarantee that a text from outside this program is there only as `escaped`, and the cases of
+//! `cases_links` show the page octet by octet.
 #![tactic(auto)]
 
 mod answers;

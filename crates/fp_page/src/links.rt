@@ -29,7 +29,7 @@ fn add_state(html: &mut Html, link: &LinkView<'_>) -> Result<(), AllocError> {
     ])
 }
 
-/// The peer of a link, and since when it is up or down, if one came.
+/// The peer of a link, and since when it is up or down, if a peer was ever connected.
 fn add_peer(html: &mut Html, link: &LinkView<'_>) -> Result<(), AllocError> {
     if link.numbers.gauges.up_since == 0 {
         return Ok(());
@@ -43,14 +43,14 @@ fn add_peer(html: &mut Html, link: &LinkView<'_>) -> Result<(), AllocError> {
     ])
 }
 
-/// A link: what it is, its numbers and its curves.
+/// A link: its state, its numbers and its curves.
 fn add_link(html: &mut Html, link: &LinkView<'_>) -> Result<(), AllocError> {
     html.add(&[Piece::Fixed("<section>\n")])?;
     add_state(html, link)?;
     add_peer(html, link)?;
     html.add(&[
         Piece::Fixed("<p><strong>"),
-        Piece::Tenths(rate_now(link.calls.minute())),
+        rate_now(link.calls.minute()),
         Piece::Fixed("</strong> calls/s now, "),
         Piece::Number(link.numbers.counters.number(Counter::Opened)),
         Piece::Fixed(" in all, "),

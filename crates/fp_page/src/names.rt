@@ -1,4 +1,4 @@
-//! The rows of the page: which counters they have, and what an operator calls them.
+//! The rows of the page: their counters and an operator's names for them.
 
 ghost use Rattle.std.specs.Prelude.{◌≡◌};
 ghost use Rattle.fp_page.specs.Sent.{aborts, components, sum_of};
@@ -76,7 +76,7 @@ pub fn aborts_sent(counters: &Counters) -> u64
     sum(counters, &abort_counters())
 }
 
-/// What an operator calls a counter of these.
+/// An operator's name for a counter of the page.
 pub(crate) fn name(counter: Counter) -> &'static str {
     match counter {
         Counter::Connect => "Connect",

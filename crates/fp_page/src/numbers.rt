@@ -1,23 +1,25 @@
-//! What a page is made of.
+//! The numbers and texts of a page.
 
 use crate::History;
 use fp_counters::{Counter, Histogram};
 use fp_metrics::LinkNumbers;
 
-/// What is shown of a link.
+/// A link on the page.
 #[derive(Clone, Copy)]
 pub struct LinkView<'a> {
-    /// What was counted on it, and what it has now.
+    /// The counters of the link, and its current values.
     pub numbers: LinkNumbers,
-    /// Its peer, no text if none came yet.
+    /// Its peer; an empty text if none was connected yet.
     pub peer: &'a str,
-    /// Since when it is up, or down; no text if none came yet.
+    /// Since when it is up, or down; an empty text if no peer was connected yet.
     pub since: &'a str,
     /// Messages that opened a dialogue.
     pub calls: &'a History,
+    /// The link is up, and its clock hasn't ticked for ten seconds.
+    pub hangs: bool,
 }
 
-/// What was counted in a run over time.
+/// The history of a run's numbers.
 #[derive(Clone, Copy)]
 pub struct RunHistory<'a> {
     /// Messages that opened a dialogue.
@@ -28,37 +30,43 @@ pub struct RunHistory<'a> {
     pub aborts: &'a History,
 }
 
-/// What a page shows of a run.
+/// The numbers and texts of a run's page.
 #[derive(Clone, Copy)]
 pub struct PageNumbers<'a> {
     /// The version of the program.
     pub version: &'a str,
     /// The moment of the page.
     pub moment: &'a str,
-    /// The SHA-256 digest of the records from which calls are answered, in hexadecimal digits.
+    /// The SHA-256 digest of the records that calls are answered from, in hexadecimal digits.
     pub records: &'a str,
     /// How many numbers these records have, and how many rules.
     pub counts: (u32, u32),
     /// How often the records were replaced.
     pub reloads: u64,
-    /// From the read of a message to the write of its answer, of a sample.
+    /// The times from the read of a message to the write of its answer, of a sample.
     pub answer_times: Histogram,
     /// Its links.
     pub links: &'a [LinkView<'a>],
-    /// What was counted on all of them over time.
+    /// The history of all links together.
     pub history: RunHistory<'a>,
     /// The log can't be written, and lines are lost.
     pub log_fails: bool,
+    /// How many places the list has in which lines of a link wait for their text.
+    pub line_places: u64,
+    /// The thread that writes the log hasn't moved for ten seconds.
+    pub log_hangs: bool,
     /// The run is a node on a signalling network, and none of its units has a connection.
     pub lacks_network: bool,
     /// The run is about to end.
     pub is_ending: bool,
     /// The last events, the newest one first, each a line.
     pub events: &'a [&'a str],
+    /// The last events of the network that carries the link, if one does, the newest one first.
+    pub network_events: &'a [&'a str],
 }
 
 impl PageNumbers<'_> {
-    /// The number of a counter, of all links.
+    /// The number of a counter, summed over all links.
     pub(crate) fn total(&self, counter: Counter) -> u64 {
         let mut total: u64 = 0;
         for link in self.links {

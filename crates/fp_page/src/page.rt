@@ -11,7 +11,7 @@ use crate::times::add_times;
 use crate::{PageNumbers, Trouble, troubles_of};
 use std::alloc::{AllocError, Global};
 
-/// What is below the links.
+/// The part below the links.
 fn add_numbers(html: &mut Html, page: &PageNumbers<'_>) -> Result<(), AllocError> {
     html.add(&[Piece::Fixed("<h2>The run</h2>\n<div class=\"g\">\n")])?;
     add_answers(html, page)?;
@@ -24,7 +24,7 @@ fn add_numbers(html: &mut Html, page: &PageNumbers<'_>) -> Result<(), AllocError
     add_events(html, page)
 }
 
-/// All of the page, which begins with these troubles.
+/// The whole page, with these troubles at its top.
 fn add_page(
     html: &mut Html,
     page: &PageNumbers<'_>,

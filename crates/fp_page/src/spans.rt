@@ -1,25 +1,25 @@
-//! What was counted in the last periods of one length.
+//! The counts of the last periods of one length.
 
 ghost use Rattle.std.specs.Prelude.{◌≡◌, ◌+◌, ◌-◌, ◌<◌, ◌≤◌, ℕ, List, [], ◌∷◌, IfOk, length, nat_lt, slice_index, if◌then◌else◌};
 ghost use Rattle.std.specs.Vec.{vec_len};
 
 use std::alloc::{AllocError, Global};
 
-/// What was counted in each of the last periods of one length, and in the one that goes on. A period begins at each multiple
-/// of this length.
+/// The counts of the last periods of one length, and of the current one. A period begins at each multiple of this
+/// length. For example, with periods of 5,000 milliseconds the time 12,000 is in period 2.
 #[derive(Drop)]
 pub struct Span {
-    // How many milliseconds a period has.
+    // The length of a period, in milliseconds.
     width: u64,
-    // The number of the period that goes on, from 0.
+    // The number of the current period, from 0.
     period: u64,
-    // What had been counted when it was noted last, and when the periods before this one ended, the latest first.
+    // The total that was noted last, and the totals at the ends of the periods before, the latest first.
     totals: Vec<u64>,
     ghost has_width: { 0 < width },
     ghost has_totals: { 1 < vec_len totals },
 }
 
-/// Moves numbers towards the end by this many places. Those that come to the front are the first one.
+/// Moves numbers towards the end by this many places, and fills the front with the first one.
 fn move_back(totals: &mut [u64], places: usize)
     requires first { 0 < length totals.old }
     requires places { places ≤ length totals.old }
@@ -36,7 +36,7 @@ fn move_back(totals: &mut [u64], places: usize)
 impl Span {
     ghost use Rattle.fp_page.specs.Spans.{IsNext, Note, Shows, counted, most_of, width_of};
 
-    /// Nothing was counted. A period has this many milliseconds, and so many are kept before the one that goes on.
+    /// A span of zeros. A period has `width` milliseconds, and `most` periods are kept before the current one.
     pub fn new(alloc: Global, width: u64, most: u16) -> Result<Span, AllocError>
         requires { 0 < width }
         ensures shows { IfOk result (λ span. Shows span []) }
@@ -52,7 +52,7 @@ impl Span {
         })
     }
 
-    /// How many milliseconds a period has.
+    /// The length of a period, in milliseconds.
     pub fn width(&self) -> u64
         ensures value { result ≡ width_of self.now }
         ensures some { 0 < result }
@@ -60,14 +60,14 @@ impl Span {
         self.width
     }
 
-    /// How many periods are kept before the one that goes on.
+    /// The number of periods that are kept before the current one.
     pub fn most(&self) -> usize
         ensures { result ≡ most_of self.now }
     {
         self.totals.len() - 2
     }
 
-    /// At this time, in milliseconds since the run began, this had been counted since it began.
+    /// Notes a total since the run began, at this time in milliseconds since then.
     pub fn note(&mut self, time: u64, total: u64)
         ensures shows { (notes : List Note) → Shows self.old notes → IsNext time notes
             → Shows self.new (record { time = time; total = total } ∷ notes) }
@@ -83,8 +83,8 @@ impl Span {
         self.period = period;
     }
 
-    /// What was counted in the period that is this many before the one that goes on, by what was noted. Of a period that
-    /// isn't kept any more it is 0.
+    /// The count of the period that is `age` before the current one, by the totals that were noted. 0 for a period that
+    /// isn't kept any more.
     pub fn number(&self, age: usize) -> u64
         ensures kept { (notes : List Note) → Shows self.now notes → age ≤ most_of self.now → result ≡ counted self.now notes age }
         ensures older { most_of self.now < age → result ≡ 0 }

@@ -1,6 +1,6 @@
-//! What precedes and follows the content of the page, with how it looks.
+//! The text before and after the content of the page, with its style.
 
-/// From the first octet to the body. The page comes anew every five seconds.
+/// From the first octet to the body. The browser reloads the page every five seconds.
 pub(crate) fn opening() -> &'static str {
     "<!DOCTYPE html>
 <html lang=\"en\"><head><meta charset=\"utf-8\"><meta http-equiv=\"refresh\" content=\"5\">

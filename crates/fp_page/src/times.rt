@@ -1,4 +1,4 @@
-//! How long answers took.
+//! The times of answers.
 
 use crate::bars::add_row;
 use crate::html::{Html, Piece};
@@ -29,7 +29,7 @@ fn bound_name(bucket: usize) -> &'static str {
     }
 }
 
-/// How many times there are in all buckets.
+/// The number of times in all buckets.
 fn count_of(times: &Histogram) -> u64 {
     let mut count: u64 = 0;
     for bucket in 0..BUCKETS {
@@ -38,7 +38,7 @@ fn count_of(times: &Histogram) -> u64 {
     count
 }
 
-/// The first bucket up to which there are this many times.
+/// The first bucket at whose bound there are at least this many times.
 fn bucket_with(times: &Histogram, count: u64) -> usize {
     let mut below: u64 = 0;
     for bucket in 0..BUCKETS {
@@ -75,7 +75,8 @@ fn add_buckets(html: &mut Html, times: &Histogram, count: u64) -> Result<(), All
     html.add(&[Piece::Fixed("</table>\n")])
 }
 
-/// The histogram of the times of answers, and within which time half of them and 99 in 100 were.
+/// The histogram of the times of answers, and the bounds within which half of them and 99 in 100
+/// were.
 pub(crate) fn add_times(html: &mut Html, times: &Histogram) -> Result<(), AllocError> {
     html.add(&[Piece::Fixed("<section><h2>Time of an answer</h2>\n")])?;
     let count = count_of(times);

@@ -1,4 +1,4 @@
-//! What is wrong with a run.
+//! The troubles of a run.
 
 ghost use Rattle.std.specs.Prelude.{◌≡◌, ◌++◌, [], ◌∷◌, IfOk, OnOk, if◌then◌else◌};
 ghost use Rattle.fp_page.specs.Troubles.{link_troubles, links_troubles, run_troubles, troubles_of};
@@ -7,32 +7,31 @@ use crate::{LinkView, PageNumbers};
 use fp_counters::Counter;
 use std::alloc::{AllocError, Global};
 
-/// How many dialogues a link holds at most.
+/// The most dialogues that a link holds.
 pub(crate) const MOST_DIALOGUES: u64 = 4_096;
 
 /// More dialogues than this are near that limit: four fifths of it.
 const MANY_DIALOGUES: u64 = 3_276;
 
-/// More log lines than this that aren't written are many.
-pub(crate) const MANY_LINES: u64 = 30_000;
-
-/// What is wrong with a run.
+/// A trouble of a run.
 #[derive(Clone, Copy, Debug, PartialEq, Eq)]
 pub enum Trouble {
     /// The log can't be written.
     LogFails,
-    /// None of the units of the node has a connection.
+    /// The thread that writes the log hangs.
+    LogHangs,
+    /// No unit of the node has a connection.
     NoNetwork,
     /// The run is about to end.
     Ending,
     /// A link of this number was up and is down.
     LinkDown(u8),
+    /// The clock of the link of this number hangs.
+    LinkHangs(u8),
     /// The log of the link of this number has a gap.
     Gap(u8),
     /// The link of this number holds more than four fifths of the dialogues that it may.
     ManyDialogues(u8),
-    /// More than 30,000 log lines of the link of this number aren't written.
-    ManyLines(u8),
     /// Messages of the link of this number were refused, since a limit was reached.
     Refused(u8),
     /// Memory ran out for messages of the link of this number.
@@ -58,11 +57,11 @@ fn push_link(out: &mut Vec<Trouble>, view: &LinkView<'_>) -> Result<(), AllocErr
     let counters = &view.numbers.counters;
     let is_down = !gauges.is_up && gauges.up_since > 0;
     push_if(out, is_down, Trouble::LinkDown(link))?;
+    push_if(out, view.hangs, Trouble::LinkHangs(link))?;
     let lost = counters.number(Counter::LinesLost);
     push_if(out, lost > 0, Trouble::Gap(link))?;
     let are_many = gauges.dialogues > MANY_DIALOGUES;
     push_if(out, are_many, Trouble::ManyDialogues(link))?;
-    push_if(out, gauges.lines > MANY_LINES, Trouble::ManyLines(link))?;
     let refused = counters.number(Counter::RefusedLimit);
     push_if(out, refused > 0, Trouble::Refused(link))?;
     let without_memory = counters.number(Counter::OutOfMemory);
@@ -84,11 +83,12 @@ fn push_run(out: &mut Vec<Trouble>, page: &PageNumbers<'_>) -> Result<(), AllocE
     ensures { OnOk result (out.new.items ≡ out.old.items ++ run_troubles page.now) }
 {
     push_if(out, page.log_fails, Trouble::LogFails)?;
+    push_if(out, page.log_hangs, Trouble::LogHangs)?;
     push_if(out, page.lacks_network, Trouble::NoNetwork)?;
     push_if(out, page.is_ending, Trouble::Ending)
 }
 
-/// What is wrong with a run, and then with each of its links, in their order. `Err`: memory ran out.
+/// The troubles of a run, and then of each of its links, in their order. `Err`: memory ran out.
 pub fn troubles_of(alloc: Global, page: &PageNumbers<'_>) -> Result<Vec<Trouble>, AllocError>
     ensures { IfOk result (λ found. found.items ≡ troubles_of page.now) }
 {

@@ -1,2 +1,3 @@
+pub mod Draining
 pub mod Report
 pub mod Tag

@@ -89,7 +89,9 @@ IsAnswer last first_link has_commands text =
 
 -- the answers to commands were written, and nothing else
 abbrev pub TellsAnswers : ℕ → ℕ → Bool → Option (List ℕ) → Option (List ℕ) → Type 0
-TellsAnswers last first_link has_commands old new = (answers : List (List ℕ)) × All (IsAnswer last first_link has_commands) answers × Appends old new (concat answers)
+TellsAnswers last first_link has_commands old new =
+    (answers : List (List ℕ)) × All (IsAnswer last first_link has_commands) answers
+    × Appends old new (concat answers)
 
 -- what each link counted, from the number 0 on: below the first link nothing
 abbrev pub with_links_below : ℕ → List Totals → List Totals

@@ -1,13 +1,13 @@
-//! A link: its threads, what they share, and its end.
+//! A link: its threads, their shared state, and its end.
 //!
-//! | File | What it has |
+//! | File | Contents |
 //! |---|---|
-//! | `shared.rt` | [`Link`]: what the threads share, its end (the table of `fp_linkstate`), and what it counted |
+//! | `shared.rt` | [`Link`]: the shared state, the link's end (the table of `fp_linkstate`), and its totals |
 //! | `threads.rt` | the threads: their start and their end |
 //! | `arrivals.rt` | the receiving thread, and how it helps |
-//! | `hold_back.rt` | for how long messages are held back that a network brought |
+//! | `hold_back.rt` | how long the messages of a network are held back |
 //! | `lingering.rt` | how the receiving thread awaits the end of its link |
-//! | `departures.rt` | the sending thread, and what waits to be sent, which the receiving thread sends too |
+//! | `departures.rt` | the sending thread, and the waiting parcels, which the receiving thread sends too |
 //! | `ticking.rt` | the clock, which takes the link down if its dialogues keep too many entries |
 //! | `turns.rt` | a worker, and its part in moving lines |
 

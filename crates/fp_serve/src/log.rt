@@ -1,8 +1,8 @@
 //! The log of a run, from the lines that a book hands out to the device.
 //!
-//! | File | What it has |
+//! | File | Contents |
 //! |---|---|
-//! | `run_log.rt` | [`Log`]: what the links and the run share with the thread that writes the log, and who waits for whom |
+//! | `run_log.rt` | [`Log`]: the state shared with the thread that writes the log, and who waits for whom |
 //! | `link_log.rt` | the lines of a link that wait (values of `fp_logtext`) |
 //! | `log_wait.rt` | how the receiving thread of a link waits for places for lines |
 //! | `log_writer.rt` | the thread that writes the log |

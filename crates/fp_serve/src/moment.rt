@@ -12,14 +12,14 @@ use std::sync::Wait;
 use std::thread;
 use std::time::{Duration, Instant, SystemTime, UNIX_EPOCH};
 
-/// How many milliseconds a second has.
+/// The number of milliseconds in a second.
 const MILLISECONDS_OF_A_SECOND: u64 = 1_000;
 
-/// How often the next second is awaited at most: it takes more than one wait if the clock runs slowly or was set back.
+/// The most waits for the next second: it takes more than one if the clock runs slowly or was set back.
 const MOST_WAITS: u32 = 3;
 
-/// The present moment. Before 1970, or if the clock gives no time, it is the first that there is, and from the year
-/// 2100 on the last.
+/// The present moment. If the clock gives no time, or one before 1970, it is the first moment, and from the year 2100
+/// on the last.
 pub(crate) fn now<R: Clock>(rt: &R) -> Moment {
     let Ok(time) = SystemTime::now(rt) else {
         return moment_after(Duration::ZERO);
@@ -27,7 +27,7 @@ pub(crate) fn now<R: Clock>(rt: &R) -> Moment {
     moment_after(time.duration_since(UNIX_EPOCH).unwrap_or(Duration::ZERO))
 }
 
-/// How long it was since then. `None`: the clock gives no time.
+/// The time since then. `None` if the clock gives no time.
 pub(crate) fn time_since<R: Clock>(rt: &R, then: Option<Instant>) -> Option<Duration> {
     then?.elapsed(rt).ok()
 }
@@ -54,8 +54,8 @@ pub(crate) fn tag_of(moment: Moment) -> u16
     (second % u64::from(LocalIds::LAST_TAG)) as u16 + 1
 }
 
-/// Waits until the second of this moment is over: a second at most, or three, if the clock is set back meanwhile. The network of
-/// a node is driven meanwhile.
+/// Waits until the second of this moment is over: at most a second, or three, if the clock is set back meanwhile. The
+/// network of a node is driven meanwhile.
 pub(crate) fn await_next_second<R: Wait + Clock>(rt: &R, links: &Links, moment: Moment) {
     let second = moment.milliseconds() / MILLISECONDS_OF_A_SECOND;
     for _ in 0..MOST_WAITS {

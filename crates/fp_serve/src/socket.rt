@@ -1,8 +1,8 @@
-//! Connections: how they are awaited, watched, read and written.
+//! Connections: awaiting, watching, reading and writing them.
 //!
-//! | File | What it has |
+//! | File | Contents |
 //! |---|---|
-//! | `connections.rt` | how a connection is awaited |
+//! | `connections.rt` | the wait for a connection |
 //! | `link_stream.rt` | the connection of a link: a socket, or a network |
 //! | `traced_stream.rt` | the connection of a link, and how the last call of its threads ended |
 

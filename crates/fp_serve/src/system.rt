@@ -1,4 +1,4 @@
-//! What a run asks of the system beside sockets and memory.
+//! The needs of a run from the system, besides sockets and memory.
 
 use crate::run::ServeFault;
 use std::rt::Clock;

@@ -1,17 +1,17 @@
-//! What a run counts for those who watch it, and how they get it.
+//! The counters of a run for its watchers, and the answers to them.
 //!
-//! Threads note what they count where it happens, each of a link in its own place, under a lock that is held for the
-//! length of a copy or of a portion of log lines. No lock of a book, of a socket or of the log is taken to read it, so a
-//! reader holds up a thread of a link for such a copy at most. What nobody asked for isn't counted.
+//! Each thread of a link notes its counts at once, in a place of its own, under a lock that is held for the length of a
+//! copy or of a portion of log lines. No lock of a book, of a socket or of the log is taken to read them, so a reader
+//! holds up a thread of a link at most for such a copy. A run without watchers counts nothing.
 //!
-//! | File | What it has |
+//! | File | Contents |
 //! |---|---|
-//! | `metrics.rt` | [`Metrics`]: what is counted in a run, and its text |
-//! | `link_metrics.rt` | what is counted on a link, and where each of its threads notes it |
-//! | `called.rt`, `plain_begin.rt`, `number_rows.rt`, `number_counts.rt` | what is counted for each called number of a link |
+//! | `metrics.rt` | [`Metrics`]: the counters of a run, and their text |
+//! | `link_metrics.rt` | the counters of a link, and the place of each of its threads |
+//! | `called.rt`, `plain_begin.rt`, `number_rows.rt`, `number_counts.rt` | the counters of each called number |
 //! | `sample.rt` | the time from the read of a message to the write of its answer, of one message at a time |
-//! | `frames.rt` | what a frame counts that was sent |
-//! | `page.rt`, `recent.rt` | the page for a browser, what it needs over time, and the last events |
+//! | `frames.rt` | the counts of a frame that was sent |
+//! | `page.rt`, `recent.rt` | the page for a browser, its history, and the last events |
 //! | `health.rt` | whether a run is live, and whether it is ready |
 //! | `listener.rt` | the thread that answers HTTP |
 //! | `visitor.rt` | a connection of that thread |

@@ -16,17 +16,17 @@ use jiff::Timestamp;
 use serving::{SERVE, serve_asked, serve_command};
 use std::alloc::{AllocError, Global};
 
-/// What the words of a command line ask for.
+/// A request, made by the words of a command line.
 #[derive(Debug, Drop)]
 pub enum Asked<'a> {
-    /// What the records of a file hold.
+    /// The counts of a records file.
     Check {
         /// The path of the file.
         records: &'a str,
-        /// Whether all there is to say of it is wanted.
+        /// Whether all faults, or all possible slips, are wanted too.
         explain: bool,
     },
-    /// The records of a file as a file of version 2.
+    /// A file's records as a file of version 2.
     Migrate {
         /// The path of the file.
         records: &'a str,
@@ -35,48 +35,48 @@ pub enum Asked<'a> {
     Ask {
         /// The path of the file.
         records: &'a str,
-        /// The text of the moment, which has not been read.
+        /// The text of the moment, not read yet.
         moment: &'a str,
         /// The tag of the run.
         tag: Tag,
-        /// The text of the list of application contexts, which has not been read, if there is one.
+        /// The text of the list of application contexts, not read yet, if there is one.
         contexts: Option<&'a str>,
     },
     /// A replay of the steps of a log, from the records of one file or several.
     Replay {
-        /// The path of the file with which the run began.
+        /// The path of the file that the run began with.
         records: &'a str,
         /// The path of the log.
         log: &'a str,
         /// The paths of the files that were loaded later, in that order.
         later: Vec<&'a str>,
-        /// The text of the list of application contexts, which has not been read, if there is one.
+        /// The text of the list of application contexts, not read yet, if there is one.
         contexts: Option<&'a str>,
     },
     /// Links over connections, answered from the records of a file.
     Serve {
         /// The path of the file.
         records: &'a str,
-        /// The text of the address where connections are awaited, which has not been read.
+        /// The text of the address where connections are awaited, not read yet.
         listen: &'a str,
-        /// The words for the node on a signalling network that the program is, if it is one.
+        /// The words for a node on a signalling network, if the program is to be one.
         network: Option<NetworkWords<'a>>,
-        /// How many links there are, 1 to 8, from which number on, with which tag, and how many workers each has, 1 to 8.
+        /// How many links there are, 1 to 8, the number of the first, the tag, and how many workers each has, 1 to 8.
         settings: Settings,
         /// The path of the log that is written.
         log: &'a str,
-        /// The text of the address where it is asked for what is counted, which has not been read, if there is one.
+        /// The text of the address for HTTP requests of the counters, not read yet, if there is one.
         metrics: Option<&'a str>,
-        /// Whether it is counted for each called number, too.
+        /// Whether each called number has counters, too.
         counts_numbers: bool,
-        /// Which events are written, if any are.
+        /// The events that are written, if any are.
         events: Option<Wanted>,
-        /// The text of the list of application contexts, which has not been read, if there is one.
+        /// The text of the list of application contexts, not read yet, if there is one.
         contexts: Option<&'a str>,
     },
-    /// The help or the version: this text.
+    /// The text of the help or the version.
     Help(String),
-    /// Nothing that the program does: this text says so.
+    /// The text that says why the words are refused.
     Refused(String),
 }
 
@@ -95,7 +95,7 @@ const MIGRATE: &str = "migrate";
 /// The name of the subcommand that replays a log.
 const REPLAY: &str = "replay";
 
-/// What the words ask for. The first of them names the program.
+/// The request in the words. The first of them names the program.
 pub fn asked_by<'a>(alloc: Global, words: &'a [String]) -> Result<Asked<'a>, AllocError> {
     let command = match command(alloc) {
         Ok(command) => command,
@@ -143,7 +143,7 @@ pub fn asked_by<'a>(alloc: Global, words: &'a [String]) -> Result<Asked<'a>, All
     })
 }
 
-/// The text of what clap answers in place of matches.
+/// The request that clap answers with a text in place of matches: help, version or a refusal.
 fn told_by<'a>(alloc: Global, error: &Error) -> Result<Asked<'a>, AllocError> {
     if error.kind() == ErrorKind::OutOfMemory {
         return Err(AllocError);
@@ -156,7 +156,7 @@ fn told_by<'a>(alloc: Global, error: &Error) -> Result<Asked<'a>, AllocError> {
     }
 }
 
-/// What to type, after the help of the program and of its subcommands.
+/// The text after the help of `check`.
 const CHECK_EXAMPLE: &str = "Examples:
   scp check examples/freephone.csv
   scp check examples/freephone.csv --explain
@@ -233,7 +233,7 @@ fn migrate_command<'a>(alloc: Global) -> Result<Command<'a>, AllocError> {
         .arg(records(alloc))
 }
 
-/// The subcommand that answers.
+/// The subcommand that answers messages.
 fn ask_command<'a>(alloc: Global) -> Result<Command<'a>, AllocError> {
     let moment = Arg::new(alloc, "MOMENT")
         .required(true)
@@ -272,7 +272,7 @@ fn replay_command<'a>(alloc: Global) -> Result<Command<'a>, AllocError> {
         .arg(contexts(alloc))
 }
 
-/// The command line that there is.
+/// The whole command line.
 fn command<'a>(alloc: Global) -> Result<Command<'a>, AllocError> {
     Command::new(alloc, PROGRAM)
         .bin_name(PROGRAM)?
@@ -287,10 +287,10 @@ fn command<'a>(alloc: Global) -> Result<Command<'a>, AllocError> {
         .subcommand(replay_command(alloc)?)
 }
 
-/// The moment that a text names: milliseconds since 1970-01-01T00:00:00Z, parts of a millisecond
-/// dropped towards the past.
+/// The moment of a text: milliseconds since 1970-01-01T00:00:00Z, parts of a millisecond dropped towards the past. For
+/// example, `2024-05-06T12:00:00Z` is 1,714,996,800,000.
 ///
-/// `None`: the text names no instant, or one before 1970 or after 2099.
+/// `None` if the text isn't an instant, or is one before 1970 or after 2099.
 pub fn moment_of(text: &str) -> Option<Moment>
     ensures { result ≡ moment_in (parse_timestamp text.now) }
 {

@@ -1,4 +1,4 @@
-//! What a run that serves links is asked for while it lasts.
+//! The commands that a run takes while it serves links.
 
 ghost use Rattle.std.specs.Prelude.{◌≤◌, IfOk};
 
@@ -13,21 +13,21 @@ use std::io::Write;
 use std::rt::{Clock, Files};
 use std::sync::{Arc, Wait};
 
-/// Reads the records of a run again from their file, and writes what is wrong with a command, a line each.
+/// Reads the records of a run again from their file, and writes the faults of commands, a line each.
 #[derive(Drop)]
 pub(crate) struct Console<'a, H, E> {
     pub(crate) rt: &'a H,
     // The path of the records.
     pub(crate) records: &'a str,
     pub(crate) events: &'a Events,
-    // What is counted, if somebody asked for that.
+    // The counters, if the run has them.
     pub(crate) metrics: &'a Option<Arc<Metrics>>,
     pub(crate) errors: &'a mut E,
 }
 
 impl<H: Files + AllocGlobal + Wait + Clock, E: Write> Console<'_, H, E> {
-    /// Writes a line in one piece, so that no event comes between its parts; without memory for it, `out of memory`.
-    /// What can't be written is left out.
+    /// Writes a line in one piece, so that no event gets between its parts; without memory for it, `out of memory`.
+    /// Text that can't be written is left out.
     fn say<D: fmt::Display + Drop>(&mut self, text: D) {
         let _ = match format!(in self.rt.alloc(); "{text}\n") {
             Ok(line) => self.errors.write_all(line.as_bytes()),
@@ -36,7 +36,7 @@ impl<H: Files + AllocGlobal + Wait + Clock, E: Write> Console<'_, H, E> {
         let _ = self.errors.flush();
     }
 
-    /// Reads the records again, and reports their index and the digest of their file as an event.
+    /// Reads the records again, and reports the index of the new table and the digest of their file as an event.
     fn reread(&self, tables: &Tables) -> Result<u32, RunFault>
         ensures { IfOk result (λ index. (1 ≤ index) × (index ≤ tables.now)) }
     {

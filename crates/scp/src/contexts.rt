@@ -8,13 +8,14 @@ use fp_apdu::Name;
 use hex::FromHexError;
 use std::alloc::{AllocError, Global};
 
-/// How many names a list may have.
+/// The most names of a list.
 const MOST: usize = 16;
 
-/// The names that a text lists. `None`: it is no list of names.
+/// The names of a list. `None` if the text isn't a list of names.
 ///
 /// A list has 1 to 16 names with commas between them. Each is the hexadecimal text, in digits of either case, of the 1
-/// to 64 octets of an object identifier, without tag and length. A name may stand twice.
+/// to 64 octets of an object identifier, without tag and length. For example, `2A0304,2A0305`. A name may be there
+/// twice.
 pub(crate) fn contexts_in(alloc: Global, text: &str) -> Result<Option<Vec<Name>>, AllocError>
     ensures { IfOk result (λ names. FindsContexts text.now (option_map (λ list. list.items) names)) }
 {
@@ -33,7 +34,7 @@ fn pieces_of<'a>(alloc: Global, text: &'a str) -> Result<Vec<&'a str>, AllocErro
     text.split(',').collect(alloc)
 }
 
-/// The names of these texts. `None`: one of them is the text of none.
+/// The names of these texts. `None` if one of them isn't the text of a name.
 fn names_of(alloc: Global, texts: &[&str]) -> Result<Option<Vec<Name>>, AllocError>
     ensures { IfOk result (λ names. MatchOption names
         ((list : List (List ℕ)) → AllZip IsNameText (map (λ text. text.now) texts.now) list → ⊥)
@@ -49,7 +50,7 @@ fn names_of(alloc: Global, texts: &[&str]) -> Result<Option<Vec<Name>>, AllocErr
     Ok(Some(names))
 }
 
-/// The name of a text. `None`: it is the text of none.
+/// The name of a text. `None` if it isn't the text of a name.
 fn name_of(alloc: Global, text: &str) -> Result<Option<Name>, AllocError>
     ensures { IfOk result (λ name. MatchOption name
         ((octets : List ℕ) → IsNameText text.now octets → ⊥) (λ octets. IsNameText text.now octets)) }

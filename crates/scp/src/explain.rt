@@ -1,4 +1,4 @@
-//! What there is to say of a records file beyond its counts or its first fault.
+//! The report on a records file, beyond its counts or its first fault.
 
 ghost use Rattle.std.specs.Prelude.{◌≡◌, ◌⊎◌, ℕ, IfErr, IsErrAnd};
 ghost use Rattle.fp_ask.specs.declared.fault.AskFault.TheVariants.{WriteFault};
@@ -16,10 +16,10 @@ use fp_records::{RecordsFault, Table};
 use std::alloc::{AllocError, Global};
 use std::io::Write;
 
-/// Writes what there is to say of the text of a records file: the line of `check` and what [`Survey::write`] adds, or
-/// all faults.
+/// Writes the report on the text of a records file: the line of `check` and the possible slips that [`Survey::write`]
+/// adds, or all faults.
 ///
-/// The fault is the first one of the text, as [`Table::read`] has it, and all faults were written then; or memory ran
+/// The error is the first fault of the text, as [`Table::read`] has it, and all faults were written then; or memory ran
 /// out, and nothing was written; or the output failed.
 pub fn explain<W: Write>(alloc: Global, text: &[u8], output: &mut W) -> Result<(), RunFault>
     ensures file { (file : File) → IsFile (records_of text.now) file
@@ -34,7 +34,7 @@ pub fn explain<W: Write>(alloc: Global, text: &[u8], output: &mut W) -> Result<(
     Ok(())
 }
 
-/// What there is to say of a text that reads as this. `Err`: memory ran out, now or when it was read.
+/// The report on a text with this result of reading it. `Err`: memory ran out, now or when it was read.
 fn said_of(
     alloc: Global,
     text: &[u8],

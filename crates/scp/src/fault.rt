@@ -1,4 +1,4 @@
-//! Why a run ends with status 1, and the line that says so.
+//! The reasons for status 1, and the line of each.
 
 ghost use Rattle.std.specs.Prelude.{◌≡◌};
 
@@ -13,35 +13,34 @@ use thiserror::Error;
 /// Why a run ends with status 1.
 #[derive(Clone, Copy, Debug, PartialEq, Eq, Error)]
 pub enum RunFault {
-    /// The moment of the command line is none.
+    /// The moment of the command line isn't one.
     #[error("moment: not an instant from 1970 to 2099")]
     NoMoment,
-    /// The application contexts of the command line are no list of names.
+    /// The application contexts of the command line aren't a list of names.
     #[error("contexts: not a list of names")]
     NoContexts,
     /// The file of the records could not be read.
     #[error("records: cannot be read")]
     UnreadableRecords,
-    /// The text of the records is no table.
+    /// The text of the records is faulty.
     #[error("{0}")]
     Records(RecordsFault),
-    /// The lines of the input could not all be answered.
+    /// A fault while the lines of the input were answered.
     #[error("{0}")]
     Ask(AskFault),
     /// The file of the log could not be opened.
     #[error("log: cannot be opened")]
     UnopenedLog,
-    /// The log isn't replayed.
+    /// A fault while the log was replayed.
     #[error("{0}")]
     Replay(ReplayFault),
-    /// The records were read again, and don't replace those of before: as many did as the run takes, or
-    /// memory ran out.
+    /// The records were read again, and don't replace the ones before: the run takes no more tables, or memory ran out.
     #[error("reload: refused")]
     RefusedReload,
-    /// The links were not all served to their end.
+    /// A fault while the links were served.
     #[error("{0}")]
     Serve(ServeFault),
-    /// No connections can be awaited where the run is to be asked for its counters.
+    /// No connections can be awaited at the address for the run's counters.
     #[error("metrics: cannot listen")]
     NoMetrics,
     /// The network of a node ended before its link did.

@@ -1,4 +1,4 @@
-//! Where a run awaits its links, and those who watch it.
+//! The addresses where a run awaits its links, and HTTP requests.
 
 ghost use Rattle.std.specs.Prelude.{◌≡◌, ◌⊎◌, IfErr};
 ghost use Rattle.fp_serve.specs.declared.run.fault.ServeFault.TheVariants.{Memory, NoConnection};
@@ -11,7 +11,7 @@ use std::net::{IpAddr, Net, SocketAddr, TcpListener, TcpStream};
 use std::random::RandomSource;
 
 /// Whether this is a multicast address, or the broadcast address 255.255.255.255. Linux listens there, and nobody can
-/// connect. The broadcast address of a network can't be told from its text.
+/// connect. The broadcast address of a network isn't recognized: its text is like any other's.
 fn is_multicast_or_broadcast(ip: IpAddr) -> bool {
     match ip.to_canonical() {
         IpAddr::V4(ip) => ip.is_multicast() || ip.is_broadcast(),
@@ -19,7 +19,7 @@ fn is_multicast_or_broadcast(ip: IpAddr) -> bool {
     }
 }
 
-/// A listener at the IP address and port that a text gives.
+/// A listener at the IP address and port of a text.
 pub(crate) fn listener_at<H: Net<Listener = TcpListener, Stream = TcpStream>>(
     rt: &H,
     listen: &str,
@@ -39,7 +39,7 @@ pub(crate) fn listener_at<H: Net<Listener = TcpListener, Stream = TcpStream>>(
     }
 }
 
-/// A listener where the run is asked for what it counts, at the IP address and port that a text gives, if it is to be.
+/// A listener for requests of the run's counters, at the IP address and port of a text, if there is one.
 pub(crate) fn metrics_listener_at<H>(
     rt: &H,
     address: Option<&str>,

@@ -15,8 +15,8 @@ use std::rt::Files;
 /// The permissions of a log that is created: it has the numbers of callers.
 const LOG_MODE: u32 = 0o640;
 
-/// Opens the log to write it, unless it is the file of the records. What it holds stays until the address is bound, so
-/// that a second run which is refused the address of the first leaves its log alone.
+/// Opens the log to write it, unless it is the file of the records. Its octets stay until the address is bound, so that
+/// a second run that is refused the address of the first leaves its log alone.
 pub(crate) fn opened_log<H: Files<File = File>>(
     rt: &H,
     path: &str,
@@ -44,9 +44,9 @@ fn is_same_file<H: Files>(rt: &H, file: &File, path: &str) -> bool {
     one.dev() == other.dev() && one.ino() == other.ino()
 }
 
-/// Locks the log, so that no other run writes it meanwhile: a second one is refused what the first holds. The lock ends
-/// with the run. Only a regular file is locked, since the lock of a device is the whole machine's; and if the system
-/// can't lock a file, the run goes on without.
+/// Locks the log, so that no other run writes it meanwhile: a second run is refused a log that the first holds. The
+/// lock ends with the run. Only a regular file is locked, since the lock of a device is the whole machine's; and if the
+/// system can't lock a file, the run goes on without.
 pub(crate) fn lock(file: &File) -> Result<(), RunFault>
     ensures fault { IfErr result (λ fault. fault ≡ UnopenedLog) }
 {
@@ -63,8 +63,8 @@ pub(crate) fn lock(file: &File) -> Result<(), RunFault>
     }
 }
 
-/// Empties the log if it holds something. A device such as `/dev/null` holds nothing, and can't be emptied. A log that
-/// can't be emptied can't be written as it has to be.
+/// Empties the log if it has octets. A device such as `/dev/null` has none, and can't be emptied. A log that can't be
+/// emptied counts as one that can't be written.
 pub(crate) fn empty(file: &File) -> Result<(), ServeFault>
     ensures fault { IfErr result (λ fault. fault ≡ UnwrittenLog) }
 {

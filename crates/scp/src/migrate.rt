@@ -15,10 +15,10 @@ use crate::output::write_octets;
 use std::alloc::Global;
 use std::io::Write;
 
-/// Writes the records of a text as the text of a file of version 2: what [`fp_records::migrate`] appends.
+/// Writes the records of a text as the text of a file of version 2, as [`fp_records::migrate`] appends it.
 ///
-/// The fault is that of the text, as [`fp_records::Table::read`] has it, and nothing is written then; or the output
-/// failed.
+/// The error is the first fault of the text, as [`fp_records::Table::read`] has it, and nothing is written then; or the
+/// output failed.
 pub fn migrate<W: Write>(alloc: Global, text: &[u8], output: &mut W) -> Result<(), RunFault>
     ensures written { OnOk result
         (Appends (W.contents output.old) (W.contents output.new) (migrated (records_of text.now))) }

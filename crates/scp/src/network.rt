@@ -7,10 +7,10 @@ use fp_sccp::{Address, PointCode, subsystem_of};
 use fp_serve::PeerName;
 use std::alloc::{AllocError, Global};
 
-/// How many units may be named at most.
+/// The most units that may be named.
 const MOST_UNITS: usize = 8;
 
-/// The words for a node on a signalling network, each of which is good.
+/// The words for a node on a signalling network, each of them valid.
 #[derive(Clone, Copy, Debug)]
 pub struct NetworkWords<'a> {
     /// The node's own address.
@@ -35,7 +35,7 @@ pub(crate) struct NetworkAsked {
 }
 
 impl NetworkWords<'_> {
-    /// The node that they ask for. `None`: one of them isn't good.
+    /// The node for these words. `None` if one of them isn't valid.
     pub(crate) fn node(self, alloc: Global) -> Result<Option<NetworkAsked>, AllocError> {
         let Some(own) = address_in(self.own) else {
             return Ok(None);
@@ -56,7 +56,7 @@ impl NetworkWords<'_> {
     }
 }
 
-/// How long the text of an address may be.
+/// The longest text of an address, in octets.
 const MOST_TEXT: usize = 40;
 
 /// The address of a point code and a subsystem number, as `100:12`.
@@ -66,8 +66,8 @@ fn point_code_address(text: &str) -> Option<Address> {
     Some(Address::of_point_code(point_code, subsystem.parse().ok()?))
 }
 
-/// The address that a text of at most 40 octets gives: `PC:SSN`, or all its octets in hexadecimal digits. `None`: it gives
-/// none.
+/// The address of a text of at most 40 octets: `PC:SSN`, or all its octets in hexadecimal digits. `None` if it is
+/// neither.
 pub(crate) fn address_in(text: &str) -> Option<Address> {
     if text.len() > MOST_TEXT {
         return None;
@@ -87,8 +87,8 @@ pub(crate) fn has_subsystem(address: &Address) -> bool {
     subsystem_of(address.as_slice()).is_some()
 }
 
-/// The names of units that a text gives, with commas between them, 1 to 8, no two of them the same. `Ok(None)`: it gives
-/// none.
+/// The names of units in a text, with commas between them, 1 to 8, no two of them the same. `Ok(None)` if it is no such
+/// list.
 pub(crate) fn units_in(alloc: Global, text: &str) -> Result<Option<Vec<UnitName>>, AllocError> {
     let mut names = Vec::new(alloc);
     for piece in text.split(',') {

@@ -1,4 +1,4 @@
-//! What is written to the output.
+//! Writes to the output.
 
 ghost use Rattle.std.specs.Prelude.{◌≡◌, OnOk, IfErr};
 ghost use Rattle.std.specs.Io.KnownBytes.{Appends};

@@ -29,19 +29,19 @@ use std::io::{ErrorKind, Read, Write};
 use std::rt::Files;
 use std::{fs, io};
 
-/// How many reads of the input a run may make: 2^40.
+/// The most reads of the input in a run: 2^40.
 const TURNS: u64 = 1_099_511_627_776;
 
-/// Runs the program with these words, of which the first names it, and returns its status.
+/// Runs the program with these words and returns its status. The first word names the program.
 ///
-/// 0: all was answered, or help was asked for and written to `output`. 2: the words were refused, and a text on
+/// 0: all lines were answered, or help was asked for and written to `output`. 2: the words were refused, and a text on
 /// `errors` says why. 1: one line on `errors` names the fault, after the path of the file if that is one of LATER.
 /// Faults are found in this order: the words, the moment, the application contexts, the records, the opening of the
-/// log, then those of the lines. What cannot be written to `errors` is left out, and the status stays.
+/// log, then those of the lines. Text that cannot be written to `errors` is left out, and the status stays.
 ///
-/// It is handed no network. So words that ask for `serve` and aren't refused get status 1 and the line
-/// `listen: cannot listen`, before the application contexts, the records and the log are looked at:
-/// [`program_with_links`](crate::program_with_links) serves.
+/// The program is handed no network here. So words that ask for `serve` and aren't refused get status 1 and the line
+/// `listen: cannot listen`, before the application contexts, the records and the log are looked at. To serve links,
+/// call [`program_with_links`](crate::program_with_links).
 pub fn program<H, R, W, E>(rt: &H, words: &[String], input: R, output: &mut W, errors: &mut E) -> u8
 where
     H: Files + AllocGlobal,
@@ -53,7 +53,7 @@ where
     run_asked(rt, asked_by(rt.alloc(), words), input, output, errors)
 }
 
-/// Does what the words ask for, and returns the status, as [`program`] says.
+/// Runs the request of the words, and returns the status, as [`program`] does.
 pub(crate) fn run_asked<H, R, W, E>(
     rt: &H,
     asked: Result<Asked<'_>, AllocError>,
@@ -98,7 +98,7 @@ where
     status_of(outcome, errors)
 }
 
-/// Says on `errors` why the words could not be read, and returns the status.
+/// Writes on `errors` why the words could not be read, and returns the status.
 pub fn refuse_words<E: Write>(error: &io::Error, errors: &mut E) -> u8
     ensures least { 1 ≤ result }
     ensures most { result ≤ 2 }
@@ -129,7 +129,7 @@ fn show<W: Write>(text: &str, output: &mut W) -> Result<(), RunFault> {
     Ok(())
 }
 
-/// Writes what the records of a file hold, or all there is to say of them.
+/// Writes the counts of a records file, or the whole report on it.
 fn check_file<H: Files + AllocGlobal, W: Write>(
     rt: &H,
     records: &str,
@@ -191,7 +191,7 @@ where
     Ok(())
 }
 
-/// Replays the log in a file from the records of others.
+/// Replays the log in a file, by the records of other files.
 fn replay_file<H, W, E>(
     rt: &H,
     records: &str,
@@ -229,8 +229,8 @@ where
     Ok(())
 }
 
-/// The application contexts that are accepted: those of the list, or none if there is no list. `None`: it is no list of
-/// names.
+/// The application contexts that are accepted: the names of the list, or none if there is no list. `None` if the text
+/// isn't a list of names.
 pub(crate) fn accepted(
     alloc: Global,
     contexts: Option<&str>,
@@ -247,8 +247,8 @@ fn table_in<H: Files + AllocGlobal>(rt: &H, path: &str) -> Result<Table, RunFaul
     Ok(Table::read_and_free(rt.alloc(), text)?)
 }
 
-/// The tables in the file with which a run began and in those that were loaded later, in that order. Each is numbered by
-/// its place, as far as there are indexes.
+/// The tables of the file that a run began with and of the files that were loaded later, in that order. Each is
+/// numbered by its place, as far as there are indexes.
 fn tables_in<H: Files + AllocGlobal, E: Write>(
     rt: &H,
     records: &str,
@@ -291,7 +291,7 @@ pub(crate) fn records_in<H: Files + AllocGlobal>(rt: &H, path: &str) -> Result<V
     }
 }
 
-/// Answers the lines of the input, and says of readers and writers whose octets are known what [`ask_with_tag`] says.
+/// Answers the lines of the input, with the clauses of [`ask_with_tag`] for readers and writers whose octets are known.
 fn answer_lines<R: Read, W: Write>(
     alloc: Global,
     table: &Table,
@@ -318,7 +318,7 @@ fn answer_lines<R: Read, W: Write>(
     )
 }
 
-/// Replays a log, and says of readers and writers whose octets are known what [`replay`] says.
+/// Replays a log, with the clauses of [`replay`] for readers and writers whose octets are known.
 fn replay_lines<R: Read, W: Write>(
     alloc: Global,
     tables: &[Table],

@@ -4,7 +4,8 @@ ghost use Rattle.std.specs.Prelude.{◌≡◌, ◌≤◌, ◌↔◌, IfSome, IsS
 
 use fp_tids::LocalIds;
 
-/// The tag of a run, 0 to 4,094: a summand of the local identifiers of its dialogues. 0 is none.
+/// The tag of a run, 0 to 4,094: a part of the local identifiers of its dialogues. 0 for a run
+/// without one.
 #[derive(Clone, Copy, Debug, PartialEq, Eq)]
 pub struct Tag {
     /// The tag.

@@ -10,6 +10,7 @@ use crate::listening::{listener_at, metrics_listener_at};
 use crate::log_file::{empty, lock, opened_log};
 use crate::network::NetworkWords;
 use crate::run::{accepted, records_in, run_asked, status_of};
+use fp_apdu::Name;
 use fp_hub::Tables;
 use fp_network::{Drain, NetworkEvent, NetworkFault, NetworkLink, Node, Plan};
 use fp_records::Table;
@@ -32,17 +33,18 @@ use std::sync::Arc;
 /// address of `--metrics`, the lock and the emptying of the log, then those of the run.
 ///
 /// A log that can't be opened, or that is the records file, is reported before the address is looked at, as `log:
-/// cannot be opened`. So is, after it, one that another run holds. One that can't be emptied is reported as one that
-/// can't be written: `log: cannot be written`. A text that is no address, and an address where no connections can be
-/// awaited, are `listen: cannot listen`, and for `--metrics` they are `metrics: cannot listen`.
+/// cannot be opened`. So is, after it, a log that another run holds. A log that can't be emptied is reported as one
+/// that can't be written: `log: cannot be written`. A text that isn't an address, and an address where no connections
+/// can be awaited, are `listen: cannot listen`, and for `--metrics` they are `metrics: cannot listen`.
 ///
-/// The events of the run that the words ask for go to `event_lines`, by a thread that may still wait there when this
-/// returns. So may a thread that reads commands from `input`, if the run ended after a fault or with its links.
+/// The events of the run, if the words ask for them, go to `event_lines`, by a thread that may still wait there when
+/// this returns. So may a thread that reads commands from `input`, if the run ended after a fault or with its links.
 ///
 /// A command `reload` reads the file of the records again. If it is faulty, or can't be read, its fault is a line on
-/// `errors`, and the records of before are kept. So they are after `reload: refused`: 999 files replaced others, or
-/// 65,535 in a run with a tag, or memory ran out once it was read. `links`, `counters` and `quit` are what [`serve`] says,
-/// if the words ask for them. Any other line of the input gets the line `command: unknown`.
+/// `errors`, and the records stay as they were. So they do after `reload: refused`: 999 files replaced others, or
+/// 65,535 in a run with a tag, or memory ran out once the file was read. For `links`, `counters`, `counters NUMBER`,
+/// `drain` and `quit`, if the words ask for them, see [`Server::serve`]. Any other line gets `command: unknown`; the
+/// texts of [`Refusal`](fp_serve::Refusal) are the answers to commands that aren't followed.
 pub fn program_with_links<H, R, W, E, V>(
     rt: &H,
     words: &[String],
@@ -84,6 +86,7 @@ where
             let asked = Run {
                 records,
                 listen,
+                network,
                 settings,
                 log,
                 metrics,
@@ -91,18 +94,19 @@ where
                 events,
                 contexts,
             };
-            let outcome = serve_file(rt, asked, network, input, output, errors, event_lines);
+            let outcome = serve_file(rt, asked, input, output, errors, event_lines);
             status_of(outcome, errors)
         }
         asked => run_asked(rt, asked, input, output, errors),
     }
 }
 
-/// What the words ask `serve` for, as [`Asked::Serve`] has it.
+/// The request for `serve` in the words, as [`Asked::Serve`] has it.
 #[derive(Clone, Copy)]
 struct Run<'a> {
     records: &'a str,
     listen: &'a str,
+    network: Option<NetworkWords<'a>>,
     settings: Settings,
     log: &'a str,
     metrics: Option<&'a str>,
@@ -111,11 +115,51 @@ struct Run<'a> {
     contexts: Option<&'a str>,
 }
 
-/// Serves links from the records of a file.
+/// The records, listeners and log of a run, read and opened before its first event.
+#[derive(Drop)]
+struct Prepared {
+    contexts: Vec<Name>,
+    table: Table,
+    digest: Option<[u8; 32]>,
+    log: File,
+    listener: TcpListener,
+    metrics_listener: Option<MetricsListener>,
+}
+
+/// Reads the records of a run, opens its log and its listeners, and empties the log.
+fn prepare<H>(rt: &H, asked: &Run<'_>) -> Result<Prepared, RunFault>
+where
+    H: Files<File = File>
+        + AllocGlobal
+        + Net<Listener = TcpListener, Stream = TcpStream>
+        + RandomSource,
+{
+    let Some(contexts) = accepted(rt.alloc(), asked.contexts)? else {
+        return Err(RunFault::NoContexts);
+    };
+    let text = records_in(rt, asked.records)?;
+    let digest = digest_of(asked, text.as_slice());
+    let table = Table::read_and_free(rt.alloc(), text)?;
+    let log = opened_log(rt, asked.log, asked.records)?;
+    let listener = listener_at(rt, asked.listen)?;
+    let metrics_listener = metrics_listener_at(rt, asked.metrics)?;
+    lock(&log)?;
+    empty(&log)?;
+    Ok(Prepared {
+        contexts,
+        table,
+        digest,
+        log,
+        listener,
+        metrics_listener,
+    })
+}
+
+/// Serves links from the records of a file. Once events were started, each way out waits until they are
+/// written, a second at most, or two if 1,024 wait.
 fn serve_file<'x, H, R, W, E, V>(
     rt: &'x H,
     asked: Run<'x>,
-    network: Option<NetworkWords<'_>>,
     input: R,
     output: &mut W,
     errors: &'x mut E,
@@ -136,21 +180,45 @@ where
     E: Write,
     V: Write + Send + Drop + 'static,
 {
-    let Some(contexts) = accepted(rt.alloc(), asked.contexts)? else {
-        return Err(RunFault::NoContexts);
-    };
-    let text = records_in(rt, asked.records)?;
-    let digest = digest_of(&asked, text.as_slice());
-    let table = Table::read_and_free(rt.alloc(), text)?;
-    let counts = table.counts();
-    let file = opened_log(rt, asked.log, asked.records)?;
-    let listener = listener_at(rt, asked.listen)?;
-    let metrics_listener = metrics_listener_at(rt, asked.metrics)?;
-    lock(&file)?;
-    empty(&file)?;
-    let events = started_events(rt, asked.events, digest, event_lines)?;
-    let events = kept_for(events, &metrics_listener)?;
-    let watched = watched(rt, &asked, digest, counts, metrics_listener)?;
+    let prepared = prepare(rt, &asked)?;
+    let events = started_events(rt, asked.events, &prepared, event_lines)?;
+    let outcome = serve_prepared(rt, asked, prepared, input, output, errors, &events);
+    events.finish(rt);
+    outcome
+}
+
+/// Serves links, and reports events.
+fn serve_prepared<'x, H, R, W, E>(
+    rt: &'x H,
+    asked: Run<'x>,
+    prepared: Prepared,
+    input: R,
+    output: &mut W,
+    errors: &'x mut E,
+    events: &'x Events,
+) -> Result<(), RunFault>
+where
+    H: Files<File = File>
+        + AllocGlobal
+        + Net<Listener = TcpListener, Stream = TcpStream>
+        + System
+        + Copy
+        + Send
+        + Sync
+        + 'static,
+    R: Read + Send + Drop + 'static,
+    W: Write,
+    E: Write,
+{
+    let Prepared {
+        contexts,
+        table,
+        digest,
+        log,
+        listener,
+        metrics_listener,
+    } = prepared;
+    let watched = watched(rt, &asked, digest, table.counts(), metrics_listener)?;
     let tables = Tables::with_last_index(rt.alloc(), table, asked.settings.last_index())?;
     let service = Service {
         alloc: rt.alloc(),
@@ -164,11 +232,11 @@ where
     let operator = Console {
         rt,
         records: asked.records,
-        events: &events,
+        events,
         metrics: &metrics,
         errors,
     };
-    let Side { links, network } = side_of(rt, network, listener)?;
+    let Side { links, network } = side_of(rt, asked.network, listener)?;
     if let (Some(metrics), Some(_)) = (&metrics, &network) {
         metrics.note_connected(false);
     }
@@ -176,32 +244,24 @@ where
         settings: asked.settings,
         links,
         commands: Commands { input, operator },
-        log: Counted::new(file),
+        log: Counted::new(log),
         watched,
     };
-    let outcome = serve_links(
-        rt,
-        service,
-        server,
-        &events,
-        &mut Counted::new(&mut *output),
-    );
-    let finished = finish(rt, network, &events);
-    events.finish(rt);
+    let outcome = serve_links(rt, service, server, events, &mut Counted::new(&mut *output));
+    let finished = finish(rt, network, events);
     outcome?;
     finished?;
     Ok(())
 }
 
-/// Where the links of a run come from, and the network that carries them, if one does.
+/// The source of a run's links, and the network that carries them, if there is one.
 #[derive(Drop)]
 struct Side {
     links: Links,
     network: Option<Arc<NetworkLink>>,
 }
 
-/// Where the links of a run come from: from a listener, or over the network of a node whose transfer points connect to
-/// it.
+/// The source of a run's links: a listener, or the network of a node whose transfer points connect to it.
 fn side_of<H: AllocGlobal + Clock + Net<Listener = TcpListener, Stream = TcpStream>>(
     rt: &H,
     words: Option<NetworkWords<'_>>,
@@ -245,8 +305,8 @@ fn side_of<H: AllocGlobal + Clock + Net<Listener = TcpListener, Stream = TcpStre
     })
 }
 
-/// Waits until a network is over, if there is one, and reports what happened on it and its numbers. The error: why it ended
-/// before its link did.
+/// Waits until a network is over, if there is one, and reports its events and its numbers. `Err`: why it ended before
+/// its link did.
 fn finish<H: System>(
     rt: &H,
     network: Option<Arc<NetworkLink>>,
@@ -282,40 +342,38 @@ fn version() -> Version {
     Version::from(VERSION).unwrap_or_default()
 }
 
-/// The events that are asked for, of which the first has the version of the program, and the next the digest of the
-/// records.
+/// The events that are asked for. The last ones are kept for the readers of the run's page, if it has one. The first
+/// event has the version of the program, and the next the digest of the records.
 fn started_events<H, V>(
     rt: &H,
     wanted: Option<Wanted>,
-    digest: Option<[u8; 32]>,
+    prepared: &Prepared,
     event_lines: V,
 ) -> Result<Events, ServeFault>
 where
     H: AllocGlobal + System + Copy + Send + Sync + 'static,
     V: Write + Send + Drop + 'static,
 {
-    let Some(wanted) = wanted else {
-        return Ok(Events::none());
+    let recent = match &prepared.metrics_listener {
+        Some(place) => Some(Arc::try_clone(&place.recent)?),
+        None => None,
     };
-    let events = Events::start(rt, rt.alloc(), wanted, event_lines)?;
-    if wanted == Wanted::All {
-        events.report(rt, Event::Program { version: version() });
-    }
-    if let (Wanted::All, Some(digest)) = (wanted, digest) {
+    let events = match wanted {
+        Some(wanted) => Events::start(rt, rt.alloc(), wanted, event_lines)?,
+        None => Events::none(),
+    };
+    let events = match recent {
+        Some(recent) => events.kept_in(recent),
+        None => events,
+    };
+    events.report(rt, Event::Program { version: version() });
+    if let Some(digest) = prepared.digest {
         events.report(rt, Event::Records { digest });
     }
     Ok(events)
 }
 
-/// The same events, of which the last are kept for those who look at the page of the run, if it has one.
-fn kept_for(events: Events, listener: &Option<MetricsListener>) -> Result<Events, AllocError> {
-    match listener {
-        Some(place) => Ok(events.kept_in(Arc::try_clone(&place.recent)?)),
-        None => Ok(events),
-    }
-}
-
-/// What a run with these words counts, if it is to be asked for that: by commands or over HTTP. `counts` are how many
+/// The counters of a run with these words, if it may be asked for them: by commands or over HTTP. `counts` are how many
 /// numbers and rules its records have.
 fn watched<H: AllocGlobal>(
     rt: &H,
@@ -341,8 +399,8 @@ fn watched<H: AllocGlobal>(
     Ok(Some(Watched { metrics, listener }))
 }
 
-/// Serves links, from tables whose last index is that of the settings, and says of writers whose octets are known what
-/// [`Server::serve`] says.
+/// Serves links, from tables whose last index is the settings', with the clauses of [`Server::serve`] for writers whose
+/// octets are known.
 fn serve_links<H, I, O, W>(
     rt: &H,
     service: Service<'_>,

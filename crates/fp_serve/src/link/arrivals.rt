@@ -1,4 +1,4 @@
-//! The frames of a link that came.
+//! The receiving side of a link.
 
 use crate::link::Link;
 use crate::link::hold_back::HoldBack;
@@ -21,44 +21,44 @@ use std::rt::Clock;
 use std::sync::Arc;
 use std::sync::ledger::Ledger;
 
-/// How many reads a link may make.
+/// The most reads of a link.
 const MOST_READS: u64 = 1 << 40;
 
-/// Of how many reads one brings the message of which it is measured how soon it is answered.
+/// How many reads a sample covers: the time to the answer is measured for a message of one of them.
 const READS_OF_A_SAMPLE: u8 = 16;
 
 /// An allocation for frames failed.
 const OUT_OF_MEMORY: LinkEvent = LinkEvent::LoopFault { why: Why::Memory };
 
-/// Puts the frames of a link into its book, those of a read in as few holds of its lock as it takes, and helps to serve
-/// and to send what they bring. A frame that is held back waits here with those after it, and no other is read
-/// meanwhile: TCP holds the peer back then. If a network carries the link, which TCP doesn't hold back, it waits for a
-/// fifth of a second and is posted then. Each is prepared again just before it is posted, so that its moment is that of
-/// the post; without memory for that it is posted as lost.
+/// The receiving side of a link. Posts all frames of a read to the book, up to 64 per lock hold, then helps to serve
+/// and send. A frame that is held back waits here with those after it, and no other is read meanwhile, so that TCP
+/// holds the peer back. TCP doesn't do that if a network carries the link: then a frame waits for a fifth of a second
+/// and is posted. Each frame is prepared just before it is posted, so that its moment is the moment of the post;
+/// without memory for that it is posted as lost.
 #[derive(Drop)]
 struct Arrivals<'x, R, G: Gate, A: Ledger, B: Ledger, C: Ledger> {
     link: Link<'x, R, A, B, C>,
-    // The table from which it answers: the newest when its last message was prepared.
+    // The table that the link answers from: the newest when its last message was prepared.
     table: Arc<Table>,
     gate: LineGate<'x, R, G, A, B, C>,
     seat: Seat<A, B, C>,
-    // What was read and isn't posted.
+    // Frames read but not yet posted.
     queue: ArrivalQueue,
-    // What the first of them are prepared to. Empty between two calls.
+    // Messages prepared for the next post, from the front of `queue`. Empty between two calls.
     came: VecDeque<Prepared>,
-    // How it waits for the log.
+    // The wait for the log.
     log_wait: LogWait,
-    // For how long messages are held back, if a network carries the link.
+    // How long messages are held back, if a network carries the link.
     hold_back: Option<HoldBack>,
-    // Whether the message that is first was held back and counted as such.
+    // Whether the first message was held back and counted as such.
     is_held: bool,
-    // How many reads go by until the answer to a message is awaited, to measure how long it takes.
+    // The number of reads before the next sample of an answer's time.
     reads_to_the_sample: u8,
 }
 
 impl<R: System, G: Gate, A: Ledger, B: Ledger, C: Ledger> Arrivals<'_, R, G, A, B, C> {
-    /// Prepares frames for the next hold, at the present moment, by the newest table: as lost, if memory runs out where
-    /// that has to be fetched. `false`: none is left, or nothing more is to be posted.
+    /// Prepares frames for the next hold, at the present moment, by the newest table: as lost, if memory runs out when
+    /// that is fetched. `false` if none is left, or nothing more is to be posted.
     fn prepare(&mut self) -> bool {
         let run = self.link.run;
         if run.stop.is_quitting() {
@@ -81,13 +81,13 @@ impl<R: System, G: Gate, A: Ledger, B: Ledger, C: Ledger> Arrivals<'_, R, G, A, 
         !self.came.is_empty()
     }
 
-    /// Serves what is ready, as far as it may. `true`: frames were queued of which the sending thread doesn't know.
+    /// Serves ready turns, up to its bound. `true` if frames were queued: then you must wake the sending thread.
     fn help(&mut self) -> bool {
         let run = self.link.run;
         self.link.hub.help(run.rt, &self.gate, &mut self.seat, run.settings.most_helped)
     }
 
-    /// Sends what waits, unless another thread does: then the sending thread is woken.
+    /// Sends the waiting parcels, unless another thread sends: then the sending thread is woken.
     fn send(&mut self) {
         match self.link.outgoing.try_lock() {
             Some(outgoing) => {
@@ -99,8 +99,8 @@ impl<R: System, G: Gate, A: Ledger, B: Ledger, C: Ledger> Arrivals<'_, R, G, A, 
         }
     }
 
-    /// Posts the messages that were prepared, up to the first that is held back; that one too, if it was held back for
-    /// long enough. `true`: an Abort answers one of them, of which the sending thread doesn't know.
+    /// Posts the prepared messages, up to the first that is held back; that one too, if it was held back for long
+    /// enough. `true` if an Abort answers one of them: then you must wake the sending thread.
     fn post(&mut self) -> bool {
         let Link { run, hub, .. } = self.link;
         let alloc = run.service.alloc;
@@ -126,7 +126,7 @@ impl<R: System, G: Gate, A: Ledger, B: Ledger, C: Ledger> Arrivals<'_, R, G, A, 
         is_aborted
     }
 
-    /// Counts the message that is held back, once, if somebody asked for that.
+    /// Counts the message that is held back, once, if the run has counters.
     fn count_held_back(&mut self) {
         if self.is_held || self.came.is_empty() {
             return;
@@ -137,8 +137,8 @@ impl<R: System, G: Gate, A: Ledger, B: Ledger, C: Ledger> Arrivals<'_, R, G, A, 
         }
     }
 
-    /// Awaits the answer to a message that was just read, to measure how long it takes: of one read in 16, if somebody
-    /// asked for that.
+    /// Awaits the answer to a message that was just read, to measure its time, for one read in 16, if the run has
+    /// counters.
     fn sample(&mut self, frame: &Frame) {
         let Some(metrics) = self.link.metrics else {
             return;
@@ -150,7 +150,7 @@ impl<R: System, G: Gate, A: Ledger, B: Ledger, C: Ledger> Arrivals<'_, R, G, A, 
         }
     }
 
-    /// If a message is held back, waits until there is room, for as long as it is held back. Takes it and those after it
+    /// If a message is held back, waits until there is room, or its time is over. Takes the message and those after it
     /// back to be prepared again.
     fn await_room(&mut self) {
         let Link { run, hub, .. } = self.link;
@@ -169,7 +169,7 @@ impl<R: System, G: Gate, A: Ledger, B: Ledger, C: Ledger> Arrivals<'_, R, G, A, 
         }
     }
 
-    /// Posts the frames that were read, and helps to serve and to send what they bring, until none is left.
+    /// Posts the frames that were read, and helps to serve them and to send the answers, until none is left.
     fn post_frames(&mut self) {
         let rt = self.link.run.rt;
         if let Some(hold_back) = &mut self.hold_back {
@@ -211,7 +211,7 @@ impl<R: System, G: Gate, A: Ledger, B: Ledger, C: Ledger> Inbox for Arrivals<'_,
     }
 }
 
-/// How frames are prepared at a moment: from this table if it is the newest, and else as lost.
+/// The way to prepare frames at a moment: from this table if it is the newest, and else as lost.
 fn reading_by<'r>(
     alloc: Global,
     table: &'r Table,
@@ -228,7 +228,7 @@ fn reading_by<'r>(
     }
 }
 
-/// The event of the end of receiving.
+/// The event for the end of receiving.
 fn event_of<R: Clock>(stop: &Stop, rt: &R, ended: Ended, why: Why) -> LinkEvent {
     match (stop.quit_time(), ended) {
         (Some(at), _) => LinkEvent::Quit { at },
@@ -238,7 +238,7 @@ fn event_of<R: Clock>(stop: &Stop, rt: &R, ended: Ended, why: Why) -> LinkEvent 
 }
 
 impl<'x, R: System, A: Ledger, B: Ledger, C: Ledger> Link<'x, R, A, B, C> {
-    /// Reports how many messages were held back too long, if some were.
+    /// Reports how many messages were held back too long, if any were.
     fn note_late(&self, hold_back: Option<HoldBack>) {
         let messages = match hold_back {
             Some(hold_back) => hold_back.late,
@@ -252,8 +252,8 @@ impl<'x, R: System, A: Ledger, B: Ledger, C: Ledger> Link<'x, R, A, B, C> {
         }
     }
 
-    /// Receives until the link ends, and then awaits that it is down, as the table of `fp_linkstate` says. Returns the seat,
-    /// with what was counted.
+    /// Receives until the link ends, and then waits until it is down, by the table of `fp_linkstate`. Returns the seat,
+    /// with its counts.
     pub(crate) fn receive_all<G: Gate>(self, gate: &'x G, seat: Seat<A, B, C>) -> Seat<A, B, C> {
         let link = self;
         queue_keeps_order();
@@ -275,7 +275,7 @@ impl<'x, R: System, A: Ledger, B: Ledger, C: Ledger> Link<'x, R, A, B, C> {
             queue,
             came,
             log_wait: LogWait::new(run.log),
-            hold_back: if run.drain.is_some() {
+            hold_back: if run.draining.is_some() {
                 Some(HoldBack::new())
             } else {
                 None

@@ -1,4 +1,4 @@
-//! The parcels of a link that go out.
+//! The sending side of a link.
 
 ghost use Rattle.std.specs.Prelude.{◌≡◌, IfErr};
 
@@ -16,13 +16,13 @@ use std::sync::ledger::Ledger;
 use std::sync::{MutexGuard, Wait};
 use std::time::Instant;
 
-/// How many parcels a link may send.
+/// The most parcels that a link may send.
 const MOST_PARCELS: u64 = 1 << 40;
 
-/// How many parcels are handed out at most before the lock of what goes out is released.
+/// The most parcels that are handed out before the lock of the outgoing octets is released.
 const MOST_AT_ONCE: u64 = 1_024;
 
-/// What goes out to the socket of a link.
+/// The octets on their way to the socket of a link.
 #[derive(Drop)]
 pub(crate) struct Outgoing {
     // Empty while nobody has the lock, except after a write that failed.
@@ -32,7 +32,7 @@ pub(crate) struct Outgoing {
 }
 
 impl Outgoing {
-    /// Nothing went out yet.
+    /// No octets yet, for a new link.
     pub(crate) fn new(alloc: Global) -> Result<Outgoing, AllocError> {
         Ok(Outgoing {
             gathered: Gathered::new(alloc)?,
@@ -41,8 +41,8 @@ impl Outgoing {
     }
 }
 
-/// The socket of a link, before which octets are gathered, under the lock of these. They are handed on when there is no
-/// room for more, and by a flush.
+/// The socket of a link, with the octets gathered before it, and their lock. They are handed on when there is no room
+/// for more, and by a flush.
 #[derive(Drop)]
 struct GatheringSocket<'x, R> {
     outgoing: MutexGuard<'x, Outgoing>,
@@ -50,7 +50,7 @@ struct GatheringSocket<'x, R> {
 }
 
 impl<R: System> GatheringSocket<'_, R> {
-    /// Why the link goes down after its sending ended so.
+    /// The reason to take the link down after its sending ended with this.
     fn why(&self, ended: Ended) -> Why {
         self.socket.device.last.why(ended)
     }
@@ -68,23 +68,23 @@ impl<R: System> LinkWrite for GatheringSocket<'_, R> {
     }
 }
 
-/// Takes the parcels of a link that wait out of its book, and reports to it what became of each.
+/// Takes the waiting parcels of a link out of its book, and reports each of them sent or unsent.
 struct Departures<'x, R, A: Ledger, B: Ledger, C: Ledger> {
     link: Link<'x, R, A, B, C>,
     seat: &'x mut Seat<A, B, C>,
-    // What was handed out already.
+    // A parcel that is handed out already.
     next: Option<Parcel>,
-    // How many more are handed out.
+    // How many more parcels may be handed out.
     left: u64,
-    // No more are.
+    // No more parcels are handed out.
     is_done: bool,
-    // Where they are counted, if somebody asked for that.
+    // The counts of sent messages, if the run has counters.
     counts: Option<MutexGuard<'x, SentCounts>>,
-    // When the message was read whose answer is among those that were sent, if that is measured.
+    // When the message was read whose answer was sent last, if its time is measured.
     answered: Option<Instant>,
 }
 
-/// Where the parcels of a link are counted, if somebody asked for that.
+/// The counts of sent messages, if the run has counters.
 fn counts_of<'x, R: Wait>(
     rt: &R,
     metrics: Option<&'x LinkMetrics>,
@@ -104,7 +104,7 @@ impl<R: System, A: Ledger, B: Ledger, C: Ledger> Departures<'_, R, A, B, C> {
         }
     }
 
-    /// Counts a parcel that is sent, if somebody asked for that.
+    /// Counts a parcel that is sent, if the run has counters.
     fn count(&mut self, parcel: &Parcel) {
         let Link { run, metrics, .. } = self.link;
         if let Some(metrics) = metrics {
@@ -180,7 +180,7 @@ impl<'x, R: System, A: Ledger, B: Ledger, C: Ledger> Link<'x, R, A, B, C> {
         }
     }
 
-    /// A run of this number of parcels was sent, after which this is counted, if somebody asked for that.
+    /// Notes the counts after a series of `count` parcels, if the run has counters.
     fn note_sent(&self, counts: Option<MutexGuard<'x, SentCounts>>, count: u64) {
         let Some(mut counts) = counts else {
             return;
@@ -190,7 +190,7 @@ impl<'x, R: System, A: Ledger, B: Ledger, C: Ledger> Link<'x, R, A, B, C> {
         }
     }
 
-    /// The answer to a message that was read then is written.
+    /// Notes the time of an answer that is now written, if its message was read then.
     fn note_answer(&self, read_at: Option<Instant>) {
         let run = self.run;
         if let (Some(watch), Some(time)) = (run.watch, time_since(run.rt, read_at)) {
@@ -198,9 +198,9 @@ impl<'x, R: System, A: Ledger, B: Ledger, C: Ledger> Link<'x, R, A, B, C> {
         }
     }
 
-    /// Writes what waits to be sent, after a parcel that was handed out already if there is one, and hands it on to the
-    /// socket, under the lock of what goes out. At most 1,024 parcels, and no more once the log is nearly full: then the
-    /// sending thread is woken for the rest. The error: the link is to go down, for this reason.
+    /// Writes the waiting parcels, first the one that was handed out already, if there is one, and hands them on to the
+    /// socket, under the lock of the outgoing octets. At most 1,024 parcels, and no more once the log is nearly full:
+    /// then the sending thread is woken for the rest. `Err`: the link must go down, for this reason.
     pub(crate) fn send_waiting(
         self,
         outgoing: MutexGuard<'x, Outgoing>,
@@ -209,7 +209,7 @@ impl<'x, R: System, A: Ledger, B: Ledger, C: Ledger> Link<'x, R, A, B, C> {
     ) -> Result<(), Why> {
         let socket = Counted::new(self.traced_stream());
         let mut writer = GatheringSocket { outgoing, socket };
-        // What a failed write left is never written, so nothing is sent after it.
+        // The octets that a failed write left are never written, so nothing is sent after them.
         let has_failed = !writer.outgoing.gathered.is_empty();
         let most_at_once = if has_failed { 0 } else { MOST_AT_ONCE };
         let most = writer.outgoing.left.min(most_at_once);
@@ -249,7 +249,7 @@ impl<'x, R: System, A: Ledger, B: Ledger, C: Ledger> Link<'x, R, A, B, C> {
         }
     }
 
-    /// Sends until the link ends. Returns the seat, with what was counted.
+    /// Sends until the link ends. Returns the seat, with its counts.
     pub(crate) fn send_all(self, seat: Seat<A, B, C>) -> Seat<A, B, C> {
         let mut seat = seat;
         let rt = self.run.rt;

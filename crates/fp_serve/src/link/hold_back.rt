@@ -1,31 +1,31 @@
-//! For how long messages are held back that a network brought.
+//! How long the messages of a network are held back.
 //!
-//! A transfer point isn't held back by TCP: what it can't send it keeps, without bound. So a message is held back for a
-//! fifth of a second after it was read, and is posted then, whatever becomes of it.
+//! TCP doesn't hold a transfer point back: it keeps the messages that it can't send, without bound. So a message is
+//! held back for a fifth of a second after it was read, and is posted then, whether there is room or not.
 
 use crate::moment::time_since;
 use std::rt::Clock;
 use std::time::{Duration, Instant};
 
-/// For how many milliseconds a message is held back.
+/// How long a message is held back, in milliseconds.
 const MILLISECONDS: u64 = 200;
 
-/// For how long the messages of a read are held back. Once one waited in vain, those behind it have waited, too, and aren't
+/// How long the messages of a read are held back. Once one waited in vain, those after it have waited, too, and aren't
 /// held back until one finds room.
 #[derive(Clone, Copy)]
 pub(crate) struct HoldBack {
-    // When the messages were read. None: the clock gives no time, and none waits.
+    // When the messages were read. `None` if the clock gives no time; then no message waits.
     read_at: Option<Instant>,
-    // Whether the next messages are those of a new read.
+    // Whether the next messages are of a new read.
     pub(crate) is_new_read: bool,
-    // Whether the message that is first is to be posted, room or not.
+    // Whether the first message is to be posted, room or not.
     pub(crate) is_over: bool,
-    // How many were posted so.
+    // How many messages were posted without room.
     pub(crate) late: u64,
 }
 
 impl HoldBack {
-    /// Nothing was read yet.
+    /// The state before the first read.
     pub(crate) fn new() -> HoldBack {
         HoldBack {
             read_at: None,
@@ -35,7 +35,7 @@ impl HoldBack {
         }
     }
 
-    /// Messages that were read are posted from now on.
+    /// Begins the posts of the messages that were read.
     pub(crate) fn begin<R: Clock>(&mut self, rt: &R) {
         if self.is_new_read {
             self.is_new_read = false;
@@ -43,7 +43,7 @@ impl HoldBack {
         }
     }
 
-    /// For how long the first message is still held back.
+    /// How much longer the first message is held back.
     pub(crate) fn left<R: Clock>(&self, rt: &R) -> Duration {
         if self.is_over {
             return Duration::ZERO;

@@ -1,10 +1,10 @@
 //! The end of a link, once its receiving thread reads no more messages.
 //!
-//! A link that drains sends what it accepted. After the command `quit` it then lingers: its book is down, the writing
-//! side of its socket is shut, and the octets that come are dropped until the client closes. The table is in
-//! `fp_linkstate`.
+//! A link that drains sends the answers to all accepted messages. After the command `quit` it then lingers: its book is
+//! down, the writing side of its socket is shut, and received octets are dropped until the client closes. The table is
+//! in `fp_linkstate`.
 //!
-//! A connection that is closed while octets come is reset by the system, which then drops answers that the client hasn't
+//! The system resets a connection that is closed while octets arrive, and then drops answers that the client hasn't
 //! taken yet. So a client that goes on sending gets all answers that it takes within the two seconds.
 
 use crate::link::Link;
@@ -16,13 +16,13 @@ use std::io::ErrorKind;
 use std::sync::ledger::Ledger;
 use std::time::Duration;
 
-/// How many octets are dropped at once.
+/// The most octets that are dropped at once.
 const MOST_DROPPED: usize = 16_384;
 
-/// For how many milliseconds a read waits at most before it is looked whether all was sent.
+/// The longest wait of a read, in milliseconds, before the thread looks whether all was sent.
 const LOOK_MILLISECONDS: u64 = 10;
 
-/// Waits for octets, for this time at most, and drops them. `false`: none come any more.
+/// Waits for octets, at most for this time, and drops them. `false` if no more can arrive.
 fn drop_input<R: System>(
     run: &Run<'_, R>,
     stream: &LinkStream,
@@ -42,8 +42,8 @@ fn drop_input<R: System>(
 }
 
 impl<R: System, A: Ledger, B: Ledger, C: Ledger> Link<'_, R, A, B, C> {
-    /// Waits until a link whose end has begun is down. Drops what the client sends meanwhile, unless it closed its sending
-    /// side.
+    /// Waits until a link whose end has begun is down. Drops the octets that the client sends meanwhile, unless it
+    /// closed its sending side.
     pub(crate) fn await_down(self) {
         let look = Duration::from_millis(LOOK_MILLISECONDS);
         let mut room = [0; MOST_DROPPED];

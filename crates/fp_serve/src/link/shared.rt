@@ -1,4 +1,4 @@
-//! A link: what its threads share, and what it counted in the end.
+//! A link: the state that its threads share, and its totals at the end.
 
 ghost use Rattle.std.specs.Prelude.{◌<◌};
 ghost use Rattle.fp_hub.specs.Shares.{AreBlanks};
@@ -21,10 +21,10 @@ use std::sync::ledger::{Blank, Ledger};
 use std::thread;
 use std::time::{Duration, Instant};
 
-/// How many milliseconds go by between two looks whether all was handed on to the socket.
+/// The time between two looks whether all octets were handed on to the socket, in milliseconds.
 const LOOK_MILLISECONDS: u64 = 1;
 
-/// Which link it is, by its place among those of the run, from 0, and by its number; and how its threads wait.
+/// The place of a link among those of the run, from 0, its number, and the waits of its threads.
 #[derive(Clone, Copy)]
 pub(crate) struct Plan {
     pub(crate) place: u8,
@@ -33,31 +33,30 @@ pub(crate) struct Plan {
     ghost is_link: { link < 8 },
 }
 
-/// What the threads of a link share.
+/// The state that the threads of a link share.
 #[derive_where(Clone, Copy)]
 pub(crate) struct Link<'x, R, A: Ledger, B: Ledger, C: Ledger> {
     pub(crate) run: &'x Run<'x, R>,
     pub(crate) plan: &'x Plan,
     pub(crate) hub: &'x Hub<A, B, C>,
     pub(crate) stream: &'x LinkStream,
-    // How far its end has come.
+    // The state of its end.
     pub(crate) end: &'x Mutex<LinkEnd>,
-    // Where its lines wait for the thread that writes the log.
+    // The log lines that wait for the thread that writes the log.
     pub(crate) lines: &'x LinkLog,
-    // What goes out to its socket.
+    // The octets on their way to its socket.
     pub(crate) outgoing: &'x Mutex<Outgoing>,
-    // What is counted on it, if somebody asked for that.
+    // The counters of the link, if the run has counters.
     pub(crate) metrics: Option<&'x LinkMetrics>,
 }
 
 impl<'x, R: System, A: Ledger, B: Ledger, C: Ledger> Link<'x, R, A, B, C> {
-    /// Its connection, as one of its threads reads or writes it.
+    /// The connection of the link, for the reads or writes of one of its threads.
     pub(crate) fn traced_stream(&self) -> TracedStream<'x, R> {
         TracedStream::new(self.run, self.stream, self.end)
     }
 
-    /// An event happens that may end the link: does what has to be done then. That the link goes down is reported once,
-    /// with the first reason.
+    /// Handles an event that may end the link. If the link goes down, that is reported once, with the first reason.
     pub(crate) fn meet(&self, event: LinkEvent) {
         let action = self.end.lock(self.run.rt).meet(event);
         match action {
@@ -68,9 +67,9 @@ impl<'x, R: System, A: Ledger, B: Ledger, C: Ledger> Link<'x, R, A, B, C> {
         }
     }
 
-    /// Reports that the link goes down, for this reason. The book goes down, so that the sending thread and the clock
-    /// end; the socket is shut this much down, so that the receiving thread ends, and a write of the sending thread; and
-    /// the hub is closed, so that the workers end.
+    /// Takes the link down, for this reason, and reports it. The book goes down, so that the sending thread and the
+    /// clock end; the socket is shut down as `how` says, so that the receiving thread ends, and a write of the sending
+    /// thread; and the hub is closed, so that the workers end.
     fn go_down(&self, why: Why, how: Shutdown) {
         let rt = self.run.rt;
         let down = Event::Down {
@@ -87,7 +86,7 @@ impl<'x, R: System, A: Ledger, B: Ledger, C: Ledger> Link<'x, R, A, B, C> {
         self.note_status();
     }
 
-    /// Reports that the link came up.
+    /// Reports that the link is up.
     fn note_up(&self) {
         let Plan { place, link, .. } = *self.plan;
         let Run {
@@ -104,7 +103,7 @@ impl<'x, R: System, A: Ledger, B: Ledger, C: Ledger> Link<'x, R, A, B, C> {
         }
     }
 
-    /// Looks whether the links are to end, and whether the time of this one is over.
+    /// Looks whether the links are to end, and whether this link's time is over.
     pub(crate) fn look_at_clock(&self) {
         let stop = self.run.stop;
         if let Some(at) = stop.quit_time() {
@@ -114,7 +113,8 @@ impl<'x, R: System, A: Ledger, B: Ledger, C: Ledger> Link<'x, R, A, B, C> {
         self.meet(LinkEvent::Clock { at });
     }
 
-    /// How far its end has come, and for how long it goes on at most; no time, if its end hasn't begun or it is down.
+    /// The state of the link's end, and how much longer it goes on at most; 0 if the end hasn't begun or the link is
+    /// down.
     pub(crate) fn end_and_time_left(&self) -> (LinkEnd, Duration) {
         let rt = self.run.rt;
         let end = *self.end.lock(rt);
@@ -122,7 +122,7 @@ impl<'x, R: System, A: Ledger, B: Ledger, C: Ledger> Link<'x, R, A, B, C> {
         (end, Duration::from_millis(left))
     }
 
-    /// Notes what its book says.
+    /// Notes the status of the link's book.
     pub(crate) fn note(&self, status: Status) {
         let rt = self.run.rt;
         self.run.statuses.note(rt, self.plan.place, status);
@@ -131,20 +131,20 @@ impl<'x, R: System, A: Ledger, B: Ledger, C: Ledger> Link<'x, R, A, B, C> {
         }
     }
 
-    /// Notes its status.
+    /// Notes the present status of the link.
     pub(crate) fn note_status(&self) {
         self.note(self.hub.status(self.run.rt));
     }
 
-    /// Its clock ticks.
+    /// Notes a tick of the link's clock.
     pub(crate) fn note_tick(&self) {
         if let Some(metrics) = self.metrics {
             metrics.note_tick(self.run.stop.time(self.run.rt));
         }
     }
 
-    /// Waits until nothing is left to be served or sent and all was handed on to the socket, or the link is down; at
-    /// most for this time.
+    /// Waits until nothing is left to be served or sent and all octets were handed on to the socket, or the link is
+    /// down; at most for this time.
     pub(crate) fn await_quiet(&self, most: Duration) {
         let start = Instant::now(self.run.rt).ok();
         self.hub.await_quiet(self.run.rt, most);
@@ -157,18 +157,18 @@ impl<'x, R: System, A: Ledger, B: Ledger, C: Ledger> Link<'x, R, A, B, C> {
         }
     }
 
-    /// Whether nothing is left to be served or sent, and all was handed on to the socket; or the link is down.
+    /// Whether nothing is left to be served or sent, and all octets were handed on to the socket; or the link is down.
     pub(crate) fn is_quiet(&self) -> bool {
         self.hub.await_quiet(self.run.rt, Duration::ZERO) && self.outgoing.try_lock().is_some()
     }
 
-    /// Whether no more messages are posted: it is down, or the links are to end.
+    /// Whether no more messages are posted: the link is down, or the links are to end.
     pub(crate) fn is_ending(&self) -> bool {
         self.run.stop.is_quitting() || self.hub.is_down(self.run.rt)
     }
 }
 
-/// What is counted on a link, if somebody asked for that.
+/// The counters of a link, if the run has counters.
 fn metrics_of<'x, R>(run: &'x Run<'x, R>, plan: &Plan) -> Option<&'x LinkMetrics> {
     match run.watch {
         Some(watch) => watch.metrics.link(plan.place),
@@ -182,8 +182,8 @@ impl<
     B: Ledger + Send + Sync,
     C: Ledger + Send + Sync,
 > Link<'_, R, A, B, C> {
-    /// Runs a link whose ledgers are opened from these blanks, until it is down. `None`: what it counted isn't known, and
-    /// all links are to go down.
+    /// Runs a link with the ledgers of these blanks, until it is down. `None` if its totals aren't known; then all
+    /// links are to go down.
     fn run<'x, G: Gate + Sync>(
         run: &'x Run<'x, R>,
         plan: &Plan,
@@ -229,8 +229,8 @@ impl<
     }
 }
 
-/// Runs a link over a connection, until it is down, and returns what it counted. Its threads pass this gate with each
-/// turn. `None`: what it counted isn't known, and all links are to go down.
+/// Runs a link over a connection, until it is down, and returns its totals. Its threads pass this gate with each turn.
+/// `None` if its totals aren't known; then all links are to go down.
 pub(crate) fn run_link<'x, R: System + Sync, G: Gate + Sync>(
     run: &'x Run<'x, R>,
     plan: Plan,

@@ -23,11 +23,11 @@ struct Starting<
 > {
     scope: &'s Scope<'s, E>,
     link: Link<'s, R, A, B, C>,
-    // What is left of the seat of the link: each thread but the clock gets a part of it.
+    // The rest of the link's seat: each thread but the clock gets a part of it.
     seat: Seat<A, B, C>,
     // The threads that have a seat.
     handles: Vec<JoinHandle<Seat<A, B, C>>>,
-    // Why a thread wasn't started.
+    // The reason why a thread wasn't started.
     fault: Option<ServeFault>,
 }
 
@@ -39,7 +39,7 @@ impl<
     B: Ledger + Send + Sync + 's,
     C: Ledger + Send + Sync + 's,
 > Starting<'s, E, R, A, B, C> {
-    /// None was started, and there is room for the handles of the workers, the sending and the receiving thread.
+    /// No thread yet, and room for the handles of the workers, the sending and the receiving thread.
     fn new(
         scope: &'s Scope<'s, E>,
         link: Link<'s, R, A, B, C>,
@@ -74,8 +74,8 @@ impl<
         seat
     }
 
-    /// Keeps a thread to be joined, if it was started. There is room for its handle, unless memory ran out for that:
-    /// then the link is ended anyway.
+    /// Keeps a thread to be joined, if it was started. There is room for its handle, unless memory ran out for it: then
+    /// the link is ended anyway.
     fn keep(&mut self, handle: Option<JoinHandle<Seat<A, B, C>>>) {
         match handle {
             Some(handle) => {

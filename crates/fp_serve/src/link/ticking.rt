@@ -8,17 +8,40 @@ use fp_linkstate::{LinkEnd, LinkEvent};
 use std::sync::ledger::Ledger;
 use std::time::{Duration, Instant};
 
-/// How many seconds it is from one tick to the next.
+/// The time from one tick to the next, in seconds.
 const SECONDS: u64 = 1;
 
-/// How many milliseconds the clock rests at most while lines wait and there is no room, or no memory, for their text.
+/// The longest rest of the clock, in milliseconds, while lines wait and there is no room, or no memory, for their text.
 const MILLISECONDS_WITHOUT_ROOM: u64 = 10;
 
 impl<R: System, A: Ledger, B: Ledger, C: Ledger> Link<'_, R, A, B, C> {
-    /// Ticks once a second, and hints to a worker then; makes the text of the lines of the link, for the thread that writes
-    /// the log, once a second, and when 512 wait in the book, in one turn after another while some are left; notes the
-    /// status of the link; and takes it down if all links are to go down, if its dialogues keep more entries than they may,
-    /// or two seconds after the links were to end, whatever its other threads wait for. Returns once the link is down.
+    /// Ticks, and hints to a worker. Notes the status of the link, and takes it down if all links are to go down, or if
+    /// its dialogues keep more entries than they may. If its node drained before the tick and no dialogue is held, the
+    /// links are to end.
+    fn tick(&self) {
+        let Link { run, hub, .. } = *self;
+        let rt = run.rt;
+        let has_drained = match run.draining {
+            Some(draining) => draining.is_over(rt),
+            None => false,
+        };
+        let after = hub.tick_and_look(rt, now(rt));
+        hub.hint(rt);
+        self.note(after.status);
+        self.note_tick();
+        if let Some(fault) = run.stop.fault(rt) {
+            self.meet(LinkEvent::RunFault { why: fault.why() });
+        } else if after.entry_count > run.settings.most_entries {
+            self.meet(LinkEvent::TooManyEntries);
+        }
+        if has_drained && after.status.dialogues == 0 {
+            run.stop.quit(rt);
+        }
+    }
+
+    /// Ticks once a second. Makes the text of the link's log lines, for the thread that writes the log, once a second,
+    /// and when 512 wait in the book, in one turn after another while some are left. Takes the link down two seconds
+    /// after the links were to end, even if its other threads still wait. Returns once the link is down.
     ///
     /// If the clock gives no time, it ticks each time that it wakes, and after each turn.
     pub(crate) fn keep_time(self) {
@@ -42,15 +65,7 @@ impl<R: System, A: Ledger, B: Ledger, C: Ledger> Link<'_, R, A, B, C> {
             }
             if time_since(rt, last).unwrap_or(second) >= second {
                 last = Instant::now(rt).ok();
-                let after = hub.tick_and_look(rt, now(rt));
-                hub.hint(rt);
-                self.note(after.status);
-                self.note_tick();
-                if let Some(fault) = run.stop.fault(rt) {
-                    self.meet(LinkEvent::RunFault { why: fault.why() });
-                } else if after.entry_count > run.settings.most_entries {
-                    self.meet(LinkEvent::TooManyEntries);
-                }
+                self.tick();
             }
             self.look_at_clock();
             left = self.make_text();

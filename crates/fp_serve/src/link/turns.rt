@@ -1,11 +1,12 @@
-//! The turns of a link that are served.
+//! The workers of a link.
 
 use crate::link::Link;
 use crate::system::System;
 use fp_hub::{Gate, Hints, Seat};
 use std::sync::ledger::Ledger;
 
-/// Passes another gate, and moves lines of the link if many wait, since a thread that serves adds most of them.
+/// A gate that passes another one, and then moves lines of the link if many wait, since a thread that serves adds most
+/// of them.
 #[derive(Drop)]
 pub(crate) struct LineGate<'x, R, G: Gate, A: Ledger, B: Ledger, C: Ledger> {
     pub(crate) link: Link<'x, R, A, B, C>,
@@ -25,7 +26,7 @@ impl<R: System, G: Gate, A: Ledger, B: Ledger, C: Ledger> Gate for LineGate<'_, 
 }
 
 impl<'x, R: System, A: Ledger, B: Ledger, C: Ledger> Link<'x, R, A, B, C> {
-    /// Serves turns until the hub is closed, as a worker that passes this gate. Returns the seat, with what was counted.
+    /// Serves turns until the hub is closed, as a worker that passes this gate. Returns the seat, with its counts.
     pub(crate) fn serve_turns<G: Gate>(
         self,
         gate: &'x G,

@@ -13,44 +13,44 @@ use std::sync::{Mutex, MutexGuard, Wait};
 use std::thread;
 use std::time::Duration;
 
-/// How many times lines are moved in one turn at most: all that may wait.
+/// The most moves of lines in one turn: enough for all that may wait.
 const MOST_MOVES: usize = WaitingLines::MOST / WaitingLines::MOST_AT_ONCE;
 
-/// How many times a thread moves lines in one turn that has other things to do.
+/// The most moves of lines in one turn of a thread that also has other duties.
 const MOST_MOVES_ASIDE: usize = 4;
 
-/// How many times text is made in one turn at most.
+/// The most times that text is made in one turn.
 const MOST_ROUNDS: usize = 64;
 
-/// From how many octets of text that it made a turn ends, so that nobody waits long for the next one.
+/// The octets of text after which a turn ends, so that no thread waits long for the next one.
 const OCTETS_OF_A_TURN: usize = 1 << 20;
 
-/// How many milliseconds go by between two tries to make the last text of a link, where there is no memory for it.
+/// The time between two tries to make the last text of a link without memory for it, in milliseconds.
 const MILLISECONDS_WITHOUT_MEMORY: u64 = 10;
 
-/// How often that is tried at most: for a minute.
+/// The most tries: for a minute.
 const MOST_TRIES: u32 = 6_000;
 
-/// From how many octets of text that it made a turn of the receiving thread ends.
+/// The octets of text after which a turn of the receiving thread ends.
 const OCTETS_OF_AN_OWN_TURN: usize = 1 << 16;
 
-/// From how many octets of text on the writing thread is woken by the receiving one.
+/// The octets of text that make the receiving thread wake the writing one.
 const OCTETS_OF_A_WRITE: usize = 1 << 16;
 
-/// What is left when a turn of making text ends.
+/// The rest when a turn of making text ends.
 #[derive(Clone, Copy, PartialEq, Eq)]
 pub(crate) enum Left {
-    /// No line.
+    /// No line is left.
     Nothing,
-    /// Lines may wait, and there is room for their text.
+    /// Lines may wait, with room for their text.
     Lines,
-    /// Lines may wait, and there is no room for their text until the writing thread takes what there is.
+    /// Lines may wait, with no room for their text until the writing thread takes the text made so far.
     NoRoom,
-    /// Lines wait, and memory ran out for their text: it may be tried again.
+    /// Lines wait, and memory ran out for their text: you may try again.
     NoMemory,
 }
 
-/// Reports a gap in the log of a link, if a step says that there is one.
+/// Reports a gap in the log of a link, if a step is one.
 fn report_gap<R: System>(run: &Run<'_, R>, link: u8, step: &LoggedStep) {
     if let LoggedStep::Gap { lost } = step {
         let gap = Event::LogGap { link, lines: *lost };
@@ -58,7 +58,7 @@ fn report_gap<R: System>(run: &Run<'_, R>, link: u8, step: &LoggedStep) {
     }
 }
 
-/// Where the lines of a link are counted, if somebody asked for that.
+/// The counts of a link's lines, if the run has counters.
 fn steps_of<'x, R: Wait>(
     rt: &R,
     metrics: Option<&'x LinkMetrics>,
@@ -69,14 +69,14 @@ fn steps_of<'x, R: Wait>(
     }
 }
 
-/// Counts a line, if somebody asked for that.
+/// Counts a line, if the run has counters.
 fn count(steps: &mut Option<MutexGuard<'_, StepCounts>>, step: &LoggedStep) {
     if let Some(steps) = steps {
         steps.count(step);
     }
 }
 
-/// Counts lines for each called number, if somebody asked for that.
+/// Counts lines for each called number, if the run counts numbers.
 fn count_numbers_of_lines<R: System>(numbers: &Option<LineCounts<'_, R>>, lines: &[Line]) {
     let Some(numbers) = numbers else {
         return;
@@ -90,7 +90,7 @@ fn count_numbers_of_lines<R: System>(numbers: &Option<LineCounts<'_, R>>, lines:
     numbers.finish(&mut rows);
 }
 
-/// Counts the lines of a log for each called number, if somebody asked for that.
+/// Counts the lines of a log for each called number, if the run counts numbers.
 fn count_numbers_of_log<R: System>(numbers: &Option<LineCounts<'_, R>>, log: &Log) {
     let Some(numbers) = numbers else {
         return;
@@ -107,15 +107,15 @@ fn count_numbers_of_log<R: System>(numbers: &Option<LineCounts<'_, R>>, log: &Lo
 /// Lines that left the book of a link.
 #[derive(Drop)]
 struct Moved {
-    // What is moved at once. Lines stay here if memory runs out.
+    // The lines of the present move. They stay here if memory runs out.
     moved: Vec<Line>,
-    // For an exchange with the log of the book. Empty between two calls.
+    // An empty log between two calls, for an exchange with the log of the book.
     exchanged: Log,
     waiting: WaitingLines,
 }
 
 impl Moved {
-    /// No line, in room for as many as may wait.
+    /// No lines, with room for the most that may wait.
     fn new(alloc: Global) -> Result<Moved, AllocError> {
         Ok(Moved {
             moved: Vec::with_capacity(alloc, WaitingLines::MOST_AT_ONCE)?,
@@ -127,17 +127,17 @@ impl Moved {
 
 /// The lines of a link that wait for the thread that writes the log, in the order of its steps.
 ///
-/// The receiving thread of the link makes the text of its lines once it has sent, and the clock that of lines which are
-/// left for a second, or are many. So the writing thread, the only one of the run, has nothing to do but to write; it
-/// takes all text at once. Lines whose text is made leave the book by an exchange of two lists. If the book is filling,
-/// any thread that serves calls moves lines to those that wait; their text is made first then. Of these threads only
-/// the receiving one makes text. No lock is held while the device of the log is written, and the one that lines are moved
-/// under not while text is made; the lock of the link is taken under both. If nothing is taken for long, or memory runs
-/// out, lines stay here, and then in the book of the link, which counts those that find no place there in a gap. Each gap
-/// is reported as an event.
+/// The receiving thread of the link makes the text of its lines once it has sent. The clock makes the text of lines
+/// that are left for a second, or are many. So the writing thread, the only one of the run, only has to write; it takes
+/// all text at once. Lines whose text is made leave the book by an exchange of two lists. If the book is filling, any
+/// thread that serves calls moves lines to those that wait; their text is made first then. Of these threads only the
+/// receiving one makes text. No lock is held while the device of the log is written, and the lock for moving lines
+/// isn't held while text is made; the lock of the link is taken under both. If the device takes nothing for long, or
+/// memory runs out, lines stay here, and then in the book of the link, which counts those that find no place there in a
+/// gap. Each gap is reported as an event.
 #[derive(Drop)]
 pub(crate) struct LinkLog {
-    // Taken before the lock of the lines that wait.
+    // The text; this lock is taken before the lock of the waiting lines.
     making: Mutex<MadeText>,
     waiting: Mutex<Moved>,
     // How many lines the device took.
@@ -145,7 +145,7 @@ pub(crate) struct LinkLog {
 }
 
 impl LinkLog {
-    /// No line waits.
+    /// No lines yet.
     pub(crate) fn new(alloc: Global) -> Result<LinkLog, AllocError> {
         Ok(LinkLog {
             making: Mutex::new(MadeText::new(alloc)?),
@@ -154,7 +154,7 @@ impl LinkLog {
         })
     }
 
-    /// Whether the list of lines that wait for their text is filling up. `false` too, if a thread moves lines now.
+    /// Whether the list of lines that wait for their text is filling up. `false` too, if a thread is moving lines now.
     fn is_filling(&self) -> bool {
         match self.waiting.try_lock() {
             Some(moved) => moved.waiting.is_filling(),
@@ -162,7 +162,7 @@ impl LinkLog {
         }
     }
 
-    /// The device took this number of lines.
+    /// Notes that the device took this number of lines.
     pub(crate) fn note_written(&self, lines: u64) {
         self.written.fetch_add(lines, Ordering::SeqCst);
     }
@@ -172,14 +172,14 @@ impl LinkLog {
         self.written.load(Ordering::SeqCst)
     }
 
-    /// Hands all text that waits to the writing thread, once the device took all that this has.
+    /// Hands all waiting text to the writing thread, once the device took all text that the thread has.
     pub(crate) fn take<R: Wait>(&self, rt: &R, text: &mut UnwrittenText) {
         text.take(&mut self.making.lock(rt));
     }
 }
 
 impl<R: System, A: Ledger, B: Ledger, C: Ledger> Link<'_, R, A, B, C> {
-    /// Lines of the book were counted, this number of them: notes that, and the status of the book.
+    /// Notes that this number of lines of the book were counted, and the status of the book.
     fn note_counted(&self, count: usize) {
         let Some(metrics) = self.metrics else {
             return;
@@ -189,7 +189,7 @@ impl<R: System, A: Ledger, B: Ledger, C: Ledger> Link<'_, R, A, B, C> {
         metrics.note_status(rt, self.hub.status(rt));
     }
 
-    /// Moves the next lines of the book to those that are moved at once, counts them, and reports the gaps among them.
+    /// Moves the next lines of the book to `lines.moved`, counts them, and reports the gaps among them.
     fn drain(&self, lines: &mut Moved) {
         let numbers = LineCounts::begin(self.run, self.metrics);
         self.hub.drain(self.run.rt, &mut lines.moved);
@@ -206,7 +206,7 @@ impl<R: System, A: Ledger, B: Ledger, C: Ledger> Link<'_, R, A, B, C> {
         self.note_counted(lines.moved.len());
     }
 
-    /// Moves lines of the book here, `most` times at most, while there is room. If memory runs out, they stay where
+    /// Moves lines of the book here, at most `most` times, while there is room. If memory runs out, they stay where
     /// they are.
     fn move_lines(&self, lines: &mut Moved, most: usize) -> Result<(), AllocError> {
         for _ in 0..most {
@@ -245,8 +245,8 @@ impl<R: System, A: Ledger, B: Ledger, C: Ledger> Link<'_, R, A, B, C> {
         making.take_log(link, &mut lines.exchanged);
     }
 
-    /// Takes the lines that wait, to make their text, or, if none do, all that the book has. If these are many, they are
-    /// moved first.
+    /// Takes the waiting lines, to make their text, or, if there are none, all lines of the book. If the book has many,
+    /// they are moved first.
     fn refill(&self, making: &mut MadeText) -> Result<(), AllocError> {
         let mut lines = self.lines.waiting.lock(self.run.rt);
         if self.hub.is_log_long() || !lines.moved.is_empty() {
@@ -259,8 +259,7 @@ impl<R: System, A: Ledger, B: Ledger, C: Ledger> Link<'_, R, A, B, C> {
         Ok(())
     }
 
-    /// Makes the text of lines, also of those that the book has, until there are `most` octets of it. `true`: no line
-    /// is left.
+    /// Makes the text of lines, also of the book's, until there are `most` octets of it. `true` if no line is left.
     fn add_text(&self, making: &mut MadeText, most: usize) -> Result<bool, AllocError> {
         for _ in 0..MOST_ROUNDS {
             if making.has_all_text() {
@@ -277,7 +276,7 @@ impl<R: System, A: Ledger, B: Ledger, C: Ledger> Link<'_, R, A, B, C> {
         Ok(false)
     }
 
-    /// Makes text in the same way, counts the lines that got theirs, and says what is left.
+    /// Makes text as [`Link::add_text`], counts the lines that got theirs, and returns what is left.
     fn make(&self, making: &mut MadeText, most: usize) -> Left {
         let before = making.line_count();
         let left = match self.add_text(making, most) {
@@ -291,7 +290,7 @@ impl<R: System, A: Ledger, B: Ledger, C: Ledger> Link<'_, R, A, B, C> {
         left
     }
 
-    /// Makes the text of lines in one turn, while there is room for it, and says what is left.
+    /// Makes the text of lines in one turn, while there is room for it, and returns the rest.
     pub(crate) fn make_text(&self) -> Left {
         let mut making = self.lines.making.lock(self.run.rt);
         let most = making.len().saturating_add(OCTETS_OF_A_TURN);
@@ -302,8 +301,8 @@ impl<R: System, A: Ledger, B: Ledger, C: Ledger> Link<'_, R, A, B, C> {
         left
     }
 
-    /// Makes the text of lines, if the book has some, unless another thread does: of few of them, by the thread whose
-    /// calls add most lines.
+    /// Makes the text of lines, if the book has enough of them, unless another thread does. Meant for the thread whose
+    /// calls add most lines: it makes little text at a time.
     pub(crate) fn make_own_text(&self) {
         if !self.hub.has_log_lines() {
             return;
@@ -319,8 +318,8 @@ impl<R: System, A: Ledger, B: Ledger, C: Ledger> Link<'_, R, A, B, C> {
         }
     }
 
-    /// Makes the text of all lines, once the link is down and its other threads have ended. If memory runs out, it is
-    /// tried again, for a minute or until the run is to end: then lines are lost, and all links are to go down.
+    /// Makes the text of all lines, once the link is down and its other threads have ended. If memory runs out, it
+    /// tries again, for a minute or until the run is to end: then lines are lost, and all links are to go down.
     pub(crate) fn make_last_text(&self) {
         let Run { rt, stop, .. } = *self.run;
         for _ in 0..MOST_TRIES {
@@ -339,9 +338,9 @@ impl<R: System, A: Ledger, B: Ledger, C: Ledger> Link<'_, R, A, B, C> {
 
     /// Moves some lines out of the book if five eighths of their places there are taken, unless another thread moves
     /// some: it waits for that thread only if seven eighths are taken. So lines find no place in the book only if there
-    /// is no room in their list either: between two such calls of each thread fewer lines come than the last eighth of
-    /// the book has, 1,024. They are two for each of the 32 turns that a thread gives back and takes, at most nine
-    /// threads do, and one for each of 64 messages. If memory runs out, they stay where they are.
+    /// is no room in their list either: between two such calls of each thread fewer lines are added than the last
+    /// eighth of the book has, 1,024. They are two for each of the 32 turns that a thread gives back and takes, for at
+    /// most nine threads, and one for each of 64 messages. If memory runs out, the lines stay where they are.
     pub(crate) fn move_lines_if_many(&self) {
         if !self.hub.is_log_filling() {
             return;

@@ -1,4 +1,4 @@
-//! How a receiving thread waits for places for lines of the log.
+//! The wait of a receiving thread for places for log lines.
 
 use crate::link::Link;
 use crate::log::{Left, Log};
@@ -10,32 +10,32 @@ use std::sync::ledger::Ledger;
 use std::thread;
 use std::time::{Duration, Instant};
 
-/// How many milliseconds go by between two looks whether there are places.
+/// The time between two looks whether there are places, in milliseconds.
 const LOOK_MILLISECONDS: u64 = 1;
 
-/// How many octets the device has to take so that it gets on: as many as are written at once.
+/// The octets that the device must take to count as getting on: the most that are written at once.
 const OCTETS_OF_PROGRESS: u64 = 16_384;
 
-/// The part of the time of a read for which a device that doesn't get on is waited for.
+/// The part of a read's time that the thread waits for a device that doesn't get on.
 const IDLE_PART: u32 = 4;
 
-/// How a receiving thread waits for places for lines of the log: before it posts more messages it makes text itself, or,
-/// if there is no room for that, waits for the writing thread. It waits for a bounded time in each read, and only as
-/// long as the device of the log gets on. Once the device took too little for a quarter of that time, it isn't waited
-/// for until it took more.
+/// How a receiving thread waits for places for log lines: before it posts more messages it makes text itself, or, if
+/// there is no room for that, waits for the writing thread. It waits for a bounded time in each read, and only as long
+/// as the device of the log gets on. Once the device took too little for a quarter of that time, the thread doesn't
+/// wait for it until it took more.
 ///
 /// For example, a device that takes an octet a second is waited for once in hours, and one that hangs once; a disk that
 /// pauses for a tenth of a second leaves no gap.
 #[derive(Drop)]
 pub(crate) struct LogWait {
-    // How much longer it may wait in this read.
+    // How much longer the thread may wait in this read.
     left: Duration,
     // How many octets the device had taken when it didn't get on.
     stalled_at: Option<u64>,
 }
 
 impl LogWait {
-    /// It hasn't waited yet.
+    /// The state before the first wait.
     pub(crate) fn new(log: &Log) -> LogWait {
         LogWait {
             left: log.patience,
@@ -43,12 +43,12 @@ impl LogWait {
         }
     }
 
-    /// The next read begins.
+    /// Begins the next read.
     pub(crate) fn renew(&mut self, log: &Log) {
         self.left = log.patience;
     }
 
-    /// Whether the device may get on: it took enough since it didn't.
+    /// Whether the device may get on: it took enough since it last didn't.
     fn may_get_on(&mut self, log: &Log) -> bool {
         match self.stalled_at {
             Some(at) if log.written().saturating_sub(at) < OCTETS_OF_PROGRESS => false,
@@ -60,16 +60,16 @@ impl LogWait {
     }
 }
 
-/// How the device of a log gets on while it is waited for.
+/// The progress of a log's device while a thread waits for it.
 #[derive(Clone, Copy)]
 struct DeviceProgress {
-    // How many octets it had taken at this instant.
+    // How many octets the device had taken at the instant `at`.
     written: u64,
     at: Option<Instant>,
 }
 
 impl DeviceProgress {
-    /// Its progress from now on.
+    /// The progress from now on.
     fn new<R: Clock>(rt: &R, log: &Log) -> DeviceProgress {
         DeviceProgress {
             written: log.written(),
@@ -77,7 +77,7 @@ impl DeviceProgress {
         }
     }
 
-    /// Whether it took too little for too long. If the clock gives no time, it did.
+    /// Whether the device took too little for too long. `true` if the clock gives no time.
     fn is_idle<R: Clock>(&mut self, rt: &R, log: &Log) -> bool {
         if log.written().saturating_sub(self.written) >= OCTETS_OF_PROGRESS {
             *self = DeviceProgress::new(rt, log);
@@ -88,7 +88,7 @@ impl DeviceProgress {
 }
 
 impl<R: System, A: Ledger, B: Ledger, C: Ledger> Link<'_, R, A, B, C> {
-    /// Makes text of lines while they may soon find no place, and waits while there is no room for their text and the
+    /// Makes text of lines while lines may soon find no place, and waits while there is no room for their text and the
     /// device of the log gets on. Moves lines out of the book in any case, if that has many.
     pub(crate) fn await_places(&self, wait: &mut LogWait) {
         self.move_lines_if_many();

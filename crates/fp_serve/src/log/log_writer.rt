@@ -1,7 +1,7 @@
 //! The thread that writes the log of a run.
 //!
-//! It belongs to no scope, so that the run can end while the thread waits for a device that hangs. A receiving thread
-//! waits for it for a bounded time (`log_wait.rt`), and no other thread of a link does.
+//! The thread belongs to no scope, so that the run can end while the thread waits for a device that hangs. A receiving
+//! thread waits for it for a bounded time (`log_wait.rt`), and no other thread of a link does.
 
 ghost use Rattle.std.specs.Prelude.{◌≡◌, ◌+◌};
 ghost use Rattle.fp_book.specs.declared.line.Line.TheVariants.{Head};
@@ -19,14 +19,14 @@ use std::sync::{Arc, Wait};
 use std::thread;
 use std::time::Duration;
 
-/// How many seconds after a write that failed the next one is tried.
+/// The time from a failed write to the next try, in seconds.
 const SECONDS_TO_THE_NEXT_TRY: u64 = 1;
 
-/// How many seconds the thread sleeps before it looks for lines by itself.
+/// The longest sleep of the thread before it looks for lines by itself, in seconds.
 const SECONDS_OF_A_REST: u64 = 1;
 
-/// The head of the log of a run with these settings: one link more than the number of its last one, so that a replay
-/// reports those below the first link too, and the tag.
+/// The head of the log of a run with these settings: the number of its last link plus one, so that a replay reports the
+/// numbers below the first link too, and the tag. For example, the head of a run with the links 2 and 3 has 4 links.
 fn head_of(settings: Settings) -> Line
     ensures { result ≡ Head (settings.first_link + settings.links) settings.tag }
 {
@@ -36,28 +36,28 @@ fn head_of(settings: Settings) -> Line
     }
 }
 
-/// What the thread that writes the log has.
+/// The state of the thread that writes the log.
 #[derive(Drop)]
 struct LogWriter<L: LinkWrite + Drop> {
     log: Arc<Log>,
     stop: Arc<Stop>,
     events: Events,
     device: L,
-    // What the device hasn't taken yet.
+    // The text that the device hasn't taken yet.
     text: UnwrittenText,
     when_log_fails: WhenLogFails,
-    // The place of the link whose text it is. None: the head.
+    // The place of the link whose text it is. `None` for the head.
     place: Option<usize>,
 }
 
 impl<L: LinkWrite + Drop> LogWriter<L> {
-    /// Where the lines of the link wait whose text it is.
+    /// The waiting lines of the link whose text it is.
     fn lines(&self) -> Option<&LinkLog> {
         self.log.lines_of(self.place?)
     }
 
-    /// Writes what the device hasn't taken yet, or a part of it, and counts off the lines whose end it took. `false`: a
-    /// write failed.
+    /// Writes the text that the device hasn't taken yet, or a part of it, and counts off the lines whose end the device
+    /// took. `false` if a write failed.
     fn write_part<R: Clock>(&mut self, rt: &R) -> bool {
         let part = self.text.write_part(&mut self.device);
         self.log.take_off(part.octets, part.lines);
@@ -68,7 +68,7 @@ impl<L: LinkWrite + Drop> LogWriter<L> {
         part.is_all
     }
 
-    /// Writes what the device hasn't taken yet. `false`: a write failed.
+    /// Writes the text that the device hasn't taken yet. `false` if a write failed.
     fn try_to_write<R: Wait + Clock>(&mut self, rt: &R) -> bool {
         for _ in rt.forever() {
             if self.text.is_empty() {
@@ -81,8 +81,9 @@ impl<L: LinkWrite + Drop> LogWriter<L> {
         self.device.flush().is_ok()
     }
 
-    /// Writes the text. If that fails all links are to go down; with gaps it is tried again each second, from the octet
-    /// on at which it stopped, until it was written or nobody waits for it. `false`: nothing more is to be written.
+    /// Writes the text. If that fails all links are to go down; with gaps it tries again each second, from the octet
+    /// where it stopped, until the text was written or no thread waits for it. `false` if nothing more is to be
+    /// written.
     fn write<R: Wait + Clock>(&mut self, rt: &R) -> bool {
         let mut has_failed = false;
         for _ in rt.forever() {
@@ -108,7 +109,7 @@ impl<L: LinkWrite + Drop> LogWriter<L> {
         true
     }
 
-    /// Writes the lines that wait, those of each link in their order. `false`: nothing more is to be written.
+    /// Writes the waiting text, each link's in its order. `false` if nothing more is to be written.
     fn write_waiting<R: Wait + Clock>(&mut self, rt: &R) -> bool {
         for place in 0..usize::from(Settings::MOST) {
             let Some(waiting) = self.log.lines_of(place) else {
@@ -123,14 +124,14 @@ impl<L: LinkWrite + Drop> LogWriter<L> {
         true
     }
 
-    /// Writes the head, and then lines as they come, until no more come or a write failed.
+    /// Writes the head, and then lines as they are made, until the log is over or a write failed.
     fn write_all<R: Wait + Clock>(&mut self, rt: &R, ends: &WriterEnds) {
         if !self.write(rt) {
             return;
         }
         let _ = ends.begun.try_send(rt, ());
         for _ in rt.forever() {
-            // Asked before the lines are taken, so that those that came before the end are among them.
+            // Asked before the lines are taken, so that all lines made before the end are among them.
             let is_over = self.log.is_over();
             self.log.note_moved(self.stop.time(rt));
             if !self.write_waiting(rt) || is_over {
@@ -142,7 +143,7 @@ impl<L: LinkWrite + Drop> LogWriter<L> {
     }
 }
 
-/// Starts the thread that writes a log to this device, and waits until it has written the head, a second at most.
+/// Starts the thread that writes a log to this device, and waits until it has written the head, at most a second.
 pub(crate) fn start_log<R: System + Copy + Send + 'static, L: LinkWrite + Send + Drop + 'static>(
     rt: &R,
     alloc: Global,
@@ -167,7 +168,7 @@ pub(crate) fn start_log<R: System + Copy + Send + 'static, L: LinkWrite + Send +
     start_thread(rt, move || {
         let mut writer = writer;
         writer.write_all(&own, &ends);
-        // The device is dropped before the run learns of the end, with its lock: the next run may want it.
+        // The device and its lock are dropped before the run learns of the end: the next run may want the lock.
         drop(writer);
         drop(ends);
     })?;

@@ -3,10 +3,10 @@
 //! | Thread | Waits for | Is woken by | At most |
 //! |---|---|---|---|
 //! | the run, before it accepts connections | the first line, written or failed | the writing thread | a second |
-//! | the writing thread | text, or that no more comes | a receiving thread that made 64 KB of it, the clock of a link that made or found some; the run | a second |
+//! | the writing thread | text, or the end of the log | a receiving thread that made 64 KB of it, the clock of a link that made or found some; the run | a second |
 //! | the writing thread | the device | the device | without a limit |
 //! | the writing thread, with gaps, after a write that failed | the next try | nobody | a second |
-//! | a receiving thread, for which there are no places | the device, while it gets on (`log_wait.rt`) | nobody | two seconds in a read, with gaps a tenth of one |
+//! | a receiving thread without places for lines | the device, while it gets on (`log_wait.rt`) | nobody | two seconds in a read, with gaps a tenth of one |
 //! | the run, at its end | the last line, written or failed | the writing thread | five idle seconds, a minute in all |
 
 use crate::log::LinkLog;
@@ -18,22 +18,22 @@ use std::sync::atomic::{AtomicBool, AtomicU64, Ordering};
 use std::sync::{Arc, Wait};
 use std::time::Duration;
 
-/// How many seconds the run waits for the first line to be written before it accepts connections all the same.
+/// The longest wait for the first line to be written before the run accepts connections all the same, in seconds.
 const SECONDS_FOR_THE_HEAD: u64 = 1;
 
-/// For how many seconds an ending run waits for the last lines although none is written meanwhile.
+/// How long an ending run waits for the last lines although none is written meanwhile, in seconds.
 const SECONDS_WITHOUT_PROGRESS: u64 = 5;
 
-/// For how many seconds it waits for them in all.
+/// How long an ending run waits for the last lines in all, in seconds.
 const SECONDS_FOR_THE_END: u64 = 60;
 
-/// How many milliseconds a receiving thread waits for the device in one read, if the log is to have no gaps.
+/// How long a receiving thread waits for the device in one read, in milliseconds, if the log is to have no gaps.
 const MILLISECONDS_WITHOUT_GAPS: u64 = 2_000;
 
-/// How many it waits, if calls matter more.
+/// How long it waits, in milliseconds, if calls matter more.
 const MILLISECONDS_WITH_GAPS: u64 = 100;
 
-/// How many milliseconds a receiving thread of a run with these settings waits for the device in one read.
+/// How long a receiving thread of a run with these settings waits for the device in one read, in milliseconds.
 fn patience_of(settings: Settings) -> u64 {
     match settings.when_log_fails {
         WhenLogFails::EndRun => MILLISECONDS_WITHOUT_GAPS,
@@ -41,25 +41,25 @@ fn patience_of(settings: Settings) -> u64 {
     }
 }
 
-/// What the links of a run, the run and the thread that writes its log share.
+/// The state that the links of a run, the run and the thread that writes its log share.
 #[derive(Drop)]
 pub(crate) struct Log {
-    // One for each link, in their order.
+    // The waiting lines of each link, in their order.
     links: Vec<LinkLog>,
-    // How many lines have their text, the head among them, and aren't written yet. The number may be less for a moment,
-    // and wrap: lines are counted after they got their text. It is looked at only once all lines were.
+    // How many lines have their text and aren't written yet, including the head. The number may be less for a moment,
+    // and wrap: lines are counted after they got their text. It is looked at only once all lines were counted.
     unwritten: AtomicU64,
     // How many octets the device took.
     written: AtomicU64,
     // When the writing thread moved last, in milliseconds since the run began.
     moved_at: AtomicU64,
-    // How long a receiving thread waits for the device at most before it reads on.
+    // The longest wait of a receiving thread for the device before it reads on.
     pub(crate) patience: Duration,
-    // Wakes the writing thread: text waits for it, or no more comes.
+    // Wakes the writing thread: text waits for it, or the log is over.
     came: Sender<()>,
-    // No more lines come.
+    // No more lines are added.
     is_over: AtomicBool,
-    // The run waits no longer for the last lines.
+    // The run no longer waits for the last lines.
     is_given_up: AtomicBool,
     // Says that the writing thread has written the head. Disconnected once it writes no more.
     begun: Receiver<()>,
@@ -68,14 +68,14 @@ pub(crate) struct Log {
 /// The ends of the channels of a [`Log`] that its writing thread has.
 #[derive(Drop)]
 pub(crate) struct WriterEnds {
-    /// Says that text waits, or that no more comes.
+    /// Says that text waits, or that the log is over.
     pub(crate) came: Receiver<()>,
-    /// Takes that the head is written, and is dropped when nothing more is.
+    /// Gets a message when the head is written, and is dropped when nothing more is.
     pub(crate) begun: Sender<()>,
 }
 
 impl Log {
-    /// A log for the links of a run, whose head is still to be written.
+    /// A log for the links of a run. Its head is still to be written.
     pub(crate) fn new(
         alloc: Global,
         settings: Settings,
@@ -104,12 +104,12 @@ impl Log {
         Ok((Arc::new(alloc, log)?, ends))
     }
 
-    /// Where the lines of the link in this place wait. `None`: the run has no such link.
+    /// The waiting lines of the link in this place. `None` if the run has no such link.
     pub(crate) fn lines_of(&self, place: usize) -> Option<&LinkLog> {
         self.links.get(place)
     }
 
-    /// Lines got their text, this number of them.
+    /// Adds this number of lines that got their text.
     pub(crate) fn add(&self, count: u64) {
         if count > 0 {
             self.unwritten.fetch_add(count, Ordering::SeqCst);
@@ -121,16 +121,16 @@ impl Log {
         let _ = self.came.try_send(rt, ());
     }
 
-    /// The device took this number of octets, in which this number of lines end.
+    /// Notes that the device took this number of octets, with the ends of this number of lines.
     pub(crate) fn take_off(&self, octets: usize, lines: usize) {
-        // Numbers of what is in memory.
+        // These are counts of octets and lines in memory, so both fit.
         let lines = u64::try_from(lines).unwrap_or(u64::MAX);
         self.unwritten.fetch_sub(lines, Ordering::SeqCst);
         let octets = u64::try_from(octets).unwrap_or(u64::MAX);
         self.written.fetch_add(octets, Ordering::SeqCst);
     }
 
-    /// The writing thread looked for text, or the device took some, at this time of the run.
+    /// Notes that the writing thread looked for text, or that the device took some, at this time of the run.
     pub(crate) fn note_moved(&self, time: u64) {
         self.moved_at.store(time, Ordering::SeqCst);
     }
@@ -145,24 +145,24 @@ impl Log {
         self.written.load(Ordering::SeqCst)
     }
 
-    /// Whether no more lines come.
+    /// Whether no more lines are added.
     pub(crate) fn is_over(&self) -> bool {
         self.is_over.load(Ordering::SeqCst)
     }
 
-    /// Whether nobody waits for what is still to be written.
+    /// Whether no thread waits for the lines that aren't written.
     pub(crate) fn is_given_up(&self) -> bool {
         self.is_given_up.load(Ordering::SeqCst)
     }
 
-    /// Waits until the head was written, or couldn't be, a second at most: a log that can't be written is known before
+    /// Waits until the head was written, or couldn't be, at most a second: a log that can't be written is known before
     /// a connection is accepted, unless its device hangs.
     pub(crate) fn await_head<R: Wait + Clock>(&self, rt: &R) {
         let patience = Duration::from_secs(SECONDS_FOR_THE_HEAD);
         let _ = self.begun.recv_timeout(rt, patience);
     }
 
-    /// Waits until the writing thread writes no more, a second at most. `false`: it goes on.
+    /// Waits until the writing thread writes no more, at most a second. `false` if it goes on.
     fn await_end<R: Wait + Clock>(&self, rt: &R) -> bool {
         match self.begun.recv_timeout(rt, Duration::from_secs(1)) {
             Ok(()) => false,
@@ -170,7 +170,7 @@ impl Log {
         }
     }
 
-    /// Waits until the writing thread writes no more, or has written nothing for five seconds; a minute at most.
+    /// Waits until the writing thread writes no more, or has written nothing for five seconds; at most a minute.
     fn await_last_lines<R: Wait + Clock>(&self, rt: &R) {
         let mut unwritten = self.unwritten.load(Ordering::SeqCst);
         let mut idle_seconds: u64 = 0;
@@ -192,7 +192,7 @@ impl Log {
     }
 
     /// Ends the log, once the last lines of all links have their text: waits until these were written, or none of them
-    /// for five seconds, a minute at most. Returns how many weren't written then: they are lost.
+    /// for five seconds, at most a minute. Returns how many weren't written then: they are lost.
     pub(crate) fn finish<R: Wait + Clock>(&self, rt: &R) -> u64 {
         self.is_over.store(true, Ordering::SeqCst);
         let _ = self.came.try_send(rt, ());

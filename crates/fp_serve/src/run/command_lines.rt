@@ -10,25 +10,25 @@ use std::rt::Clock;
 use std::str;
 use std::sync::{Arc, Wait};
 
-/// How many octets one read of the commands may give.
+/// The most octets of one read of the commands.
 const MOST_READ: usize = 512;
 
-/// How many octets of a line are kept: more than any command has.
+/// The number of octets of a line that are kept: more than any command has.
 const MOST_OCTETS: usize = 32;
 
-/// How many reads of the commands are made at most.
+/// The most reads of the commands.
 const MOST_READS: u64 = 1 << 40;
 
-/// A line of which some octets came.
+/// The octets of a line, read so far.
 #[derive(Clone, Copy)]
 struct CommandLine {
     octets: [u8; MOST_OCTETS],
-    // How many came, at most one more than are kept.
+    // How many octets were read, at most one more than are kept.
     count: usize,
 }
 
 impl CommandLine {
-    /// None came.
+    /// A line without octets.
     fn new() -> CommandLine {
         CommandLine {
             octets: [0; MOST_OCTETS],
@@ -36,7 +36,7 @@ impl CommandLine {
         }
     }
 
-    /// One more came.
+    /// Adds an octet.
     fn push(&mut self, octet: u8) {
         if self.count < MOST_OCTETS {
             self.octets[self.count] = octet;
@@ -46,7 +46,7 @@ impl CommandLine {
         }
     }
 
-    /// The command that the line is.
+    /// The command of the line.
     fn command(&self) -> Command {
         let octets = self.octets.get(..self.count).unwrap_or_default();
         match str::from_utf8(octets) {
@@ -61,7 +61,7 @@ impl CommandLine {
     }
 }
 
-/// The command that a line of two words is.
+/// The command of a line of two words.
 fn command_with_word(text: &str) -> Command {
     let Some((first, second)) = text.split_once(' ') else {
         return Command::Unknown;
@@ -72,8 +72,8 @@ fn command_with_word(text: &str) -> Command {
     }
 }
 
-/// Sends a notice of a line that was read, and ends the links here if it says so: that waits for no command before it.
-/// `false`: nobody takes notices any more.
+/// Sends a notice of a line that was read. If the line is `quit` and `ended` is given, it also ends the links at once,
+/// without waiting for the commands before it. `false` if no thread takes notices any more.
 fn send_command<R: Wait + Clock>(
     rt: &R,
     line: &CommandLine,
@@ -87,8 +87,8 @@ fn send_command<R: Wait + Clock>(
     notices.send(rt, Notice::Command(command)).is_ok()
 }
 
-/// Sends a notice of each line that is read here, until no more come, and ends the links here if a line says so.
-/// The last one may have no line feed.
+/// Sends a notice of each line that is read, until the input ends, and ends the links if a line is `quit` and `ended`
+/// is given. The last line may have no line feed.
 fn read_commands<R: Wait + Clock, I: Read>(
     rt: &R,
     input: &mut I,
@@ -121,8 +121,8 @@ fn read_commands<R: Wait + Clock, I: Read>(
     let _ = notices.send(rt, Notice::NoCommands);
 }
 
-/// Starts a thread that reads commands, of which `quit` ends the links here, if more commands are known. The thread
-/// isn't joined: it may wait for its input when the run is over.
+/// Starts a thread that reads commands. If more commands are known, it ends the links at `quit`. The thread isn't
+/// joined: it may wait for its input when the run is over.
 pub(crate) fn start_reading<R: System + Copy + Send + 'static, I: Read + Send + Drop + 'static>(
     rt: &R,
     input: I,

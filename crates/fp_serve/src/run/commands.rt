@@ -1,4 +1,4 @@
-//! The commands of a run, which it follows one after another until it is over.
+//! The commands of a run, executed one after another until it is over.
 
 ghost use Rattle.std.specs.Prelude.{◌≤◌, IfOk, IfSome, OnOk, string_bytes};
 ghost use Rattle.fp_serve.specs.Report.{TellsAnswers, TellsNumber, TellsOfCounters, TellsOfLinks, TellsOfNumber};
@@ -20,59 +20,55 @@ use std::thread;
 use std::time::{Duration, Instant};
 use thiserror::Error;
 
-/// How many commands that were read wait to be followed.
+/// How many commands that were read may wait.
 pub(crate) const MOST_WAITING: usize = 16;
 
-/// What comes after the numbers.
+/// The line after the counters.
 const END_OF_COUNTERS: &str = "# EOF\n";
 
-/// How many seconds go by between two looks whether tables that were replaced can be freed.
+/// The time between two looks whether replaced tables can be freed, in seconds.
 const REST_SECONDS: u64 = 1;
 
-/// How many milliseconds go by between two looks whether the thread of the links runs, until it does.
+/// The time between two looks whether the thread of the links runs, until it does, in milliseconds.
 const LOOK_MILLISECONDS: u64 = 200;
 
-/// How many seconds after the command to drain it is looked first whether dialogues are held: the network sees it a fifth
-/// of a second later, for two seconds new ones may still come, and what the links hold is known a second later.
-const SECONDS_TO_DRAIN: u64 = 4;
-
-/// How many seconds it may take to run.
+/// The longest time until the thread of the links must run, in seconds.
 const SECONDS_AT_THE_START: u64 = 10;
 
-/// Why a command isn't followed.
+/// The reason why a command isn't followed.
 #[derive(Clone, Copy, Debug, PartialEq, Eq, Error)]
 pub enum Refusal {
-    /// It isn't known.
+    /// The command isn't known.
     #[error("command: unknown")]
     Unknown,
-    /// The node has no unit of its own, so without the common one there is no way for its answers.
+    /// The node has no unit of its own, so that without the common one its answers have no way.
     #[error("command: drain: no unit but the common one")]
     NoOwnUnit,
-    /// What is counted for a number is asked for, and the run doesn't count that.
+    /// The counters of a called number are asked for, and the run doesn't count numbers.
     #[error("command: counters: numbers aren't counted")]
     NoNumbers,
 }
 
-/// What reads the records of a run again, and says what is wrong with a command.
+/// The operator of a run: reads the records again, and reports faults of commands.
 pub trait Operator {
-    /// Reads the records again, replaces the newest table by theirs, and gives its index. `None`: the newest stays, and
-    /// it was said why.
+    /// Reads the records again, replaces the newest table by theirs, and returns its index. `None` if the newest stays;
+    /// then the fault was reported.
     fn reload(&mut self, tables: &Tables) -> Option<u32>
         ensures { IfSome result (λ index. (1 ≤ index) × (index ≤ tables.now)) };
 
-    /// Says why a command isn't followed.
+    /// Reports why a command isn't followed.
     fn refuse(&mut self, refusal: Refusal);
 
-    /// Says why a command that was followed got no answer.
+    /// Reports why a command that was followed got no answer.
     fn fail(&mut self, fault: ServeFault);
 }
 
-/// The commands of a run, and who follows them.
+/// The commands of a run, and its operator.
 #[derive(Drop)]
 pub struct Commands<I: Drop, O: Drop> {
-    /// What is read: lines, each a command.
+    /// The input: lines, each a command.
     pub input: I,
-    /// What the run asks for.
+    /// The operator that the run calls.
     pub operator: O,
 }
 
@@ -83,11 +79,11 @@ pub(crate) enum Command {
     Reload,
     /// `links`: the status of each link.
     Links,
-    /// `counters`: what is counted.
+    /// `counters`: the counters of the run.
     Counters,
-    /// `counters NUMBER`: what is counted for a called number.
+    /// `counters NUMBER`: the counters of a called number.
     CountersOf(CalledNumber),
-    /// `drain`: the node is to ask for no new dialogues, and all links are to end once none is held.
+    /// `drain`: the node must ask for no new dialogues, and all links end once none is held.
     Drain,
     /// `quit`: all links are to end.
     Quit,
@@ -95,12 +91,12 @@ pub(crate) enum Command {
     Unknown,
 }
 
-/// What wakes the thread that follows the commands.
+/// A notice to the thread that follows the commands.
 #[derive(Clone, Copy, Debug, Drop)]
 pub(crate) enum Notice {
-    /// A command came.
+    /// A command was read.
     Command(Command),
-    /// No more come: the input ended, or a read failed.
+    /// No more commands can follow: the input ended, or a read failed.
     NoCommands,
     /// All links are down.
     LinksDown,
@@ -125,14 +121,15 @@ fn counters_text<R: Wait>(run: &Run<'_, R>, watch: &Watch) -> Result<String, All
     Ok(text)
 }
 
-/// Writes what is counted, if more commands are known and it is counted; else the command isn't known. If memory runs out
-/// for the text, it is said, and nothing is written.
+/// Writes the counters, if more commands are known and the run has counters; else the command isn't known. If memory
+/// runs out for the text, the operator reports it, and nothing is written.
 fn answer_counters<R: System, O: Operator, W: LinkWrite>(
     run: &Run<'_, R>,
     operator: &mut O,
     output: &mut W,
 ) -> Result<(), ServeFault>
-    ensures { OnOk result (TellsAnswers run.entry.now.service.tables.now run.entry.now.settings.first_link run.entry.now.settings.has_commands
+    ensures { OnOk result (TellsAnswers run.entry.now.service.tables.now
+        run.entry.now.settings.first_link run.entry.now.settings.has_commands
         (W.contents output.old) (W.contents output.new)) }
 {
     let Some(watch) = run.watch else {
@@ -152,38 +149,19 @@ fn answer_counters<R: System, O: Operator, W: LinkWrite>(
     }
 }
 
-/// The node whose network carries the link is to drain. If it can't, it is said why.
+/// Begins the drain of the node whose network carries the link. If there is none, or it has no unit of its own, the
+/// operator reports why.
 fn drain<R, O: Operator>(run: &Run<'_, R>, operator: &mut O) {
-    let Some(drain) = run.drain else {
+    let Some(draining) = run.draining else {
         operator.refuse(Refusal::Unknown);
         return;
     };
-    if !drain.set() {
+    if !draining.drain.set() {
         operator.refuse(Refusal::NoOwnUnit);
     }
 }
 
-/// Ends the links if the node drains and none of their dialogues is held. What they hold is as new as their last tick, a
-/// second ago at most. So it is looked at from four seconds after the command on (`since`).
-fn end_if_drained<R: System>(run: &Run<'_, R>, since: &mut Option<Instant>) {
-    let rt = run.rt;
-    let Some(drain) = run.drain else {
-        return;
-    };
-    if !drain.is_set() {
-        return;
-    }
-    if since.is_none() {
-        *since = Instant::now(rt).ok();
-    }
-    let least = Duration::from_secs(SECONDS_TO_DRAIN);
-    let is_time = time_since(rt, *since).is_some_and(|since| since >= least);
-    if is_time && run.statuses.hold_nothing(rt) {
-        run.stop.quit(rt);
-    }
-}
-
-/// What is counted for a called number.
+/// The counters of a called number.
 fn number_lines(alloc: Global, digits: &str, counters: &Counters) -> Result<String, AllocError>
     ensures { IfOk result (λ text. TellsNumber (string_bytes text)) }
 {
@@ -204,15 +182,17 @@ fn number_answer(
     Ok(text)
 }
 
-/// Writes what is counted for a called number, if more commands are known and that is counted; else the command isn't
-/// known, or it is said that numbers aren't counted. If memory runs out for the text, it is said, and nothing is written.
+/// Writes the counters of a called number, if more commands are known and the run counts numbers; else the operator
+/// reports that the command isn't known, or that numbers aren't counted. If memory runs out for the text, the operator
+/// reports it, and nothing is written.
 fn answer_number<R: System, O: Operator, W: LinkWrite>(
     run: &Run<'_, R>,
     number: CalledNumber,
     operator: &mut O,
     output: &mut W,
 ) -> Result<(), ServeFault>
-    ensures { OnOk result (TellsAnswers run.entry.now.service.tables.now run.entry.now.settings.first_link run.entry.now.settings.has_commands
+    ensures { OnOk result (TellsAnswers run.entry.now.service.tables.now
+        run.entry.now.settings.first_link run.entry.now.settings.has_commands
         (W.contents output.old) (W.contents output.new)) }
 {
     if !run.settings.has_commands {
@@ -236,15 +216,16 @@ fn answer_number<R: System, O: Operator, W: LinkWrite>(
     }
 }
 
-/// Does what a command asks for, if one came, and writes its answer, if it has one. If memory runs out for that of
-/// `links`, it is said, and nothing is written.
+/// Follows a command, if there is one, and writes its answer, if it has one. If memory runs out for the answer to
+/// `links`, the operator reports it, and nothing is written.
 fn obey<R: System, O: Operator, W: LinkWrite>(
     run: &Run<'_, R>,
     command: Option<Command>,
     operator: &mut O,
     output: &mut W,
 ) -> Result<(), ServeFault>
-    ensures { OnOk result (TellsAnswers run.entry.now.service.tables.now run.entry.now.settings.first_link run.entry.now.settings.has_commands
+    ensures { OnOk result (TellsAnswers run.entry.now.service.tables.now
+        run.entry.now.settings.first_link run.entry.now.settings.has_commands
         (W.contents output.old) (W.contents output.new)) }
 {
     let has_commands = run.settings.has_commands;
@@ -289,7 +270,7 @@ fn lacks_thread<R: System>(rt: &R, statuses: &Statuses, start: Option<Instant>) 
     is_late || thread::spawn(rt, || {}).is_err()
 }
 
-/// How long the next command is awaited: until it is known that the thread of the links runs, a fifth of a second.
+/// How long to wait for the next command: until the thread of the links is known to run, a fifth of a second.
 fn rest(statuses: &Statuses) -> Duration {
     if statuses.have_begun() {
         Duration::from_secs(REST_SECONDS)
@@ -298,17 +279,18 @@ fn rest(statuses: &Statuses) -> Duration {
     }
 }
 
-/// Follows the commands until all links are down, and, unless the run ends with its links, no more commands come or
-/// there was a fault. If what they give can't be written, all links are to go down; if the run ends with its links,
-/// that is said, and they go on, but the run has this fault in the end. If the thread of the links can't be started,
-/// or doesn't run within ten seconds, they are to go down too.
+/// Follows the commands until all links are down, and, unless the run ends with its links, no more commands can follow
+/// or there was a fault. If an answer can't be written, all links are to go down; if the run ends with its links, the
+/// operator reports it, and they go on, but the run has this fault in the end. If the thread of the links can't be
+/// started, or doesn't run within ten seconds, they are to go down too.
 pub(crate) fn follow<R: System, O: Operator, W: LinkWrite>(
     run: &Run<'_, R>,
     notices: &Receiver<Notice>,
     operator: &mut O,
     output: &mut W,
 ) -> Result<(), ServeFault>
-    ensures { OnOk result (TellsAnswers run.entry.now.service.tables.now run.entry.now.settings.first_link run.entry.now.settings.has_commands
+    ensures { OnOk result (TellsAnswers run.entry.now.service.tables.now
+        run.entry.now.settings.first_link run.entry.now.settings.has_commands
         (W.contents output.old) (W.contents output.new)) }
 {
     let Run {
@@ -319,7 +301,6 @@ pub(crate) fn follow<R: System, O: Operator, W: LinkWrite>(
     } = *run;
     let has_commands = run.settings.has_commands;
     let mut is_input_open = true;
-    let mut drains_since = None;
     let start = Instant::now(rt).ok();
     let mut outcome = Ok(());
     for _ in rt.forever() {
@@ -342,7 +323,6 @@ pub(crate) fn follow<R: System, O: Operator, W: LinkWrite>(
             }
         }
         run.service.tables.free_replaced(rt);
-        end_if_drained(run, &mut drains_since);
         if lacks_thread(rt, statuses, start) {
             stop.ask_for(rt, ServeFault::NoThread);
             return Err(ServeFault::NoThread);

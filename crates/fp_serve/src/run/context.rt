@@ -1,12 +1,10 @@
-//! What all threads of a run share.
+//! The state that all threads of a run share.
 
 use crate::log::Log;
-use crate::run::{Events, Service, Settings, Statuses, Stop};
+use crate::run::{Draining, Events, Service, Settings, Statuses, Stop};
 use crate::watch::Watch;
-use fp_network::Drain;
-use std::sync::Arc;
 
-/// What all threads of a run share, except those that write its log and its events.
+/// The state that all threads of a run share, except those that write its log and its events.
 #[derive_where(Clone, Copy)]
 pub(crate) struct Run<'x, R> {
     pub(crate) rt: &'x R,
@@ -16,8 +14,8 @@ pub(crate) struct Run<'x, R> {
     pub(crate) events: &'x Events,
     pub(crate) stop: &'x Stop,
     pub(crate) log: &'x Log,
-    // What is counted, if somebody asked for that.
+    // The counters, if the run has them.
     pub(crate) watch: &'x Option<Watch>,
-    // Whether the node of the link drains, if a network carries the link.
-    pub(crate) drain: &'x Option<Arc<Drain>>,
+    // The drain of the node, if a network carries the link.
+    pub(crate) draining: &'x Option<Draining>,
 }

@@ -1,8 +1,9 @@
-//! The events of a run, as lines on standard error: which links came and went, which records were read again, and what
-//! became of the log.
+//! The events of a run, as lines on standard error: which links went up and down, which records were read again, and
+//! whether the log is written.
 //!
 //! Standard error may block, and no thread that reports an event waits for it: the event goes into a channel of bounded
-//! length, and a thread of its own writes what comes out.
+//! length, and a thread of its own writes the events from there. If the run has a page, the event goes into the list of
+//! the last ones, too.
 
 use crate::moment::now;
 use crate::run::{Peer, ServeFault};
@@ -21,19 +22,20 @@ use std::rt::Clock;
 use std::sync::{Arc, Wait};
 use std::time::Duration;
 
-/// How many events wait to be written at most. An event that comes then is lost.
+/// The most events that wait to be written. A further one is lost.
 const MOST_EVENTS: usize = 1_024;
 
-/// How many seconds the end of a run waits for a place in a channel that is full, and for its last events to be written.
+/// How long the end of a run waits for a place in a channel that is full, and for its last events to be written, in
+/// seconds.
 const PATIENCE_SECONDS: u64 = 1;
 
 /// The version of a program, in at most 20 octets.
 pub type Version = ArrayString<20>;
 
-/// What happened in a run.
+/// An event of a run.
 #[derive(Clone, Copy, Debug, PartialEq, Eq)]
 pub enum Event {
-    /// The run began, of a program of this version.
+    /// The run began, with a program of this version.
     Program {
         /// The version.
         version: Version,
@@ -50,7 +52,7 @@ pub enum Event {
         /// The digest.
         digest: [u8; 32],
     },
-    /// A link came up.
+    /// A link went up.
     Up {
         /// Its number.
         link: u8,
@@ -61,17 +63,17 @@ pub enum Event {
     Down {
         /// Its number.
         link: u8,
-        /// The first reason that came.
+        /// The first reason for it.
         why: Why,
     },
-    /// Messages of a link were held back for as long as they may be, and then posted.
+    /// Messages of a link were held back for the longest time allowed, and then posted.
     Late {
         /// The number of the link.
         link: u8,
-        /// How many messages.
+        /// The number of messages.
         messages: u64,
     },
-    /// Something happened on the network that carries the link.
+    /// An event of the network that carries the link.
     Network(NetworkEvent),
     /// The log can't be written, and the run goes on.
     LogFails,
@@ -81,12 +83,12 @@ pub enum Event {
     LogGap {
         /// The number of the link.
         link: u8,
-        /// How many lines.
+        /// The number of lines.
         lines: u64,
     },
     /// The run ended without having written this number of lines.
     LogLost {
-        /// How many lines.
+        /// The number of lines.
         lines: u64,
     },
 }
@@ -133,12 +135,12 @@ impl fmt::Display for Event {
     }
 }
 
-/// Which events are written.
+/// The events that are written.
 #[derive(Clone, Copy, Debug, PartialEq, Eq)]
 pub enum Wanted {
     /// All of them, each after its moment.
     All,
-    /// Only that the log can't be written, and that it is written again, with no moment.
+    /// Only `LogFails` and `LogGoesOn`, without a moment.
     LogFaults,
 }
 
@@ -152,7 +154,7 @@ impl Wanted {
     }
 }
 
-/// An event, and when it came.
+/// An event, and its moment.
 #[derive(Clone, Copy)]
 pub(crate) struct TimedEvent {
     pub(crate) moment: Moment,
@@ -160,12 +162,12 @@ pub(crate) struct TimedEvent {
 }
 
 impl TimedEvent {
-    /// Its line, with its moment.
+    /// The line of the event, with its moment.
     pub(crate) fn line_of_all(&self, alloc: Global) -> Result<String, AllocError> {
         self.line(alloc, Wanted::All)
     }
 
-    /// Its line.
+    /// The line of the event.
     fn line(&self, alloc: Global, wanted: Wanted) -> Result<String, AllocError> {
         let event = self.event;
         let milliseconds = i64::try_from(self.moment.milliseconds()).unwrap_or(i64::MAX);
@@ -179,13 +181,13 @@ impl TimedEvent {
 /// A message to the thread that writes events.
 #[derive(Clone, Copy, Drop)]
 enum Message {
-    /// An event came.
+    /// An event to write.
     Event(TimedEvent),
-    /// No more come.
+    /// The end: no event follows.
     End,
 }
 
-/// Writes events, each in one piece, until no more come. An event that can't be written is left out.
+/// Writes events, each in one piece, until the end. An event that can't be written is left out.
 fn write_events<R: Wait, E: Write>(
     rt: &R,
     alloc: Global,
@@ -208,21 +210,22 @@ fn write_events<R: Wait, E: Write>(
 struct EventQueue {
     wanted: Wanted,
     sender: Sender<Message>,
-    // Nothing comes here. It is disconnected once the thread has written all.
+    // Disconnected once the thread has written all events. Nothing is sent through it.
     written: Receiver<()>,
 }
 
-/// The events of a run. All threads share them, and none waits when it reports one.
+/// The events of a run, which its threads share. Reporting one waits for no device and takes no memory: an event that
+/// finds no place in the channel is lost, and the lock of the last events is held at most for a copy of 20.
 #[derive(Drop)]
 pub struct Events {
-    // None: nobody asked for events.
+    // `None` if no events are to be written.
     queue: Option<Arc<EventQueue>>,
-    // None: nobody looks at the last ones.
+    // `None` if the run has no page with the last events.
     recent: Option<Arc<RecentEvents>>,
 }
 
 impl Events {
-    /// Events that nobody asked for.
+    /// No events are written or kept.
     pub fn none() -> Events {
         Events {
             queue: None,
@@ -230,7 +233,7 @@ impl Events {
         }
     }
 
-    /// Events that a thread of its own writes here. It isn't joined: the end of the program may cut it off.
+    /// Events that a thread of its own writes to `errors`. It isn't joined: the end of the program may cut it off.
     pub fn start<R: System + Copy + Send + 'static, E: Write + Send + Drop + 'static>(
         rt: &R,
         alloc: Global,
@@ -260,13 +263,13 @@ impl Events {
         })
     }
 
-    /// The same events, of which the last ones are kept here, too.
+    /// The same events, with the last ones kept in `recent`, too.
     pub fn kept_in(mut self, recent: Arc<RecentEvents>) -> Events {
         self.recent = Some(recent);
         self
     }
 
-    /// The same events, for a thread that goes on by itself.
+    /// Another share of the events, for a thread that goes on by itself.
     pub fn share(&self) -> Result<Events, AllocError> {
         let queue = match &self.queue {
             Some(queue) => Some(Arc::try_clone(queue)?),
@@ -279,7 +282,7 @@ impl Events {
         Ok(Events { queue, recent })
     }
 
-    /// Keeps an event, if somebody looks at the last ones.
+    /// Keeps an event, if the run has a page with the last ones.
     fn keep<R: Wait>(&self, rt: &R, timed: &TimedEvent) {
         match &self.recent {
             Some(recent) => recent.keep(rt, *timed),
@@ -287,7 +290,7 @@ impl Events {
         }
     }
 
-    /// Has an event written, if it is asked for. It is lost if 1,024 wait.
+    /// Sends an event to be written, if it is asked for. It is lost if 1,024 wait.
     fn send<R: Wait>(&self, rt: &R, timed: &TimedEvent) {
         let Some(queue) = &self.queue else {
             return;
@@ -298,7 +301,7 @@ impl Events {
         let _ = queue.sender.try_send(rt, Message::Event(*timed));
     }
 
-    /// An event came. Of those that are written it is lost if 1,024 wait.
+    /// Reports an event. It isn't written if 1,024 wait.
     pub fn report<R: Wait + Clock>(&self, rt: &R, event: Event) {
         if self.queue.is_none() && self.recent.is_none() {
             return;
@@ -309,7 +312,7 @@ impl Events {
         self.send(rt, &timed);
     }
 
-    /// No more come. Waits until all were written, a second at most, or two if 1,024 wait.
+    /// Ends the events. Waits until all were written, at most a second, or two if 1,024 wait.
     pub fn finish<R: Wait + Clock>(&self, rt: &R) {
         let Some(queue) = &self.queue else {
             return;

@@ -1,4 +1,4 @@
-//! Why a run ended otherwise than by the end of its links.
+//! The faults that end a run otherwise than by the end of its links.
 
 ghost use Rattle.std.specs.Prelude.{◌≡◌};
 
@@ -6,7 +6,7 @@ use fp_linkstate::Why;
 use std::alloc::AllocError;
 use thiserror::Error;
 
-/// Why a run ended otherwise than by the end of its links. All links went down.
+/// The reason why a run ended otherwise than by the end of its links. All links went down.
 #[derive(Clone, Copy, Debug, PartialEq, Eq, Error)]
 pub enum ServeFault {
     /// The bound address is not known, or a connection could not be accepted.
@@ -15,7 +15,7 @@ pub enum ServeFault {
     /// A thread could not be made.
     #[error("thread: cannot start")]
     NoThread,
-    /// A link has lost a part of what it counted, so that its totals aren't known.
+    /// A link has lost a part of its counts, so that its totals aren't known.
     #[error("seats: not all came back")]
     LostSeat,
     /// The log could not be written.
@@ -30,7 +30,7 @@ pub enum ServeFault {
 }
 
 impl ServeFault {
-    /// Why links go down after this fault of the run.
+    /// The reason for the links to go down after this fault of the run.
     pub(crate) fn why(self) -> Why {
         match self {
             ServeFault::UnwrittenLog => Why::LogFault,

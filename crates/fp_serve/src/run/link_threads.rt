@@ -1,4 +1,4 @@
-//! The threads of a run's links: one for each link that comes, or for the one that a network carries.
+//! The threads of a run's links: one for each connected link, or for the one that a network carries.
 
 use crate::link::{Plan, run_link};
 use crate::run::report::NOTHING;
@@ -12,10 +12,11 @@ use std::net::TcpListener;
 use std::thread;
 use std::thread::{JoinHandle, Scope, Threads};
 
-/// How many threads of a link have work to do, beside its workers: the receiving thread and the sending one.
+/// The number of threads of a link that have work to do, besides its workers: the receiving thread and the sending one.
 const OTHER_THREADS: usize = 2;
 
-/// How the run's threads wait, given their number and the number of processors.
+/// The waits of the run's threads, given their number and the number of processors. For example, 2 links with 2 workers
+/// each have 8 threads, which look long before they sleep if there are 8 processors.
 fn looks<R: Threads>(rt: &R, settings: Settings) -> Looks {
     let processors = match thread::available_parallelism(rt) {
         Ok(count) => count.get(),
@@ -25,7 +26,7 @@ fn looks<R: Threads>(rt: &R, settings: Settings) -> Looks {
     Looks::for_threads(usize::from(settings.links) * of_a_link, processors)
 }
 
-/// Starts a thread for a link that came, of this peer. There is room for its handle.
+/// Starts a thread for a connected link, of this peer. There is room for its handle.
 fn start_link<'s, E: 's, R: System + Sync, G: Gate + Sync>(
     scope: &'s Scope<'s, E>,
     run: &'s Run<'s, R>,
@@ -44,8 +45,8 @@ fn start_link<'s, E: 's, R: System + Sync, G: Gate + Sync>(
     }
 }
 
-/// Accepts a connection for each link of a run and starts a thread for it, as long as connections are wanted. Then drops
-/// the listener, so that later ones are refused. There is room for the handles.
+/// Accepts a connection for each link of a run and starts a thread for it, as long as connections are wanted. Then
+/// drops the listener, so that later ones are refused. There is room for the handles.
 fn await_links<'s, E: 's, R: System + Sync, G: Gate + Sync>(
     scope: &'s Scope<'s, E>,
     run: &'s Run<'s, R>,
@@ -94,7 +95,7 @@ fn start_standing<'s, E: 's, R: System + Sync, G: Gate + Sync>(
     start_link(scope, run, gate, plan, Peer::Named(peer), stream, handles);
 }
 
-/// Starts a thread for each link of a run, wherever it comes from.
+/// Starts a thread for each link of a run, from either source.
 fn start_links<'s, E: 's, R: System + Sync, G: Gate + Sync>(
     scope: &'s Scope<'s, E>,
     run: &'s Run<'s, R>,
@@ -111,8 +112,9 @@ fn start_links<'s, E: 's, R: System + Sync, G: Gate + Sync>(
     }
 }
 
-/// Waits for the threads of the links of a run. Puts what they counted here, where there is room for it, in their order
-/// up to the first of which that isn't known; and, if the links were asked to end, zeros for those that never came.
+/// Waits for the threads of the links of a run. Appends the totals of each link, in their order, up to the first link
+/// whose totals aren't known. If all are known and the links were asked to end, appends zeros for each link that was
+/// never connected. There must be room for the totals of all links.
 fn join_links<R: System>(
     run: &Run<'_, R>,
     handles: Vec<JoinHandle<Option<Totals>>>,
@@ -134,8 +136,8 @@ fn join_links<R: System>(
     }
 }
 
-/// Runs links, at most 8, until all of them are down, and hands back what they counted, in their order, up to the first
-/// of which that isn't known.
+/// Runs links, at most 8, until all of them are down, and returns their totals, in their order, up to the first link
+/// whose totals aren't known.
 pub(crate) fn run_links<'x, R: System + Sync, G: Gate + Sync>(
     run: &'x Run<'x, R>,
     gate: &'x G,

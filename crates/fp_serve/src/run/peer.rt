@@ -16,7 +16,7 @@ pub type PeerName = ArrayString<40>;
 pub enum Peer {
     /// The client of a connection that was accepted, at this address.
     Client(SocketAddr),
-    /// The peer of a link whose connection was there already.
+    /// The peer of a link that a network carries.
     Named(PeerName),
 }
 

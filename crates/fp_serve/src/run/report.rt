@@ -41,14 +41,14 @@ pub(crate) fn write_report<W: LinkWrite>(
     write_flushed(text.as_str(), output)
 }
 
-/// What a link counted that never came, or that the run doesn't have.
+/// The totals of a link that was never connected, or that the run doesn't have.
 pub(crate) const NOTHING: Totals = Totals {
     accepted: 0,
     served: 0,
     sent: 0,
 };
 
-/// What each link counted, from the number 0 on: below the first link nothing.
+/// The totals of each link, from the number 0 on: zeros below the first link.
 fn with_links_below(
     alloc: Global,
     first_link: u8,
@@ -109,7 +109,7 @@ fn status_line(alloc: Global, link: usize, known: LinkStatus) -> Result<String, 
     Ok(line)
 }
 
-/// The status line of each of these links, in their order, whose numbers begin with this one.
+/// The status line of each of these links, in their order. Their numbers begin with this one.
 fn status_lines(alloc: Global, first_link: u8, links: &[LinkStatus]) -> Result<String, AllocError>
     ensures { IfOk result (λ text. string_bytes text ≡ lines_by (λ place. status_line (first_link + place)) 0 links.now) }
 {

@@ -1,4 +1,4 @@
-//! A run: its address, what it waits for, and the report.
+//! A run: its address, its waits, and the report.
 
 ghost use Rattle.std.specs.Prelude.{◌≡◌, ◌≤◌, ◌<◌, ◌+◌, OnOk, length};
 ghost use Rattle.std.specs.Io.KnownBytes.{Appends};
@@ -11,7 +11,9 @@ use crate::run::command_lines::start_reading;
 use crate::run::commands::{Commands, MOST_WAITING, Notice, Operator, follow};
 use crate::run::link_threads::run_links;
 use crate::run::report::{write_address, write_report};
-use crate::run::{Event, Events, PeerName, Run, ServeFault, Service, Settings, Statuses, Stop};
+use crate::run::{
+    Draining, Event, Events, PeerName, Run, ServeFault, Service, Settings, Statuses, Stop,
+};
 use crate::system::System;
 use crate::watch::{Watch, Watched, start_listening};
 use crossbeam_channel::{Receiver, Sender, bounded};
@@ -26,8 +28,8 @@ use std::rt::Clock;
 use std::sync::{Arc, Wait};
 use std::thread;
 
-/// The settings with the tag of the run. If that is the tag of the second in which the run begins, returns once this
-/// second is over, so that the first message is read in a later one.
+/// The settings with the tag of the run. If that is the tag of the second when the run begins, returns once this second
+/// is over, so that the first message is read in a later one.
 fn with_tag_of_run<R: Wait + Clock>(rt: &R, links: &Links, settings: Settings) -> Settings
     ensures first { result.first_link ≡ settings.first_link }
     ensures links { result.links ≡ settings.links }
@@ -41,7 +43,7 @@ fn with_tag_of_run<R: Wait + Clock>(rt: &R, links: &Links, settings: Settings) -
     settings.with_tag(tag_of(start))
 }
 
-/// The address of a listener, which doesn't block any more.
+/// The address of a listener, which is set not to block.
 fn address_of(listener: &TcpListener) -> Result<SocketAddr, ServeFault> {
     let Ok(address) = listener.local_addr() else {
         return Err(ServeFault::NoConnection);
@@ -59,18 +61,18 @@ pub struct StandingLink {
     pub network: Arc<NetworkLink>,
     /// The text of its peer.
     pub peer: PeerName,
-    /// The address that is reported as the one where the run listens.
+    /// The address that is reported as listened at.
     pub address: SocketAddr,
-    /// Whether the node whose network carries the link is to drain.
+    /// The drain of the node whose network carries the link.
     pub drain: Arc<Drain>,
 }
 
-/// Where the links of a run come from.
+/// The source of a run's links.
 #[derive(Drop)]
 pub enum Links {
     /// A connection is awaited here for each link.
     Awaited(TcpListener),
-    /// The run has one link, which is there already. A network carries it.
+    /// A link that a network carries, the only one of the run.
     Standing(StandingLink),
 }
 
@@ -83,28 +85,28 @@ impl Links {
         }
     }
 
-    /// Whether the node is to drain, if a network carries the link.
-    fn drain(&self) -> Result<Option<Arc<Drain>>, AllocError> {
+    /// The drain of the node, if a network carries the link.
+    fn draining(&self) -> Result<Option<Draining>, AllocError> {
         match self {
             Links::Awaited(_) => Ok(None),
-            Links::Standing(link) => Ok(Some(Arc::try_clone(&link.drain)?)),
+            Links::Standing(link) => Ok(Some(Draining::new(Arc::try_clone(&link.drain)?))),
         }
     }
 }
 
-/// What a run is given beside its records: how many links there are, where they come, what they are asked, and where
-/// their log goes.
+/// The inputs of a run besides its records: its settings, the source of its links, its commands, the device of its log,
+/// and its counters.
 #[derive(Drop)]
 pub struct Server<I: Drop, O: Drop, L: Drop> {
-    /// How many links there are, and how they are served.
+    /// The number of links, and how they are served.
     pub settings: Settings,
-    /// Where the links come from.
+    /// The source of the links.
     pub links: Links,
-    /// What is asked of the run while it lasts.
+    /// The commands to the run while it lasts.
     pub commands: Commands<I, O>,
     /// The device of the log.
     pub log: L,
-    /// What is counted, if somebody asks for that.
+    /// The counters, if the run has them.
     pub watched: Option<Watched>,
 }
 
@@ -113,51 +115,55 @@ impl<
     O: Operator + Drop,
     L: LinkWrite + Send + Drop + 'static,
 > Server<I, O, L> {
-    /// Serves links until all of them are down and no more commands come: writes `listening A` to `output`, with the
-    /// address of the listener; accepts one connection for each link, which are numbered from the settings' first link
-    /// on, 0 as a rule, in the order in which they came; answers on each the messages that come, from the newest records
-    /// and with the names of application contexts that are accepted; and writes in the end `link L accepted A served S
-    /// sent T` for each number below the first link, with zeros, and then for each link, in order, up to the first of
-    /// which that isn't known.
+    /// Serves links until all of them are down and no more commands can follow. First it writes `listening A` to
+    /// `output`, with the address of the listener. It accepts one connection for each link; the links are numbered in
+    /// the order of their connections, from the settings' first link on, usually 0. On each it answers the messages,
+    /// from the newest records and with the names of application contexts that are accepted. In the end it writes `link
+    /// L accepted A served S sent T` for each number below the first link, with zeros, and then for each link, in
+    /// order, up to the first link whose totals aren't known.
     ///
-    /// The local identifiers of the dialogues have the tag of the settings. If the settings say that it is that of the
-    /// second in which the run begins ([`Settings::with_tag_of_start`]), the first connection is accepted once this second is
-    /// over.
+    /// The local identifiers of the dialogues have the tag of the settings. If the settings ask for the tag of the
+    /// second when the run begins ([`Settings::with_tag_of_start`]), the first connection is accepted once this second
+    /// is over.
     ///
-    /// Each line of the commands' input is a command. `reload`: the operator reads the records again, and `reloaded N` is
-    /// written once they replace the newest, N their index: each message that is prepared from then on is answered from
-    /// them, and a dialogue that is open goes on with the rule that it got. Any other line is handed to the operator to be
-    /// refused. A read that fails ends the commands, as the end of their input does. After a fault the run ends without
-    /// waiting for their end, and the thread that reads them is left to itself.
+    /// Each line of the commands' input is a command. `reload`: the operator reads the records again, and `reloaded N`
+    /// is written once they replace the newest, N their index. Each message that is prepared from then on is answered
+    /// from them, and an open dialogue goes on with the rule that it got. Any other line is handed to the operator to
+    /// be refused. A read that fails ends the commands, as the end of their input does. After a fault the run ends
+    /// without waiting for their end, and the thread that reads them is left to itself.
     ///
-    /// If the settings say so ([`Settings::with_commands`]), the run ends with its links, without waiting for the end of
-    /// the commands, and three more are known. `links` writes, for each link that came, in order, `link L up P accepted A
-    /// served S sent T held H`, or `down` in the place of `up`: with the address of its client, what it had counted and how
-    /// many dialogues it held at its last tick, a second ago at most, or in the end; and then `links N`, how many came.
-    /// `counters` writes what is counted, in the text format of Prometheus, and `# EOF`, if it is ([`Watched`]); and `counters
-    /// NUMBER` what is counted for a called number, if that is.
-    /// `quit` ends all links: nothing more is accepted, what was is served and sent, two seconds after the command at most,
-    /// and then each link goes down. A link that never came has counted nothing.
+    /// If the settings say so ([`Settings::with_commands`]), the run ends with its links, without waiting for the end
+    /// of the commands, and more commands are known. `links` writes one line for each connected link, in order: `link L
+    /// up P accepted A served S sent T held H`, or `down` in place of `up`, with the link's number, the address of its
+    /// client, its totals and its held dialogues, as of its last tick, so up to a second old, or in the end. Then it
+    /// writes `links N`, the number of these lines. For example, `link 0 up 127.0.0.1:40000 accepted 3 served 3 sent 2
+    /// held 1`. `counters` writes the counters, in the text format of Prometheus, and `# EOF`, if the run has counters
+    /// ([`Watched`]); and `counters NUMBER` the counters of a called number, if the run counts numbers. `drain`, if a
+    /// network carries the link and the node has a unit of its own, asks its network for no new dialogues, and the
+    /// links end once no dialogue is held. `quit` ends all links: no further message is accepted, the accepted ones are
+    /// served and their answers sent, at most two seconds after the command, and then each link goes down. A link that
+    /// was never connected has totals of 0.
     ///
-    /// The log begins with its head, which has the number of the last link and one, and the tag; and gets the lines of each
-    /// link about once a second, and more often under load: whole lines, after which the writer is flushed. A thread of its
-    /// own writes it. Beside it wait for the writer: a receiving thread whose link finds no place for more lines, two
-    /// seconds at most for a read, and a tenth of a second if the run goes on without its log; and the run itself, a second
-    /// at most before it accepts the first connection, and, once all links are down, as long as lines are written within
-    /// five seconds, a minute at most. If the log isn't written by then it can't be written, and the thread is left to
-    /// itself.
+    /// The log begins with its head, which has the number of the last link plus one, and the tag; and gets the lines of
+    /// each link about once a second, and more often under load: whole lines, after which the writer is flushed. A
+    /// thread of its own writes it. Two others wait for the writer. A receiving thread whose link finds no place for
+    /// more lines waits for it, at most two seconds for a read, and a tenth of a second if the run goes on without its
+    /// log. The run itself waits, at most a second before it accepts the first connection, and, once all links are
+    /// down, as long as lines are written within five seconds, at most a minute. If the log isn't written by then it
+    /// can't be written, and the thread is left to itself.
     ///
-    /// A link ends if its client closes the connection; if it closes its sending side alone, once what was accepted is
-    /// served and sent, at most two seconds after the end was read; if a length comes that no frame has; if a read or a
-    /// write fails, also because the client acknowledges nothing, or takes nothing of what waits for it, for 110 seconds;
-    /// if an allocation for a frame fails; if its dialogues keep more entries than [`Settings::most_entries`], at its next
-    /// tick; and after 2^40 reads, or 2^40 frames and Aborts sent.
+    /// A link ends if its client closes the connection; if it closes only its sending side, once the accepted messages
+    /// are served and the answers sent, at most two seconds after the end was read; if the length of a frame is
+    /// invalid; if a read or a write fails, also because the client acknowledges nothing, or takes none of the octets
+    /// that wait for it, for 110 seconds; if an allocation for a frame fails; if its dialogues keep more entries than
+    /// [`Settings::most_entries`], at its next tick; and after 2^40 reads, or 2^40 frames and Aborts sent.
     ///
-    /// After a fault each link that is up goes down at its next tick, a second later at most, and the run ends, even if it
-    /// awaits a connection. The first fault is reported. A write to the log that fails is no fault if the settings say so
-    /// ([`Settings::with_log_gaps`]): it is tried again each second. Once the last connection was accepted, or after a
-    /// fault, the listener is dropped, so that later connections are refused. `events` get each link that comes up or goes
-    /// down, when the log failed first and when it went on, and how many of its lines the run ended without.
+    /// After a fault each link that is up goes down at its next tick, at most a second later, and the run ends, even if
+    /// it awaits a connection. The first fault is reported. A write to the log that fails is no fault if the settings
+    /// say so ([`Settings::with_log_gaps`]): it is tried again each second. Once the last connection was accepted, or
+    /// after a fault, the listener is dropped, so that later connections are refused. `events` get each link that goes
+    /// up or down, when the log failed first and when it went on, and how many of its lines were lost at the end of the
+    /// run.
     pub fn serve<R: System + Copy + Send + Sync + 'static, W: LinkWrite>(
         self,
         rt: &R,
@@ -171,11 +177,11 @@ impl<
         self.serve_through(rt, service, &OpenGate, events, output)
     }
 
-    /// Serves links as [`Server::serve`] does, whose workers pass an [`OpenGate`]: here each worker passes this gate
-    /// between taking a turn and serving it, with no lock held. A turn that waits there holds up its worker and the
-    /// dialogues whose turns that worker took. The receiving thread serves turns in their places, which pass no gate; so
-    /// if all turns are to pass there, it is to serve none ([`Settings::with_most_helped`]). The run ends only once no
-    /// thread waits there.
+    /// Serves links as [`Server::serve`] does, which has an [`OpenGate`]: here each worker passes this gate between
+    /// taking a turn and serving it, with no lock held. A turn that waits there holds up its worker and the dialogues
+    /// whose turns that worker took. The receiving thread serves turns in their places, which pass no gate; so if all
+    /// turns must pass the gate, let it serve none ([`Settings::with_most_helped`]). The run ends only once no thread
+    /// waits at the gate.
     pub fn serve_through<R: System + Copy + Send + Sync + 'static, G: Gate + Sync, W: LinkWrite>(
         self,
         rt: &R,
@@ -228,7 +234,7 @@ impl<
         } = self;
         let alloc = service.alloc;
         let address = links.address()?;
-        let drain = links.drain()?;
+        let draining = links.draining()?;
         let (sender, notices) = bounded(alloc, MOST_WAITING)?;
         let of_commands = sender.clone()?;
         let statuses = Statuses::new(alloc, settings.links)?;
@@ -238,7 +244,7 @@ impl<
         if let Err(fault) = start_reading(rt, input, &stop, settings.has_commands, of_commands) {
             stop.ask_for(rt, fault);
         }
-        let watch = start_watch(rt, alloc, watched, &log, &stop, &drain)?;
+        let watch = start_watch(rt, alloc, watched, &log, &stop, &draining)?;
         let run = Run {
             rt,
             service,
@@ -248,21 +254,21 @@ impl<
             stop: &stop,
             log: &log,
             watch: &watch,
-            drain: &drain,
+            draining: &draining,
         };
         let counted = run.serve_and_follow(gate, links, &sender, &notices, &mut operator, output)?;
         run.report(counted.as_slice(), output)
     }
 }
 
-/// Shares what is counted with those who ask for it, and starts the thread that answers them, if there is one.
+/// Shares the counters with those who ask for them, and starts the thread that answers them, if there is one.
 fn start_watch<R: System + Copy + Send + 'static>(
     rt: &R,
     alloc: Global,
     watched: Option<Watched>,
     log: &Arc<Log>,
     stop: &Arc<Stop>,
-    drain: &Option<Arc<Drain>>,
+    draining: &Option<Draining>,
 ) -> Result<Option<Watch>, ServeFault> {
     let Some(Watched { metrics, listener }) = watched else {
         return Ok(None);
@@ -271,8 +277,8 @@ fn start_watch<R: System + Copy + Send + 'static>(
         metrics,
         log: Arc::try_clone(log)?,
         stop: Arc::try_clone(stop)?,
-        drain: match drain {
-            Some(drain) => Some(Arc::try_clone(drain)?),
+        drain: match draining {
+            Some(draining) => Some(Arc::try_clone(&draining.drain)?),
             None => None,
         },
     };
@@ -282,7 +288,7 @@ fn start_watch<R: System + Copy + Send + 'static>(
     Ok(Some(watch))
 }
 
-/// Nobody is answered any more who asks for what is counted.
+/// Ends the answers to requests of the counters.
 fn end_watch(watch: &Option<Watch>) {
     if let Some(watch) = watch {
         watch.metrics.end();
@@ -290,8 +296,9 @@ fn end_watch(watch: &Option<Watch>) {
 }
 
 impl<'x, R: System + Sync> Run<'x, R> {
-    /// Runs links, at most 8, until all of them are down, in a thread of their own, and follows the commands meanwhile. Then
-    /// ends the log, and returns what the links counted. After a fault it is written, if commands are known.
+    /// Runs links, at most 8, until all of them are down, in a thread of their own, and follows the commands meanwhile.
+    /// Then ends the log, and returns the totals of the links. After a fault of the commands the report is still
+    /// written, if more commands are known.
     fn serve_and_follow<G: Gate + Sync, O: Operator, W: LinkWrite>(
         &'x self,
         gate: &'x G,
@@ -337,7 +344,7 @@ impl<'x, R: System + Sync> Run<'x, R> {
         Ok(counted)
     }
 
-    /// Ends the log once all links are down. If lines of it weren't written, it is reported how many, and that is the
+    /// Ends the log once all links are down. If lines of it weren't written, their number is reported, and that is the
     /// fault of the run unless it had another one.
     fn finish_log(&self) {
         let lines = self.log.finish(self.rt);
@@ -347,7 +354,7 @@ impl<'x, R: System + Sync> Run<'x, R> {
         }
     }
 
-    /// Writes what the links counted. The first fault of the run comes before one of writing.
+    /// Writes the totals of the links. The first fault of the run goes before one of writing.
     fn report<W: LinkWrite>(&self, counted: &[Totals], output: &mut W) -> Result<(), ServeFault>
         ensures { OnOk result ((length counted.now ≡ self.entry.now.settings.links) × Appends (W.contents output.old) (W.contents output.new)
             (lines_by report_line 0 (with_links_below self.entry.now.settings.first_link counted.now))) }

@@ -1,5 +1,5 @@
-//! How many links a run has, from which number on, with which tag, how many workers and entries each of them, and what
-//! the run does when its log can't be written.
+//! The settings of a run: its links and their numbers, its tag, the workers and entries of each link, and the reaction
+//! to a log that can't be written.
 
 ghost use Rattle.std.specs.Prelude.{◌≡◌, ◌≤◌, ◌+◌, IfSome, IsSome, ◌↔◌, ◌&&◌, ◌==◌, false, not, true, if◌then◌else◌};
 ghost use Rattle.fp_serve.specs.declared.run.settings.WhenLogFails.TheVariants.{EndRun, LeaveGap};
@@ -7,7 +7,7 @@ ghost use Rattle.fp_serve.specs.declared.run.settings.WhenLogFails.TheVariants.{
 use fp_records::Table;
 use fp_tids::LocalIds;
 
-/// What a run does when its log can't be written.
+/// The reaction of a run to a log that can't be written.
 #[derive(Clone, Copy, Debug, PartialEq, Eq)]
 pub enum WhenLogFails {
     /// All links go down, and the run ends.
@@ -16,28 +16,28 @@ pub enum WhenLogFails {
     LeaveGap,
 }
 
-/// How many links a run has, 1 to 8, from which number on, with which tag, how many workers each of them has, 1 to 8, how
-/// many entries the dialogues of a link may keep, how many turns a receiving thread serves, what the run does when its
-/// log can't be written, and which commands it knows.
+/// The settings of a run: how many links it has, 1 to 8, the number of the first, the tag, how many workers each link
+/// has, 1 to 8, how many entries its dialogues may keep, how many turns its receiving thread serves, the reaction to a
+/// log that can't be written, and which commands are known.
 #[derive(Clone, Copy, Debug, PartialEq, Eq)]
 pub struct Settings {
     /// How many links there are.
     pub links: u8,
-    /// The number of the first one. The others have the next ones, up to 7.
+    /// The number of the first link. The others have the next ones, up to 7.
     pub first_link: u8,
-    /// The tag of the run, 0 to 4,094: a summand of the local identifiers of its dialogues; 0 is none.
+    /// The tag of the run, 0 to 4,094: a part of the local identifiers of its dialogues; 0 for a run without one.
     pub tag: u16,
-    /// Whether the run has the tag of the second in which it begins, in place of this one.
+    /// Whether the run has the tag of the second when it begins, in place of `tag`.
     pub has_tag_of_start: bool,
     /// How many workers each link has.
     pub workers: u8,
-    /// How many entries the dialogues of a link may keep: one whose dialogues keep more goes down.
+    /// The most entries that the dialogues of a link may keep: a link whose dialogues keep more goes down.
     pub most_entries: u64,
-    /// How many turns the receiving thread of a link serves at once at most, before workers have to.
+    /// The most turns that the receiving thread of a link serves at once, before workers must.
     pub most_helped: usize,
-    /// What is done when the log can't be written.
+    /// The reaction to a log that can't be written.
     pub when_log_fails: WhenLogFails,
-    /// Whether the commands `links`, `counters` and `quit` are known, and the run ends with its links.
+    /// Whether the commands `links`, `counters`, `drain` and `quit` are known, and the run ends with its links.
     pub has_commands: bool,
     ghost some_link: { 1 ≤ links },
     ghost few_links: { first_link + links ≤ 8 },
@@ -50,17 +50,17 @@ impl Settings {
     /// The most links, and the most workers of a link.
     pub const MOST: u8 = 8;
 
-    /// How many entries the dialogues of a link may keep, unless [`Settings::with_most_entries`] says it. A dialogue
-    /// keeps all that it accepted until it is no longer held, so without this bound one dialogue that never ends could
-    /// take all memory. It is four times what 4,096 dialogues have with 64 entries each.
+    /// The most entries that the dialogues of a link may keep, unless [`Settings::with_most_entries`] says otherwise. A
+    /// dialogue keeps all that it accepted until it is no longer held, so without this bound one dialogue that never
+    /// ends could take all memory. It is four times the entries of 4,096 dialogues with 64 each.
     pub const MOST_ENTRIES: u64 = 1_048_576;
 
-    /// How many turns the receiving thread of a link serves at once at most, unless [`Settings::with_most_helped`] says
-    /// it: one for each of the 64 messages that it posts at once.
+    /// The most turns that the receiving thread of a link serves at once, unless [`Settings::with_most_helped`] says
+    /// otherwise: one for each of the 64 messages that it posts at once.
     pub const MOST_HELPED: usize = 64;
 
-    /// This number of links, from 0 on, with this number of workers each, of a run that has no tag and ends when its log
-    /// can't be written; or `None` if one of the two isn't 1 to 8.
+    /// Settings with this number of links, from 0 on, and of workers each, for a run that has no tag and ends when its
+    /// log can't be written. `None` if one of the two isn't 1 to 8.
     pub fn new(links: u8, workers: u8) -> Option<Settings>
         ensures some { IsSome result ↔ (((1 ≤ links) × (links ≤ 8)) × ((1 ≤ workers) × (workers ≤ 8))) }
         ensures value { IfSome result (λ settings. (settings.links ≡ links) × (settings.workers ≡ workers)) }
@@ -87,7 +87,7 @@ impl Settings {
         })
     }
 
-    /// The same settings, whose links have the numbers from this one on; or `None` if the last one were above 7.
+    /// The same settings, with links numbered from this one on; `None` if the last one would be above 7.
     pub fn with_first_link(self, first_link: u8) -> Option<Settings>
         ensures some { IsSome result ↔ (first_link + self.links ≤ 8) }
         ensures first { IfSome result (λ settings. settings.first_link ≡ first_link) }
@@ -108,7 +108,7 @@ impl Settings {
         Some(settings)
     }
 
-    /// The same settings, of a run with this tag, 0 to 4,094.
+    /// The same settings, for a run with this tag, 0 to 4,094.
     pub fn with_tag(self, tag: u16) -> Settings
         requires { tag ≤ LocalIds.LAST_TAG }
         ensures tag { result.tag ≡ tag }
@@ -127,9 +127,9 @@ impl Settings {
         settings
     }
 
-    /// The same settings, of a run that has the tag of the second in which it begins: the seconds since
-    /// 1970-01-01T00:00:00Z modulo 4,094, and one. It accepts its first connection in a later second, so that two runs
-    /// that follow each other have different tags.
+    /// The same settings, for a run that has the tag of the second when it begins: the seconds since
+    /// 1970-01-01T00:00:00Z modulo 4,094, plus one. For example, a run that begins in the second 1,700,000,000 has the
+    /// tag 3,347. It accepts its first connection in a later second, so that two consecutive runs have different tags.
     pub fn with_tag_of_start(self) -> Settings
         ensures { result ≡ record self { has_tag_of_start = true } }
     {
@@ -149,7 +149,7 @@ impl Settings {
         }
     }
 
-    /// The same settings, of a run that goes on when its log can't be written.
+    /// The same settings, for a run that goes on when its log can't be written.
     pub fn with_log_gaps(self) -> Settings
         ensures { result ≡ record self { when_log_fails = LeaveGap } }
     {
@@ -158,7 +158,8 @@ impl Settings {
         settings
     }
 
-    /// The same settings, of a run that knows the commands `links`, `counters` and `quit` too, and ends with its links.
+    /// The same settings, for a run that knows the commands `links`, `counters`, `drain` and `quit` too, and ends with
+    /// its links.
     pub fn with_commands(self) -> Settings
         ensures { result ≡ record self { has_commands = true } }
     {
@@ -176,8 +177,8 @@ impl Settings {
         settings
     }
 
-    /// The same settings, with this number of turns that the receiving thread of a link serves at once at most. With
-    /// none, all turns are served by workers.
+    /// The same settings, with this number of turns that the receiving thread of a link serves at once at most. With 0,
+    /// workers serve all turns.
     pub fn with_most_helped(self, most_helped: usize) -> Settings
         ensures { result ≡ record self { most_helped = most_helped } }
     {

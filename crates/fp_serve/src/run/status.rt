@@ -12,25 +12,25 @@ use std::sync::{Mutex, Wait};
 /// The status of a link that was accepted.
 #[derive(Clone, Copy, Debug, PartialEq, Eq)]
 pub struct LinkStatus {
-    /// Its peer.
+    /// The peer of the link.
     pub peer: Peer,
-    /// What its book said at its last tick, or in the end.
+    /// The status of its book at its last tick, or in the end.
     pub status: Status,
 }
 
 /// The status of the links of a run, for the thread that follows the commands.
 #[derive(Drop)]
 pub(crate) struct Statuses {
-    // Whether their thread runs.
+    // Whether the thread of the links runs.
     have_begun: AtomicBool,
-    // Whether all of them are down.
+    // Whether all links are down.
     are_down: AtomicBool,
-    // Those that were accepted, in their order, in room for all.
+    // The links that were accepted, in their order, in room for all.
     links: Mutex<Vec<LinkStatus>>,
 }
 
 impl Statuses {
-    /// The thread of the links doesn't run yet. There may be this number of them.
+    /// No link yet, and room for this number of links. Their thread doesn't run yet.
     pub(crate) fn new(alloc: Global, links: u8) -> Result<Statuses, AllocError> {
         Ok(Statuses {
             have_begun: AtomicBool::new(false),
@@ -39,35 +39,35 @@ impl Statuses {
         })
     }
 
-    /// Their thread runs.
+    /// Notes that the thread of the links runs.
     pub(crate) fn begin(&self) {
         self.have_begun.store(true, Ordering::SeqCst);
     }
 
-    /// Whether their thread runs.
+    /// Whether the thread of the links runs.
     pub(crate) fn have_begun(&self) -> bool {
         self.have_begun.load(Ordering::SeqCst)
     }
 
-    /// All of them are down. If no notice finds a place, it is seen without one.
+    /// Notes that all links are down. If the notice finds no place, the reader sees it without one.
     pub(crate) fn end<R: Wait>(&self, rt: &R, notices: &Sender<Notice>) {
         self.are_down.store(true, Ordering::SeqCst);
         let _ = notices.try_send(rt, Notice::LinksDown);
     }
 
-    /// Whether all of them are down.
+    /// Whether all links are down.
     pub(crate) fn are_down(&self) -> bool {
         self.are_down.load(Ordering::SeqCst)
     }
 
-    /// The next link came, of this peer.
+    /// Adds the next link, of this peer.
     pub(crate) fn add<R: Wait>(&self, rt: &R, peer: Peer) {
         let status = Status {
             is_down: false,
             totals: NOTHING,
             dialogues: 0,
         };
-        // There is room for all of them.
+        // There is room for all links.
         let _ = self.links.lock(rt).push(LinkStatus { peer, status });
     }
 
@@ -77,17 +77,14 @@ impl Statuses {
         links.get(usize::from(place)).map(|known| known.peer)
     }
 
-    /// Notes the status of the link in this place, which was accepted.
+    /// Notes the status of the link in this place, which was accepted. A link never goes up again, so a status from before
+    /// its end is dropped.
     pub(crate) fn note<R: Wait>(&self, rt: &R, place: u8, status: Status) {
         if let Some(known) = self.links.lock(rt).get_mut(usize::from(place)) {
-            known.status = status;
+            if status.is_down || !known.status.is_down {
+                known.status = status;
+            }
         }
-    }
-
-    /// Whether no dialogue was held when their status was noted last.
-    pub(crate) fn hold_nothing<R: Wait>(&self, rt: &R) -> bool {
-        let links = self.links.lock(rt);
-        links.iter().all(|known| known.status.dialogues == 0)
     }
 
     /// The links that were accepted, in their order.

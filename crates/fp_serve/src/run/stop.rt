@@ -1,5 +1,6 @@
-//! Why all links are to go down.
+//! The request to take all links down, or to end them.
 
+use crate::moment::time_since;
 use crate::run::ServeFault;
 use std::alloc::{AllocError, Global};
 use std::rt::Clock;
@@ -7,22 +8,22 @@ use std::sync::atomic::{AtomicU64, Ordering};
 use std::sync::{Arc, Mutex, Wait};
 use std::time::Instant;
 
-/// No time of the command `quit`.
+/// The value of `quit_at` before the command `quit`.
 const NOT_YET: u64 = u64::MAX;
 
-/// Whether all links are to go down at their next tick, and why; and the time of their ends, in milliseconds since the
-/// run began.
+/// The run's stop request: a fault, which takes all links down at their next tick, or the time of `quit`. Times are
+/// milliseconds since the run began.
 #[derive(Drop)]
 pub(crate) struct Stop {
-    // The first fault that came.
+    // The first fault.
     fault: Mutex<Option<ServeFault>>,
     start: Option<Instant>,
-    // When the links were to end as at the end of their input.
+    // When the links were asked to end as at the end of their input.
     quit_at: AtomicU64,
 }
 
 impl Stop {
-    /// No fault came yet, and nobody asked for the end.
+    /// No fault, and no request to end.
     pub(crate) fn new<R: Clock>(rt: &R, alloc: Global) -> Result<Arc<Stop>, AllocError> {
         let stop = Stop {
             fault: Mutex::new(None),
@@ -32,15 +33,18 @@ impl Stop {
         Ok(Arc::new(alloc, stop)?)
     }
 
-    /// The present time. If the clock gives none, the last that there is: then links that are to end do so at once.
-    pub(crate) fn time<R: Clock>(&self, rt: &R) -> u64 {
-        match self.start.and_then(|start| start.elapsed(rt).ok()) {
-            Some(since) => u64::try_from(since.as_millis()).unwrap_or(u64::MAX),
-            None => u64::MAX,
-        }
+    /// The present time. `None` if the clock gives none.
+    pub(crate) fn elapsed<R: Clock>(&self, rt: &R) -> Option<u64> {
+        let since = time_since(rt, self.start)?;
+        u64::try_from(since.as_millis()).ok()
     }
 
-    /// A fault came, for which all links go down.
+    /// The present time. If the clock gives none, the greatest number: then links that are to end do so at once.
+    pub(crate) fn time<R: Clock>(&self, rt: &R) -> u64 {
+        self.elapsed(rt).unwrap_or(u64::MAX)
+    }
+
+    /// Notes a fault, which takes all links down.
     pub(crate) fn ask_for<R: Wait>(&self, rt: &R, fault: ServeFault) {
         let mut first = self.fault.lock(rt);
         if first.is_none() {
@@ -48,12 +52,12 @@ impl Stop {
         }
     }
 
-    /// The first fault that came. `None`: the links go on.
+    /// The first fault. `None` if there was none.
     pub(crate) fn fault<R: Wait>(&self, rt: &R) -> Option<ServeFault> {
         *self.fault.lock(rt)
     }
 
-    /// The links are to end as at the end of their input, from the first time on that this was asked for.
+    /// Asks the links to end as at the end of their input. The first call sets the time.
     pub(crate) fn quit<R: Clock>(&self, rt: &R) {
         let at = self.time(rt).min(NOT_YET - 1);
         let _ = self
@@ -61,7 +65,7 @@ impl Stop {
             .compare_exchange(NOT_YET, at, Ordering::SeqCst, Ordering::SeqCst);
     }
 
-    /// When the links were to end as at the end of their input. `None`: they go on.
+    /// When the links were asked to end as at the end of their input. `None` if they weren't.
     pub(crate) fn quit_time(&self) -> Option<u64> {
         match self.quit_at.load(Ordering::SeqCst) {
             NOT_YET => None,
@@ -69,7 +73,7 @@ impl Stop {
         }
     }
 
-    /// Whether the links are to end as at the end of their input: nothing more is posted.
+    /// Whether the links are to end as at the end of their input: no further message is posted.
     pub(crate) fn is_quitting(&self) -> bool {
         self.quit_time().is_some()
     }

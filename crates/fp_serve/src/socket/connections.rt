@@ -12,7 +12,7 @@ use std::sync::Wait;
 use std::time::Duration;
 use std::{io, thread};
 
-/// How many milliseconds a connection is awaited before it is looked whether a fault came.
+/// The time between two looks whether a fault occurred while a connection is awaited, in milliseconds.
 const LOOK_MILLISECONDS: i32 = 200;
 
 /// Linux's number of an error: the machine isn't on the network.
@@ -33,8 +33,8 @@ const ENOBUFS: i32 = 105;
 /// The host of the client is down.
 const EHOSTDOWN: i32 = 112;
 
-/// Whether an error says that no connection waits, or is one that a connection had while it waited: the system hands
-/// such an error out when the connection is accepted, and the next one may be fine.
+/// Whether an error means that no connection waits, or belongs to one connection that failed while it waited: the
+/// system reports such an error when the connection is accepted, and the next one may be fine.
 fn is_of_one_connection(error: &io::Error) -> bool {
     match error.kind() {
         ErrorKind::WouldBlock
@@ -50,14 +50,14 @@ fn is_of_one_connection(error: &io::Error) -> bool {
     }
 }
 
-/// Whether an error says that memory ran out. That the system has no room for the buffers of a connection is reported
-/// as `out of memory` too, and not as a listener that can't listen.
+/// Whether an error means that memory ran out. No room for the buffers of a connection is reported as `out of memory`
+/// too, and not as a listener that can't listen.
 fn is_of_memory(error: &io::Error) -> bool {
     error.kind() == ErrorKind::OutOfMemory || error.raw_os_error() == Some(ENOBUFS)
 }
 
-/// Accepts the connection that came next, if one waits within some time, and gives it with the address of its client.
-/// `None`: none came, or it was gone before it was accepted. The error: none can be had any more.
+/// Accepts the next connection, if one waits within a fifth of a second, and returns it with the address of its client.
+/// `None` if none waited, or it was gone before it was accepted. `Err`: none can be had any more.
 fn look_for_one<R: Wait + Clock>(
     rt: &R,
     listener: &TcpListener,
@@ -72,7 +72,8 @@ fn look_for_one<R: Wait + Clock>(
         return Ok(None);
     }
     if ready_count < 0 {
-        // The listener doesn't block, so that the call below returns at once; without this the loop above would spin.
+        // The listener doesn't block, so that the call below returns at once; without this the caller's loop would
+        // spin.
         thread::sleep(
             rt,
             Duration::from_millis(LOOK_MILLISECONDS.unsigned_abs().into()),
@@ -86,15 +87,15 @@ fn look_for_one<R: Wait + Clock>(
     }
 }
 
-/// Lets a read of a connection end after a fifth of a second, so that a thread that reads sees the command to end,
-/// although nothing comes.
+/// Lets a read of a connection end after a fifth of a second, so that a thread that reads notices the command to end
+/// even without input.
 fn look_often(stream: &TcpStream) {
     let most = Duration::from_millis(LOOK_MILLISECONDS.unsigned_abs().into());
     let _ = stream.set_read_timeout(Some(most));
 }
 
-/// Awaits the next connection of a listener that doesn't block, and gives it with the address of its client. `None`:
-/// all links are to go down or to end, or none can be had, for which they are to go down.
+/// Awaits the next connection of a listener that doesn't block, and returns it with the address of its client. `None`
+/// if all links are to go down or to end, or if none can be had: then they are to go down.
 pub(crate) fn connection<R: Wait + Clock>(
     rt: &R,
     listener: &TcpListener,
@@ -106,7 +107,7 @@ pub(crate) fn connection<R: Wait + Clock>(
         }
         match look_for_one(rt, listener) {
             Ok(Some((stream, peer))) => {
-                // A fault, or the command to end, may have come while the connection was awaited.
+                // A fault, or the command to end, may have occurred while the connection was awaited.
                 if stop.refuses_connections(rt) {
                     return None;
                 }

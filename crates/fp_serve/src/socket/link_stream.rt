@@ -12,33 +12,50 @@ use std::net::{Shutdown, TcpStream};
 use std::sync::Arc;
 use std::time::Duration;
 
-/// The connection of a link. Its reads and writes are those of a socket, whatever carries its frames.
+/// The connection of a link, read and written as a socket, whatever carries its frames.
 #[derive(Drop)]
 pub(crate) enum LinkStream {
     /// A socket, whose peer is the client.
     Socket(TcpStream),
-    /// The network of a node, which brings the frames of the link, and events.
+    /// The network of a node, with the frames of the link, and events.
     Network(Arc<NetworkLink>),
 }
 
-/// Reports what happened on a network, and tells those who watch the run whether it has a connection to send by.
+/// Reports the events of a network, and notes for the run's watchers whether there is a connection to send by. An event
+/// may be missing because memory ran out, so the network itself is asked about the connection.
 fn report_events<R: System>(run: &Run<'_, R>, network: &NetworkLink) {
-    let mut has_changed = false;
     for _ in 0..u64::MAX {
         let Some(event) = network.next_event(run.rt) else {
             break;
         };
         run.events.report(run.rt, Event::Network(event));
-        has_changed = true;
     }
-    if let (true, Some(watch)) = (has_changed, run.watch) {
+    if let Some(watch) = run.watch {
         watch.metrics.note_connected(network.is_connected(run.rt));
     }
 }
 
+/// Reads frames of a network, and notes the state of its node's drain, if the node is to drain.
+fn read_network<R: System>(
+    run: &Run<'_, R>,
+    network: &NetworkLink,
+    octets: &mut [u8],
+) -> io::Result<usize>
+    ensures { ReadsAtMost result octets.new }
+{
+    let Some(draining) = run.draining else {
+        return network.read(run.rt, octets);
+    };
+    let room = octets.len();
+    let began_at = draining.begin_read(run.rt, run.stop);
+    let answer = network.read(run.rt, octets);
+    draining.end_read(run.rt, run.stop, began_at, &answer, room);
+    answer
+}
+
 impl LinkStream {
-    /// Reads octets, as [`Read::read`] of a socket with a limit on its time. What happens on a network meanwhile is
-    /// reported.
+    /// Reads octets, as [`Read::read`] of a socket with a limit on its time. Events of a network are reported
+    /// meanwhile.
     pub(crate) fn read<R: System>(&self, run: &Run<'_, R>, octets: &mut [u8]) -> io::Result<usize>
         ensures { ReadsAtMost result octets.new }
     {
@@ -48,7 +65,7 @@ impl LinkStream {
                 socket.read(octets)
             }
             LinkStream::Network(network) => {
-                let answer = network.read(run.rt, octets);
+                let answer = read_network(run, network, octets);
                 report_events(run, network);
                 answer
             }
@@ -68,7 +85,7 @@ impl LinkStream {
         }
     }
 
-    /// Ends one of its directions, or both. If that fails the peer has ended it.
+    /// Ends one of the directions, or both. If that fails the peer has ended it.
     pub(crate) fn shutdown<R: System>(&self, run: &Run<'_, R>, how: Shutdown) {
         match self {
             LinkStream::Socket(socket) => {
@@ -78,7 +95,7 @@ impl LinkStream {
         }
     }
 
-    /// Lets a read end after this time. `false`: the system refuses that.
+    /// Lets a read end after this time. `false` if the system refuses that.
     pub(crate) fn set_read_timeout<R: System>(&self, run: &Run<'_, R>, most: Duration) -> bool {
         match self {
             LinkStream::Socket(socket) => socket.set_read_timeout(Some(most)).is_ok(),
@@ -89,11 +106,11 @@ impl LinkStream {
         }
     }
 
-    /// Once nobody reads or writes it any more: waits until the end of a network is over, two seconds at most. A socket is
-    /// closed as it is dropped.
+    /// Waits until the end of a network is over, at most two seconds. Call it once no thread reads or writes the
+    /// connection any more. A socket is closed as it is dropped.
     pub(crate) fn finish<R: System>(&self, run: &Run<'_, R>) {
         if let LinkStream::Network(network) = self {
-            // Its fault is the run's, which finds it in the end.
+            // The run finds the fault of its network in the end.
             let _ = network.finish(run.rt);
             report_events(run, network);
         }

@@ -1,4 +1,4 @@
-//! A connection that remembers how its last read or write ended.
+//! A connection that remembers the end of its last read or write.
 
 use crate::run::Run;
 use crate::socket::LinkStream;
@@ -9,22 +9,22 @@ use std::io;
 use std::io::{ErrorKind, Read, Write};
 use std::sync::Mutex;
 
-/// How a read or a write ended.
+/// The end of a read or a write.
 #[derive(Clone, Copy, Debug, PartialEq, Eq)]
 pub(crate) enum LastCall {
-    /// It moved octets, or was interrupted, or nothing came for a while: it is made again.
+    /// The call moved octets, or was interrupted, or nothing arrived for a while: it is made again.
     Moved,
-    /// It moved none: the input is at its end.
+    /// The call moved no octet: the input is at its end.
     AtEnd,
     /// The peer acknowledged nothing for too long, or can't be reached.
     PeerGone,
-    /// It failed otherwise.
+    /// The call failed otherwise.
     Failed,
 }
 
 impl LastCall {
-    /// How a call ended. The system reports a peer that acknowledges nothing as unreachable if it knows that, as that
-    /// no machine of its network has its address, and else as timed out.
+    /// The end of a call with this answer. The system reports a peer that acknowledges nothing as unreachable if it
+    /// knows that, and else as timed out. For example, no machine of its network has the peer's address.
     fn of(answer: &io::Result<usize>) -> LastCall {
         match answer {
             Ok(0) => LastCall::AtEnd,
@@ -40,7 +40,7 @@ impl LastCall {
         }
     }
 
-    /// Why a link goes down whose receiving or sending loop ended so, after this last call.
+    /// The reason for a link to go down, after its receiving or sending loop ended with this and this last call.
     pub(crate) fn why(self, ended: Ended) -> Why {
         match (ended, self) {
             (Ended::BadFrame, LastCall::AtEnd) => Why::ClosedInsideFrame,
@@ -55,22 +55,22 @@ impl LastCall {
     }
 }
 
-/// The connection of a link, and how the last read or write through it ended. Its input is at its end once the links
-/// are to end: octets that a read brings after that are dropped.
+/// The connection of a link, and the end of the last read or write through it. Its input is at its end once the links
+/// are to end: octets of later reads are dropped.
 ///
 /// A call that fails notes the reason at once. The system reports a fault of the connection to one thread only, and the
-/// other one then finds the end of the input, or a broken pipe: that comes later, and the first reason counts.
+/// other thread then finds the end of the input, or a broken pipe. That is later, and the first reason counts.
 #[derive(Drop)]
 pub(crate) struct TracedStream<'x, R> {
     run: &'x Run<'x, R>,
     stream: &'x LinkStream,
-    // The end of the link, which a call that fails is reported to.
+    // The end of the link. A call that fails is reported to it.
     end: &'x Mutex<LinkEnd>,
     pub(crate) last: LastCall,
 }
 
 impl<'x, R: System> TracedStream<'x, R> {
-    /// A connection that was neither read nor written.
+    /// A connection that wasn't read or written yet.
     pub(crate) fn new(
         run: &'x Run<'x, R>,
         stream: &'x LinkStream,
@@ -84,7 +84,7 @@ impl<'x, R: System> TracedStream<'x, R> {
         }
     }
 
-    /// A call ended so. If it failed, a loop that makes such calls ends like this.
+    /// Notes the end of a call; `ended` is the end of its loop if it failed.
     fn trace(&mut self, last: LastCall, ended: Ended) {
         self.last = last;
         match last {
@@ -112,7 +112,7 @@ impl<R: System> Read for TracedStream<'_, R> {
         }
         self.trace(LastCall::of(&answer), Ended::ReadFault);
         match answer {
-            // Nothing came for a while. A call that was interrupted is made again.
+            // Nothing arrived for a while. A call that was interrupted is made again.
             Err(error) if error.kind() == ErrorKind::WouldBlock => {
                 Err(io::Error::from(ErrorKind::Interrupted))
             }

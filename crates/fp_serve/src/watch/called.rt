@@ -1,7 +1,7 @@
 //! The number that a call is for.
 //!
-//! It is that of the first InitialDP of the Begin that isn't linked to another Invoke and can be read: the one that the
-//! service answers.
+//! The called number of the first InitialDP of the Begin that can be read and isn't linked to another Invoke: the one
+//! that the service answers.
 
 use crate::watch::plain_begin::called_octets;
 use fp_digits::{Number, read_called};
@@ -9,13 +9,13 @@ use fp_inap::{Operation, initial_dp_in};
 use fp_q773::{Code, Component, Invoke, Message, message_of};
 use std::alloc::{AllocError, Global};
 
-/// How many digits a called number has at most.
+/// The most digits of a called number.
 const MOST_DIGITS: u32 = 15;
 
-/// From which key on a number has 15 digits: four bits for each.
+/// The least key of a number with 15 digits: four bits for each.
 const FULL: u64 = 1 << 56;
 
-/// The key of a number after which this digit comes. `None`: that is no decimal digit, or the number has 15 already.
+/// The key of a number with one more digit. `None` if the digit isn't decimal, or the number has 15 already.
 fn with_digit(key: u64, digit: u8) -> Option<u64> {
     if digit > 9 || key >= FULL {
         return None;
@@ -23,7 +23,8 @@ fn with_digit(key: u64, digit: u8) -> Option<u64> {
     Some((key << 4) | (u64::from(digit) + 1))
 }
 
-/// The key of a number of 1 to 15 decimal digits, each 0 to 9, which no other one has. `None`: these are none.
+/// The key of a number of 1 to 15 decimal digits, each 0 to 9. No other number has the same key. `None` if these aren't
+/// such digits. For example, the key of 800 is 0x911.
 pub(crate) fn key_of(digits: &[u8]) -> Option<u64> {
     let mut key = 0;
     for digit in digits {
@@ -39,7 +40,7 @@ pub(crate) struct CalledNumber {
 }
 
 impl CalledNumber {
-    /// The number that a text is, if it is one.
+    /// The number of a text, if it is one.
     pub(crate) fn from_text(text: &str) -> Option<CalledNumber> {
         let mut key = 0;
         for octet in text.as_bytes() {
@@ -51,12 +52,12 @@ impl CalledNumber {
         Some(CalledNumber { key })
     }
 
-    /// Its key.
+    /// The key of the number.
     pub(crate) fn key(self) -> u64 {
         self.key
     }
 
-    /// Its digits.
+    /// The digits of the number.
     pub(crate) fn text(self, alloc: Global) -> Result<String, AllocError> {
         let mut text = String::new(alloc);
         let mut rest = self.key;
@@ -76,16 +77,16 @@ fn first_digit(key: u64) -> Option<char> {
     char::from_digit(u32::try_from(digit).unwrap_or_default(), 10)
 }
 
-/// What an Invoke says of a call.
+/// The call in an Invoke, if it is an InitialDP.
 #[derive(Clone, Copy)]
 enum Asked {
-    /// It is no InitialDP, or is linked, or can't be read.
+    /// An Invoke that is no InitialDP, or is linked, or can't be read.
     Nothing,
-    /// It is for this number, if it names one.
+    /// An InitialDP for this number, if it names one.
     Call(Option<Number>),
 }
 
-/// What an Invoke says of a call.
+/// The call in an Invoke, if that is an InitialDP that can be read.
 fn asked_by(invoke: &Invoke<'_>) -> Asked {
     let Code::Local(code) = invoke.code else {
         return Asked::Nothing;
@@ -102,7 +103,7 @@ fn asked_by(invoke: &Invoke<'_>) -> Asked {
     }
 }
 
-/// The number that the first such component is for. None is looked at after one that is faulty.
+/// The number of the first readable InitialDP. None is looked at after a faulty component.
 fn called_in(components: &[Component<'_>]) -> Option<Number> {
     for component in components {
         match component {
@@ -118,7 +119,7 @@ fn called_in(components: &[Component<'_>]) -> Option<Number> {
     None
 }
 
-/// The number that a Begin calls, which is read as a whole.
+/// The number that a Begin calls, read as a whole.
 fn number_in(alloc: Global, begin: &[u8]) -> Option<Number> {
     let element = fp_ber::read(alloc, begin).ok()?;
     match message_of(alloc, &element) {

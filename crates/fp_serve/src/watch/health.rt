@@ -2,18 +2,18 @@
 
 use crate::log::Log;
 use crate::run::Stop;
-use crate::watch::Metrics;
+use crate::watch::{LinkMetrics, Metrics};
 use fp_metrics::Health;
 use fp_network::Drain;
 use std::alloc::AllocError;
 use std::rt::Clock;
 use std::sync::{Arc, Wait};
 
-/// For how many milliseconds a clock, or the thread that writes the log, may stand still in a run that is live. A clock
+/// How long a clock, or the thread that writes the log, may stand still in a run that is live, in milliseconds. A clock
 /// ticks once a second.
 const MOST_IDLE_MILLISECONDS: u64 = 10_000;
 
-/// What those who watch a run see of it.
+/// The parts of a run that its watchers see.
 #[derive(Drop)]
 pub(crate) struct Watch {
     pub(crate) metrics: Arc<Metrics>,
@@ -22,13 +22,21 @@ pub(crate) struct Watch {
     pub(crate) drain: Option<Arc<Drain>>,
 }
 
-/// Whether a thread moved lately that moved at this time.
-fn is_moving(time: u64, moved_at: u64) -> bool {
-    time.saturating_sub(moved_at) < MOST_IDLE_MILLISECONDS
+/// Whether a thread hangs now, if this was its last move.
+fn hangs(now: u64, moved_at: u64) -> bool {
+    now.saturating_sub(moved_at) >= MOST_IDLE_MILLISECONDS
+}
+
+/// Whether a link is up and its clock hangs at this time of the run.
+pub(crate) fn link_hangs<R: Wait>(rt: &R, link: &LinkMetrics, time: u64) -> bool {
+    match link.tick_time(rt) {
+        Some(ticked_at) => hangs(time, ticked_at),
+        None => false,
+    }
 }
 
 impl Watch {
-    /// The same, for a thread that goes on by itself.
+    /// Another share of what is seen of the run, for a thread that goes on by itself.
     pub(crate) fn share(&self) -> Result<Watch, AllocError> {
         let drain = match &self.drain {
             Some(drain) => Some(Arc::try_clone(drain)?),
@@ -51,18 +59,21 @@ impl Watch {
         drains || self.stop.refuses_connections(rt)
     }
 
-    /// How the run is. It is live, if the clocks of the links that are up and the thread that writes the log moved within
-    /// the last ten seconds; and ready, if a link is up, a connection of the network carries its messages if it is a node's,
-    /// and the run isn't about to end.
+    /// Whether the thread that writes the log hangs at this time of the run.
+    pub(crate) fn log_hangs(&self, time: u64) -> bool {
+        hangs(time, self.log.moved_at())
+    }
+
+    /// The health of the run. It is live, if the clocks of the links that are up and the thread that writes the log
+    /// moved within the last ten seconds. It is ready, if a link is up, a connection of the network carries its
+    /// messages if it is a node's, and the run isn't about to end.
     pub(crate) fn health<R: Wait + Clock>(&self, rt: &R) -> Health {
         let time = self.stop.time(rt);
-        let mut is_live = is_moving(time, self.log.moved_at());
+        let mut is_live = !self.log_hangs(time);
         let mut is_up = false;
         for link in self.metrics.links() {
-            if let Some(ticked_at) = link.tick_time(rt) {
-                is_up = true;
-                is_live = is_live && is_moving(time, ticked_at);
-            }
+            is_up = is_up || link.tick_time(rt).is_some();
+            is_live = is_live && !link_hangs(rt, link, time);
         }
         Health {
             is_live,

@@ -1,7 +1,7 @@
-//! The thread that answers those who ask how a run is, over HTTP.
+//! The thread that answers requests for the state of a run, over HTTP.
 //!
-//! It waits for no single connection: each is read, answered and written as far as it goes, four seconds at most without
-//! an answer. There are eight at most; one more takes the place of the one that has been there longest.
+//! The thread waits for no single connection: each is read, answered and written as far as it goes, at most four
+//! seconds without an answer. There are at most eight; one more takes the place of the oldest one.
 
 use crate::moment::time_since;
 use crate::run::ServeFault;
@@ -22,42 +22,42 @@ use std::sync::{Arc, Wait};
 use std::thread;
 use std::time::{Duration, Instant};
 
-/// How many connections there are at most.
+/// The most connections.
 const MOST_VISITORS: usize = 8;
 
-/// How many descriptors are waited for: those of the connections, and that of the listener.
+/// The most descriptors that are waited for: the connections' and the listener's.
 const MOST_DESCRIPTORS: usize = MOST_VISITORS + 1;
 
-/// For how many milliseconds the thread waits at most before it looks whether the run is over, or a connection is late.
+/// The longest wait of the thread before it looks whether the run is over, or a connection is late, in milliseconds.
 const LOOK_MILLISECONDS: i32 = 200;
 
-/// For how many milliseconds the thread rests after a connection couldn't be accepted.
+/// The rest of the thread after a connection couldn't be accepted, in milliseconds.
 const MILLISECONDS_AFTER_A_FAULT: u64 = 20;
 
-/// How many milliseconds go by at least before the numbers are read anew.
+/// The least age of the numbers before they are read anew, in milliseconds.
 const MILLISECONDS_OF_A_TEXT: u64 = 100;
 
-/// Where a run is asked how it is.
+/// The address for requests of a run's state.
 #[derive(Drop)]
 pub struct MetricsListener {
     /// The listener.
     pub listener: TcpListener,
     /// The keys of the maps of header fields, whose names clients choose.
     pub keys: RandomState,
-    /// What the events of the run say.
+    /// The last events of the run.
     pub recent: Arc<RecentEvents>,
 }
 
-/// What is counted in a run, and where it is asked for that.
+/// The counters of a run, and the address for requests of them.
 #[derive(Drop)]
 pub struct Watched {
-    /// What is counted.
+    /// The counters.
     pub metrics: Arc<Metrics>,
-    /// Where it is asked for. `None`: by commands alone.
+    /// The address for HTTP requests. `None` if only commands ask.
     pub listener: Option<MetricsListener>,
 }
 
-/// The last text of the numbers, and when it was made.
+/// The last text of the numbers, and its time.
 #[derive(Drop)]
 struct LastText {
     text: String,
@@ -78,7 +78,7 @@ impl LastText {
     }
 }
 
-/// What the thread has.
+/// The state of the thread.
 #[derive(Drop)]
 struct Listening {
     alloc: Global,
@@ -87,14 +87,14 @@ struct Listening {
     watch: Watch,
     // Room for eight connections.
     visitors: Vec<Option<Visitor>>,
-    // How many connections came.
+    // How many connections were accepted.
     count: u64,
     last: LastText,
     page: Page,
 }
 
 impl Listening {
-    /// Waits until a connection came, or can be read or written; a fifth of a second at most.
+    /// Waits until a connection can be accepted, read or written; at most a fifth of a second.
     fn wait<R: Wait + Clock>(&self, rt: &R) {
         let listener = pollfd {
             fd: self.listener.as_raw_fd(),
@@ -116,7 +116,7 @@ impl Listening {
         }
     }
 
-    /// Puts a connection in a free place, or, if there is none, in that of the one that has been there longest.
+    /// Puts a connection in a free place, or, if there is none, in the place of the oldest one.
     fn admit(&mut self, visitor: Visitor) {
         let mut first = u64::MAX;
         let mut chosen = 0;
@@ -135,7 +135,7 @@ impl Listening {
         }
     }
 
-    /// Takes in a connection that waits, if one does. If there are eight, the one that has been there longest is closed.
+    /// Accepts a connection, if one waits. If there are eight, the oldest one is closed.
     fn accept<R: Wait + Clock>(&mut self, rt: &R) {
         let stream = match self.listener.accept() {
             Ok((stream, _)) => stream,
@@ -189,7 +189,7 @@ impl Listening {
     }
 }
 
-/// A place for each connection that there may be.
+/// An empty place for each connection that there may be.
 fn places(alloc: Global) -> Result<Vec<Option<Visitor>>, AllocError> {
     let mut visitors = Vec::with_capacity(alloc, MOST_VISITORS)?;
     for _ in 0..MOST_VISITORS {
@@ -198,7 +198,7 @@ fn places(alloc: Global) -> Result<Vec<Option<Visitor>>, AllocError> {
     Ok(visitors)
 }
 
-/// Starts the thread that answers here. It isn't joined.
+/// Starts the thread that answers at this address. It isn't joined.
 pub(crate) fn start_listening<R: System + Copy + Send + 'static>(
     rt: &R,
     alloc: Global,

@@ -1,4 +1,4 @@
-//! What is counted in a run.
+//! The counters of a run.
 
 ghost use Rattle.std.specs.Prelude.{IfOk, string_bytes};
 ghost use Rattle.fp_serve.specs.Report.{TellsNumbers};
@@ -14,14 +14,14 @@ use std::sync::atomic::{AtomicBool, Ordering};
 use std::sync::{Arc, Mutex, Wait};
 use std::time::Duration;
 
-/// The records from which calls are answered.
+/// The records that calls are answered from.
 #[derive(Clone, Copy)]
 pub(crate) struct Records {
     // The SHA-256 digest of their file.
     digest: [u8; 32],
-    /// How often they were replaced.
+    /// How often the records were replaced.
     pub(crate) reloads: u64,
-    /// How many numbers and rules they have.
+    /// How many numbers and rules the records have.
     pub(crate) counts: (u32, u32),
 }
 
@@ -32,8 +32,7 @@ impl Records {
     }
 }
 
-/// What is counted in a run, for those who watch it: on each of its links, in the order of their numbers, and how long
-/// answers took.
+/// The counters of a run, for its watchers: each link's, in the order of their numbers, and the times of answers.
 #[derive(Drop)]
 pub struct Metrics {
     version: Version,
@@ -41,7 +40,7 @@ pub struct Metrics {
     records: Mutex<Records>,
     answer_times: Mutex<Histogram>,
     links: Vec<LinkMetrics>,
-    // Nobody is answered any more.
+    // No request is answered any more.
     is_over: AtomicBool,
     // The run is a node, and no connection of its network carries messages.
     lacks_connection: AtomicBool,
@@ -57,7 +56,7 @@ fn hexadecimal(alloc: Global, digest: &[u8; 32]) -> Result<String, AllocError> {
     Ok(text)
 }
 
-/// Nothing was counted on a link, also for called numbers if these are counted.
+/// The counters of a link, all 0, also for called numbers if the run counts numbers.
 fn link_metrics(alloc: Global, counts_numbers: bool) -> Result<LinkMetrics, AllocError> {
     let numbers = if counts_numbers {
         Some(NumberCounts::new(alloc)?)
@@ -75,9 +74,9 @@ fn numbers_text(alloc: Global, run: &RunNumbers<'_>) -> Result<String, AllocErro
 }
 
 impl Metrics {
-    /// Nothing was counted in a run with these settings, by a program of this version, which answers from the records of
-    /// a file of this SHA-256 digest; `counts` are how many numbers and rules these have. If numbers are counted, each
-    /// number that is called has counters of its own.
+    /// Counters of 0 for a run with these settings, by a program of this version, with the records of a file of this
+    /// SHA-256 digest; `counts` are how many numbers and rules these have. With `counts_numbers`, each called number
+    /// has counters of its own.
     pub fn new(
         alloc: Global,
         settings: Settings,
@@ -106,7 +105,8 @@ impl Metrics {
         Ok(Arc::new(alloc, metrics)?)
     }
 
-    /// The records were replaced by those of a file of this digest; `counts` are how many numbers and rules these have.
+    /// Notes that the records were replaced by the records of a file of this digest; `counts` are how many numbers and
+    /// rules these have.
     pub fn note_reload<R: Wait>(&self, rt: &R, digest: [u8; 32], counts: (u32, u32)) {
         let mut records = self.records.lock(rt);
         records.digest = digest;
@@ -114,43 +114,44 @@ impl Metrics {
         records.reloads = records.reloads.saturating_add(1);
     }
 
-    /// The run is a node on a signalling network, of which a connection carries messages now, or none does.
+    /// Notes whether a connection of the network carries messages now, for a run that is a node on a signalling
+    /// network.
     pub fn note_connected(&self, is_connected: bool) {
         self.lacks_connection.store(!is_connected, Ordering::SeqCst);
     }
 
-    /// Whether the run is a node to which no messages come, since no connection of its network carries any.
+    /// Whether the run is a node that gets no messages, since no connection of its network carries any.
     pub(crate) fn lacks_connection(&self) -> bool {
         self.lacks_connection.load(Ordering::SeqCst)
     }
 
-    /// What is counted on the link in this place. `None`: the run has no such link.
+    /// The counters of the link in this place. `None` if the run has no such link.
     pub(crate) fn link(&self, place: u8) -> Option<&LinkMetrics> {
         self.links.get(usize::from(place))
     }
 
-    /// What is counted on each link.
+    /// The counters of each link.
     pub(crate) fn links(&self) -> &[LinkMetrics] {
         self.links.as_slice()
     }
 
-    /// It took this long from the read of a message to the write of its answer.
+    /// Notes the time from the read of a message to the write of its answer.
     pub(crate) fn note_answer<R: Wait>(&self, rt: &R, time: Duration) {
         let microseconds = u64::try_from(time.as_micros()).unwrap_or(u64::MAX);
         self.answer_times.lock(rt).observe(microseconds);
     }
 
-    /// The run ends, and nobody is answered any more.
+    /// Ends the answers to requests: the run ends.
     pub(crate) fn end(&self) {
         self.is_over.store(true, Ordering::SeqCst);
     }
 
-    /// Whether nobody is answered any more.
+    /// Whether no request is answered any more.
     pub(crate) fn is_over(&self) -> bool {
         self.is_over.load(Ordering::SeqCst)
     }
 
-    /// What is counted for a called number, on all links. `None`: numbers aren't counted.
+    /// The counters of a called number, over all links. `None` if numbers aren't counted.
     pub(crate) fn counters_of<R: Wait>(&self, rt: &R, number: CalledNumber) -> Option<Counters> {
         let mut counters = Counters::new();
         let mut is_counted = false;
@@ -168,12 +169,12 @@ impl Metrics {
         self.version
     }
 
-    /// The records from which calls are answered.
+    /// The records that calls are answered from.
     pub(crate) fn records<R: Wait>(&self, rt: &R) -> Records {
         *self.records.lock(rt)
     }
 
-    /// How long answers took.
+    /// The times of answers.
     pub(crate) fn answer_times<R: Wait>(&self, rt: &R) -> Histogram {
         *self.answer_times.lock(rt)
     }
@@ -195,7 +196,7 @@ impl Metrics {
         Ok(links)
     }
 
-    /// All of it in the text format of Prometheus, of a run with this log.
+    /// All counters in the text format of Prometheus, of a run with this log.
     pub(crate) fn text<R: Wait>(
         &self,
         rt: &R,

@@ -1,8 +1,8 @@
-//! How the threads of a link count for each called number.
+//! The counts of the threads of a link for each called number.
 //!
-//! The thread that takes lines out of the book counts them, and then the frames that had been sent before it took the lines:
-//! the line of the Begin that opened the dialogue of such a frame is among them, or was counted earlier. A thread that sends
-//! notes each frame, in the order in which they are sent, and waits for no line to be counted.
+//! The thread that takes lines out of the book counts them, and then the frames that had been sent before it took the
+//! lines: the line of the Begin that opened the dialogue of such a frame is among them, or was counted earlier. A
+//! thread that sends notes each frame, in the order of sending, and doesn't wait until lines are counted.
 
 use crate::run::Run;
 use crate::system::System;
@@ -16,20 +16,20 @@ use std::alloc::{AllocError, Global};
 use std::collections::VecDeque;
 use std::sync::{Arc, Mutex, MutexGuard, Wait};
 
-/// How many frames wait to be counted at most: as many as the book of a link has lines. More are left out, which happens
+/// The most frames that wait to be counted: as many as the book of a link has lines. More are left out, which happens
 /// only while no line leaves the book.
 const MOST_FRAMES: usize = 8_192;
 
-/// What is counted for each called number of a link.
+/// The counters of each called number of a link.
 #[derive(Drop)]
 pub(crate) struct NumberCounts {
     rows: Mutex<NumberRows>,
-    // What was sent and isn't counted yet. Taken after the other lock, or without it.
+    // The sent frames that aren't counted yet. Taken after the lock of `rows`, or without it.
     sent: Mutex<VecDeque<SentFrame>>,
 }
 
 impl NumberCounts {
-    /// Nothing was counted for any number.
+    /// Counters of 0 for all numbers.
     pub(crate) fn new(alloc: Global) -> Result<NumberCounts, AllocError> {
         Ok(NumberCounts {
             rows: Mutex::new(NumberRows::new(alloc)?),
@@ -37,7 +37,7 @@ impl NumberCounts {
         })
     }
 
-    /// A frame is sent.
+    /// Notes a frame that is sent.
     pub(crate) fn note_sent<R: Wait>(&self, rt: &R, frame: SentFrame) {
         let mut sent = self.sent.lock(rt);
         if sent.len() < MOST_FRAMES {
@@ -45,17 +45,17 @@ impl NumberCounts {
         }
     }
 
-    /// How many frames were sent that aren't counted.
+    /// How many sent frames aren't counted yet.
     fn sent_count<R: Wait>(&self, rt: &R) -> usize {
         self.sent.lock(rt).len()
     }
 
-    /// The first frame that isn't counted.
+    /// The first sent frame that isn't counted yet.
     fn next_sent<R: Wait>(&self, rt: &R) -> Option<SentFrame> {
         self.sent.lock(rt).pop_front()
     }
 
-    /// Adds what is counted for a number to other counters.
+    /// Adds the counters of a number to other counters.
     pub(crate) fn add_to<R: Wait>(&self, rt: &R, number: CalledNumber, counters: &mut Counters) {
         self.rows.lock(rt).add_to(number.key(), counters);
     }
@@ -74,8 +74,8 @@ pub(crate) struct LineCounts<'x, R> {
 }
 
 impl<'x, R: System> LineCounts<'x, R> {
-    /// Lines are about to leave the book of a link with these metrics. `None`: nobody asked for that, or there is no memory
-    /// for a share of the records.
+    /// Begins to take lines out of the book of a link with these metrics. `None` if the run doesn't count numbers, or
+    /// there is no memory for a share of the records.
     pub(crate) fn begin(
         run: &Run<'x, R>,
         metrics: Option<&'x LinkMetrics>,
@@ -91,7 +91,7 @@ impl<'x, R: System> LineCounts<'x, R> {
         })
     }
 
-    /// Where the lines are counted, while they are.
+    /// The counters of the called numbers, locked while lines are counted.
     pub(crate) fn rows(&self) -> MutexGuard<'x, NumberRows> {
         self.counts.rows.lock(self.rt)
     }

@@ -1,8 +1,9 @@
-//! What is counted for each called number, on a link.
+//! The counters of each called number, on a link.
 //!
-//! A number has a row, once it is called, if the records in use have it. So there are as many rows as a file of records
-//! has numbers, at most, and calls for others are counted in none. Which number a dialogue is for is kept by the serial in
-//! its local identifier, and stays there until another dialogue has that serial, 126,976 dialogues later at least.
+//! A number has a row, once it is called, if the records in use have it. So there are at most as many rows as a file of
+//! records has numbers, and calls for others are counted in none. The number of a dialogue is kept by the serial in the
+//! dialogue's local identifier, and stays there until another dialogue has that serial, at least 126,976 dialogues
+//! later.
 
 use crate::watch::called::{called_number, key_of};
 use crate::watch::frames::SentFrame;
@@ -15,16 +16,16 @@ use fp_tids::LocalIds;
 use std::alloc::{AllocError, Global};
 use std::collections::BTreeMap;
 
-/// How many numbers have a row on a link, at most: as many as a file of records may have.
+/// The most numbers with a row on a link: as many as a file of records may have.
 const MOST_ROWS: usize = 100_000;
 
-/// How many counters have a place in each row: those that most calls count.
+/// The number of counters with a place in each row: those that most calls count.
 const PLACES: usize = 12;
 
-/// No row: what is counted for it is counted nowhere.
+/// No row: calls for it are counted nowhere.
 const NO_ROW: u32 = u32::MAX;
 
-/// The place of a counter in each row. `None`: it has none, and few numbers count it.
+/// The place of a counter in each row. `None` if it has none, since few numbers count it.
 fn place_of(counter: Counter) -> Option<usize> {
     match counter {
         Counter::Opened => Some(0),
@@ -43,17 +44,17 @@ fn place_of(counter: Counter) -> Option<usize> {
     }
 }
 
-/// The key of a counter that has no place, among those of all rows.
+/// The key of a counter without a place, among those of all rows.
 fn rare_key(row: u32, counter: Counter) -> u64 {
     (u64::from(row) << 8) | u64::try_from(counter.place()).unwrap_or(0)
 }
 
-/// The place of a dialogue of this local identifier among those whose numbers are known.
+/// The place of the dialogue with this local identifier among those whose numbers are known.
 fn serial_place(local: u32) -> usize {
     usize::try_from(local.wrapping_sub(1) % LocalIds::SERIALS).unwrap_or(usize::MAX)
 }
 
-/// The local identifier of the dialogue that an End or an Abort ends, which accepted it. `None`: the message is neither.
+/// The local identifier of the dialogue that this accepted End or Abort ends. `None` if the message is neither.
 fn dialogue_ended_by(message: &[u8]) -> Option<u32> {
     let ids = ids_of(message);
     match ids.kind {
@@ -62,20 +63,20 @@ fn dialogue_ended_by(message: &[u8]) -> Option<u32> {
     }
 }
 
-/// What is counted for each called number of a link.
+/// The counters of each called number of a link.
 #[derive(Drop)]
 pub(crate) struct NumberRows {
     // The row of each number that has one, by its key.
     rows: BTreeMap<u64, u32>,
     counts: Vec<[u64; PLACES]>,
-    // What few numbers count.
+    // The counters that few numbers count.
     rare: BTreeMap<u64, u64>,
-    // The row of the number that each dialogue is for, by its serial.
+    // The row of each dialogue's number, by its serial.
     dialogues: Vec<u32>,
 }
 
 impl NumberRows {
-    /// Nothing was counted for any number.
+    /// Counters of 0 for all numbers.
     pub(crate) fn new(alloc: Global) -> Result<NumberRows, AllocError> {
         let serials = usize::try_from(LocalIds::SERIALS).unwrap_or(0);
         let mut dialogues = Vec::with_capacity(alloc, serials)?;
@@ -90,7 +91,7 @@ impl NumberRows {
         })
     }
 
-    /// Adds a row for a number of this key. If memory runs out, or there are too many, it gets none.
+    /// Adds a row for a number of this key. `None` if memory runs out, or there are too many.
     fn add_row(&mut self, key: u64) -> Option<u32> {
         let count = self.counts.len();
         if count >= MOST_ROWS {
@@ -116,7 +117,7 @@ impl NumberRows {
         self.add_row(key)
     }
 
-    /// Raises a counter in a row. If memory runs out, it isn't counted.
+    /// Raises a counter in a row. If memory runs out, it isn't raised.
     fn count_in(&mut self, row: u32, counter: Counter) {
         if row == NO_ROW {
             return;
@@ -137,14 +138,14 @@ impl NumberRows {
         }
     }
 
-    /// Raises a counter of the number that the dialogue of this local identifier is for.
+    /// Raises a counter of the number of the dialogue with this local identifier.
     fn count_for(&mut self, local: u32, counter: Counter) {
         if let Some(row) = self.dialogues.get(serial_place(local)).copied() {
             self.count_in(row, counter);
         }
     }
 
-    /// A Begin opened the dialogue of this local identifier.
+    /// Counts a Begin that opened the dialogue of this local identifier.
     fn count_opened(&mut self, alloc: Global, table: &Table, local: u32, begin: &[u8]) {
         let row = self.row_of(alloc, table, begin).unwrap_or(NO_ROW);
         if let Some(known) = self.dialogues.get_mut(serial_place(local)) {
@@ -153,7 +154,7 @@ impl NumberRows {
         self.count_in(row, Counter::Opened);
     }
 
-    /// After a gap it isn't known for which numbers dialogues are.
+    /// Forgets the numbers of all dialogues: after a gap they aren't known.
     fn forget_dialogues(&mut self) {
         for row in self.dialogues.iter_mut() {
             *row = NO_ROW;
@@ -200,7 +201,7 @@ impl NumberRows {
         }
     }
 
-    /// Adds what is counted for the number of this key to other counters.
+    /// Adds the counters of the number with this key to other counters.
     pub(crate) fn add_to(&self, key: u64, counters: &mut Counters) {
         let Some(row) = self.rows.get(&key).copied() else {
             return;

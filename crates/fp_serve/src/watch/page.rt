@@ -1,12 +1,15 @@
-//! The page on which an operator sees how the run is, and what it needs over time.
+//! An operator's page with the health of the run, and the history that it needs.
 //!
-//! The thread that answers notes the numbers once a second, whether somebody looks or not, and makes the page at most once
-//! a second while somebody is connected.
+//! The thread that answers notes the numbers once a second, even without visitors, and makes the page at most once a
+//! second while a visitor is connected.
 
 use crate::moment::now;
+use crate::run::TimedEvent;
+use crate::watch::health::link_hangs;
 use crate::watch::recent::LinkSeen;
 use crate::watch::{RecentEvents, Watch};
 use fp_counters::Counter;
+use fp_logtext::WaitingLines;
 use fp_metrics::LinkNumbers;
 use fp_page::{
     History, LinkView, PageNumbers, RunHistory, aborts_sent, components_sent, page_text,
@@ -16,17 +19,17 @@ use std::alloc::{AllocError, Global};
 use std::rt::Clock;
 use std::sync::{Arc, Wait};
 
-/// How many milliseconds a second has.
+/// The number of milliseconds in a second.
 const MILLISECONDS_OF_A_SECOND: u64 = 1_000;
 
-/// The texts that a page has of a link.
+/// The texts of a link on a page.
 #[derive(Drop)]
 struct LinkTexts {
     peer: String,
     since: String,
 }
 
-/// A moment, in seconds since 1970, as a page has it.
+/// The text of a moment, in seconds since 1970, on a page.
 fn moment_text(alloc: Global, seconds: u64) -> Result<String, AllocError> {
     match Timestamp::from_second(i64::try_from(seconds).unwrap_or(i64::MAX)) {
         Ok(moment) => format!(in alloc; "{moment:.0}"),
@@ -47,7 +50,7 @@ fn link_texts(alloc: Global, seen: Option<LinkSeen>) -> Result<LinkTexts, AllocE
     Ok(LinkTexts { peer, since })
 }
 
-/// What was counted over time, and the page that was made last.
+/// The history of the numbers, and the page that was made last.
 #[derive(Drop)]
 pub(crate) struct Page {
     alloc: Global,
@@ -57,14 +60,14 @@ pub(crate) struct Page {
     calls: History,
     answers: History,
     aborts: History,
-    // The seconds of the run in which numbers were noted and the page was made last, from 1.
+    // The seconds of the run, from 1, when numbers were noted and when the page was made last.
     noted_in: u64,
     made_in: u64,
     text: String,
 }
 
 impl Page {
-    /// Nothing was counted on this number of links.
+    /// An empty history for this number of links.
     pub(crate) fn new(
         alloc: Global,
         recent: Arc<RecentEvents>,
@@ -107,9 +110,12 @@ impl Page {
         self.aborts.note(time, aborts);
     }
 
-    /// Notes the numbers, if a second began since they were noted. If memory runs out, they are noted in the next one.
+    /// Notes the numbers, if a second began since they were noted. If memory runs out, or the clock gives no time, they
+    /// are noted later.
     pub(crate) fn note<R: Wait + Clock>(&mut self, rt: &R, watch: &Watch) {
-        let time = watch.stop.time(rt);
+        let Some(time) = watch.stop.elapsed(rt) else {
+            return;
+        };
         let second = time / MILLISECONDS_OF_A_SECOND + 1;
         if second == self.noted_in {
             return;
@@ -140,46 +146,57 @@ impl Page {
         Ok(texts)
     }
 
-    /// The lines of the last events, the newest one first.
-    fn event_lines<R: Wait>(&self, rt: &R) -> Result<Vec<String>, AllocError> {
-        let events = self.recent.events(rt, self.alloc)?;
+    /// The lines of these events, the last one first.
+    fn event_lines(&self, events: &[TimedEvent]) -> Result<Vec<String>, AllocError> {
         let mut lines = Vec::with_capacity(self.alloc, events.len())?;
-        for event in events.as_slice().iter().rev() {
+        for event in events.iter().rev() {
             lines.push(event.line_of_all(self.alloc)?)?;
         }
         Ok(lines)
     }
 
-    /// The page, as it is now.
+    /// The lines without their line feeds.
+    fn trimmed<'a>(&self, lines: &'a [String]) -> Result<Vec<&'a str>, AllocError> {
+        let mut trimmed = Vec::with_capacity(self.alloc, lines.len())?;
+        for line in lines {
+            trimmed.push(line.as_str().trim_end())?;
+        }
+        Ok(trimmed)
+    }
+
+    /// The page, made of the present numbers.
     fn made<R: Wait + Clock>(&self, rt: &R, watch: &Watch) -> Result<String, AllocError> {
         let links = watch.metrics.numbers(rt, self.alloc, &watch.log)?;
         let texts = self.texts(rt, links.as_slice())?;
-        let lines = self.event_lines(rt)?;
+        let time = watch.stop.time(rt);
         let mut views = Vec::with_capacity(self.alloc, links.len())?;
-        let histories = self.links.iter();
-        for ((numbers, texts), calls) in links.iter().zip(texts.iter()).zip(histories) {
+        let noted = self.links.iter().zip(watch.metrics.links().iter());
+        for ((numbers, texts), (calls, metrics)) in links.iter().zip(texts.iter()).zip(noted) {
             views.push(LinkView {
                 numbers: *numbers,
                 peer: texts.peer.as_str(),
                 since: texts.since.as_str(),
                 calls,
+                hangs: link_hangs(rt, metrics, time),
             })?;
         }
-        let mut events = Vec::with_capacity(self.alloc, lines.len())?;
-        for line in lines.iter() {
-            events.push(line.as_str().trim_end())?;
-        }
-        self.written(rt, watch, views.as_slice(), events.as_slice())
+        self.written(rt, watch, time, views.as_slice())
     }
 
-    /// The page of these links and events.
+    /// The page of these links, at this time of the run.
     fn written<R: Wait + Clock>(
         &self,
         rt: &R,
         watch: &Watch,
+        time: u64,
         links: &[LinkView<'_>],
-        events: &[&str],
     ) -> Result<String, AllocError> {
+        let kept = self.recent.events(rt, self.alloc)?;
+        let lines = self.event_lines(kept.as_slice())?;
+        let events = self.trimmed(lines.as_slice())?;
+        let kept_of_network = self.recent.network_events(rt, self.alloc)?;
+        let lines_of_network = self.event_lines(kept_of_network.as_slice())?;
+        let network_events = self.trimmed(lines_of_network.as_slice())?;
         let metrics = &watch.metrics;
         let records = metrics.records(rt);
         let digest = records.digest_text(self.alloc)?;
@@ -199,10 +216,13 @@ impl Page {
                 answers: &self.answers,
                 aborts: &self.aborts,
             },
+            line_places: WaitingLines::MOST as u64,
             log_fails: self.recent.log_fails(),
+            log_hangs: watch.log_hangs(time),
             lacks_network: metrics.lacks_connection(),
             is_ending: watch.is_ending(rt),
-            events,
+            events: events.as_slice(),
+            network_events: network_events.as_slice(),
         };
         page_text(self.alloc, &page)
     }

@@ -1,16 +1,16 @@
 //! The called party number in a Begin of the plain form, found without making its elements.
 //!
-//! The Begin is one that opened a dialogue, so it can be read. In the plain form its first component is an Invoke of InitialDP
-//! that isn't linked and can be read, and each length on the way there is definite and has three octets at most. Of any
-//! other Begin nothing is said: that is read as a whole ([`called_number`](crate::watch::called::called_number)).
+//! The Begin is one that opened a dialogue, so it can be read. In the plain form its first component is an Invoke of
+//! InitialDP that isn't linked and can be read, and each length on the way there is definite and has at most three
+//! octets. Any other Begin is read as a whole ([`called_number`](crate::watch::called::called_number)).
 
 /// The tag of an integer.
 const INTEGER: u8 = 0x02;
 
-/// How many members of an InitialDP are looked at.
+/// The most members of an InitialDP that are looked at.
 const MOST_MEMBERS: usize = 32;
 
-/// An element with a tag of one octet and a definite length, and what follows it.
+/// An element with a tag of one octet and a definite length, and the octets after it.
 #[derive(Clone, Copy)]
 struct Element<'a> {
     tag: u8,
@@ -18,7 +18,7 @@ struct Element<'a> {
     rest: &'a [u8],
 }
 
-/// The first octets of this number, and those that follow them, as the contents of an element with this tag. `None`: there
+/// The first `length` octets as the contents of an element with this tag, and the octets after them. `None` if there
 /// are fewer.
 fn split(tag: u8, octets: &[u8], length: usize) -> Option<Element<'_>> {
     if octets.len() < length {
@@ -32,7 +32,7 @@ fn split(tag: u8, octets: &[u8], length: usize) -> Option<Element<'_>> {
     })
 }
 
-/// The element that octets begin with. `None`: its tag has more octets than one, or its length is of another form.
+/// The element that octets begin with. `None` if its tag has more octets than one, or its length has another form.
 fn first_element(octets: &[u8]) -> Option<Element<'_>> {
     let [tag, body @ ..] = octets else {
         return None;
@@ -50,7 +50,7 @@ fn first_element(octets: &[u8]) -> Option<Element<'_>> {
     }
 }
 
-/// The contents of the only element that octets are, if it has this tag.
+/// The contents of the only element in the octets, if it has this tag.
 fn only(octets: &[u8], tag: u8) -> Option<&[u8]> {
     let element = first_element(octets)?;
     if element.tag == tag && element.rest.is_empty() {
@@ -60,7 +60,7 @@ fn only(octets: &[u8], tag: u8) -> Option<&[u8]> {
     }
 }
 
-/// The component portion of a Begin, which follows its originating transaction identifier, and perhaps a dialogue portion.
+/// The component portion of a Begin, after its originating transaction identifier, and perhaps a dialogue portion.
 fn components_of(begin: &[u8]) -> Option<&[u8]> {
     let identifier = first_element(only(begin, 0x62)?)?;
     if identifier.tag != 0x48 {
@@ -83,7 +83,7 @@ fn argument_of(components: &[u8]) -> Option<&[u8]> {
     }
 }
 
-/// Whether octets are an integer of one to four octets that isn't negative, in as few as it takes.
+/// Whether octets are an integer of one to four octets that isn't negative, in the shortest form.
 fn is_key(octets: &[u8]) -> bool {
     match octets {
         [first] => *first < 0x80,
@@ -93,8 +93,8 @@ fn is_key(octets: &[u8]) -> bool {
     }
 }
 
-/// The bit of a member that is read, by its tag, if it has the octets that it may have. `None`: it hasn't. Other members of
-/// a context have no bit.
+/// The bit of a member that the program reads, by its tag, or 0 for other members of a context. `None` if its tag or
+/// its octets aren't allowed.
 fn bit_of(member: &Element<'_>) -> Option<u8> {
     let is_good = match member.tag {
         0x80 => is_key(member.contents),
@@ -115,7 +115,7 @@ fn bit_of(member: &Element<'_>) -> Option<u8> {
     })
 }
 
-/// The called party number among the members of an InitialDP, each of those that are read once at most.
+/// The called party number among the members of an InitialDP. Each member that the program reads may be there once.
 fn called_among(members: &[u8]) -> Option<&[u8]> {
     let mut rest = members;
     let mut seen = 0;
@@ -138,7 +138,8 @@ fn called_among(members: &[u8]) -> Option<&[u8]> {
     None
 }
 
-/// The octets of the called party number in a Begin that opened a dialogue. `None`: it isn't of the plain form, or has none.
+/// The octets of the called party number in a Begin that opened a dialogue. `None` if it isn't of the plain form, or
+/// has no number.
 pub(crate) fn called_octets(begin: &[u8]) -> Option<&[u8]> {
     called_among(argument_of(components_of(begin)?)?)
 }

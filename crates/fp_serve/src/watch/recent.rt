@@ -1,4 +1,4 @@
-//! What the events of a run say to those who look at its page.
+//! The last events of a run, for the readers of its page.
 
 use crate::run::{Event, Peer, TimedEvent};
 use fp_digits::Moment;
@@ -6,38 +6,39 @@ use std::alloc::{AllocError, Global};
 use std::sync::atomic::{AtomicBool, Ordering};
 use std::sync::{Arc, Mutex, Wait};
 
-/// How many events are kept. One more takes the place of the oldest one.
+/// The most events of each list. One more takes the place of the oldest one.
 const MOST_EVENTS: usize = 20;
 
-/// How many links a run has at most.
+/// The most links of a run.
 const MOST_LINKS: usize = 8;
 
-/// What the last event of a link says.
+/// The state of a link after its last event.
 #[derive(Clone, Copy)]
 pub(crate) struct LinkSeen {
-    /// Its peer.
+    /// The peer of the link.
     pub(crate) peer: Peer,
-    /// When it came up, or went down if it is down.
+    /// When the link went up, or down if it is down.
     pub(crate) since: Moment,
 }
 
-/// What is kept of the events of a run. It has no references, so its threads may share it.
+/// The kept events of a run. They have no references, so that its threads may share them.
 #[derive(Drop)]
 struct Kept {
-    // In room for all, the oldest one first.
+    // In room for all, the oldest one first. The network's events are in a list of their own: they may be many.
     events: Vec<TimedEvent>,
-    // Each link that came, by its number.
+    network_events: Vec<TimedEvent>,
+    // Each connected link, by its number.
     links: [Option<LinkSeen>; MOST_LINKS],
 }
 
-/// The last events of a run, its links as they tell, and whether its log can be written.
+/// The last events of a run, its links by their events, and whether its log can be written.
 #[derive(Drop)]
 pub struct RecentEvents {
     kept: Mutex<Kept>,
     log_fails: AtomicBool,
 }
 
-/// The link of an event, if it came up or went down, and what is known of it then.
+/// The link of an event, if it went up or down, and its state then.
 fn seen_after(links: &[Option<LinkSeen>], timed: &TimedEvent) -> Option<(usize, LinkSeen)> {
     let since = timed.moment;
     match timed.event {
@@ -52,12 +53,21 @@ fn seen_after(links: &[Option<LinkSeen>], timed: &TimedEvent) -> Option<(usize, 
     }
 }
 
+/// Adds an event to a list that has room for all, in place of the oldest one if 20 are there.
+fn push<T: Copy>(events: &mut Vec<T>, event: T) {
+    if events.len() >= MOST_EVENTS {
+        events.remove(0);
+    }
+    let _ = events.push(event);
+}
+
 impl RecentEvents {
-    /// Nothing happened.
+    /// No event yet.
     pub fn new(alloc: Global) -> Result<Arc<RecentEvents>, AllocError> {
         let recent = RecentEvents {
             kept: Mutex::new(Kept {
                 events: Vec::with_capacity(alloc, MOST_EVENTS)?,
+                network_events: Vec::with_capacity(alloc, MOST_EVENTS)?,
                 links: [None; MOST_LINKS],
             }),
             log_fails: AtomicBool::new(false),
@@ -65,7 +75,7 @@ impl RecentEvents {
         Ok(Arc::new(alloc, recent)?)
     }
 
-    /// An event came.
+    /// Keeps an event.
     pub(crate) fn keep<R: Wait>(&self, rt: &R, timed: TimedEvent) {
         let event = timed.event;
         match event {
@@ -79,11 +89,10 @@ impl RecentEvents {
                 *link = Some(seen);
             }
         }
-        if kept.events.len() >= MOST_EVENTS {
-            kept.events.remove(0);
+        match event {
+            Event::Network(_) => push(&mut kept.network_events, timed),
+            _ => push(&mut kept.events, timed),
         }
-        // There is room.
-        let _ = kept.events.push(timed);
     }
 
     /// Whether the log can't be written.
@@ -91,18 +100,31 @@ impl RecentEvents {
         self.log_fails.load(Ordering::SeqCst)
     }
 
-    /// What the last event of the link of this number says, if it came.
+    /// The state of the link of this number after its last event, if it was ever up.
     pub(crate) fn link<R: Wait>(&self, rt: &R, link: u8) -> Option<LinkSeen> {
         let kept = self.kept.lock(rt);
         *kept.links.get(usize::from(link))?
     }
 
-    /// The last events, the oldest one first.
+    /// The last events, except the network's, the oldest one first. Takes no memory under the lock.
     pub(crate) fn events<R: Wait>(
         &self,
         rt: &R,
         alloc: Global,
     ) -> Result<Vec<TimedEvent>, AllocError> {
-        self.kept.lock(rt).events.as_slice().to_vec(alloc)
+        let mut events = Vec::with_capacity(alloc, MOST_EVENTS)?;
+        events.extend_from_slice(self.kept.lock(rt).events.as_slice())?;
+        Ok(events)
+    }
+
+    /// The last events of the network, the oldest one first. Takes no memory under the lock.
+    pub(crate) fn network_events<R: Wait>(
+        &self,
+        rt: &R,
+        alloc: Global,
+    ) -> Result<Vec<TimedEvent>, AllocError> {
+        let mut events = Vec::with_capacity(alloc, MOST_EVENTS)?;
+        events.extend_from_slice(self.kept.lock(rt).network_events.as_slice())?;
+        Ok(events)
     }
 }

@@ -1,8 +1,8 @@
 //! The time from the read of a message to the write of its answer, of one message at a time.
 //!
-//! The receiving thread takes a Begin now and then, if none is open, with its originating transaction identifier and the
-//! time of its read. The thread that sends a message to this identifier closes the sample, once that was written. Nothing
-//! of it is in a row, in the book or in the log.
+//! The receiving thread takes a Begin now and then, if none is open, with its originating transaction identifier and
+//! the time of its read. The thread that sends a message to this identifier closes the sample, once that was written.
+//! No row, no book and no log has anything of it.
 
 use crate::moment::time_since;
 use fp_frames::Frame;
@@ -12,8 +12,8 @@ use std::sync::atomic::{AtomicBool, Ordering};
 use std::sync::{Mutex, Wait};
 use std::time::{Duration, Instant};
 
-/// For how many seconds an answer is awaited. A Begin that has none by then may never get one, as after an Abort of its
-/// peer.
+/// How long an answer is awaited, in seconds. A Begin without an answer by then may never get one. For example, after
+/// an Abort of its peer.
 const MOST_SECONDS: u64 = 20;
 
 /// A message whose answer is awaited.
@@ -32,7 +32,7 @@ pub(crate) struct Sample {
 }
 
 impl Sample {
-    /// None is.
+    /// No answer is awaited.
     pub(crate) fn new() -> Sample {
         Sample {
             is_open: AtomicBool::new(false),
@@ -40,8 +40,8 @@ impl Sample {
         }
     }
 
-    /// Awaits the answer to a message that was just read, if it is a Begin and no other answer is awaited. `true`: so it
-    /// does.
+    /// Awaits the answer to a message that was just read, if it is a Begin and no other answer is awaited. Returns
+    /// whether it does.
     pub(crate) fn open<R: Wait + Clock>(&self, rt: &R, message: &Frame) -> bool {
         let mut asked = self.asked.lock(rt);
         if let Some(open) = *asked {
@@ -64,8 +64,8 @@ impl Sample {
         self.is_open.load(Ordering::SeqCst)
     }
 
-    /// When the message was read that this one answers, if that is the one whose answer is awaited. Then none is. An answer
-    /// that is too late counts for nothing: it may be that to another message with the same identifier.
+    /// When the message was read that this one answers, if it is the sample's. Then the sample is closed. An answer
+    /// that is too late isn't counted: it may answer another message with the same identifier.
     pub(crate) fn close<R: Wait + Clock>(&self, rt: &R, message: &[u8]) -> Option<Instant> {
         let mut asked = self.asked.lock(rt);
         let Asked { orig, read_at } = (*asked)?;

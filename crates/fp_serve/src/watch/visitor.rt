@@ -1,4 +1,4 @@
-//! A connection over which somebody asks how a run is.
+//! A connection for requests of a run's state.
 
 use crate::moment::time_since;
 use fp_metrics::Pages;
@@ -14,28 +14,28 @@ use std::os::fd::AsRawFd;
 use std::rt::Clock;
 use std::time::{Duration, Instant};
 
-/// How many seconds a connection may go on without an answer.
+/// How long a connection may go on without an answer, in seconds.
 const MOST_SECONDS: u64 = 4;
 
-/// How many writes one step makes at most.
+/// The most writes of one step.
 const MOST_WRITES: usize = 16;
 
-/// The longest body of a request, which nothing looks at.
+/// The longest body of a request. It isn't read.
 const MOST_OCTETS_OF_A_BODY: usize = 4_096;
 
-/// How many octets are dropped at once that come after the last answer.
+/// The most octets that are dropped at once after the last answer.
 const MOST_DROPPED: usize = 4_096;
 
-/// A connection over which somebody asks how a run is.
+/// A connection for requests of a run's state.
 #[derive(Drop)]
 pub(crate) struct Visitor {
-    // Its number among those that came, from 1.
+    // The number of the connection among all accepted ones, from 1.
     number: u64,
     stream: TcpStream,
     connection: Connection,
-    // When it came, or its last answer was written.
+    // When the connection was accepted, or its last answer was written.
     since: Option<Instant>,
-    // Its last answer was written, and what comes is dropped until the client closes.
+    // The last answer was written, and further octets are dropped until the client closes.
     is_closing: bool,
 }
 
@@ -48,7 +48,8 @@ fn is_passing(error: &io::Error) -> bool {
 }
 
 impl Visitor {
-    /// A connection that came just now, as the one of this number. `None`: it can't be served without waiting for it.
+    /// A connection that was accepted just now, the one of this number. `None` if it can't be served without waiting
+    /// for it.
     pub(crate) fn new<R: Clock>(
         rt: &R,
         alloc: Global,
@@ -72,12 +73,12 @@ impl Visitor {
         })
     }
 
-    /// Its number among those that came.
+    /// The number of the connection among all accepted ones.
     pub(crate) fn number(&self) -> u64 {
         self.number
     }
 
-    /// What the system is asked of it.
+    /// The events that the system is asked for.
     pub(crate) fn asked(&self) -> pollfd {
         let reads = if self.is_closing || self.connection.wants_read() {
             POLLIN
@@ -96,13 +97,13 @@ impl Visitor {
         }
     }
 
-    /// Whether its time is over. It is, if the clock gives none.
+    /// Whether the connection's time is over. `true` if the clock gives no time.
     pub(crate) fn is_late<R: Clock>(&self, rt: &R) -> bool {
         let most = Duration::from_secs(MOST_SECONDS);
         time_since(rt, self.since).unwrap_or(most) >= most
     }
 
-    /// Drops what comes. `false`: nothing comes any more.
+    /// Drops received octets. `false` if no more can arrive.
     fn drop_input(&self) -> bool {
         let mut room = [0; MOST_DROPPED];
         let mut stream = &self.stream;
@@ -112,7 +113,7 @@ impl Visitor {
         }
     }
 
-    /// Reads once, if it may. `false`: that failed.
+    /// Reads once, if it may. `false` if that failed.
     fn read(&mut self) -> bool {
         if !self.connection.wants_read() {
             return true;
@@ -124,7 +125,7 @@ impl Visitor {
         }
     }
 
-    /// Answers what came, and writes as much as the system takes. `false`: a write failed.
+    /// Answers the requests that were read, and writes as much as the system takes. `false` if a write failed.
     fn answer<R: Clock>(&mut self, rt: &R, pages: &mut Pages<'_>) -> bool {
         self.connection.advance(pages);
         for _ in 0..MOST_WRITES {
@@ -145,7 +146,7 @@ impl Visitor {
         true
     }
 
-    /// Reads, answers and writes as far as that goes without waiting. `false`: the connection is to be closed.
+    /// Reads, answers and writes as far as that goes without waiting. `false` if the connection is to be closed.
     pub(crate) fn step<R: Clock>(&mut self, rt: &R, pages: &mut Pages<'_>) -> bool {
         if self.is_closing {
             return self.drop_input();
@@ -154,7 +155,7 @@ impl Visitor {
             return false;
         }
         if self.connection.is_done() {
-            // A connection that is closed while octets come is reset, and the answer may be lost on its way.
+            // A connection that is closed while octets arrive is reset, and the answer may be lost on its way.
             let _ = self.stream.shutdown(Shutdown::Write);
             self.is_closing = true;
         }

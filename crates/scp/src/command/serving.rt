@@ -12,13 +12,13 @@ use std::alloc::{AllocError, Global};
 /// The name of the subcommand that serves links.
 pub(super) const SERVE: &str = "serve";
 
-/// The word for the tag of the second in which a run begins.
+/// The word for a tag from the second when a run begins.
 const AUTO: &str = "auto";
 
-/// The end of the text of a value that is refused.
+/// The end of the text about a refused value.
 const MORE: &str = "\n\nFor more information, try '--help'.\n";
 
-/// What the words of `serve` ask for.
+/// The request in the words of `serve`.
 pub(super) fn serve_asked<'a>(
     alloc: Global,
     records: &'a str,
@@ -65,10 +65,10 @@ pub(super) fn serve_asked<'a>(
     })
 }
 
-/// The words for an address.
+/// The description of an address.
 const ADDRESS: &str = "neither PC:SSN, as 201:241, nor an address of SCCP in hexadecimal digits";
 
-/// The text of a value that is none of an option, in the form of clap's.
+/// The text about a value that an option doesn't take, in the form of clap's.
 fn refused_value(
     alloc: Global,
     option: &str,
@@ -78,7 +78,7 @@ fn refused_value(
     format!(in alloc; "error: invalid value '{value}' for '--{option}': {value} is {wanted}{MORE}")
 }
 
-/// The words of `serve` for a node, if it is to be one; or the text of a word that is refused.
+/// The words of `serve` for a node, if the program is to be one; or the text about a refused word.
 fn network_words<'a>(
     alloc: Global,
     chosen: &ArgMatches<'a>,
@@ -114,7 +114,7 @@ fn network_words<'a>(
     })))
 }
 
-/// The settings with the tag that a text names: a number up to 4,094, or `auto`. `None`: it names none.
+/// The settings with the tag of a text: a number up to 4,094, or `auto`. `None` if it is neither.
 fn with_tag(settings: Settings, text: &str) -> Option<Settings> {
     if text == AUTO {
         return Some(settings.with_tag_of_start());
@@ -123,7 +123,7 @@ fn with_tag(settings: Settings, text: &str) -> Option<Settings> {
     Some(settings.with_tag(tag.number))
 }
 
-/// The text of a tag that is none, in the form of clap's.
+/// The text about a refused tag, in the form of clap's.
 fn refused_tag<'a>(alloc: Global, text: &str) -> Result<Asked<'a>, AllocError> {
     let last = LocalIds::LAST_TAG;
     let text = format!(in alloc;
@@ -132,7 +132,7 @@ fn refused_tag<'a>(alloc: Global, text: &str) -> Result<Asked<'a>, AllocError> {
     Ok(Asked::Refused(text))
 }
 
-/// The text of a first link with which the number of the last one were above 7, in the form of clap's.
+/// The text about a first link that would give the last one a number above 7, in the form of clap's.
 fn refused_first_link<'a>(
     alloc: Global,
     first_link: u8,
@@ -145,7 +145,7 @@ fn refused_first_link<'a>(
     Ok(Asked::Refused(text))
 }
 
-/// Which events are written: all if they are asked for; if the log may have gaps, at least when it can't be written.
+/// The events that are written: all if they are asked for; if the log may have gaps, at least the failures of the log.
 fn wanted_events(events: bool, log_gaps: bool) -> Option<Wanted> {
     if events {
         Some(Wanted::All)
@@ -156,7 +156,7 @@ fn wanted_events(events: bool, log_gaps: bool) -> Option<Wanted> {
     }
 }
 
-/// What to type, after the help of `serve`.
+/// The text after the help of `serve`.
 const SERVE_EXAMPLE: &str = "Example:
   scp serve examples/freephone.csv --listen 127.0.0.1:14700 --log run.log
 
